@@ -1,0 +1,4 @@
+pub mod Command
+pub mod Status
+pub mod Check
+pub mod Answer

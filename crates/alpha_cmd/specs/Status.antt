@@ -1,0 +1,49 @@
+-- The statuses: their numbers and the lines that say them.
+use Rattle.std.specs.Prelude.{ℕ, List, [], ◌∷◌, ◌++◌, codes, decimal}
+use Rattle.alpha_image.specs.declared.fault.ImageFault.{ImageFault}
+use Rattle.alpha_image.specs.declared.fault.ImageFault.TheVariants as faults
+use Rattle.alpha_cmd.specs.declared.status.Status.{Status}
+use Rattle.alpha_cmd.specs.declared.status.Status.TheVariants.{Done, NotRestartable, BadWords, BadImage, ShelfFault, SinkFault, TooLarge, NoMemory}
+
+abbrev pub status_number : Status → ℕ
+status_number (Done n) = 0
+status_number (NotRestartable b) = 1
+status_number BadWords = 2
+status_number (BadImage fault) = 4
+status_number ShelfFault = 8
+status_number SinkFault = 10
+status_number (TooLarge limit) = 11
+status_number NoMemory = 12
+
+-- `image kind K first F second S`: the kind of the fault and its numbers, 0 where there is none
+unfoldable pub numbered_line : ℕ → ℕ → ℕ → List ℕ
+numbered_line kind first second =
+    codes "image kind " ++ decimal kind ++ codes " first " ++ decimal first ++ codes " second " ++ decimal second ++ 10 ∷ []
+
+abbrev pub fault_line : ImageFault → List ℕ
+fault_line (faults.Short given) = numbered_line 1 given 0
+fault_line faults.Magic = numbered_line 2 0 0
+fault_line (faults.Field field) = numbered_line 3 field 0
+fault_line (faults.Length given wanted) = numbered_line 4 given wanted
+fault_line (faults.BadWord place word) = numbered_line 5 place word
+fault_line faults.NoMemory = numbered_line 6 0 0
+
+-- `too large L`
+unfoldable pub limit_line : ℕ → List ℕ
+limit_line limit = codes "too large " ++ decimal limit ++ 10 ∷ []
+
+-- the line of a status that needs no file; `accepted` and a broken place have their own
+abbrev pub status_line : Status → List ℕ
+status_line (Done n) = []
+status_line (NotRestartable b) = []
+status_line BadWords = codes "words" ++ 10 ∷ []
+status_line (BadImage fault) = fault_line fault
+status_line ShelfFault = codes "shelf" ++ 10 ∷ []
+status_line SinkFault = []
+status_line (TooLarge limit) = limit_line limit
+status_line NoMemory = codes "no memory" ++ 10 ∷ []
+
+-- the bytes for the output: `accepted` and a line feed
+abbrev pub output_of : Status → List ℕ
+output_of (Done n) = codes "accepted" ++ 10 ∷ []
+output_of _ = []

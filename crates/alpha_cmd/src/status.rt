@@ -1,0 +1,45 @@
+ghost use Rattle.std.specs.Prelude.{◌≡◌};
+
+use alpha_image::ImageFault;
+use alpha_shadow::Broken;
+
+/// How a call of the program ended.
+#[derive(Clone, Copy, Debug, PartialEq, Eq)]
+pub enum Status {
+    /// It did what was asked. The number is 0.
+    Done(u64),
+    /// The image's code can't be restarted after a late trap: the least broken place.
+    NotRestartable(Broken),
+    /// The words are no command.
+    BadWords,
+    /// The bytes of the file are no image: their first fault.
+    BadImage(ImageFault),
+    /// A file that the words name isn't there, or the file system failed.
+    ShelfFault,
+    /// What was to be written could not be.
+    SinkFault,
+    /// The file has more bytes than this limit.
+    TooLarge(u64),
+    /// Memory ran out.
+    NoMemory,
+}
+
+impl Status {
+    ghost use Rattle.alpha_cmd.specs.Status.{status_number};
+
+    /// The exit status of the program.
+    pub fn number(&self) -> u8
+        ensures { result ≡ status_number self.now }
+    {
+        match self {
+            Status::Done(_) => 0,
+            Status::NotRestartable(_) => 1,
+            Status::BadWords => 2,
+            Status::BadImage(_) => 4,
+            Status::ShelfFault => 8,
+            Status::SinkFault => 10,
+            Status::TooLarge(_) => 11,
+            Status::NoMemory => 12,
+        }
+    }
+}

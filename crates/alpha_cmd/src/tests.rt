@@ -1,0 +1,292 @@
+use crate::{Status, Words, alpha_top};
+use alpha_image::{Fields, Image, ImageFault, image_bytes};
+use alpha_io::{MemoryShelf, MemorySink, SureSource};
+use alpha_shadow::{Broken, Condition};
+use alpha_words::NoMemory;
+use std::alloc::Global;
+use std::test::Fail;
+
+/// What a call answered and wrote.
+#[derive(Drop)]
+struct Outcome {
+    status: Status,
+    out: Vec<u8>,
+    notes: Vec<u8>,
+}
+
+/// Runs the words over a shelf whose one file is `a`, if bytes are given, and an output of which
+/// the first put fails, if asked.
+fn outcome_of(
+    alloc: Global,
+    words: &[&str],
+    file: Option<&[u8]>,
+    failing: &[u64],
+) -> Result<Outcome, NoMemory> {
+    let mut given = Words::new(alloc);
+    for word in words {
+        given.push(word)?;
+    }
+    let mut shelf = MemoryShelf::new(alloc, Vec::new(alloc));
+    if let Some(bytes) = file {
+        shelf.add("a", bytes)?;
+    }
+    let mut input = SureSource::new(Vec::new(alloc));
+    let mut out = MemorySink::new(alloc, 64, failing.to_vec(alloc)?)?;
+    let mut notes = MemorySink::new(alloc, 256, Vec::new(alloc))?;
+    let status = alpha_top(alloc, &given, &mut shelf, &mut input, &mut out, &mut notes);
+    Ok(Outcome {
+        status,
+        out: out.bytes().to_vec(alloc)?,
+        notes: notes.bytes().to_vec(alloc)?,
+    })
+}
+
+/// The image of these words with the default fields.
+fn image(alloc: Global, words: &[u32]) -> Result<Vec<u8>, Fail> {
+    let mut code = Vec::new(alloc);
+    for word in words {
+        code.extend_from_slice(&word.to_le_bytes())?;
+    }
+    let fields = Fields {
+        code_base: 0x1_0000,
+        data_base: 0x1000_0000,
+        entry: 0x1_0000,
+        zeroed: 0,
+        stack: 65_536,
+    };
+    if code.len() % 4 != 0 {
+        return Err(Fail::from("whole words"));
+    }
+    let image = Image::build(alloc, &fields, &code, &[])?;
+    Ok(image_bytes(alloc, &image)?)
+}
+
+fn broken(trigger: u32, at: u32, condition: Condition) -> Option<Broken> {
+    Some(Broken {
+        trigger,
+        at,
+        condition,
+    })
+}
+
+#[test]
+fn judges_worked_examples(rt: HostRuntime) -> Result<(), Fail> {
+    let alloc = rt.alloc();
+    let rows: [(&[u32], Option<Broken>); 15] = [
+        // accepted
+        (
+            &[0x203f0002, 0x205f0003, 0x40220c03, 0x63ff0000, 0x00000083],
+            None,
+        ),
+        // source is the destination
+        (
+            &[0x40220c01, 0x63ff0000, 0x00000083],
+            broken(0, 0, Condition::SourceLost),
+        ),
+        // destination is R31
+        (
+            &[0x40220c1f, 0x63ff0000],
+            broken(0, 0, Condition::ZeroDestination),
+        ),
+        // a conditional move uses its destination
+        (
+            &[0x40220c03, 0x448504c6, 0x63ff0000],
+            broken(0, 1, Condition::SourceLost),
+        ),
+        // which was set before
+        (&[0x40220c03, 0x20df0000, 0x448504c6, 0x63ff0000], None),
+        // load by the destination
+        (
+            &[0x40220c03, 0xa4830000, 0x63ff0000],
+            broken(0, 1, Condition::WildBase),
+        ),
+        // load behind a barrier
+        (&[0x40220c03, 0x63ff0000, 0xa4830000, 0x63ff0000], None),
+        // load, then a store beside it
+        (&[0x40220c03, 0xa4850000, 0xb4c50008, 0x63ff0000], None),
+        // load, then an unaligned store that may meet it
+        (
+            &[0x40220c03, 0xa4850000, 0x3cc50008, 0x63ff0000],
+            broken(0, 2, Condition::LoadThenStore),
+        ),
+        // two triggers of one destination
+        (
+            &[0x40220c03, 0x40220803, 0x63ff0000],
+            broken(0, 1, Condition::SameDestination),
+        ),
+        // with a barrier between them
+        (&[0x40220c03, 0x63ff0400, 0x40220803, 0x63ff0000], None),
+        // the code ends
+        (&[0x40220c03, 0x47ff041f], broken(0, 2, Condition::Open)),
+        // a later trigger in the shadow of an earlier one
+        (
+            &[0x40220c03, 0x40850c06, 0x203f0000, 0x63ff0000],
+            broken(0, 2, Condition::SourceLost),
+        ),
+        // a locked load by the destination
+        (
+            &[0x40220c03, 0xac630000, 0x63ff0000],
+            broken(0, 1, Condition::WildBase),
+        ),
+        // a branch
+        (
+            &[0x40220c03, 0xc3e00000, 0x40220c1f],
+            broken(0, 1, Condition::Turn),
+        ),
+    ];
+    for (words, verdict) in rows {
+        let bytes = image(alloc, words)?;
+        let outcome = outcome_of(alloc, &["check", "a"], Some(&bytes), &[])?;
+        match verdict {
+            None => {
+                assert_eq!(rt; outcome.status, Status::Done(0));
+                assert_eq!(rt; outcome.out.as_slice(), b"accepted\n".as_slice());
+            }
+            Some(place) => assert_eq!(rt; outcome.status, Status::NotRestartable(place)),
+        }
+    }
+    Ok(())
+}
+
+#[test]
+fn judges_long_shadows(rt: HostRuntime) -> Result<(), Fail> {
+    let alloc = rt.alloc();
+    for (nops, status) in [
+        (1024, Status::Done(0)),
+        (
+            1025,
+            Status::NotRestartable(Broken {
+                trigger: 0,
+                at: 1025,
+                condition: Condition::Long,
+            }),
+        ),
+    ] {
+        let mut words = vec![in alloc; 0x4022_0c03u32]?;
+        for _ in 0..nops {
+            words.push(0x47ff_041f)?;
+        }
+        words.push(0x63ff_0000)?;
+        let bytes = image(alloc, &words)?;
+        assert_eq!(rt;
+            outcome_of(alloc, &["check", "a"], Some(&bytes), &[])?.status,
+            status
+        );
+    }
+    Ok(())
+}
+
+/// The image of the first worked example.
+const ACCEPTED: [u8; 68] =
+    *b"ALPHAIM1\x00\x00\x01\x00\x00\x00\x00\x00\x00\x00\x00\x10\x00\x00\x00\x00\x00\x00\x01\x00\x00\x00\x00\x00\x05\x00\x00\x00\x00\x00\x00\x00\x00\x00\x00\x00\x00\x00\x01\x00\x02\x00\x3f\x20\x03\x00\x5f\x20\x03\x0c\x22\x40\x00\x00\xff\x63\x83\x00\x00\x00";
+
+#[test]
+fn writes_the_line_of_each_status(rt: HostRuntime) -> Result<(), Fail> {
+    let alloc = rt.alloc();
+    let mut unknown = ACCEPTED;
+    unknown[56] = 0;
+    unknown[57] = 0;
+    unknown[58] = 0;
+    unknown[59] = 0;
+    let mut other = ACCEPTED;
+    other[57] = 0x2c;
+    let refused = image(alloc, &[0x4022_0c01, 0x63ff_0000, 0x83])?;
+    let large = vec![in alloc; 0u8; 18_874_369]?;
+    let rows: [(&[&str], Option<&[u8]>, u8, &[u8]); 12] = [
+        (&["check"], None, 2, b"words\n"),
+        (&["check", "-a"], None, 2, b"words\n"),
+        (&["check", "a", "b"], None, 2, b"words\n"),
+        (&["Check", "a"], None, 2, b"words\n"),
+        (&["check", "a"], None, 8, b"shelf\n"),
+        (
+            &["check", "a"],
+            Some(&[]),
+            4,
+            b"image kind 1 first 0 second 0\n",
+        ),
+        (
+            &["check", "a"],
+            Some(&ACCEPTED[..47]),
+            4,
+            b"image kind 1 first 47 second 0\n",
+        ),
+        (
+            &["check", "a"],
+            Some(&ACCEPTED[..67]),
+            4,
+            b"image kind 4 first 67 second 68\n",
+        ),
+        (
+            &["check", "a"],
+            Some(&unknown),
+            4,
+            b"image kind 5 first 2 second 0\n",
+        ),
+        (
+            &["check", "a"],
+            Some(&other),
+            4,
+            b"image kind 5 first 2 second 1075981315\n",
+        ),
+        (
+            &["check", "a"],
+            Some(&refused),
+            1,
+            b"broken trigger 0000000000010000 at 0000000000010000 condition C2\n",
+        ),
+        (&["check", "a"], Some(&large), 11, b"too large 18874368\n"),
+    ];
+    for (words, file, number, line) in rows {
+        let outcome = outcome_of(alloc, words, file, &[])?;
+        assert_eq!(rt; outcome.status.number(), number);
+        assert_eq!(rt; outcome.notes.as_slice(), line);
+        assert!(rt; outcome.out.is_empty());
+    }
+    Ok(())
+}
+
+#[test]
+fn damaged_images_are_refused(rt: HostRuntime) -> Result<(), Fail> {
+    let alloc = rt.alloc();
+    for len in 0..68 {
+        let status = outcome_of(alloc, &["check", "a"], Some(&ACCEPTED[..len]), &[])?.status;
+        let fault = if len < 48 {
+            ImageFault::Short(len as u64)
+        } else {
+            ImageFault::Length(len as u64, 68)
+        };
+        assert_eq!(rt; status, Status::BadImage(fault));
+    }
+    // Each field bad once: the place of its changed byte, and the byte.
+    for (field, place, byte) in [
+        (1, 8, 1),
+        (2, 16, 1),
+        (3, 32, 0),
+        (4, 39, 0x7f),
+        (5, 43, 0x7f),
+        (6, 44, 1),
+        (7, 24, 2),
+    ] {
+        let mut bytes = ACCEPTED;
+        bytes[place] = byte;
+        let status = outcome_of(alloc, &["check", "a"], Some(&bytes), &[])?.status;
+        assert_eq!(rt; status, Status::BadImage(ImageFault::Field(field)));
+    }
+    // One zeroed byte where the code begins.
+    let mut bytes = ACCEPTED;
+    bytes[18] = 1;
+    bytes[19] = 0;
+    bytes[40] = 1;
+    let status = outcome_of(alloc, &["check", "a"], Some(&bytes), &[])?.status;
+    assert_eq!(rt; status, Status::BadImage(ImageFault::Field(8)));
+    Ok(())
+}
+
+#[test]
+fn a_failed_put_is_a_sink_fault(rt: HostRuntime) -> Result<(), Fail> {
+    let outcome = outcome_of(rt.alloc(), &["check", "a"], Some(&ACCEPTED), &[0])?;
+    assert_eq!(rt; outcome.status, Status::SinkFault);
+    assert_eq!(rt; outcome.status.number(), 10);
+    assert!(rt; outcome.out.is_empty() && outcome.notes.is_empty());
+    Ok(())
+}

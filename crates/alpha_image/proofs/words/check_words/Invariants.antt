@@ -1,0 +1,6 @@
+use Rattle.alpha_image.specs.Layout.{words_of}
+use Rattle.alpha_image.proofs.CodeWords.{AreInside}
+use Rattle.alpha_image.proofs.words.check_words.Given as goal
+
+abbrev pub invariant-loop-place : goal.invariant-loop-place
+invariant-loop-place l = AreInside (words_of l.code) l.place

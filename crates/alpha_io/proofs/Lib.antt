@@ -1,0 +1,6 @@
+pub mod Counts
+pub mod FileMaps
+pub mod Fronts
+pub mod ReadAnswers
+pub mod Shelved
+pub mod Writes

@@ -1,0 +1,9 @@
+pub mod Faults
+pub mod Files
+pub mod ReadWhole
+pub mod ShelfState
+pub mod SinkState
+pub mod SourceState
+pub mod SureShelfState
+pub mod Written
+pub mod Line

@@ -1,0 +1,50 @@
+//! The devices of the outside: where input comes from, where output goes, where files lie.
+//!
+//! - [`Source`], [`Sink`] and [`Shelf`] are the traits. Each tells its content or nothing, and has
+//!   a count of its faults. [`Failed`] is the one answer of a device that failed.
+//! - [`read_whole`] reads a file of a shelf up to a limit, [`write_whole`] writes all of some bytes.
+//! - [`Line`] is a line of text in the making, in a buffer of its own.
+//! - In memory: [`MemorySource`] and [`SureSource`], [`MemorySink`] and [`NullSink`],
+//!   [`MemoryShelf`] and [`SureShelf`]. The sure ones and the null one never fail.
+//! - On a real system: [`ReadSource`] over a reader, [`WriteSink`] over a writer, [`DiskShelf`] over
+//!   the file system. They tell nothing.
+//!
+//! The laws: a count of faults never falls. An `Ok` leaves it, and a call answers `Failed` only
+//! where it rose or stands at the last value of a `u64`. Two refusals of a shelf that tells its
+//! files are no faults: of a piece of a file that isn't there, and of a file that isn't taken. What
+//! is told changes only as an `Ok` says; a `keep` that failed may leave anything under its name.
+//!
+//! `specs/Faults.antt` has the words on counts, `specs/Written.antt` those on what was written,
+//! `specs/Files.antt` those on files, `specs/ReadWhole.antt` the answers of `read_whole`, and the
+//! other files what a clause sees of an object in memory. `proofs/Counts.antt`,
+//! `proofs/Writes.antt`, `proofs/Shelved.antt` and `proofs/ReadAnswers.antt` have the laws over calls in
+//! a row that a caller needs.
+#![tactic(auto)]
+
+mod disk;
+mod fault;
+mod line;
+mod memory;
+mod read;
+mod shelf;
+mod sink;
+mod source;
+mod stream;
+#[cfg(test)]
+mod tests;
+
+pub use disk::DiskShelf;
+pub use line::Line;
+pub use memory::shelf::MemoryShelf;
+pub use memory::sink::{MemorySink, NullSink};
+pub use memory::source::{MemorySource, SureSource};
+pub use memory::sure_shelf::SureShelf;
+pub use read::{ReadFault, read_whole};
+pub use shelf::Shelf;
+pub use sink::{Sink, write_whole};
+pub use source::Source;
+pub use stream::{ReadSource, WriteSink};
+
+/// The one answer of a device that failed.
+#[derive(Clone, Copy, Debug, PartialEq, Eq)]
+pub struct Failed;

@@ -1,0 +1,7 @@
+mod Numbers
+mod Blocks
+mod Faults
+mod Bytes
+mod Places
+mod Kept
+pub mod Laws

@@ -1,0 +1,10 @@
+use Rattle.std.proofs.Common.{sym, subst}
+use Rattle.alpha_mem.specs.Memory.{IsMemory}
+use Rattle.alpha_mem.proofs.Kept.{IsMemory-empty}
+use Rattle.alpha_mem.proofs.memory.Memory.empty.Goals as goal
+
+pub invariant_of-result : goal.invariant_of-result
+invariant_of-result c = subst IsMemory (sym c.new.ensures.items) IsMemory-empty
+
+pub returns-clause-memory : goal.returns-clause-memory
+returns-clause-memory c = subst IsMemory (sym c.new.ensures.items) IsMemory-empty

@@ -1,0 +1,5 @@
+pub mod Block
+pub mod Size
+pub mod Number
+pub mod Fault
+pub mod Memory

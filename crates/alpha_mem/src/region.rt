@@ -1,0 +1,79 @@
+ghost use Rattle.std.specs.Prelude.{◌≡◌, ◌+◌, ◌-◌, ◌^◌, ◌<◌, ◌≤◌, IsTrue, IfOk, length};
+ghost use Rattle.alpha_mem.specs.Block.{shape_of, holds, part, overwritten, block};
+
+use alpha_words::NoMemory;
+use std::alloc::Global;
+use std::marker::Model;
+
+/// Bytes that stand in a row from an address on. A clause sees the block.
+#[derive(Debug, Drop)]
+pub struct Region {
+    first: u64,
+    bytes: Vec<u8>,
+    writable: bool,
+}
+
+impl Model for Region {
+    ghost use Rattle.alpha_mem.specs.Block.{Block};
+
+    ghost Value = { Block };
+
+    ghost view = { λ r. record { first = r.first; bytes = r.bytes.items; writable = r.writable } };
+}
+
+impl Region {
+    /// A region of these bytes and then `zeroed` zeros.
+    pub fn new(
+        alloc: Global,
+        first: u64,
+        bytes: &[u8],
+        zeroed: u64,
+        writable: bool,
+    ) -> Result<Region, NoMemory>
+        requires { length bytes.now + zeroed ≤ 2 ^ 30 }
+        ensures { IfOk result (λ b. b ≡ block first bytes.now zeroed writable) }
+    {
+        let size = bytes.len() + zeroed as usize;
+        let mut all = Vec::with_capacity(alloc, size)?;
+        all.extend_from_slice(bytes)?;
+        all.resize(size, 0)?;
+        Ok(Region {
+            first,
+            bytes: all,
+            writable,
+        })
+    }
+
+    /// Whether the range lies within the region.
+    pub fn holds(&self, addr: u64, len: u64) -> bool
+        ensures { result ≡ holds (shape_of self.now) addr len }
+    {
+        let size = self.bytes.len() as u64;
+        self.first <= addr && addr - self.first <= size && len <= size - (addr - self.first)
+    }
+
+    /// Whether stores may write the region.
+    pub fn writable(&self) -> bool
+        ensures { result ≡ self.now.writable }
+    {
+        self.writable
+    }
+
+    /// The bytes of a range of the region.
+    pub fn part(&self, addr: u64, len: u64) -> &[u8]
+        requires { IsTrue (holds (shape_of self.now) addr len) }
+        ensures { result.now ≡ part self.now addr len }
+    {
+        let at = (addr - self.first) as usize;
+        &self.bytes[at..at + len as usize]
+    }
+
+    /// Writes a range of the region.
+    pub fn put(&mut self, addr: u64, bytes: &[u8])
+        requires { IsTrue (holds (shape_of self.old) addr (length bytes.now)) }
+        ensures { self.new ≡ overwritten self.old addr bytes.now }
+    {
+        let at = (addr - self.first) as usize;
+        self.bytes[at..at + bytes.len()].copy_from_slice(bytes);
+    }
+}

@@ -1,0 +1,6 @@
+pub mod Code
+pub mod Broken
+pub mod Shadow
+pub mod Least
+pub mod Fetched
+pub mod Report

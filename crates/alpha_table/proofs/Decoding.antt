@@ -1,0 +1,316 @@
+-- The decoded instruction of a word is the one of the table.
+use Rattle.std.proofs.Common.{◌≡◌, ◌<◌, ◌^◌, ℕ, pos, negsuc, ◌-ℤ◌, ◌≤ℤ◌, ltb, Bool, true, false, Option, Some, None, List, [], ◌∷◌, ◌==◌, ◌&&◌, cond, eqb, find, ◌⊎◌, inl, inr, ⊎_elim, refl, sym, ap, ◌∙◌, subst, arith}
+use Rattle.std.specs.Option.{option_map}
+use Rattle.std.proofs.lemmas.Bool.{eq-eqb, eqb-true, eqb-false, ltb-true, ltb-false}
+use Rattle.std.proofs.lemmas.Int.{ints}
+use Rattle.std.proofs.lemmas.Option.{option_and_then_some, cond_some}
+use Rattle.alpha_words.specs.Field.{field, signed_field}
+use Rattle.alpha_words.specs.declared.PalCall.{PalCall}
+use Rattle.alpha_table.specs.declared.op.Op.{Op}
+use Rattle.alpha_table.specs.declared.op.Op.TheVariants.{Amask, Sextb, Sextw, Implver}
+use Rattle.alpha_table.specs.declared.rows.MemOp.{MemOp}
+use Rattle.alpha_table.specs.declared.rows.BranchOp.{BranchOp}
+use Rattle.alpha_table.specs.declared.rows.JumpKind.{JumpKind}
+use Rattle.alpha_table.specs.declared.rows.MiscOp.{MiscOp}
+use Rattle.alpha_table.specs.declared.form.Src.{Src}
+use Rattle.alpha_table.specs.declared.form.Src.TheVariants.{Reg, Lit}
+use Rattle.alpha_table.specs.declared.form.Form.{Form}
+use Rattle.alpha_table.specs.declared.form.Form.TheVariants.{Mem, Branch, Jump, Operate, Misc, Fetch, Pal}
+use Rattle.alpha_table.specs.Op.{op_row}
+use Rattle.alpha_table.specs.Rows.{memory_opcode, branch_opcode, jump_kind, misc_function, pal_function}
+use Rattle.alpha_table.specs.Row.{Row, SourceField, OperandsFit, Fits}
+use Rattle.alpha_table.specs.Decoded.{operates, memories, branches, jumps, miscs, pal_calls, operate_at, memory_at, branch_at, jump_at, pal_at, source_of, source_is, operands_fit, memory_form, branch_form, jump_form, operate_form, misc_form, fetch_form, pal_form, or_else, decoded}
+use Rattle.alpha_table.proofs.Lookups.{operate_at-row, memory_at-row, branch_at-row, jump_at-row, misc_at-row, pal_at-row, memory_at-branch, memory_at-operate, branch_at-operate, jump-operate}
+
+-- what is found passes the test
+find_passes : {X : Type 0} (p : X → Bool) (xs : List X) (x : X) → find p xs ≡ Some x → p x ≡ true
+find_passes p [] x h = cc
+find_passes p (y ∷ ys) x h = cases (p y) refl h (find_passes p ys x)
+  where
+    cases : (b : Bool) → p y ≡ b → cond b (Some y) (find p ys) ≡ Some x → (find p ys ≡ Some x → p x ≡ true) → p x ≡ true
+    cases true e h later = let same : y ≡ x = cc in subst (λ z. p z ≡ true) same e
+    cases false e h later = later h
+
+-- the row that is found has the number
+found_by : {R : Type 0} (number : R → ℕ) (rows : List R) (n : ℕ) (r : R) → find (λ row. number row == n) rows ≡ Some r → number r ≡ n
+found_by number rows n r h = eqb-true (number r) n (find_passes (λ row. number row == n) rows r h)
+
+option_map_some : {A B : Type 0} (f : A → B) (o : Option A) (y : B) → option_map f o ≡ Some y → (x : A) × (o ≡ Some x) × (f x ≡ y)
+option_map_some f None y h = cc
+option_map_some f (Some x) y h = (x, refl, cc)
+
+or_else_some : (a b : Option Form) (i : Form) → or_else a b ≡ Some i → (a ≡ Some i) ⊎ (b ≡ Some i)
+or_else_some None b i h = inr h
+or_else_some (Some j) b i h = inl h
+
+-- a field of one bit that isn't 1 is 0
+not_one : (w : ℕ) → (field 12 12 w ≡ 1 → ⊥) → field 12 12 w ≡ 0
+not_one w h = omega arith
+
+-- each format by itself
+
+memory_form-row : (w : ℕ) (op : MemOp) (ra rb : ℕ) (disp : _) → Row w (Mem op ra rb disp) → memory_form w ≡ Some (Mem op ra rb disp)
+unfolding memory_form
+memory_form-row w op ra rb disp h = rw (h.0, memory_at-row op, h.1, h.2, h.3) refl
+
+branch_form-row : (w : ℕ) (op : BranchOp) (ra : ℕ) (disp : _) → Row w (Branch op ra disp) → branch_form w ≡ Some (Branch op ra disp)
+unfolding branch_form
+branch_form-row w op ra disp h = rw (h.0, branch_at-row op, h.1, h.2) refl
+
+jump_form-row : (w : ℕ) (kind : JumpKind) (ra rb hint : ℕ) → Row w (Jump kind ra rb hint) → jump_form w ≡ Some (Jump kind ra rb hint)
+unfolding jump_form
+jump_form-row w kind ra rb hint h = rw (h.0, h.3, jump_at-row kind, h.1, h.2, h.4) refl
+
+misc_form-row : (w : ℕ) (op : MiscOp) → Row w (Misc op) → misc_form w ≡ Some (Misc op)
+unfolding misc_form
+misc_form-row w op h = rw (h.0, h.1, h.2, h.3, misc_at-row op) refl
+
+fetch_form-row : (w : ℕ) (modify : Bool) (rb : ℕ) → Row w (Fetch modify rb) → fetch_form w ≡ Some (Fetch modify rb)
+unfolding fetch_form
+fetch_form-row w false rb h = rw (h.0, h.1, h.3, h.2) refl
+fetch_form-row w true rb h = rw (h.0, h.1, h.3, h.2) refl
+
+pal_form-row : (w : ℕ) (call : PalCall) → Row w (Pal call) → pal_form w ≡ Some (Pal call)
+unfolding pal_form
+pal_form-row w call h = rw (h.0, h.1, pal_at-row call) refl
+
+source_of-field : (w : ℕ) (src : Src) → SourceField w src → source_of w ≡ Some src
+unfolding source_of
+source_of-field w (Reg rb) h = rw (h.2, h.1, h.0) refl
+source_of-field w (Lit n) h = rw (h.1, h.0) refl
+
+operands_fit-fits : (op : Op) (ra : ℕ) (src : Src) → OperandsFit op ra src → operands_fit op ra src ≡ true
+operands_fit-fits Amask ra src h = eq-eqb ra 31 h
+operands_fit-fits Sextb ra src h = eq-eqb ra 31 h
+operands_fit-fits Sextw ra src h = eq-eqb ra 31 h
+operands_fit-fits Implver ra src h = rw (h.0, h.1) refl
+operands_fit-fits _ ra src h = refl
+
+operate_form-row : (w : ℕ) (op : Op) (ra : ℕ) (src : Src) (rc : ℕ) → Row w (Operate op ra src rc) → operate_form w ≡ Some (Operate op ra src rc)
+unfolding operate_form
+operate_form-row w op ra src rc h =
+    rw (h.0, h.1, operate_at-row op, source_of-field w src h.3, h.2, operands_fit-fits op ra src h.5, h.4) refl
+
+-- a word of one format has no row of an earlier one
+
+memory_form-none : (w opcode : ℕ) → field 31 26 w ≡ opcode → memory_at opcode ≡ None → memory_form w ≡ None
+unfolding memory_form
+memory_form-none w opcode e none = rw (e, none) refl
+
+branch_form-none : (w opcode : ℕ) → field 31 26 w ≡ opcode → branch_at opcode ≡ None → branch_form w ≡ None
+unfolding branch_form
+branch_form-none w opcode e none = rw (e, none) refl
+
+jump_form-none : (w opcode : ℕ) → field 31 26 w ≡ opcode → eqb opcode 0x1a ≡ false → jump_form w ≡ None
+unfolding jump_form
+jump_form-none w opcode e other = rw (e, other) refl
+
+operate_form-none : (w opcode : ℕ) → field 31 26 w ≡ opcode → ((function : ℕ) → operate_at opcode function ≡ None) → operate_form w ≡ None
+unfolding operate_form
+operate_form-none w opcode e none = rw (e, none (field 11 5 w)) refl
+
+misc_form-none : (w opcode : ℕ) → field 31 26 w ≡ opcode → eqb opcode 0x18 ≡ false → misc_form w ≡ None
+unfolding misc_form
+misc_form-none w opcode e other = rw (e, other) refl
+
+fetch_form-none : (w opcode : ℕ) → field 31 26 w ≡ opcode → eqb opcode 0x18 ≡ false → fetch_form w ≡ None
+unfolding fetch_form
+fetch_form-none w opcode e other = rw (e, other) refl
+
+cond_same : {A : Type 0} (b : Bool) (x : A) → cond b x x ≡ x
+cond_same true x = refl
+cond_same false x = refl
+
+misc_form-fetch : (w : ℕ) (modify : Bool) (rb : ℕ) → Row w (Fetch modify rb) → misc_form w ≡ None
+unfolding misc_form
+misc_form-fetch w false rb h = rw h.3 (cond_same (field 31 26 w == 0x18 && (field 25 21 w == 31 && field 20 16 w == 31)) None)
+misc_form-fetch w true rb h = rw h.3 (cond_same (field 31 26 w == 0x18 && (field 25 21 w == 31 && field 20 16 w == 31)) None)
+
+pub decoded-Row : (w : ℕ) (i : Form) → Row w i → decoded w ≡ Some i
+unfolding decoded
+decoded-Row w (Mem op ra rb disp) h = rw (memory_form-row w op ra rb disp h) refl
+decoded-Row w (Branch op ra disp) h =
+    rw (memory_form-none w (branch_opcode op) h.0 (memory_at-branch op), branch_form-row w op ra disp h) refl
+decoded-Row w (Jump kind ra rb hint) h =
+    rw (memory_form-none w 0x1a h.0 refl, branch_form-none w 0x1a h.0 refl, jump_form-row w kind ra rb hint h) refl
+decoded-Row w (Operate op ra src rc) h =
+    rw (memory_form-none w (op_row op).0 h.0 (memory_at-operate op), branch_form-none w (op_row op).0 h.0 (branch_at-operate op), jump_form-none w (op_row op).0 h.0 (jump-operate op), operate_form-row w op ra src rc h) refl
+decoded-Row w (Misc op) h =
+    rw (memory_form-none w 0x18 h.0 refl, branch_form-none w 0x18 h.0 refl, jump_form-none w 0x18 h.0 refl, operate_form-none w 0x18 h.0 (λ _. refl), misc_form-row w op h) refl
+decoded-Row w (Fetch modify rb) h =
+    rw (memory_form-none w 0x18 h.0 refl, branch_form-none w 0x18 h.0 refl, jump_form-none w 0x18 h.0 refl, operate_form-none w 0x18 h.0 (λ _. refl), misc_form-fetch w modify rb h, fetch_form-row w modify rb h) refl
+decoded-Row w (Pal call) h =
+    rw (memory_form-none w 0 h.0 refl, branch_form-none w 0 h.0 refl, jump_form-none w 0 h.0 refl, operate_form-none w 0 h.0 (λ _. refl), misc_form-none w 0 h.0 refl, fetch_form-none w 0 h.0 refl, pal_form-row w call h) refl
+
+-- the other way: what is decoded has the row
+
+-- a choice that gives something took the first way
+cond_none : {A : Type 0} (b : Bool) (o : Option A) (x : A) → cond b o None ≡ Some x → (b ≡ true) × (o ≡ Some x)
+cond_none true o x h = (refl, h)
+cond_none false o x h = cc
+
+both : (a b : Bool) → (a && b) ≡ true → (a ≡ true) × (b ≡ true)
+both true b h = (refl, h)
+both false b h = cc
+
+memory_form-is : (w : ℕ) (i : Form) → memory_form w ≡ Some i → Row w i
+unfolding memory_form
+memory_form-is w i h =
+    let m = option_map_some _ _ i h in
+    let e = found_by memory_opcode memories (field 31 26 w) m.0 m.1 in
+    subst (Row w) m.2 (sym e, refl, refl, refl)
+
+branch_form-is : (w : ℕ) (i : Form) → branch_form w ≡ Some i → Row w i
+unfolding branch_form
+branch_form-is w i h =
+    let m = option_map_some _ _ i h in
+    let e = found_by branch_opcode branches (field 31 26 w) m.0 m.1 in
+    subst (Row w) m.2 (sym e, refl, refl)
+
+jump_form-is : (w : ℕ) (i : Form) → jump_form w ≡ Some i → Row w i
+unfolding jump_form
+jump_form-is w i h =
+    let c = cond_none _ _ i h in
+    let m = option_map_some (λ kind. Jump kind (field 25 21 w) (field 20 16 w) (field 13 0 w)) (jump_at (field 15 14 w)) i c.1 in
+    let e = found_by jump_kind jumps (field 15 14 w) m.0 m.1 in
+    subst (Row w) m.2 (eqb-true (field 31 26 w) 0x1a c.0, refl, refl, sym e, refl)
+
+misc_form-is : (w : ℕ) (i : Form) → misc_form w ≡ Some i → Row w i
+unfolding misc_form
+misc_form-is w i h =
+    let c = cond_none _ _ i h in
+    let m = option_map_some _ _ i c.1 in
+    let e = found_by misc_function miscs (field 15 0 w) m.0 m.1 in
+    let b = both (field 31 26 w == 0x18) (field 25 21 w == 31 && field 20 16 w == 31) c.0 in
+    let r = both (field 25 21 w == 31) (field 20 16 w == 31) b.1 in
+    subst (Row w) m.2 (eqb-true (field 31 26 w) 0x18 b.0, eqb-true (field 25 21 w) 31 r.0, eqb-true (field 20 16 w) 31 r.1, sym e)
+
+fetch_form-is : (w : ℕ) (i : Form) → fetch_form w ≡ Some i → Row w i
+unfolding fetch_form
+fetch_form-is w i h =
+    let c = cond_none _ _ i h in
+    let b = both _ _ c.0 in
+    cases (field 15 0 w == 0x8000) (field 15 0 w == 0xa000) refl refl c.1 (eqb-true _ _ b.0) (eqb-true _ _ b.1)
+  where
+    cases : (p q : Bool) → (field 15 0 w == 0x8000) ≡ p → (field 15 0 w == 0xa000) ≡ q → cond p (Some (Fetch false (field 20 16 w))) (cond q (Some (Fetch true (field 20 16 w))) None) ≡ Some i → field 31 26 w ≡ 0x18 → field 25 21 w ≡ 31 → Row w i
+    cases true q e f h o r = let m : Fetch false (field 20 16 w) ≡ i = cc in subst (Row w) m (o, r, refl, eqb-true _ _ e)
+    cases false true e f h o r = let m : Fetch true (field 20 16 w) ≡ i = cc in subst (Row w) m (o, r, refl, eqb-true _ _ f)
+    cases false false e f h o r = cc
+
+pal_form-is : (w : ℕ) (i : Form) → pal_form w ≡ Some i → Row w i
+unfolding pal_form
+pal_form-is w i h =
+    let c = cond_none _ _ i h in
+    let m = option_map_some Pal (pal_at (field 25 0 w)) i c.1 in
+    let e = found_by pal_function pal_calls (field 25 0 w) m.0 m.1 in
+    subst (Row w) m.2 (eqb-true (field 31 26 w) 0 c.0, sym e)
+
+source_of-is : (w : ℕ) (src : Src) → source_of w ≡ Some src → SourceField w src
+unfolding source_of
+source_of-is w src h = cases (field 12 12 w == 1) (field 15 13 w == 0) refl refl h
+  where
+    cases : (p q : Bool) → (field 12 12 w == 1) ≡ p → (field 15 13 w == 0) ≡ q → cond p (Some (Lit (field 20 13 w))) (cond q (Some (Reg (field 20 16 w))) None) ≡ Some src → SourceField w src
+    cases true q e f h = let m : Lit (field 20 13 w) ≡ src = cc in subst (SourceField w) m (refl, eqb-true _ _ e)
+    cases false true e f h = let m : Reg (field 20 16 w) ≡ src = cc in subst (SourceField w) m (refl, eqb-true _ _ f, not_one w (eqb-false _ _ e))
+    cases false false e f h = cc
+
+source_is-same : (src : Src) (n : ℕ) → source_is src n ≡ true → src ≡ Lit n
+source_is-same (Reg r) n h = cc
+source_is-same (Lit m) n h = ap Lit (eqb-true m n h)
+
+operands_fit-is : (op : Op) (ra : ℕ) (src : Src) → operands_fit op ra src ≡ true → OperandsFit op ra src
+operands_fit-is Amask ra src h = eqb-true ra 31 h
+operands_fit-is Sextb ra src h = eqb-true ra 31 h
+operands_fit-is Sextw ra src h = eqb-true ra 31 h
+operands_fit-is Implver ra src h = let b = both (ra == 31) (source_is src 1) h in (eqb-true ra 31 b.0, source_is-same src 1 b.1)
+operands_fit-is _ ra src h = tt
+
+found_operate : (opcode function : ℕ) (op : Op) → operate_at opcode function ≡ Some op → ((op_row op).0 ≡ opcode) × ((op_row op).1 ≡ function)
+found_operate opcode function op h =
+    let passes = find_passes (λ row. (op_row row).0 == opcode && (op_row row).1 == function) operates op h in
+    let b = both ((op_row op).0 == opcode) ((op_row op).1 == function) passes in
+    (eqb-true (op_row op).0 opcode b.0, eqb-true (op_row op).1 function b.1)
+
+operate_form-is : (w : ℕ) (i : Form) → operate_form w ≡ Some i → Row w i
+unfolding operate_form
+operate_form-is w i h =
+    option_and_then_some _ _ i h (λ op found inner.
+    option_and_then_some _ _ i inner (λ src taken last.
+    let c = cond_some (operands_fit op (field 25 21 w) src) (Operate op (field 25 21 w) src (field 4 0 w)) i last in
+    let e = found_operate (field 31 26 w) (field 11 5 w) op found in
+    subst (Row w) c.1 (sym e.0, sym e.1, refl, source_of-is w src taken, refl, operands_fit-is op (field 25 21 w) src c.0)))
+
+pub Row-decoded : (w : ℕ) (i : Form) → decoded w ≡ Some i → Row w i
+unfolding decoded
+Row-decoded w i h =
+    ⊎_elim (memory_form-is w i) (λ h.
+    ⊎_elim (branch_form-is w i) (λ h.
+    ⊎_elim (jump_form-is w i) (λ h.
+    ⊎_elim (operate_form-is w i) (λ h.
+    ⊎_elim (misc_form-is w i) (λ h.
+    ⊎_elim (fetch_form-is w i) (pal_form-is w i)
+    (or_else_some _ _ i h)) (or_else_some _ _ i h)) (or_else_some _ _ i h)) (or_else_some _ _ i h)) (or_else_some _ _ i h)) (or_else_some _ _ i h)
+
+-- a word has one instruction at most
+pub same_insn : (w : ℕ) (i j : Form) → Row w i → Row w j → i ≡ j
+same_insn w i j h g = let e = decoded-Row w i h in let f = decoded-Row w j g in cc
+
+pub decoded_none : (w : ℕ) → ((i : Form) → Row w i → ⊥) → decoded w ≡ None
+decoded_none w none = cases (decoded w) refl
+  where
+    cases : (o : Option Form) → decoded w ≡ o → decoded w ≡ None
+    cases None e = e
+    cases (Some i) e = absurd (none i (Row-decoded w i e))
+
+-- a number below the full range is known by the signed number of its digits
+same_signed : (half full f g : ℕ) → f < full → g < full → cond (ltb f half) (pos f) (pos f -ℤ pos full) ≡ cond (ltb g half) (pos g) (pos g -ℤ pos full) → f ≡ g
+same_signed half full f g a b h = cases (ltb f half) (ltb g half) h
+  where
+    cases : (p q : Bool) → cond p (pos f) (pos f -ℤ pos full) ≡ cond q (pos g) (pos g -ℤ pos full) → f ≡ g
+    cases true true h = omega (arith, ints)
+    cases true false h = absurd (omega (arith, ints))
+    cases false true h = absurd (omega (arith, ints))
+    cases false false h = omega (arith, ints)
+
+-- an instruction has one word
+pub same_word : (v w : ℕ) (i : Form) → v < 2 ^ 32 → w < 2 ^ 32 → Row v i → Row w i → v ≡ w
+same_word v w (Mem op ra rb disp) a b h g = let d = same_signed (2 ^ 15) (2 ^ 16) (field 15 0 v) (field 15 0 w) (omega arith) (omega arith) (h.3 ∙ sym g.3) in omega arith
+same_word v w (Branch op ra disp) a b h g = let d = same_signed (2 ^ 20) (2 ^ 21) (field 20 0 v) (field 20 0 w) (omega arith) (omega arith) (h.2 ∙ sym g.2) in omega arith
+same_word v w (Jump kind ra rb hint) a b h g = omega arith
+same_word v w (Operate op ra (Reg rb) rc) a b h g = omega arith
+same_word v w (Operate op ra (Lit n) rc) a b h g = omega arith
+same_word v w (Misc op) a b h g = omega arith
+same_word v w (Fetch modify rb) a b h g = omega arith
+same_word v w (Pal call) a b h g = omega arith
+
+signed_range : (w : ℕ) → (negsuc 0xfffff ≤ℤ signed_field 20 0 w) × (signed_field 20 0 w ≤ℤ pos 0xfffff)
+signed_range w = cases (field 20 0 w) (ltb (field 20 0 w) (2 ^ 20)) refl (omega arith)
+  where
+    cases : (f : ℕ) (b : Bool) → ltb f (2 ^ 20) ≡ b → f < 2 ^ 21 → (negsuc 0xfffff ≤ℤ cond b (pos f) (pos f -ℤ pos (2 ^ 21))) × (cond b (pos f) (pos f -ℤ pos (2 ^ 21)) ≤ℤ pos 0xfffff)
+    cases f true e h = let below = ltb-true _ _ e in (omega (arith, ints), omega (arith, ints))
+    cases f false e h = let above = ltb-false _ _ e in (omega (arith, ints), omega (arith, ints))
+
+-- a word's instruction has each field within its row
+pub Fits-Row : (w : ℕ) (i : Form) → Row w i → Fits i
+Fits-Row w (Mem op ra rb disp) h = tt
+Fits-Row w (Branch op ra disp) h = rw (← h.2) (signed_range w)
+Fits-Row w (Jump kind ra rb hint) h = omega arith
+Fits-Row w (Operate op ra src rc) h = h.5
+Fits-Row w (Misc op) h = tt
+Fits-Row w (Fetch modify rb) h = tt
+Fits-Row w (Pal call) h = tt
+
+-- a word that no format has stands for no instruction
+pub no_form : (w : ℕ) (i : Form) → Row w i
+    → ((op : MemOp) (ra rb : ℕ) (disp : _) → Row w (Mem op ra rb disp) → ⊥) → ((op : BranchOp) (ra : ℕ) (disp : _) → Row w (Branch op ra disp) → ⊥)
+    → ((kind : JumpKind) (ra rb hint : ℕ) → Row w (Jump kind ra rb hint) → ⊥) → ((op : Op) (ra : ℕ) (src : Src) (rc : ℕ) → Row w (Operate op ra src rc) → ⊥)
+    → ((op : MiscOp) → Row w (Misc op) → ⊥) → ((modify : Bool) (rb : ℕ) → Row w (Fetch modify rb) → ⊥) → ((call : PalCall) → Row w (Pal call) → ⊥) → ⊥
+no_form w (Mem op ra rb disp) h a b c d e f g = a op ra rb disp h
+no_form w (Branch op ra disp) h a b c d e f g = b op ra disp h
+no_form w (Jump kind ra rb hint) h a b c d e f g = c kind ra rb hint h
+no_form w (Operate op ra src rc) h a b c d e f g = d op ra src rc h
+no_form w (Misc op) h a b c d e f g = e op h
+no_form w (Fetch modify rb) h a b c d e f g = f modify rb h
+no_form w (Pal call) h a b c d e f g = g call h
+
+pub ruleset decoding = (decoded-Row, decoded_none, Fits-Row)

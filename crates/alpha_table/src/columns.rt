@@ -1,0 +1,196 @@
+ghost use Rattle.std.specs.Prelude.{◌≡◌, ◌<◌, ℕ, ◌↔◌, ◌∷◌, IsTrue, IfSome};
+ghost use Rattle.alpha_table.specs.declared.form.Form.TheVariants.{Mem};
+ghost use Rattle.alpha_words.specs.Regs.{Has};
+ghost use Rattle.alpha_table.specs.Columns.{counts, source_registers, uses_of, sets_of, kind_of, access_of, span_of, trap_op_of};
+
+use crate::op::OpRole;
+use crate::rows::MemRole;
+use crate::{Form, Insn, MemOp, MiscOp, Src, TrapOp};
+use alpha_words::{Reg, RegSet};
+
+/// What an instruction is to a trap shadow.
+#[derive(Clone, Copy, Debug, PartialEq, Eq)]
+pub enum InsnKind {
+    Plain,
+    /// It may trap on overflow.
+    Trigger,
+    /// A pending trap is reported before it.
+    Barrier,
+    Load,
+    Store,
+    /// A locked load or a conditional store.
+    Locked,
+    /// A branch or a jump.
+    Turn,
+}
+
+/// An access to memory.
+#[derive(Clone, Copy, Debug, PartialEq, Eq)]
+pub struct MemAccess {
+    pub base: Reg,
+    /// In bytes.
+    pub disp: i16,
+    /// How many bytes: 1, 2, 4 or 8.
+    pub bytes: u8,
+    /// Whether the three low bits of the address are cleared.
+    pub clears: bool,
+}
+
+/// The bytes that an access may touch, counted from its base register: from `low` up to, and
+/// without, `high`.
+#[derive(Clone, Copy, Debug, PartialEq, Eq)]
+pub struct ByteSpan {
+    pub low: i32,
+    pub high: i32,
+}
+
+impl MemAccess {
+    ghost use Rattle.alpha_table.specs.Columns.{bytes_spanned};
+
+    /// The bytes that the access may touch.
+    pub fn span(&self) -> ByteSpan
+        ensures { result ≡ bytes_spanned self.now }
+    {
+        let disp = i32::from(self.disp);
+        ByteSpan {
+            low: if self.clears { disp - 7 } else { disp },
+            high: disp + i32::from(self.bytes),
+        }
+    }
+}
+
+impl ByteSpan {
+    ghost use Rattle.std.specs.Prelude.{◌<ℤ◌};
+
+    /// Whether two spans, counted from one base register, share a byte.
+    pub fn meets(&self, other: &ByteSpan) -> bool
+        ensures { IsTrue result ↔ ((self.now.low <ℤ other.now.high) × (other.now.low <ℤ self.now.high)) }
+    {
+        self.low < other.high && other.low < self.high
+    }
+}
+
+/// The registers that the instruction reads, but for R31. A conditional move reads its
+/// destination too.
+pub fn uses(i: &Insn) -> RegSet
+    ensures { (r : ℕ) → Has result r ↔ IsTrue (uses_of i.now r) }
+{
+    let none = RegSet::empty();
+    match i.form() {
+        Form::Mem { op, ra, rb, .. } => match op.columns().role {
+            MemRole::Load if ra == Reg::ZERO => none,
+            MemRole::Address | MemRole::Load | MemRole::LoadLocked => none.with(rb),
+            MemRole::Store | MemRole::StoreConditional => none.with(ra).with(rb),
+        },
+        Form::Branch { op, ra, .. } if op.is_conditional() => none.with(ra),
+        Form::Jump { rb, .. } => none.with(rb),
+        Form::Operate { op, ra, src, rc } => match op.role() {
+            OpRole::Move => operate_sources(ra, &src).with(rc),
+            OpRole::Plain | OpRole::Trap => operate_sources(ra, &src),
+        },
+        _ => none,
+    }
+}
+
+// The sources of an operate instruction, but for R31.
+fn operate_sources(ra: Reg, src: &Src) -> RegSet
+    ensures { (r : ℕ) → Has result r ↔ IsTrue (counts (ra ∷ source_registers src.now) r) }
+{
+    match *src {
+        Src::Reg(rb) => RegSet::empty().with(ra).with(rb),
+        Src::Lit(_) => RegSet::empty().with(ra),
+    }
+}
+
+/// The register that the instruction writes, `None` where there is none or it is R31.
+pub fn sets(i: &Insn) -> Option<Reg>
+    ensures value { result ≡ sets_of i.now }
+    ensures bound { IfSome result (λ r. r < 31) }
+{
+    let written = match i.form() {
+        Form::Mem { op, ra, .. } => match op.columns().role {
+            MemRole::Store => None,
+            _ => Some(ra),
+        },
+        Form::Branch { op, ra, .. } if !op.is_conditional() => Some(ra),
+        Form::Jump { ra, .. } => Some(ra),
+        Form::Operate { rc, .. } => Some(rc),
+        _ => None,
+    };
+    written.filter(|r| r.number() < 31)
+}
+
+/// What the instruction is to a trap shadow. A load into R31 is plain, but for the locked ones.
+pub fn kind(i: &Insn) -> InsnKind
+    ensures { result ≡ kind_of i.now }
+{
+    match i.form() {
+        Form::Mem { op, ra, .. } => memory_kind(op, ra),
+        Form::Branch { .. } | Form::Jump { .. } => InsnKind::Turn,
+        Form::Operate { op, .. } => match op.role() {
+            OpRole::Trap => InsnKind::Trigger,
+            OpRole::Plain | OpRole::Move => InsnKind::Plain,
+        },
+        Form::Misc(op) => match op {
+            MiscOp::Trapb | MiscOp::Excb => InsnKind::Barrier,
+            MiscOp::Mb | MiscOp::Wmb => InsnKind::Plain,
+        },
+        Form::Fetch { .. } => InsnKind::Plain,
+        Form::Pal(_) => InsnKind::Barrier,
+    }
+}
+
+// What a memory instruction is to a trap shadow.
+fn memory_kind(op: MemOp, ra: Reg) -> InsnKind
+    ensures { (rb : ℕ) (disp : _) → result ≡ kind_of (Mem op ra rb disp) }
+{
+    match op.columns().role {
+        MemRole::Address => InsnKind::Plain,
+        MemRole::Load => {
+            if ra == Reg::ZERO {
+                InsnKind::Plain
+            } else {
+                InsnKind::Load
+            }
+        }
+        MemRole::Store => InsnKind::Store,
+        MemRole::LoadLocked | MemRole::StoreConditional => InsnKind::Locked,
+    }
+}
+
+/// The access that the instruction makes to memory, if it makes one.
+pub fn access(i: &Insn) -> Option<MemAccess>
+    ensures { result ≡ access_of i.now }
+{
+    let Form::Mem { op, ra, rb, disp } = i.form() else {
+        return None;
+    };
+    let columns = op.columns();
+    match columns.role {
+        MemRole::Address => None,
+        MemRole::Load if ra == Reg::ZERO => None,
+        _ => Some(MemAccess {
+            base: rb,
+            disp,
+            bytes: columns.bytes,
+            clears: columns.clears,
+        }),
+    }
+}
+
+/// The bytes that the instruction's access may touch, if it makes one.
+pub fn span(i: &Insn) -> Option<ByteSpan>
+    ensures { result ≡ span_of i.now }
+{
+    access(i).map(|access| access.span())
+}
+
+/// The operation that may trap, for an instruction with `/V`.
+pub fn trap_op(i: &Insn) -> Option<TrapOp>
+    ensures { result ≡ trap_op_of i.now }
+{
+    match i.form() {
+        Form::Operate { op, .. } => op.trap(),
+        _ => None,
+    }
+}

@@ -1,0 +1,159 @@
+ghost use Rattle.std.specs.Prelude.{◌≡◌, ℕ, IfSome, IfNone};
+ghost use Rattle.alpha_table.specs.Row.{Row, SourceField};
+ghost use Rattle.alpha_table.specs.Decoded.{decoded};
+ghost use Rattle.alpha_table.specs.declared.form.Form.TheVariants.{Mem, Branch, Jump, Operate, Misc, Fetch, Pal};
+
+use crate::insn::operands_fit;
+use crate::rows::pal_call_at;
+use crate::{BranchOp, Form, Insn, JumpKind, MemOp, MiscOp, Op, Src};
+use alpha_words::{Reg, Word};
+
+fn memory(w: Word) -> Option<Form>
+    ensures found { IfSome result (λ form. Row w.0 form) }
+    ensures none { IfNone result ((op : _) (ra rb : ℕ) (disp : _) → Row w.0 (Mem op ra rb disp) → ⊥) }
+{
+    let op = MemOp::at(w.opcode())?;
+    Some(Form::Mem {
+        op,
+        ra: w.ra(),
+        rb: w.rb(),
+        disp: w.disp16(),
+    })
+}
+
+fn branch(w: Word) -> Option<Form>
+    ensures found { IfSome result (λ form. Row w.0 form) }
+    ensures none { IfNone result ((op : _) (ra : ℕ) (disp : _) → Row w.0 (Branch op ra disp) → ⊥) }
+{
+    let op = BranchOp::at(w.opcode())?;
+    Some(Form::Branch {
+        op,
+        ra: w.ra(),
+        disp: w.disp21(),
+    })
+}
+
+fn jump(w: Word) -> Option<Form>
+    ensures found { IfSome result (λ form. Row w.0 form) }
+    ensures none { IfNone result ((kind : _) (ra rb hint : ℕ) → Row w.0 (Jump kind ra rb hint) → ⊥) }
+{
+    if w.opcode() != 0x1a {
+        return None;
+    }
+    let kind = JumpKind::at(w.kind())?;
+    Some(Form::Jump {
+        kind,
+        ra: w.ra(),
+        rb: w.rb(),
+        hint: w.hint(),
+    })
+}
+
+fn misc(w: Word) -> Option<Form>
+    ensures found { IfSome result (λ form. Row w.0 form) }
+    ensures none { IfNone result ((op : _) → Row w.0 (Misc op) → ⊥) }
+{
+    if w.opcode() != 0x18 || w.ra() != Reg::ZERO || w.rb() != Reg::ZERO {
+        return None;
+    }
+    Some(Form::Misc(MiscOp::at(w.misc())?))
+}
+
+fn fetch(w: Word) -> Option<Form>
+    ensures found { IfSome result (λ form. Row w.0 form) }
+    ensures none { IfNone result ((modify : _) (rb : ℕ) → Row w.0 (Fetch modify rb) → ⊥) }
+{
+    if w.opcode() != 0x18 || w.ra() != Reg::ZERO {
+        return None;
+    }
+    let modify = match w.misc() {
+        0x8000 => false,
+        0xa000 => true,
+        _ => return None,
+    };
+    Some(Form::Fetch { modify, rb: w.rb() })
+}
+
+fn pal(w: Word) -> Option<Form>
+    ensures found { IfSome result (λ form. Row w.0 form) }
+    ensures none { IfNone result ((call : _) → Row w.0 (Pal call) → ⊥) }
+{
+    if w.opcode() != 0 {
+        return None;
+    }
+    Some(Form::Pal(pal_call_at(w.pal())?))
+}
+
+fn source(w: Word) -> Option<Src>
+    ensures found { IfSome result (λ src. SourceField w.0 src) }
+    ensures none { IfNone result ((src : _) → SourceField w.0 src → ⊥) }
+{
+    if w.is_literal() {
+        Some(Src::Lit(w.literal()))
+    } else if w.zeros() == 0 {
+        Some(Src::Reg(w.rb()))
+    } else {
+        None
+    }
+}
+
+fn operate(w: Word) -> Option<Form>
+    ensures found { IfSome result (λ form. Row w.0 form) }
+    ensures none { IfNone result ((op : _) (ra : ℕ) (src : _) (rc : ℕ) → Row w.0 (Operate op ra src rc) → ⊥) }
+{
+    let op = Op::at(w.opcode(), w.function())?;
+    let src = source(w)?;
+    let ra = w.ra();
+    if !operands_fit(op, ra, &src) {
+        return None;
+    }
+    Some(Form::Operate {
+        op,
+        ra,
+        src,
+        rc: w.rc(),
+    })
+}
+
+// The first format that has the word.
+
+fn form_of(w: Word) -> Option<Form>
+    ensures found { IfSome result (λ form. Row w.0 form) }
+    ensures none { IfNone result ((form : _) → Row w.0 form → ⊥) }
+{
+    if let Some(form) = operate(w) {
+        return Some(form);
+    }
+    if let Some(form) = memory(w) {
+        return Some(form);
+    }
+    if let Some(form) = branch(w) {
+        return Some(form);
+    }
+    if let Some(form) = jump(w) {
+        return Some(form);
+    }
+    if let Some(form) = misc(w) {
+        return Some(form);
+    }
+    if let Some(form) = fetch(w) {
+        return Some(form);
+    }
+    if let Some(form) = pal(w) {
+        return Some(form);
+    }
+    None
+}
+
+/// The instruction that the word stands for, `None` exactly where it is outside the table.
+#[tactic(auto, using(crate::proofs::Decoding::decoding))]
+pub fn decode(w: Word) -> Option<Insn>
+    ensures row { IfSome result (λ i. Row w.0 i) }
+    ensures none { IfNone result ((i : _) → Row w.0 i → ⊥) }
+    ensures value { result ≡ decoded w.0 }
+{
+    match form_of(w) {
+        Some(form) => Insn::of(form),
+        None => None,
+    }
+}

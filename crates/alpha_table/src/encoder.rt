@@ -1,0 +1,73 @@
+ghost use Rattle.std.specs.Prelude.{◌≡◌, ℕ, ◌^◌, ◌<◌, ◌*◌, ◌+◌, pos, negsuc, ◌≤ℤ◌};
+ghost use Rattle.alpha_words.specs.Field.{signed_field};
+ghost use Rattle.alpha_table.specs.Row.{Row, OperandsFit};
+ghost use Rattle.alpha_table.specs.declared.form.Form.TheVariants.{Operate};
+
+use crate::rows::pal_function;
+use crate::{Form, Insn, Op, Src};
+use alpha_words::{Reg, Word};
+
+/// The one word of the table that stands for the instruction.
+pub fn encode(i: &Insn) -> Word
+    ensures row { Row result.0 i.now }
+    ensures only { (w : ℕ) → w < 2 ^ 32 → Row w i.now → w ≡ result.0 }
+{
+    Word(word_of(i))
+}
+
+fn word_of(i: &Insn) -> u32
+    ensures { Row result i.now }
+{
+    match i.form() {
+        Form::Mem { op, ra, rb, disp } => {
+            high(op.opcode(), ra, rb) + u32::from(disp.cast_unsigned())
+        }
+        Form::Branch { op, ra, disp } => {
+            (u32::from(op.opcode()) << 26) + (u32::from(ra.number()) << 21) + branch_field(disp)
+        }
+        Form::Jump { kind, ra, rb, hint } => {
+            high(0x1a, ra, rb) + (u32::from(kind.kind()) << 14) + u32::from(hint)
+        }
+        Form::Operate { op, ra, src, rc } => operate(op, ra, &src, rc),
+        Form::Misc(op) => high(0x18, Reg::ZERO, Reg::ZERO) + u32::from(op.function()),
+        Form::Fetch { modify, rb } => {
+            high(0x18, Reg::ZERO, rb) + if modify { 0xa000 } else { 0x8000 }
+        }
+        Form::Pal(call) => pal_function(call),
+    }
+}
+
+// A branch displacement as an unsigned field of 21 bits.
+fn branch_field(disp: i32) -> u32
+    requires { (negsuc 0xfffff ≤ℤ disp) × (disp ≤ℤ pos 0xfffff) }
+    ensures bound { result < 2 ^ 21 }
+    ensures value { signed_field 20 0 result ≡ disp }
+{
+    if disp < 0 {
+        (disp + 0x20_0000) as u32
+    } else {
+        disp as u32
+    }
+}
+
+// The word of an operate instruction.
+fn operate(op: Op, ra: Reg, src: &Src, rc: Reg) -> u32
+    requires { OperandsFit op ra src.now }
+    ensures { Row result (Operate op ra src.now rc) }
+{
+    let (opcode, function) = op.row();
+    let outer = (u32::from(opcode) << 26) + (u32::from(ra.number()) << 21);
+    let inner = (u32::from(function) << 5) + u32::from(rc.number());
+    match *src {
+        Src::Reg(rb) => outer + (u32::from(rb.number()) << 16) + inner,
+        Src::Lit(n) => outer + (u32::from(n) << 13) + 0x1000 + inner,
+    }
+}
+
+// The fields from bit 16 on: an opcode and two registers.
+fn high(opcode: u8, ra: Reg, rb: Reg) -> u32
+    requires { opcode < 64 }
+    ensures { result ≡ opcode * 2 ^ 26 + ra * 2 ^ 21 + rb * 2 ^ 16 }
+{
+    (u32::from(opcode) << 26) + (u32::from(ra.number()) << 21) + (u32::from(rb.number()) << 16)
+}

@@ -1,0 +1,55 @@
+ghost use Rattle.std.specs.Prelude.{◌≡◌, ◌%◌, ◌<◌, ◌≤◌, ◌↔◌, IsNone, IfSome, IsSome};
+
+use std::marker::Model;
+
+/// An integer register, R0 to R31. A clause sees its number.
+#[derive(Clone, Copy, Debug, PartialEq, Eq)]
+pub struct Reg {
+    number: u8,
+}
+
+impl Model for Reg {
+    ghost use Rattle.std.specs.Prelude.{ℕ, ◌<◌};
+
+    ghost Value = { ℕ };
+
+    ghost view = { λ r. r.number };
+
+    ghost invariant = { λ r. r.number < 32 };
+
+    ghost inverse = { λ n. record { number = n } };
+}
+
+impl Reg {
+    /// R31, which reads as 0 and ignores writes.
+    pub const ZERO: Reg = Reg { number: 31 };
+
+    /// The register with this number, `None` exactly above 31.
+    pub fn new(number: u8) -> Option<Reg>
+        ensures there { IsSome result ↔ (number < 32) }
+        ensures value { IfSome result (λ r. r ≡ number) }
+    {
+        if number < 32 {
+            Some(Reg { number })
+        } else {
+            None
+        }
+    }
+
+    /// The register's number.
+    pub fn number(self) -> u8
+        ensures value { result ≡ self }
+        ensures bound { self < 32 }
+    {
+        self.number
+    }
+
+    /// The register whose number is the low five bits.
+    pub(crate) fn of_low_bits(bits: u32) -> Reg
+        ensures { result ≡ bits % 32 }
+    {
+        Reg {
+            number: (bits & 31) as u8,
+        }
+    }
+}
