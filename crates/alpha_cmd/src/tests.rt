@@ -176,6 +176,20 @@ fn judges_long_shadows(rt: HostRuntime) -> Result<(), Fail> {
     Ok(())
 }
 
+#[test]
+fn judges_the_most_code_that_an_image_may_hold(rt: HostRuntime) -> Result<(), Fail> {
+    let alloc = rt.alloc();
+    let mut words = Vec::new(alloc);
+    for _ in 0..65_536 {
+        words.extend_from_slice(&[0x4022_0c03, 0x47ff_041f, 0x47ff_041f, 0x63ff_0000])?;
+    }
+    let bytes = image(alloc, &words)?;
+    let outcome = outcome_of(alloc, &["check", "a"], Some(&bytes), &[])?;
+    assert_eq!(rt; outcome.status, Status::Done(0));
+    assert_eq!(rt; outcome.out.as_slice(), b"accepted\n".as_slice());
+    Ok(())
+}
+
 /// The image of the first worked example.
 const ACCEPTED: [u8; 68] =
     *b"ALPHAIM1\x00\x00\x01\x00\x00\x00\x00\x00\x00\x00\x00\x10\x00\x00\x00\x00\x00\x00\x01\x00\x00\x00\x00\x00\x05\x00\x00\x00\x00\x00\x00\x00\x00\x00\x00\x00\x00\x00\x01\x00\x02\x00\x3f\x20\x03\x00\x5f\x20\x03\x0c\x22\x40\x00\x00\xff\x63\x83\x00\x00\x00";

@@ -6,6 +6,7 @@
 #![tactic(auto)]
 
 mod encodings;
+mod plain;
 mod shadows;
 
 use std::fs;

@@ -1,8 +1,13 @@
+use crate::plain::least_broken;
 use alpha_image::{Fields, Image};
 use alpha_shadow::{Broken, ImageCode, judge};
+use alpha_table::{Insn, decode};
+use alpha_words::Word;
+use anyhow::bail;
 use std::alloc::Global;
 
-/// Each line has code words in hexadecimal, a tab, and `accepted` or the least broken place.
+/// Each line has code words in hexadecimal, a tab, and `accepted` or the least broken place. The
+/// checker and the conditions tried one after another both have to say that.
 pub fn run(rt: &impl Print, alloc: Global, text: &str) -> anyhow::Result<()> {
     let mut same = 0u64;
     for line in text.lines() {
@@ -10,27 +15,51 @@ pub fn run(rt: &impl Print, alloc: Global, text: &str) -> anyhow::Result<()> {
             println!(rt; "no verdict: {line}")?;
             continue;
         };
-        let verdict = verdict_on(alloc, words)?;
-        if verdict.as_str() == wanted {
+        let words = words_of(alloc, words)?;
+        let judged = text_of(alloc, judged(alloc, &words)?)?;
+        let tried = text_of(alloc, least_broken(&insns_of(alloc, &words)?))?;
+        if judged.as_str() == wanted && tried.as_str() == wanted {
             same = same.saturating_add(1);
         } else {
-            println!(rt; "{verdict}, wanted: {line}")?;
+            println!(rt; "judged {judged}, tried {tried}, wanted: {line}")?;
         }
     }
     println!(rt; "shadows: {same} programs judged as wanted")?;
     Ok(())
 }
 
-// `accepted`, or the least broken place as trigger, place and condition.
-fn verdict_on(alloc: Global, words: &str) -> anyhow::Result<String> {
-    let mut code = Vec::new(alloc);
-    for text in words.split(' ') {
-        let Some((word, count)) = repeated(text) else {
-            return Ok(format!(in alloc; "no word {text}")?);
+// The words in hexadecimal, of which `*N` after one repeats it N times.
+fn words_of(alloc: Global, text: &str) -> anyhow::Result<Vec<u32>> {
+    let mut words = Vec::new(alloc);
+    for text in text.split(' ') {
+        let (word, count) = match text.split_once('*') {
+            Some((word, count)) => (word, count.parse::<u32>()?),
+            None => (text, 1),
         };
+        let word = u32::from_str_radix(word, 16)?;
         for _ in 0..count {
-            code.extend_from_slice(&word.to_le_bytes())?;
+            words.push(word)?;
         }
+    }
+    Ok(words)
+}
+
+fn insns_of(alloc: Global, words: &[u32]) -> anyhow::Result<Vec<Insn>> {
+    let mut insns = Vec::new(alloc);
+    for word in words {
+        match decode(Word(*word)) {
+            Some(insn) => insns.push(insn)?,
+            None => bail!("{word:08x} is no instruction"),
+        }
+    }
+    Ok(insns)
+}
+
+// The checker's verdict on an image with this code.
+fn judged(alloc: Global, words: &[u32]) -> anyhow::Result<Option<Broken>> {
+    let mut code = Vec::new(alloc);
+    for word in words {
+        code.extend_from_slice(&word.to_le_bytes())?;
     }
     let fields = Fields {
         code_base: 0x1_0000,
@@ -40,26 +69,17 @@ fn verdict_on(alloc: Global, words: &str) -> anyhow::Result<String> {
         stack: 65_536,
     };
     if code.len() % 4 != 0 {
-        return Ok(format!(in alloc; "no words")?);
+        bail!("the code has no whole words");
     }
     let image = Image::build(alloc, &fields, &code, &[])?;
-    match judge(&mut ImageCode::new(&image)) {
-        Ok(()) => Ok(format!(in alloc; "accepted")?),
-        Err(
-            Broken {
-                trigger,
-                at,
-                condition,
-            },
-        ) => Ok(format!(in alloc; "{trigger} {at} C{}", condition.number())?),
-    }
+    Ok(judge(&mut ImageCode::new(&image)).err())
 }
 
-// A word in hexadecimal, which `*N` after it repeats N times.
-fn repeated(text: &str) -> Option<(u32, u32)> {
-    let (word, count) = match text.split_once('*') {
-        Some((word, count)) => (word, count.parse::<u32>().ok()?),
-        None => (text, 1),
+// `accepted`, or the least broken place as trigger, place and condition.
+fn text_of(alloc: Global, verdict: Option<Broken>) -> anyhow::Result<String> {
+    let Some(broken) = verdict else {
+        return Ok(format!(in alloc; "accepted")?);
     };
-    Some((u32::from_str_radix(word, 16).ok()?, count))
+    let number = broken.condition.number();
+    Ok(format!(in alloc; "{} {} C{number}", broken.trigger, broken.at)?)
 }
