@@ -1,0 +1,141 @@
+-- The cases of a PAL call.
+use Rattle.std.proofs.Common.{◌≡◌, ℕ, List, [], ◌++◌, length, Option, Result, Ok, Err, refl, sym, ap, subst, ◌∙◌, arith, append-nil}
+use Rattle.std.proofs.lemmas.Grind.{elements}
+use Rattle.std.proofs.KnownBytes.{Appends-nil}
+use Rattle.alpha_words.specs.declared.PalCall.{PalCall}
+use Rattle.alpha_words.specs.declared.PalCall.TheVariants.{Bpt, Bugchk, Callsys, Imb, Rdunique, Wrunique, Gentrap}
+use Rattle.alpha_words.specs.Regs.{reg, put}
+use Rattle.alpha_mem.specs.Block.{Block}
+use Rattle.alpha_pal.specs.declared.frame.Frame.{Frame}
+use Rattle.alpha_pal.specs.declared.pal_end.PalEnd.{PalEnd}
+use Rattle.alpha_pal.specs.declared.serve.Request.{Request}
+use Rattle.alpha_pal.specs.declared.serve.Answer.{Answer}
+use Rattle.alpha_pal.specs.declared.serve.Answer.TheVariants.{Value, Error, Exit}
+use Rattle.alpha_pal.specs.declared.serve.Fault.{Fault}
+use Rattle.alpha_pal.specs.declared.serve.Fault.TheVariants.{Input, Sink}
+use Rattle.alpha_pal.specs.Kernel.{KernelState, entered, entry_regs}
+use Rattle.alpha_pal.specs.Call.{Outside, outside, serve, request_of, goes, signals, callsys, call}
+use Rattle.alpha_pal.specs.CallEffect.{ServeEffect, CallEffect, GoesOn, seen, end_of, regs_after}
+use Rattle.alpha_pal.proofs.Serving.{rest_of, Takes-nothing}
+
+-- a call that leaves memory and devices alone
+GoesOn-quiet : (function : PalCall) (regs regs' : List ℕ) (mem : List Block) (unique unique' : ℕ) (left written : Option (List ℕ)) → ((input output : List ℕ) → call function regs mem (outside unique input output) ≡ goes regs' mem (outside unique' input output)) → GoesOn function (seen regs mem unique left written) (seen regs' mem unique' left written)
+GoesOn-quiet function regs regs' mem unique unique' left written does = record {
+  taken = [];
+  rest = rest_of left left;
+  bytes = [];
+  took = Takes-nothing left;
+  wrote = Appends-nil written;
+  is = λ output.
+      does (rest_of left left) output
+      ∙ ap (λ l. goes regs' mem (outside unique' (rest_of left left) l)) (sym (append-nil output));
+}
+
+pub imb_goes_on : (regs : List ℕ) (mem : List Block) (unique : ℕ) (left written : Option (List ℕ)) → GoesOn Imb (seen regs mem unique left written) (seen regs mem unique left written)
+unfolding call
+imb_goes_on regs mem unique left written =
+    GoesOn-quiet Imb regs regs mem unique unique left written (λ input output. refl)
+
+rdunique-does : (regs : List ℕ) (mem : List Block) (o : Outside) → call Rdunique regs mem o ≡ goes (put regs 0 o.unique) mem o
+unfolding call
+rdunique-does regs mem o = refl
+
+pub rdunique_goes_on : (regs regs' : List ℕ) (mem : List Block) (unique : ℕ) (left written : Option (List ℕ)) → regs' ≡ put regs 0 unique → GoesOn Rdunique (seen regs mem unique left written) (seen regs' mem unique left written)
+rdunique_goes_on regs regs' mem unique left written set =
+    GoesOn-quiet Rdunique regs regs' mem unique unique left written (λ input output. rdunique-does regs mem (outside unique input output) ∙ ap (λ l. goes l mem (outside unique input output)) (sym set))
+
+wrunique-does : (regs : List ℕ) (mem : List Block) (o : Outside) → call Wrunique regs mem o ≡ goes regs mem (outside (reg regs 16) o.input o.output)
+unfolding call
+wrunique-does regs mem o = refl
+
+pub wrunique_goes_on : (regs : List ℕ) (mem : List Block) (unique unique' : ℕ) (left written : Option (List ℕ)) → unique' ≡ reg regs 16 → GoesOn Wrunique (seen regs mem unique left written) (seen regs mem unique' left written)
+wrunique_goes_on regs mem unique unique' left written set =
+    GoesOn-quiet Wrunique regs regs mem unique unique' left written (λ input output. wrunique-does regs mem (outside unique input output) ∙ ap (λ n. goes regs mem (outside n input output)) (sym set))
+
+pub bpt_signals : (regs : List ℕ) (mem : List Block) (o : Outside) → call Bpt regs mem o ≡ signals 0
+unfolding call
+bpt_signals regs mem o = refl
+
+pub bugchk_signals : (regs : List ℕ) (mem : List Block) (o : Outside) → call Bugchk regs mem o ≡ signals 1
+unfolding call
+bugchk_signals regs mem o = refl
+
+pub gentrap_signals : (regs : List ℕ) (mem : List Block) (o : Outside) → call Gentrap regs mem o ≡ signals 2
+unfolding call
+gentrap_signals regs mem o = refl
+
+-- ---- system calls
+
+callsys-does : (regs : List ℕ) (mem : List Block) (o : Outside) → call Callsys regs mem o ≡ callsys regs (serve (request_of regs) mem o)
+unfolding call
+callsys-does regs mem o = refl
+
+-- what the entry changed comes back
+restored_two : (regs : List ℕ) (v flag : ℕ) → length regs ≡ 32 → put (put (put (put (entry_regs regs) 0 v) 19 flag) 29 (reg regs 29)) 30 (reg regs 30) ≡ put (put regs 0 v) 19 flag
+unfolding reg put
+restored_two regs v flag sized = grind (arith, elements)
+
+restored_all : (regs : List ℕ) → length regs ≡ 32 → put (put (entry_regs regs) 29 (reg regs 29)) 30 (reg regs 30) ≡ regs
+unfolding reg put
+restored_all regs sized = grind (arith, elements)
+
+restored : (served : Result Answer Fault) (regs : List ℕ) → length regs ≡ 32 → put (put (regs_after served (entry_regs regs)) 29 (reg regs 29)) 30 (reg regs 30) ≡ regs_after served regs
+restored (Ok (Value v)) regs sized = restored_two regs v 0 sized
+restored (Ok (Error n)) regs sized = restored_two regs n 1 sized
+restored (Ok (Exit v)) regs sized = restored_all regs sized
+restored (Err fault) regs sized = restored_all regs sized
+
+-- equal parts make equal views
+same_seen : (regs regs' : List ℕ) (mem mem' : List Block) (unique : ℕ) (left left' written written' : Option (List ℕ)) → regs' ≡ regs → mem' ≡ mem → left' ≡ left → written' ≡ written → seen regs' mem' unique left' written' ≡ seen regs mem unique left written
+same_seen regs regs' mem mem' unique left left' written written' e0 e1 e2 e3 = simp (e0, e1, e2, e3)
+
+served_effect : (served : Result Answer Fault) (regs regs' : List ℕ) (mem mem' : List Block) (unique : ℕ) (left left' written written' : Option (List ℕ)) → ServeEffect (request_of regs) served mem mem' left left' written written' → regs' ≡ regs_after served regs → CallEffect Callsys (end_of served) (seen regs mem unique left written) (seen regs' mem' unique left' written')
+served_effect (Ok (Value v)) regs regs' mem mem' unique left left' written written' h set = record {
+  taken = h.taken;
+  rest = h.rest;
+  bytes = h.bytes;
+  took = h.took;
+  wrote = h.wrote;
+  is = λ output.
+      callsys-does regs mem (outside unique (h.taken ++ h.rest) output)
+      ∙ (ap (callsys regs) (h.is unique output)
+      ∙ ap (λ l. goes l mem' (outside unique h.rest (output ++ h.bytes))) (sym set));
+}
+served_effect (Ok (Error n)) regs regs' mem mem' unique left left' written written' h set = record {
+  taken = h.taken;
+  rest = h.rest;
+  bytes = h.bytes;
+  took = h.took;
+  wrote = h.wrote;
+  is = λ output.
+      callsys-does regs mem (outside unique (h.taken ++ h.rest) output)
+      ∙ (ap (callsys regs) (h.is unique output)
+      ∙ ap (λ l. goes l mem' (outside unique h.rest (output ++ h.bytes))) (sym set));
+}
+served_effect (Ok (Exit v)) regs regs' mem mem' unique left left' written written' h set =
+    (λ o. callsys-does regs mem o ∙ ap (callsys regs) (h.0 o), same_seen regs regs' mem mem' unique left left' written written' set h.1 h.2 h.3)
+served_effect (Err Input) regs regs' mem mem' unique left left' written written' h set =
+    (refl, h.0, same_seen regs regs' mem' mem' unique left' left' written written' set refl refl h.1)
+served_effect (Err Sink) regs regs' mem mem' unique left left' written written' h set =
+    (refl, h.0, same_seen regs regs' mem mem' unique left left' written' written' set h.1 h.2 refl)
+
+-- a system call between its entry and its return
+pub callsys_effect : (request : Request) (served : Result Answer Fault) (end : PalEnd) (k : KernelState) (f : Frame) (regs entry answer now : List ℕ) (mem mem' : List Block) (unique : ℕ) (left left' written written' : Option (List ℕ))
+    → length regs ≡ 32
+    → request ≡ request_of regs
+    → k ≡ entered f regs
+    → f.gp ≡ reg regs 29
+    → entry ≡ entry_regs regs
+    → ServeEffect request served mem mem' left left' written written'
+    → end ≡ end_of served
+    → answer ≡ regs_after served entry
+    → now ≡ put (put answer 29 k.frame.gp) 30 k.user_stack
+    → CallEffect Callsys end (seen regs mem unique left written) (seen now mem' unique left' written')
+callsys_effect request served end k f regs entry answer now mem mem' unique left left' written written' sized asked state gp entry_is h end_is answer_is now_is =
+    let set : now ≡ put (put (regs_after served (entry_regs regs)) 29 (reg regs 29)) 30 (reg regs 30) =
+    now_is
+    ∙ (ap (λ x. put (put answer 29 x) 30 k.user_stack) (ap (λ (s : KernelState). s.frame.gp) state ∙ gp)
+    ∙ (ap (λ x. put (put answer 29 (reg regs 29)) 30 x) (ap (λ (s : KernelState). s.user_stack) state)
+    ∙ ap (λ l. put (put l 29 (reg regs 29)) 30 (reg regs 30)) (answer_is ∙ ap (regs_after served) entry_is))) in
+    let effect = subst (λ (r : Request). ServeEffect r served mem mem' left left' written written') asked h in
+    subst (λ (e : PalEnd). CallEffect Callsys e (seen regs mem unique left written) (seen now mem' unique left' written')) (sym end_is) (served_effect served regs now mem mem' unique left left' written written' effect (set ∙ restored served regs sized))

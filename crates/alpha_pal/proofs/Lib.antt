@@ -1,0 +1,7 @@
+pub mod Frames
+pub mod Registers
+pub mod Ranges
+pub mod Takings
+pub mod Serving
+pub mod Calling
+pub mod Laws

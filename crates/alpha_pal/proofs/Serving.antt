@@ -1,0 +1,177 @@
+-- The cases of a system call.
+use Rattle.std.proofs.Common.{◌≡◌, ◌≢◌, ℕ, ◌<◌, ◌≤◌, ◌↔◌, Bool, true, false, List, [], ◌++◌, length, take, drop, Option, Some, None, IsTrue, refl, sym, ap, subst, ◌∙◌, ⊎_elim, arith, append-nil}
+use Rattle.std.proofs.lemmas.Bool.{ne_eqb, false_from_ne_true, cases_lt}
+use Rattle.std.proofs.lemmas.List.{take_at, drop_at, take_all, drop_all}
+use Rattle.std.specs.Io.KnownBytes.{Appends, Consumes}
+use Rattle.std.proofs.KnownBytes.{Appends-nil}
+use Rattle.alpha_mem.specs.Block.{Block, shapes, within}
+use Rattle.alpha_mem.specs.Memory.{bytes_at, write_bytes}
+use Rattle.alpha_pal.specs.declared.serve.Request.{Request}
+use Rattle.alpha_pal.specs.declared.serve.Answer.{Answer}
+use Rattle.alpha_pal.specs.declared.serve.Answer.TheVariants.{Value, Error, Exit}
+use Rattle.alpha_pal.specs.Taken.{HasTaken, TakesLess, Ends}
+use Rattle.alpha_pal.specs.Call.{Outside, outside, served, read, write, serve}
+use Rattle.alpha_pal.specs.CallEffect.{Takes, Serves, TakesPart}
+
+-- ---- what the input has left
+
+-- what is left of the input where it is told
+pub rest_of : Option (List ℕ) → Option (List ℕ) → List ℕ
+rest_of None now = []
+rest_of (Some xs) None = []
+rest_of (Some xs) (Some ys) = ys
+
+Takes-consumed : (left now : Option (List ℕ)) (taken : List ℕ) → Consumes left now taken → Takes left now taken (rest_of left now)
+unfolding rest_of
+Takes-consumed None now taken h = tt
+Takes-consumed (Some xs) None taken h = absurd h
+Takes-consumed (Some xs) (Some ys) taken h = (h, refl)
+
+pub Takes-nothing : (left : Option (List ℕ)) → Takes left left [] (rest_of left left)
+unfolding rest_of
+Takes-nothing None = tt
+Takes-nothing (Some xs) = (refl, refl)
+
+rest_of-ended : (left now : Option (List ℕ)) → Ends left now → rest_of left now ≡ []
+unfolding rest_of
+rest_of-ended None now h = refl
+rest_of-ended (Some xs) None h = refl
+rest_of-ended (Some xs) (Some ys) h = h
+
+-- ---- which call it is
+
+serve-exit : (r : Request) (mem : List Block) (o : Outside) → r.number ≡ 1 → serve r mem o ≡ served (Exit r.a0) mem o
+unfolding serve
+serve-exit r mem o e = rw e refl
+
+serve-read : (r : Request) (mem : List Block) (o : Outside) → r.number ≡ 3 → serve r mem o ≡ read r mem o
+unfolding serve
+serve-read r mem o e = rw e refl
+
+serve-write : (r : Request) (mem : List Block) (o : Outside) → r.number ≡ 4 → serve r mem o ≡ write r mem o
+unfolding serve
+serve-write r mem o e = rw e refl
+
+serve-none : (r : Request) (mem : List Block) (o : Outside) → r.number ≢ 1 → r.number ≢ 3 → r.number ≢ 4 → serve r mem o ≡ served (Error 78) mem o
+unfolding serve
+serve-none r mem o n1 n3 n4 = rw (ne_eqb r.number 1 n1, ne_eqb r.number 3 n3, ne_eqb r.number 4 n4) refl
+
+-- ---- answers that change nothing
+
+Serves-same : (r : Request) (answer : Answer) (mem : List Block) (left written : Option (List ℕ)) → ((o : Outside) → serve r mem o ≡ served answer mem o) → Serves r answer mem mem left left written written
+Serves-same r answer mem left written same = record {
+  taken = [];
+  rest = rest_of left left;
+  bytes = [];
+  took = Takes-nothing left;
+  wrote = Appends-nil written;
+  is = λ unique output.
+      same (outside unique (rest_of left left) output)
+      ∙ ap (λ l. served answer mem (outside unique (rest_of left left) l)) (sym (append-nil output));
+}
+
+pub Serves-exit : (r : Request) (mem : List Block) → r.number ≡ 1 → (o : Outside) → serve r mem o ≡ served (Exit r.a0) mem o
+Serves-exit r mem e o = serve-exit r mem o e
+
+pub Serves-none : (r : Request) (mem : List Block) (left written : Option (List ℕ)) → r.number ≢ 1 → r.number ≢ 3 → r.number ≢ 4 → Serves r (Error 78) mem mem left left written written
+Serves-none r mem left written n1 n3 n4 =
+    Serves-same r (Error 78) mem left written (λ o. serve-none r mem o n1 n3 n4)
+
+-- ---- read
+
+read-descriptor : (r : Request) (mem : List Block) (o : Outside) → r.a0 ≢ 0 → read r mem o ≡ served (Error 9) mem o
+read-descriptor r mem o bad = rw (ne_eqb r.a0 0 bad) refl
+
+read-range : (r : Request) (mem : List Block) (o : Outside) → r.a0 ≡ 0 → within (shapes mem) true r.a1 r.a2 ≡ false → read r mem o ≡ served (Error 14) mem o
+read-range r mem o good bad = rw (good, bad) refl
+
+read-good : (r : Request) (mem : List Block) (o : Outside) → r.a0 ≡ 0 → within (shapes mem) true r.a1 r.a2 ≡ true → read r mem o ≡ served (Value (length (take r.a2 o.input))) (write_bytes mem r.a1 (take r.a2 o.input)) (outside o.unique (drop r.a2 o.input) o.output)
+read-good r mem o good range = rw (good, range) refl
+
+pub read_bad_descriptor : (r : Request) (mem : List Block) (left written : Option (List ℕ)) → r.number ≡ 3 → r.a0 ≢ 0 → Serves r (Error 9) mem mem left left written written
+read_bad_descriptor r mem left written number bad =
+    Serves-same r (Error 9) mem left written (λ o. serve-read r mem o number ∙ read-descriptor r mem o bad)
+
+pub read_bad_range : (r : Request) (mem : List Block) (left written : Option (List ℕ)) → r.number ≡ 3 → r.a0 ≡ 0 → within (shapes mem) true r.a1 r.a2 ≡ false → Serves r (Error 14) mem mem left left written written
+read_bad_range r mem left written number good bad =
+    Serves-same r (Error 14) mem left written (λ o. serve-read r mem o number ∙ read-range r mem o good bad)
+
+-- what was taken is the front of as many bytes as were asked for
+take-taken : (taken rest : List ℕ) (n : ℕ) → length taken ≤ n → (length taken < n → rest ≡ []) → take n (taken ++ rest) ≡ taken
+take-taken taken rest n fits ended =
+    ⊎_elim (λ (p : length taken < n). let whole : taken ++ rest ≡ taken = ap (λ l. taken ++ l) (ended p) ∙ append-nil taken in ap (take n) whole ∙ take_all n taken fits) (λ (p : n ≤ length taken). take_at taken rest n (omega arith)) (cases_lt (length taken) n)
+
+drop-taken : (taken rest : List ℕ) (n : ℕ) → length taken ≤ n → (length taken < n → rest ≡ []) → drop n (taken ++ rest) ≡ rest
+drop-taken taken rest n fits ended =
+    ⊎_elim (λ (p : length taken < n). let whole : taken ++ rest ≡ taken = ap (λ l. taken ++ l) (ended p) ∙ append-nil taken in ap (drop n) whole ∙ (drop_all n taken fits ∙ sym (ended p))) (λ (p : n ≤ length taken). drop_at taken rest n (omega arith)) (cases_lt (length taken) n)
+
+pub read_done : (r : Request) (mem mem' : List Block) (left left' written : Option (List ℕ)) (n : ℕ) → r.number ≡ 3 → r.a0 ≡ 0 → IsTrue (within (shapes mem) true r.a1 r.a2) → HasTaken mem mem' r.a1 n left left' → n ≤ r.a2 → (n < r.a2 → Ends left left') → Serves r (Value n) mem mem' left left' written written
+read_done r mem mem' left left' written n number good range h fits ended =
+    let rest = rest_of left left' in
+    let ends : length h.taken < r.a2 → rest ≡ [] = λ p. rest_of-ended left left' (ended (omega (arith, h.count))) in
+    let bound : length h.taken ≤ r.a2 = omega (arith, h.count) in
+    let front = take-taken h.taken rest r.a2 bound ends in
+    let back = drop-taken h.taken rest r.a2 bound ends in
+    record {
+      taken = h.taken;
+      rest = rest;
+      bytes = [];
+      took = Takes-consumed left left' h.taken h.consumed;
+      wrote = Appends-nil written;
+      is = λ unique output.
+          let o = outside unique (h.taken ++ rest) output in
+          serve-read r mem o number
+          ∙ (read-good r mem o good range
+          ∙ (ap (λ l. served (Value (length l)) (write_bytes mem r.a1 l) (outside unique (drop r.a2 (h.taken ++ rest)) output)) front
+          ∙ (ap (λ l. served (Value (length h.taken)) (write_bytes mem r.a1 h.taken) (outside unique l output)) back
+          ∙ (ap (λ k. served (Value k) (write_bytes mem r.a1 h.taken) (outside unique rest output)) (sym h.count)
+          ∙ (ap (λ m. served (Value n) m (outside unique rest output)) (sym h.there)
+          ∙ ap (λ l. served (Value n) mem' (outside unique rest l)) (sym (append-nil output)))))));
+    }
+
+pub read_failed : (r : Request) (mem mem' : List Block) (left left' : Option (List ℕ)) → r.number ≡ 3 → r.a0 ≡ 0 → IsTrue (within (shapes mem) true r.a1 r.a2) → TakesLess mem mem' r.a1 r.a2 left left' → TakesPart r mem mem' left left'
+read_failed r mem mem' left left' number good range h = record {
+  number = number;
+  descriptor = good;
+  range = range;
+  taken = h.first.taken;
+  rest = rest_of left left';
+  took = Takes-consumed left left' h.first.taken h.first.consumed;
+  less = omega (arith, h.first.count, h.less);
+  there = h.first.there;
+}
+
+-- ---- write
+
+write-descriptor : (r : Request) (mem : List Block) (o : Outside) → r.a0 ≢ 1 → write r mem o ≡ served (Error 9) mem o
+write-descriptor r mem o bad = rw (ne_eqb r.a0 1 bad) refl
+
+write-range : (r : Request) (mem : List Block) (o : Outside) → r.a0 ≡ 1 → within (shapes mem) false r.a1 r.a2 ≡ false → write r mem o ≡ served (Error 14) mem o
+write-range r mem o good bad = rw (good, bad) refl
+
+write-good : (r : Request) (mem : List Block) (o : Outside) → r.a0 ≡ 1 → within (shapes mem) false r.a1 r.a2 ≡ true → write r mem o ≡ served (Value r.a2) mem (outside o.unique o.input (o.output ++ bytes_at mem r.a1 r.a2))
+write-good r mem o good range = rw (good, range) refl
+
+pub write_bad_descriptor : (r : Request) (mem : List Block) (left written : Option (List ℕ)) → r.number ≡ 4 → r.a0 ≢ 1 → Serves r (Error 9) mem mem left left written written
+write_bad_descriptor r mem left written number bad =
+    Serves-same r (Error 9) mem left written (λ o. serve-write r mem o number ∙ write-descriptor r mem o bad)
+
+pub write_bad_range : (r : Request) (mem : List Block) (left written : Option (List ℕ)) → r.number ≡ 4 → r.a0 ≡ 1 → within (shapes mem) false r.a1 r.a2 ≡ false → Serves r (Error 14) mem mem left left written written
+write_bad_range r mem left written number good bad =
+    Serves-same r (Error 14) mem left written (λ o. serve-write r mem o number ∙ write-range r mem o good bad)
+
+pub write_done : (r : Request) (mem : List Block) (left written written' : Option (List ℕ)) (bytes : List ℕ) → r.number ≡ 4 → r.a0 ≡ 1 → IsTrue (within (shapes mem) false r.a1 r.a2) → bytes ≡ bytes_at mem r.a1 r.a2 → Appends written written' bytes → Serves r (Value r.a2) mem mem left left written written'
+write_done r mem left written written' bytes number good range these wrote = record {
+  taken = [];
+  rest = rest_of left left;
+  bytes = bytes_at mem r.a1 r.a2;
+  took = Takes-nothing left;
+  wrote = subst (Appends written written') these wrote;
+  is = λ unique output.
+      let o = outside unique (rest_of left left) output in
+      serve-write r mem o number ∙ write-good r mem o good range;
+}
+
+-- a test that isn't true where another isn't
+pub false_with : (b w : Bool) → (IsTrue b ↔ IsTrue w) → b ≡ false → w ≡ false
+false_with b w same fails = false_from_ne_true w (λ h. let e = same.1 h in cc)

@@ -1,0 +1,17 @@
+use Rattle.std.proofs.Common.{◌≡◌, ◌≤◌, ◌-◌}
+use Rattle.alpha_mem.specs.Block.{shapes}
+use Rattle.alpha_mem.specs.Memory.{IsMemory}
+use Rattle.alpha_pal.specs.Taken.{HasTaken}
+use Rattle.alpha_pal.proofs.take.take_into.Given as goal
+
+abbrev pub invariant-loop-done : goal.invariant-loop-done
+invariant-loop-done g l = record {
+  first : HasTaken l.initial.mem l.mem l.addr l.done (g.S.Source.left l.initial.input) (g.S.Source.left l.input);
+  shapes : shapes l.mem ≡ shapes l.initial.mem;
+  room : l.done ≤ l.size;
+  memory : IsMemory l.mem;
+  calm : g.S.Source.faults l.input ≡ g.S.Source.faults l.initial.input;
+}
+
+abbrev pub decreases-loop-done : goal.decreases-loop-done
+decreases-loop-done g l = l.size - l.done

@@ -1,0 +1,147 @@
+-- What the code of a call did, against the definition of the call, where devices may tell nothing.
+use Rattle.std.specs.Prelude.{◌≡◌, ⊤, ℕ, ◌<◌, ◌≤◌, true, false, IsTrue, List, ◌++◌, length, Option, Some, None, Result, Ok, Err}
+use Rattle.std.specs.Io.KnownBytes.{Appends}
+use Rattle.alpha_words.specs.declared.PalCall.{PalCall}
+use Rattle.alpha_words.specs.declared.PalCall.TheVariants.{Callsys}
+use Rattle.alpha_words.specs.Regs.{reg}
+use Rattle.alpha_io.specs.Faults.{Rose}
+use Rattle.alpha_io.specs.Written.{WritesPrefix}
+use Rattle.alpha_mem.specs.Block.{Block, shapes, within}
+use Rattle.alpha_mem.specs.Memory.{bytes_at, write_bytes}
+use Rattle.alpha_pal.specs.declared.serve.Request.{Request}
+use Rattle.alpha_pal.specs.declared.serve.Fault.{Fault}
+use Rattle.alpha_pal.specs.declared.serve.Fault.TheVariants.{Input, Sink}
+use Rattle.alpha_pal.specs.declared.serve.Answer.{Answer}
+use Rattle.alpha_pal.specs.declared.serve.Answer.TheVariants.{Value, Error, Exit as Exits}
+use Rattle.alpha_pal.specs.declared.pal_end.PalEnd.{PalEnd}
+use Rattle.alpha_pal.specs.declared.pal_end.PalEnd.TheVariants.{Goes, Exit, Signal, InputFault, SinkFault}
+use Rattle.alpha_pal.specs.Kernel.{KernelState, call_frame}
+use Rattle.alpha_pal.specs.Call.{Outside, outside, served, serve, request_of, answered, goes, exits, signals, call}
+
+-- where the input was told, it was `taken` and then `rest`, and `rest` is left
+abbrev pub Takes : Option (List ℕ) → Option (List ℕ) → List ℕ → List ℕ → Type 0
+Takes None now taken rest = ⊤
+Takes (Some xs) now taken rest = (xs ≡ taken ++ rest) × (now ≡ Some rest)
+
+-- the answer and the memory are those of the definition, at an input of what was taken and the rest,
+-- and what was put is the output's growth
+pub record Serves
+    (r : Request) (answer : Answer) (mem mem' : List Block)
+    (left left' written written' : Option (List ℕ)) : Type 0 where
+  pub taken : List ℕ
+  pub rest : List ℕ
+  pub bytes : List ℕ
+  pub took : Takes left left' taken rest
+  pub wrote : Appends written written' bytes
+  pub is : (unique : ℕ) (output : List ℕ)
+      → serve r mem (outside unique (taken ++ rest) output) ≡ served answer mem' (outside unique rest (output ++ bytes))
+
+-- a good read whose source failed: the bytes taken so far are in memory, and fewer than were asked for
+pub record TakesPart (r : Request) (mem mem' : List Block) (left left' : Option (List ℕ)) : Type 0 where
+  pub number : r.number ≡ 3
+  pub descriptor : r.a0 ≡ 0
+  pub range : IsTrue (within (shapes mem) true r.a1 r.a2)
+  pub taken : List ℕ
+  pub rest : List ℕ
+  pub took : Takes left left' taken rest
+  pub less : length taken < r.a2
+  pub there : mem' ≡ write_bytes mem r.a1 taken
+
+-- a good write whose sink failed: a prefix of the bytes was put
+pub record PutsPart (r : Request) (mem : List Block) (written written' : Option (List ℕ)) : Type 0 where
+  pub number : r.number ≡ 4
+  pub descriptor : r.a0 ≡ 1
+  pub range : IsTrue (within (shapes mem) false r.a1 r.a2)
+  pub prefix : WritesPrefix written written' (bytes_at mem r.a1 r.a2)
+
+-- a system call's effect on memory, input and output, by its result
+abbrev pub ServeEffect : Request → Result Answer Fault → List Block → List Block
+    → Option (List ℕ) → Option (List ℕ) → Option (List ℕ) → Option (List ℕ) → Type 0
+ServeEffect r (Ok (Value v)) mem mem' left left' written written' = Serves r (Value v) mem mem' left left' written written'
+ServeEffect r (Ok (Error n)) mem mem' left left' written written' = Serves r (Error n) mem mem' left left' written written'
+ServeEffect r (Ok (Exits v)) mem mem' left left' written written' =
+    ((o : Outside) → serve r mem o ≡ served (Exits v) mem o) × (mem' ≡ mem) × (left' ≡ left) × (written' ≡ written)
+ServeEffect r (Err Input) mem mem' left left' written written' = TakesPart r mem mem' left left' × (written' ≡ written)
+ServeEffect r (Err Sink) mem mem' left left' written written' = PutsPart r mem written written' × (mem' ≡ mem) × (left' ≡ left)
+
+-- how a call ends, by a system call's result
+abbrev pub end_of : Result Answer Fault → PalEnd
+end_of (Ok (Value v)) = Goes
+end_of (Ok (Error n)) = Goes
+end_of (Ok (Exits v)) = Exit v
+end_of (Err Input) = InputFault
+end_of (Err Sink) = SinkFault
+
+-- the registers after a system call, which a fault leaves as they were
+abbrev pub regs_after : Result Answer Fault → List ℕ → List ℕ
+regs_after (Ok answer) regs = answered answer regs
+regs_after (Err fault) regs = regs
+
+-- what a call sees: registers, memory, the unique value, and what the devices tell
+pub record Seen : Type 0 where
+  pub regs : List ℕ
+  pub mem : List Block
+  pub unique : ℕ
+  pub left : Option (List ℕ)
+  pub written : Option (List ℕ)
+
+abbrev pub seen : List ℕ → List Block → ℕ → Option (List ℕ) → Option (List ℕ) → Seen
+seen regs mem unique left written = record { regs = regs; mem = mem; unique = unique; left = left; written = written }
+
+-- registers, memory and unique value are those of the definition, at an input of what was taken and
+-- the rest, and what was put is the output's growth
+pub record GoesOn (function : PalCall) (old new : Seen) : Type 0 where
+  pub taken : List ℕ
+  pub rest : List ℕ
+  pub bytes : List ℕ
+  pub took : Takes old.left new.left taken rest
+  pub wrote : Appends old.written new.written bytes
+  pub is : (output : List ℕ)
+      → call function old.regs old.mem (outside old.unique (taken ++ rest) output)
+      ≡ goes new.regs new.mem (outside new.unique rest (output ++ bytes))
+
+-- the same where the input is told
+pub record GoesOnTold (function : PalCall) (old new : Seen) (left : List ℕ) : Type 0 where
+  pub rest : List ℕ
+  pub bytes : List ℕ
+  pub took : new.left ≡ Some rest
+  pub wrote : Appends old.written new.written bytes
+  pub is : (output : List ℕ)
+      → call function old.regs old.mem (outside old.unique left output)
+      ≡ goes new.regs new.mem (outside new.unique rest (output ++ bytes))
+
+-- a call's effect, by its end
+abbrev pub CallEffect : PalCall → PalEnd → Seen → Seen → Type 0
+CallEffect function Goes old new = GoesOn function old new
+CallEffect function (Exit v) old new = ((o : Outside) → call function old.regs old.mem o ≡ exits v) × (new ≡ old)
+CallEffect function (Signal code) old new = ((o : Outside) → call function old.regs old.mem o ≡ signals code) × (new ≡ old)
+CallEffect function InputFault old new =
+    (function ≡ Callsys)
+    × TakesPart (request_of old.regs) old.mem new.mem old.left new.left
+    × (new ≡ record old { mem = new.mem; left = new.left })
+CallEffect function SinkFault old new =
+    (function ≡ Callsys)
+    × PutsPart (request_of old.regs) old.mem old.written new.written
+    × (new ≡ record old { written = new.written })
+
+-- the input's count of faults rose exactly at an input fault
+abbrev pub InputCause : PalEnd → ℕ → ℕ → Type 0
+InputCause Goes before now = now ≡ before
+InputCause (Exit v) before now = now ≡ before
+InputCause (Signal code) before now = now ≡ before
+InputCause InputFault before now = (before ≤ now) × Rose before now
+InputCause SinkFault before now = now ≡ before
+
+-- the sink's count of faults rose exactly at a sink fault
+abbrev pub SinkCause : PalEnd → ℕ → ℕ → Type 0
+SinkCause Goes before now = now ≡ before
+SinkCause (Exit v) before now = now ≡ before
+SinkCause (Signal code) before now = now ≡ before
+SinkCause InputFault before now = now ≡ before
+SinkCause SinkFault before now = (before ≤ now) × Rose before now
+
+-- the kernel after a call: a system call leaves its frame and the stack pointer that it kept
+abbrev pub kernel_after : PalCall → ℕ → List ℕ → KernelState → KernelState
+kernel_after Callsys next regs k =
+    record { user = true; frame = call_frame next regs; user_stack = reg regs 30 }
+kernel_after _ next regs k = k

@@ -1,0 +1,5 @@
+pub mod Frame
+pub mod Kernel
+pub mod Call
+pub mod Taken
+pub mod CallEffect

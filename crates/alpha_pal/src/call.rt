@@ -1,0 +1,90 @@
+ghost use Rattle.std.specs.Prelude.{◌≡◌, ℕ, true, IsTrue};
+ghost use Rattle.alpha_mem.specs.Block.{shapes};
+ghost use Rattle.alpha_pal.specs.CallEffect.{CallEffect, InputCause, SinkCause, kernel_after, seen};
+ghost use Rattle.alpha_words.specs.declared.PalCall.TheVariants.{Callsys};
+
+use crate::frame::Frame;
+use crate::kernel::{Kernel, USER_STATUS};
+use crate::named::{A0, GP, V0, reg};
+use crate::pal_end::PalEnd;
+use crate::serve::{Request, finish};
+use alpha_io::{Sink, Source};
+use alpha_mem::Memory;
+use alpha_words::{PalCall, RegFile};
+
+impl Kernel {
+    /// Makes the PAL call (Reference Manual, OSF/1 PALcode instructions). `next` is the PC after
+    /// the call. The mode is user again after every answer, and a callsys leaves its frame: the
+    /// user's status, `next`, GP and three zeros. An end changes nothing else. `InputFault` comes
+    /// only where the input failed in this call, and leaves the bytes taken so far in memory;
+    /// `SinkFault` only where the output failed, which got a prefix of the bytes. Both leave the
+    /// registers and the unique value as they were.
+    pub fn call<S: Source, K: Sink>(
+        &mut self,
+        function: PalCall,
+        next: u64,
+        unique: &mut u64,
+        regs: &mut RegFile,
+        mem: &mut Memory,
+        input: &mut S,
+        out: &mut K,
+    ) -> PalEnd
+        requires { IsTrue self.old.user }
+        ensures effect { CallEffect function result
+            (seen regs.old mem.old unique.old (S.left input.old) (K.written out.old))
+            (seen regs.new mem.new unique.new (S.left input.new) (K.written out.new)) }
+        ensures shapes { shapes mem.new ≡ shapes mem.old }
+        ensures kernel { self.new ≡ kernel_after function next regs.old self.old }
+        ensures input { InputCause result (S.faults input.old) (S.faults input.new) }
+        ensures sink { SinkCause result (K.faults out.old) (K.faults out.new) }
+    {
+        match function {
+            PalCall::Bpt => PalEnd::Signal(0),
+            PalCall::Bugchk => PalEnd::Signal(1),
+            PalCall::Gentrap => PalEnd::Signal(2),
+            PalCall::Imb => PalEnd::Goes,
+            PalCall::Rdunique => {
+                regs.set(reg(V0), *unique);
+                PalEnd::Goes
+            }
+            PalCall::Wrunique => {
+                *unique = regs.get(reg(A0));
+                PalEnd::Goes
+            }
+            PalCall::Callsys => self.callsys(next, regs, mem, input, out),
+        }
+    }
+
+    // Makes the system call that the registers ask for, by an entry and a return of its own.
+    fn callsys<S: Source, K: Sink>(
+        &mut self,
+        next: u64,
+        regs: &mut RegFile,
+        mem: &mut Memory,
+        input: &mut S,
+        out: &mut K,
+    ) -> PalEnd
+        ensures effect { (unique : ℕ) → CallEffect Callsys result
+            (seen regs.old mem.old unique (S.left input.old) (K.written out.old))
+            (seen regs.new mem.new unique (S.left input.new) (K.written out.new)) }
+        ensures shapes { shapes mem.new ≡ shapes mem.old }
+        ensures kernel { self.new ≡ kernel_after Callsys next regs.old self.old }
+        ensures input { InputCause result (S.faults input.old) (S.faults input.new) }
+        ensures sink { SinkCause result (K.faults out.old) (K.faults out.new) }
+    {
+        let request = Request::of(regs);
+        let frame = Frame {
+            ps: USER_STATUS,
+            pc: next,
+            gp: regs.get(reg(GP)),
+            a: 0,
+            b: 0,
+            c: 0,
+        };
+        self.enter(regs, frame);
+        let served = request.serve(mem, input, out);
+        let end = finish(served, regs);
+        self.retsys(regs);
+        end
+    }
+}

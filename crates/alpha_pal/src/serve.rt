@@ -1,0 +1,150 @@
+ghost use Rattle.std.specs.Prelude.{◌≡◌, ℕ, List, Option};
+ghost use Rattle.alpha_words.specs.Regs.{reg, IsFile};
+ghost use Rattle.alpha_mem.specs.Block.{shapes};
+ghost use Rattle.alpha_pal.specs.Call.{request_of, answered};
+ghost use Rattle.alpha_pal.specs.CallEffect.{ServeEffect, InputCause, SinkCause, end_of, regs_after};
+
+use crate::named::{A0, A1, A2, A3, V0, reg};
+use crate::pal_end::PalEnd;
+use crate::take::take_into;
+use alpha_io::{Failed, Sink, Source, write_whole};
+use alpha_mem::Memory;
+use alpha_words::RegFile;
+
+// The system calls' numbers.
+const EXIT: u64 = 1;
+
+const READ: u64 = 3;
+
+const WRITE: u64 = 4;
+
+// The one descriptor that may be read, and the one that may be written.
+const INPUT: u64 = 0;
+
+const OUTPUT: u64 = 1;
+
+// The errors' numbers.
+const NO_SUCH_CALL: u64 = 78;
+
+const BAD_DESCRIPTOR: u64 = 9;
+
+const BAD_RANGE: u64 = 14;
+
+/// What a system call is asked: its number from R0, and its arguments from R16 to R18.
+#[derive(Clone, Copy, Debug)]
+pub(crate) struct Request {
+    pub number: u64,
+    pub a0: u64,
+    pub a1: u64,
+    pub a2: u64,
+}
+
+/// What a system call answers.
+#[derive(Clone, Copy, Debug)]
+pub(crate) enum Answer {
+    Value(u64),
+    Error(u64),
+    Exit(u64),
+}
+
+/// The device that failed in a system call.
+#[derive(Clone, Copy, Debug)]
+pub(crate) enum Fault {
+    Input,
+    Sink,
+}
+
+impl Request {
+    // The request in the registers.
+    pub(crate) fn of(regs: &RegFile) -> Request
+        ensures value { result ≡ request_of regs.now }
+        ensures file { IsFile regs.now }
+    {
+        Request {
+            number: regs.get(reg(V0)),
+            a0: regs.get(reg(A0)),
+            a1: regs.get(reg(A1)),
+            a2: regs.get(reg(A2)),
+        }
+    }
+
+    // Does what is asked.
+    pub(crate) fn serve<S: Source, K: Sink>(
+        self,
+        mem: &mut Memory,
+        input: &mut S,
+        out: &mut K,
+    ) -> Result<Answer, Fault>
+        ensures effect { ServeEffect self result mem.old mem.new
+            (S.left input.old) (S.left input.new) (K.written out.old) (K.written out.new) }
+        ensures shapes { shapes mem.new ≡ shapes mem.old }
+        ensures input { InputCause (end_of result) (S.faults input.old) (S.faults input.new) }
+        ensures sink { SinkCause (end_of result) (K.faults out.old) (K.faults out.new) }
+    {
+        match self.number {
+            EXIT => Ok(Answer::Exit(self.a0)),
+            READ => self.read(mem, input),
+            WRITE => self.write(mem, out),
+            _ => Ok(Answer::Error(NO_SUCH_CALL)),
+        }
+    }
+
+    // Reads input into memory. It goes on until there are as many bytes as asked for, or the input
+    // has ended.
+    fn read<S: Source>(self, mem: &mut Memory, input: &mut S) -> Result<Answer, Fault>
+        requires { self.number ≡ 3 }
+        ensures effect { (written : Option (List ℕ)) → ServeEffect self result mem.old mem.new
+            (S.left input.old) (S.left input.new) written written }
+        ensures shapes { shapes mem.new ≡ shapes mem.old }
+        ensures input { InputCause (end_of result) (S.faults input.old) (S.faults input.new) }
+        ensures sink { (count : ℕ) → SinkCause (end_of result) count count }
+    {
+        if self.a0 != INPUT {
+            return Ok(Answer::Error(BAD_DESCRIPTOR));
+        }
+        if !mem.can_write(self.a1, self.a2) {
+            return Ok(Answer::Error(BAD_RANGE));
+        }
+        match take_into(mem, self.a1, self.a2, input) {
+            Ok(count) => Ok(Answer::Value(count)),
+            Err(Failed) => Err(Fault::Input),
+        }
+    }
+
+    // Writes memory to the output.
+    fn write<K: Sink>(self, mem: &Memory, out: &mut K) -> Result<Answer, Fault>
+        requires { self.number ≡ 4 }
+        ensures effect { (left : Option (List ℕ)) → ServeEffect self result mem.now mem.now
+            left left (K.written out.old) (K.written out.new) }
+        ensures sink { SinkCause (end_of result) (K.faults out.old) (K.faults out.new) }
+        ensures input { (count : ℕ) → InputCause (end_of result) count count }
+    {
+        if self.a0 != OUTPUT {
+            return Ok(Answer::Error(BAD_DESCRIPTOR));
+        }
+        match mem.bytes(self.a1, self.a2) {
+            None => Ok(Answer::Error(BAD_RANGE)),
+            Some(bytes) => match write_whole(out, bytes) {
+                Ok(()) => Ok(Answer::Value(self.a2)),
+                Err(Failed) => Err(Fault::Sink),
+            },
+        }
+    }
+}
+
+// How the call ends, with the answer in the registers.
+pub(crate) fn finish(served: Result<Answer, Fault>, regs: &mut RegFile) -> PalEnd
+    ensures end { result ≡ end_of served }
+    ensures regs { regs.new ≡ regs_after served regs.old }
+{
+    let (value, error) = match served {
+        Ok(Answer::Value(value)) => (value, 0),
+        Ok(Answer::Error(number)) => (number, 1),
+        Ok(Answer::Exit(value)) => return PalEnd::Exit(value),
+        Err(Fault::Input) => return PalEnd::InputFault,
+        Err(Fault::Sink) => return PalEnd::SinkFault,
+    };
+    regs.set(reg(V0), value);
+    regs.set(reg(A3), error);
+    PalEnd::Goes
+}

@@ -1,0 +1,66 @@
+ghost use Rattle.std.specs.Prelude.{◌≡◌, ◌<◌, ◌≤◌, true, IsTrue, length, IfOk, OnErr};
+ghost use Rattle.std.specs.Io.KnownBytes.{Keeps, IsAtEnd};
+ghost use Rattle.alpha_io.specs.Faults.{HasCause};
+ghost use Rattle.alpha_mem.specs.Block.{shapes, within};
+ghost use Rattle.alpha_mem.specs.Memory.{IsMemory};
+ghost use Rattle.alpha_pal.specs.Taken.{HasTaken, TakesLess, Ends};
+
+use alpha_io::{Failed, Source};
+use alpha_mem::Memory;
+
+// The bytes that one call of a source is asked for at most.
+const PIECE: usize = 4_096;
+
+// Takes input into the range, until it is full or the input has ended, and answers how many bytes
+// were taken.
+pub(crate) fn take_into<S: Source>(
+    mem: &mut Memory,
+    addr: u64,
+    size: u64,
+    input: &mut S,
+) -> Result<u64, Failed>
+    requires range { IsTrue (within (shapes mem.old) true addr size) }
+    requires memory { IsMemory mem.old }
+    ensures ok { IfOk result (λ n. HasTaken mem.old mem.new addr n (S.left input.old) (S.left input.new)) }
+    ensures bound { IfOk result (λ n. n ≤ size) }
+    ensures all { IfOk result (λ n. n < size → Ends (S.left input.old) (S.left input.new)) }
+    ensures part { OnErr result (TakesLess mem.old mem.new addr size (S.left input.old) (S.left input.new)) }
+    ensures shapes { shapes mem.new ≡ shapes mem.old }
+    ensures cause { HasCause (S.faults input.old) (S.faults input.new) result }
+{
+    let mut buffer = [0u8; PIECE];
+    let mut done = 0;
+    while done < size {
+        let most = (size - done).min(PIECE as u64) as usize;
+        let count = take_piece(mem, addr + done, &mut buffer[..most], input)?;
+        if count == 0 {
+            return Ok(done);
+        }
+        done += count as u64;
+    }
+    Ok(done)
+}
+
+// Takes input into the piece and writes it to memory, as many bytes as one call gives.
+fn take_piece<S: Source>(
+    mem: &mut Memory,
+    addr: u64,
+    piece: &mut [u8],
+    input: &mut S,
+) -> Result<usize, Failed>
+    requires some { 0 < length piece.old }
+    requires range { IsTrue (within (shapes mem.old) true addr (length piece.old)) }
+    requires memory { IsMemory mem.old }
+    ensures ok { IfOk result (λ n. HasTaken mem.old mem.new addr n (S.left input.old) (S.left input.new)) }
+    ensures bound { IfOk result (λ n. n ≤ length piece.old) }
+    ensures end { IfOk result (λ n. n ≡ 0 → IsAtEnd (S.left input.old)) }
+    ensures failed { OnErr result (mem.new ≡ mem.old) }
+    ensures kept { OnErr result (Keeps (S.left input.old) (S.left input.new)) }
+    ensures shapes { shapes mem.new ≡ shapes mem.old }
+    ensures memory { IsMemory mem.new }
+    ensures cause { HasCause (S.faults input.old) (S.faults input.new) result }
+{
+    let count = input.take(piece)?;
+    mem.write(addr, &piece[..count]);
+    Ok(count)
+}

@@ -1,0 +1,175 @@
+-- Each result fits a register.
+use Rattle.std.proofs.Common.{◌≡◌, ℕ, zero, suc, ◌+◌, ◌-◌, ◌*◌, ◌/◌, ◌%◌, ◌^◌, ◌<◌, ◌≤◌, Bool, true, false, cond, List, [], ◌∷◌, length, ap, arith}
+use Rattle.std.specs.Prelude.{nat_le, ◌==◌, if◌then◌else◌}
+use Rattle.std.proofs.Math.Nat.{pow-le-pow_right}
+use Rattle.std.proofs.lemmas.Nat.{mul-add-lt, pow_pos, pow-add, pow_below, mod_below, shr_below, shr_le, and_le_l, and_le_r, or_lt, xor_lt, mul-lt}
+use Rattle.alpha_table.specs.declared.op.Op.{Op}
+use Rattle.alpha_table.specs.declared.op.Op.TheVariants.{Addl, S4addl, Subl, S4subl, Cmpbge, S8addl, S8subl, Cmpult, Addq, S4addq, Subq, S4subq, Cmpeq, S8addq, S8subq, Cmpule, AddlV, SublV, Cmplt, AddqV, SubqV, Cmple, And, Bic, Cmovlbs, Cmovlbc, Bis, Cmoveq, Cmovne, Ornot, Xor, Cmovlt, Cmovge, Eqv, Amask, Cmovle, Cmovgt, Implver, Mskbl, Extbl, Insbl, Mskwl, Extwl, Inswl, Mskll, Extll, Insll, Zap, Zapnot, Mskql, Srl, Extql, Sll, Insql, Sra, Mskwh, Inswh, Extwh, Msklh, Inslh, Extlh, Mskqh, Insqh, Extqh, Mull, Mulq, Umulh, MullV, MulqV, Sextb, Sextw}
+use Rattle.alpha_table.specs.declared.op.Cond.TheVariants.{Lbc, Lbs, Eq, Ne, Lt, Le, Ge, Gt}
+use Rattle.alpha_values.specs.Digits.{number, pairwise, bits_of, bytes_of, inverted}
+use Rattle.alpha_values.specs.Bytes.{extracted_low, extracted_high, inserted_low, inserted_high, cleared, masked_low, masked_high, zapped, zapped_not, bytes_compared}
+use Rattle.alpha_values.specs.Cond.{is_taken}
+use Rattle.alpha_values.specs.Op.{flag, features, and_of, or_of, xor_of, result_of}
+use Rattle.alpha_values.proofs.Words.{kept_bound}
+use Rattle.alpha_values.proofs.DigitLemmas.{AllBelow, digits-AllBelow, length-digits}
+use Rattle.alpha_values.proofs.BitLemmas.{bit_and_is, bit_or_is, bit_xor_is, bit_not_is}
+use Rattle.alpha_values.proofs.ByteLemmas.{extracted_low_is, extracted_high_is, inserted_low_is, inserted_high_is}
+
+pairwise_bound : (w v : ℕ) (f : ℕ → ℕ → ℕ) (xs ys : List ℕ) (count : ℕ)
+    → ((x y : ℕ) → y < v → f x y < 2 ^ w) → AllBelow v ys → length ys ≤ count → number (2 ^ w) (pairwise f xs ys) < 2 ^ (w * count)
+unfolding number pairwise
+pairwise_bound w v f [] ys count each below long = pow_pos (w * count)
+pairwise_bound w v f (x ∷ xs) [] count each below long = pow_pos (w * count)
+pairwise_bound w v f (x ∷ xs) (y ∷ ys) zero each below long = absurd (omega arith)
+pairwise_bound w v f (x ∷ xs) (y ∷ ys) (suc count) each below long =
+    let rest = pairwise_bound w v f xs ys count each below.1 (omega arith) in
+    let more : w * suc count ≡ w + w * count = omega arith in
+    omega (arith, mul-add-lt _ (2 ^ w) (f x y) (2 ^ (w * count)) rest (each x y below.0), ap (λ k. 2 ^ k) more, pow-add 2 w (w * count))
+
+choice_bound : (b : Bool) (m n : ℕ) (bound : ℕ) → m < bound → n < bound → cond b m n < bound
+choice_bound true m n bound p q = p
+choice_bound false m n bound p q = q
+
+cleared_bound : (marks : List ℕ) (a : ℕ) → cleared marks a < 2 ^ 64
+unfolding cleared
+cleared_bound marks a =
+    pairwise_bound 8 256 (λ mark byte. if mark == 1 then 0 else byte) marks (bytes_of a) 8 (λ x y small. choice_bound (x == 1) 0 y 256 (omega arith) small) (digits-AllBelow 8 8 a) (omega (arith, length-digits 256 8 a))
+
+compared_bound : (a b : ℕ) → bytes_compared a b < 2 ^ 64
+unfolding bytes_compared
+compared_bound a b =
+    omega (arith, pairwise_bound 1 256 (λ x y. if nat_le y x then 1 else 0) (bytes_of a) (bytes_of b) 8 (λ x y small. choice_bound (nat_le y x) 1 0 2 (omega arith) (omega arith)) (digits-AllBelow 8 8 b) (omega (arith, length-digits 256 8 b)))
+
+flag_bound : (b : Bool) → flag b < 2 ^ 64
+flag_bound b = choice_bound b 1 0 (2 ^ 64) (omega arith) (omega arith)
+
+and_bound : (a b : ℕ) → a < 2 ^ 64 → b < 2 ^ 64 → and_of (bits_of a) (bits_of b) < 2 ^ 64
+and_bound a b small also = omega (arith, bit_and_is a b small also, and_le_l a b)
+
+or_bound : (a b : ℕ) → a < 2 ^ 64 → b < 2 ^ 64 → or_of (bits_of a) (bits_of b) < 2 ^ 64
+or_bound a b small also = omega (arith, bit_or_is a b small also, or_lt 64 a b small also)
+
+xor_bound : (a b : ℕ) → a < 2 ^ 64 → b < 2 ^ 64 → xor_of (bits_of a) (bits_of b) < 2 ^ 64
+xor_bound a b small also = omega (arith, bit_xor_is a b small also, xor_lt 64 a b small also)
+
+-- an operation of bits with the second operand turned
+with_inverted : (op : List ℕ → List ℕ → ℕ) (a b : ℕ) → b < 2 ^ 64 → ((c : ℕ) → c < 2 ^ 64 → op (bits_of a) (bits_of c) < 2 ^ 64) → op (bits_of a) (inverted (bits_of b)) < 2 ^ 64
+with_inverted op a b small each =
+    omega (arith, ap (op (bits_of a)) (bit_not_is b small), each (2 ^ 64 - 1 - b) (omega arith))
+
+-- what a remainder of a register's bytes is below
+bytes_bound : (n size : ℕ) → size ≤ 8 → n % 2 ^ (8 * size) < 2 ^ 64
+bytes_bound n size within =
+    let most : 8 * size ≤ 64 = omega arith in
+    let power : 2 ^ (8 * size) ≤ 2 ^ 64 = pow-le-pow_right {n = 2} (omega arith) most in
+    omega (arith, mod_below n (2 ^ (8 * size)) (pow_pos (8 * size)))
+
+low_extract_bound : (size a b : ℕ) → size ≤ 8 → a < 2 ^ 64 → extracted_low size a b < 2 ^ 64
+low_extract_bound size a b within small = omega (arith, extracted_low_is size a b small, bytes_bound (a / 2 ^ (8 * (b % 8))) size within)
+
+high_extract_bound : (size a b : ℕ) → size ≤ 8 → a < 2 ^ 64 → extracted_high size a b < 2 ^ 64
+high_extract_bound size a b within small =
+    omega (arith, extracted_high_is size a b within small, bytes_bound (a * 2 ^ (8 * ((8 - b % 8) % 8)) % 2 ^ 64) size within)
+
+low_insert_bound : (size a b : ℕ) → size ≤ 8 → inserted_low size a b < 2 ^ 64
+low_insert_bound size a b within =
+    omega (arith, inserted_low_is size a b within, and_le_r (2 ^ (8 * (b % 8)) * (a % 2 ^ (8 * size))) (2 ^ 64 - 1))
+
+high_insert_bound : (size a b : ℕ) → size ≤ 8 → inserted_high size a b < 2 ^ 64
+high_insert_bound size a b within =
+    let place = pow_below (8 * (b % 8)) 64 (omega arith) in
+    let product = mul-lt (2 ^ (8 * (b % 8))) (a % 2 ^ (8 * size)) (2 ^ 64) (2 ^ 64) place (bytes_bound a size within) in
+    omega (arith, inserted_high_is size a b within, shr_below (2 ^ (8 * (b % 8)) * (a % 2 ^ (8 * size))) 64 64 product)
+
+high_product_bound : (a b : ℕ) → a < 2 ^ 64 → b < 2 ^ 64 → a * b / 2 ^ 64 < 2 ^ 64
+high_product_bound a b small also = shr_below (a * b) 64 64 (mul-lt a b (2 ^ 64) (2 ^ 64) small also)
+
+low_mask_bound : (size a b : ℕ) → masked_low size a b < 2 ^ 64
+unfolding masked_low
+low_mask_bound size a b = cleared_bound _ a
+
+high_mask_bound : (size a b : ℕ) → masked_high size a b < 2 ^ 64
+unfolding masked_high
+high_mask_bound size a b = cleared_bound _ a
+
+zap_bound : (a b : ℕ) → zapped a b < 2 ^ 64
+unfolding zapped
+zap_bound a b = cleared_bound _ a
+
+zap_not_bound : (a b : ℕ) → zapped_not a b < 2 ^ 64
+unfolding zapped_not
+zap_not_bound a b = cleared_bound _ a
+
+pub result_bound : (op : Op) (a b old : ℕ) → a < 2 ^ 64 → b < 2 ^ 64 → old < 2 ^ 64 → result_of op a b old < 2 ^ 64
+unfolding result_of
+result_bound Addl a b old p q r = kept_bound _
+result_bound AddlV a b old p q r = kept_bound _
+result_bound S4addl a b old p q r = kept_bound _
+result_bound S8addl a b old p q r = kept_bound _
+result_bound Subl a b old p q r = kept_bound _
+result_bound SublV a b old p q r = kept_bound _
+result_bound S4subl a b old p q r = kept_bound _
+result_bound S8subl a b old p q r = kept_bound _
+result_bound Mull a b old p q r = kept_bound _
+result_bound MullV a b old p q r = kept_bound _
+result_bound Addq a b old p q r = kept_bound _
+result_bound AddqV a b old p q r = kept_bound _
+result_bound S4addq a b old p q r = kept_bound _
+result_bound S8addq a b old p q r = kept_bound _
+result_bound Subq a b old p q r = kept_bound _
+result_bound SubqV a b old p q r = kept_bound _
+result_bound S4subq a b old p q r = kept_bound _
+result_bound S8subq a b old p q r = kept_bound _
+result_bound Mulq a b old p q r = kept_bound _
+result_bound MulqV a b old p q r = kept_bound _
+result_bound Sextb a b old p q r = kept_bound _
+result_bound Sextw a b old p q r = kept_bound _
+result_bound Sra a b old p q r = kept_bound _
+result_bound Umulh a b old p q r = high_product_bound a b p q
+result_bound Cmpeq a b old p q r = flag_bound _
+result_bound Cmplt a b old p q r = flag_bound _
+result_bound Cmple a b old p q r = flag_bound _
+result_bound Cmpult a b old p q r = flag_bound _
+result_bound Cmpule a b old p q r = flag_bound _
+result_bound Cmpbge a b old p q r = compared_bound a b
+result_bound And a b old p q r = and_bound a b p q
+result_bound Bis a b old p q r = or_bound a b p q
+result_bound Xor a b old p q r = xor_bound a b p q
+result_bound Bic a b old p q r = with_inverted and_of a b q (λ c s. and_bound a c p s)
+result_bound Ornot a b old p q r = with_inverted or_of a b q (λ c s. or_bound a c p s)
+result_bound Eqv a b old p q r = with_inverted xor_of a b q (λ c s. xor_bound a c p s)
+result_bound Amask a b old p q r = with_inverted and_of b features (omega arith) (λ c s. and_bound b c q s)
+result_bound Implver a b old p q r = omega arith
+result_bound Cmovlbs a b old p q r = choice_bound (is_taken Lbs a) b old (2 ^ 64) q r
+result_bound Cmovlbc a b old p q r = choice_bound (is_taken Lbc a) b old (2 ^ 64) q r
+result_bound Cmoveq a b old p q r = choice_bound (is_taken Eq a) b old (2 ^ 64) q r
+result_bound Cmovne a b old p q r = choice_bound (is_taken Ne a) b old (2 ^ 64) q r
+result_bound Cmovlt a b old p q r = choice_bound (is_taken Lt a) b old (2 ^ 64) q r
+result_bound Cmovle a b old p q r = choice_bound (is_taken Le a) b old (2 ^ 64) q r
+result_bound Cmovge a b old p q r = choice_bound (is_taken Ge a) b old (2 ^ 64) q r
+result_bound Cmovgt a b old p q r = choice_bound (is_taken Gt a) b old (2 ^ 64) q r
+result_bound Sll a b old p q r = omega arith
+result_bound Srl a b old p q r = omega (arith, shr_le a (b % 64))
+result_bound Extbl a b old p q r = low_extract_bound 1 a b (omega arith) p
+result_bound Insbl a b old p q r = low_insert_bound 1 a b (omega arith)
+result_bound Mskbl a b old p q r = low_mask_bound 1 a b
+result_bound Extwl a b old p q r = low_extract_bound 2 a b (omega arith) p
+result_bound Inswl a b old p q r = low_insert_bound 2 a b (omega arith)
+result_bound Mskwl a b old p q r = low_mask_bound 2 a b
+result_bound Extwh a b old p q r = high_extract_bound 2 a b (omega arith) p
+result_bound Inswh a b old p q r = high_insert_bound 2 a b (omega arith)
+result_bound Mskwh a b old p q r = high_mask_bound 2 a b
+result_bound Extll a b old p q r = low_extract_bound 4 a b (omega arith) p
+result_bound Insll a b old p q r = low_insert_bound 4 a b (omega arith)
+result_bound Mskll a b old p q r = low_mask_bound 4 a b
+result_bound Extlh a b old p q r = high_extract_bound 4 a b (omega arith) p
+result_bound Inslh a b old p q r = high_insert_bound 4 a b (omega arith)
+result_bound Msklh a b old p q r = high_mask_bound 4 a b
+result_bound Extql a b old p q r = low_extract_bound 8 a b (omega arith) p
+result_bound Insql a b old p q r = low_insert_bound 8 a b (omega arith)
+result_bound Mskql a b old p q r = low_mask_bound 8 a b
+result_bound Extqh a b old p q r = high_extract_bound 8 a b (omega arith) p
+result_bound Insqh a b old p q r = high_insert_bound 8 a b (omega arith)
+result_bound Mskqh a b old p q r = high_mask_bound 8 a b
+result_bound Zap a b old p q r = zap_bound a b
+result_bound Zapnot a b old p q r = zap_not_bound a b

@@ -1,0 +1,61 @@
+-- Completed values: what they are where nothing overflows, and that wrap gives what `operate` gives.
+use Rattle.std.proofs.Common.{◌≡◌, ℕ, ◌↔◌, ◌⊎◌, inl, inr, ⊎_elim, ℤ, pos, negsuc, Bool, true, false, Some, ap, sym, arith, FitsSigned}
+use Rattle.std.specs.Bool.{FalseIff}
+use Rattle.std.specs.Int.{Width, saturate_signed}
+use Rattle.std.proofs.lemmas.Int.{int_wrap_fits}
+use Rattle.std.proofs.lemmas.Bool.{cases_lt}
+use Rattle.alpha_words.specs.declared.Completion.{Completion}
+use Rattle.alpha_words.specs.declared.Completion.TheVariants.{Wrap, Saturate}
+use Rattle.alpha_table.specs.declared.op.Op.{Op}
+use Rattle.alpha_table.specs.declared.op.Op.TheVariants.{AddlV, SublV, AddqV, SubqV, MullV, MulqV}
+use Rattle.alpha_table.specs.declared.op.TrapOp.{TrapOp}
+use Rattle.alpha_table.specs.declared.op.TrapOp.TheVariants as traps
+use Rattle.alpha_table.specs.Op.{trap_of}
+use Rattle.alpha_values.specs.Numbers.{kept}
+use Rattle.alpha_values.specs.TrapOp.{size_of, exact, overflow_of, Overflows, completion_of, completed_of}
+use Rattle.alpha_values.specs.Op.{result_of}
+use Rattle.alpha_values.proofs.Ranges.{overflow_long, overflow_quad}
+
+pub completed-wrap : (op : Op) (trap : TrapOp) (a b old : ℕ) → trap_of op ≡ Some trap → completed_of trap a b Wrap ≡ result_of op a b old
+unfolding completed_of result_of
+completed-wrap AddlV trap a b old e = let same : trap ≡ traps.AddlV = cc in ap (λ t. completed_of t a b Wrap) same
+completed-wrap SublV trap a b old e = let same : trap ≡ traps.SublV = cc in ap (λ t. completed_of t a b Wrap) same
+completed-wrap MullV trap a b old e = let same : trap ≡ traps.MullV = cc in ap (λ t. completed_of t a b Wrap) same
+completed-wrap AddqV trap a b old e = let same : trap ≡ traps.AddqV = cc in ap (λ t. completed_of t a b Wrap) same
+completed-wrap SubqV trap a b old e = let same : trap ≡ traps.SubqV = cc in ap (λ t. completed_of t a b Wrap) same
+completed-wrap MulqV trap a b old e = let same : trap ≡ traps.MulqV = cc in ap (λ t. completed_of t a b Wrap) same
+completed-wrap _ trap a b old e = cc
+
+overflow_is : (overflow : Bool) (op : TrapOp) (a b : ℕ) → FalseIff overflow (FitsSigned (size_of op) (exact op a b)) → overflow ≡ overflow_of op a b
+unfolding overflow_of
+overflow_is overflow traps.AddlV a b h = overflow_long overflow _ h
+overflow_is overflow traps.SublV a b h = overflow_long overflow _ h
+overflow_is overflow traps.MullV a b h = overflow_long overflow _ h
+overflow_is overflow traps.AddqV a b h = overflow_quad overflow _ h
+overflow_is overflow traps.SubqV a b h = overflow_quad overflow _ h
+overflow_is overflow traps.MulqV a b h = overflow_quad overflow _ h
+
+pub Overflows-range : (op : TrapOp) (a b : ℕ) → Overflows op a b ↔ ¬ FitsSigned (size_of op) (exact op a b)
+Overflows-range op a b = (
+  λ h fits. let e : false ≡ overflow_of op a b = overflow_is false op a b fits in let f : overflow_of op a b ≡ true = h in cc,
+  λ outside. sym (overflow_is true op a b outside),
+)
+
+fits_cases : (w : Width) (z : ℤ) → FitsSigned w z ⊎ ¬ FitsSigned w z
+fits_cases w (pos n) = ⊎_elim (λ p. inl (record { sfits = p })) (λ p. inr (λ h. omega (arith, h.sfits))) (cases_lt n _)
+fits_cases w (negsuc n) = ⊎_elim (λ p. inl (record { sfits = p })) (λ p. inr (λ h. omega (arith, h.sfits))) (cases_lt n _)
+
+saturate_fits : (w : Width) (z : ℤ) → FitsSigned w z → saturate_signed w z ≡ z
+saturate_fits w (pos n) fits = let h = fits.sfits in ap pos (omega arith)
+saturate_fits w (negsuc n) fits = let h = fits.sfits in ap negsuc (omega arith)
+
+completion_fits : (how : Completion) (w : Width) (z : ℤ) → FitsSigned w z → completion_of how w z ≡ z
+completion_fits Wrap w z fits = int_wrap_fits w z fits
+completion_fits Saturate w z fits = saturate_fits w z fits
+
+pub completed-exact : (op : TrapOp) (a b : ℕ) (how : Completion) → ¬ Overflows op a b → completed_of op a b how ≡ kept (exact op a b)
+unfolding completed_of
+completed-exact op a b how within =
+    ⊎_elim (λ (p : FitsSigned (size_of op) (exact op a b)). ap kept (completion_fits how _ _ p))
+    (λ (p : FitsSigned (size_of op) (exact op a b) → ⊥). absurd (within ((Overflows-range op a b).1 p)))
+    (fits_cases (size_of op) (exact op a b))

@@ -1,0 +1,50 @@
+-- The instructions that trap on overflow: when they overflow, and the value that completes them.
+use Rattle.std.specs.Prelude.{ℕ, ◌^◌, ℤ, pos, neg_ℤ, ◌+ℤ◌, ◌-ℤ◌, ◌*ℤ◌, int_lt, int_le, Bool, ◌||◌, IsTrue}
+use Rattle.std.specs.Int.{Width, w32, w64, int_wrap, saturate_signed}
+use Rattle.alpha_words.specs.declared.Completion.{Completion}
+use Rattle.alpha_words.specs.declared.Completion.TheVariants.{Wrap, Saturate}
+use Rattle.alpha_table.specs.declared.op.TrapOp.{TrapOp}
+use Rattle.alpha_table.specs.declared.op.TrapOp.TheVariants.{AddlV, SublV, AddqV, SubqV, MullV, MulqV}
+use Rattle.alpha_values.specs.Numbers.{signed, kept}
+
+abbrev pub size_of : TrapOp → Width
+size_of AddlV = w32
+size_of SublV = w32
+size_of MullV = w32
+size_of AddqV = w64
+size_of SubqV = w64
+size_of MulqV = w64
+
+-- the exact result, of operands of the operation's size
+abbrev pub exact : TrapOp → ℕ → ℕ → ℤ
+exact AddlV a b = signed w32 a +ℤ signed w32 b
+exact SublV a b = signed w32 a -ℤ signed w32 b
+exact MullV a b = signed w32 a *ℤ signed w32 b
+exact AddqV a b = signed w64 a +ℤ signed w64 b
+exact SubqV a b = signed w64 a -ℤ signed w64 b
+exact MulqV a b = signed w64 a *ℤ signed w64 b
+
+-- half as many as the size's signed range has: it goes from minus this number up to, and without, this number
+abbrev pub half_range : TrapOp → ℕ
+half_range AddlV = 2 ^ 31
+half_range SublV = 2 ^ 31
+half_range MullV = 2 ^ 31
+half_range AddqV = 2 ^ 63
+half_range SubqV = 2 ^ 63
+half_range MulqV = 2 ^ 63
+
+-- the exact result lies outside the signed range of the size: as a test, and as a fact
+unfoldable pub overflow_of : TrapOp → ℕ → ℕ → Bool
+overflow_of op a b = int_lt (exact op a b) (neg_ℤ (pos (half_range op))) || int_le (pos (half_range op)) (exact op a b)
+
+abbrev pub Overflows : TrapOp → ℕ → ℕ → Type 0
+Overflows op a b = IsTrue (overflow_of op a b)
+
+-- the number that stands for the exact result in the signed range of the size: itself where it lies there, else by
+-- wrap the one that is congruent to it, by saturate the nearest bound
+abbrev pub completion_of : Completion → Width → ℤ → ℤ
+completion_of Wrap size z = int_wrap size z
+completion_of Saturate size z = saturate_signed size z
+
+unfoldable pub completed_of : TrapOp → ℕ → ℕ → Completion → ℕ
+completed_of op a b how = kept (completion_of how (size_of op) (exact op a b))

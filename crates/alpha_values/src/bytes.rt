@@ -1,0 +1,155 @@
+ghost use Rattle.std.specs.Prelude.{◌≡◌, ◌-◌, ◌*◌, ◌/◌, ◌%◌, ◌^◌, ◌<◌, ◌≤◌, ◌==◌, nat_le, if◌then◌else◌};
+ghost use Rattle.alpha_values.specs.Digits.{digits, inverted};
+ghost use Rattle.alpha_values.specs.Bytes.{extracted_low, extracted_high, inserted_low, inserted_high, cleared, masked_low, masked_high, zapped, zapped_not, bytes_compared};
+
+/// EXTxL: so many bytes of Ra from Rb's place on (Architecture Handbook, byte manipulation
+/// instructions). A size is in bytes.
+pub(crate) fn extract_low(size: u32, a: u64, b: u64) -> u64
+    requires some { 0 < size }
+    requires most { size ≤ 8 }
+    ensures { result ≡ extracted_low size a b }
+{
+    low_bytes(a >> (8 * place(b)), size)
+}
+
+/// EXTxH: the low bytes of Ra moved up by as many places as are left above Rb's.
+pub(crate) fn extract_high(size: u32, a: u64, b: u64) -> u64
+    requires some { 0 < size }
+    requires most { size ≤ 8 }
+    ensures { result ≡ extracted_high size a b }
+{
+    let up = (8 - place(b)) % 8;
+    low_bytes(a << (8 * up), size)
+}
+
+/// INSxL: the low half of the bytes of Ra that are placed into sixteen.
+pub(crate) fn insert_low(size: u32, a: u64, b: u64) -> u64
+    requires some { 0 < size }
+    requires most { size ≤ 8 }
+    ensures { result ≡ inserted_low size a b }
+{
+    (placed(size, a, b) & u128::from(u64::MAX)) as u64
+}
+
+/// INSxH: the high half of the bytes of Ra that are placed into sixteen.
+pub(crate) fn insert_high(size: u32, a: u64, b: u64) -> u64
+    requires some { 0 < size }
+    requires most { size ≤ 8 }
+    ensures { result ≡ inserted_high size a b }
+{
+    (placed(size, a, b) >> 64) as u64
+}
+
+/// MSKxL: the bytes from Rb's place on are cleared, so many.
+pub(crate) fn mask_low(size: u32, a: u64, b: u64) -> u64
+    requires some { 0 < size }
+    requires most { size ≤ 8 }
+    ensures { result ≡ masked_low size a b }
+{
+    clear(a, marked(size, b))
+}
+
+/// MSKxH: the bytes are cleared that run past the eighth, so many from Rb's place on.
+pub(crate) fn mask_high(size: u32, a: u64, b: u64) -> u64
+    requires some { 0 < size }
+    requires most { size ≤ 8 }
+    ensures { result ≡ masked_high size a b }
+{
+    clear(a, marked(size, b) >> 8)
+}
+
+/// ZAP: the bytes that Rb marks are cleared.
+pub(crate) fn zap(a: u64, b: u64) -> u64
+    ensures { result ≡ zapped a b }
+{
+    clear(a, b)
+}
+
+/// ZAPNOT: the bytes that Rb doesn't mark are cleared.
+pub(crate) fn zap_not(a: u64, b: u64) -> u64
+    ensures { result ≡ zapped_not a b }
+{
+    clear(a, !b)
+}
+
+/// CMPBGE: for each byte of Ra whether it is at least that of Rb.
+pub(crate) fn compare_bytes(a: u64, b: u64) -> u64
+    ensures { result ≡ bytes_compared a b }
+{
+    let mut answers = 0;
+    for k in (0..8).rev() {
+        answers = answers << 1 | at_least(a, b, k);
+    }
+    answers
+}
+
+// 1 where the byte of Ra at a place is at least that of Rb, else 0.
+fn at_least(a: u64, b: u64, k: u32) -> u64
+    requires { k < 8 }
+    ensures answer { result ≡ (if nat_le (b / 2 ^ (8 * k) % 256) (a / 2 ^ (8 * k) % 256) then 1 else 0) }
+    ensures bit { result < 2 }
+{
+    u64::from(byte(b, k) <= byte(a, k))
+}
+
+// Clears the bytes that the low eight bits mark.
+fn clear(a: u64, marks: u64) -> u64
+    ensures { result ≡ cleared (digits 2 8 marks) a }
+{
+    let mut left = 0;
+    for k in (0..8).rev() {
+        left = left << 8 | byte_left(a, marks, k);
+    }
+    left
+}
+
+// The byte at a place, or 0 where it is marked.
+fn byte_left(a: u64, marks: u64, k: u32) -> u64
+    requires { k < 8 }
+    ensures left { result ≡ (if marks / 2 ^ k % 2 == 1 then 0 else a / 2 ^ (8 * k) % 256) }
+    ensures byte { result < 256 }
+{
+    if marks >> k & 1 == 1 { 0 } else { byte(a, k) }
+}
+
+// The byte at a place.
+fn byte(a: u64, k: u32) -> u64
+    requires { k < 8 }
+    ensures { result ≡ a / 2 ^ (8 * k) % 256 }
+{
+    a >> (8 * k) & 0xff
+}
+
+// The place that a register gives.
+fn place(b: u64) -> u32
+    ensures { result ≡ b % 8 }
+{
+    (b & 7) as u32
+}
+
+// The lowest bytes, so many.
+fn low_bytes(a: u64, size: u32) -> u64
+    requires some { 0 < size }
+    requires most { size ≤ 8 }
+    ensures { result ≡ a % 2 ^ (8 * size) }
+{
+    a & u64::MAX >> (64 - 8 * size)
+}
+
+// The low bytes of Ra at Rb's place.
+fn placed(size: u32, a: u64, b: u64) -> u128
+    requires some { 0 < size }
+    requires most { size ≤ 8 }
+    ensures { result ≡ 2 ^ (8 * (b % 8)) * (a % 2 ^ (8 * size)) }
+{
+    u128::from(low_bytes(a, size)) << (8 * place(b))
+}
+
+// A bit for each of the sixteen bytes, 1 at those from Rb's place on, so many.
+fn marked(size: u32, b: u64) -> u64
+    requires some { 0 < size }
+    requires most { size ≤ 8 }
+    ensures { result ≡ 2 ^ (b % 8) * (2 ^ size - 1) }
+{
+    ((1 << size) - 1) << place(b)
+}
