@@ -26,6 +26,8 @@ mod insn;
 mod laws;
 mod op;
 mod rows;
+#[cfg(test)]
+mod tests;
 
 pub use columns::{ByteSpan, InsnKind, MemAccess, access, kind, sets, span, trap_op, uses};
 pub use decoder::decode;
