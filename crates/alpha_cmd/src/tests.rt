@@ -297,6 +297,34 @@ fn damaged_images_are_refused(rt: HostRuntime) -> Result<(), Fail> {
 }
 
 #[test]
+fn damaged_images_have_their_lines(rt: HostRuntime) -> Result<(), Fail> {
+    let alloc = rt.alloc();
+    let rows: [(usize, &[u8]); 6] = [
+        (0, b"image kind 2 first 0 second 0\n"),
+        (8, b"image kind 3 first 1 second 0\n"),
+        (24, b"image kind 3 first 7 second 0\n"),
+        (32, b"image kind 4 first 68 second 1068\n"),
+        (35, b"image kind 3 first 3 second 0\n"),
+        (44, b"image kind 3 first 6 second 0\n"),
+    ];
+    for (place, line) in rows {
+        let mut bytes = ACCEPTED;
+        bytes[place] = 0xff;
+        let outcome = outcome_of(alloc, &["check", "a"], Some(&bytes), &[])?;
+        assert_eq!(rt; outcome.status.number(), 4);
+        assert_eq!(rt; outcome.notes.as_slice(), line);
+    }
+    let mut longer = ACCEPTED.to_vec(alloc)?;
+    longer.push(0)?;
+    let outcome = outcome_of(alloc, &["check", "a"], Some(&longer), &[])?;
+    assert_eq!(rt;
+        outcome.notes.as_slice(),
+        b"image kind 4 first 69 second 68\n".as_slice()
+    );
+    Ok(())
+}
+
+#[test]
 fn a_failed_put_is_a_sink_fault(rt: HostRuntime) -> Result<(), Fail> {
     let outcome = outcome_of(rt.alloc(), &["check", "a"], Some(&ACCEPTED), &[0])?;
     assert_eq!(rt; outcome.status, Status::SinkFault);
