@@ -1,5 +1,5 @@
 //! The conditions of a trap shadow as they are stated, tried one after another at every place. It is
-//! slow, and shares nothing with the checker.
+//! slow, and has only the columns of the table in common with the checker.
 use alpha_shadow::{Broken, Condition};
 use alpha_table::{Insn, InsnKind, access, kind, sets, span, uses};
 use alpha_words::Reg;
@@ -66,8 +66,8 @@ fn is_exposed(code: &[Insn], trigger: usize, at: usize, r: Reg) -> bool {
 
 fn may_meet(load: &Insn, store: &Insn) -> bool {
     match (access(load), access(store), span(load), span(store)) {
-        (Some(first), Some(second), Some(low), Some(high)) => {
-            first.base != second.base || low.low < high.high && high.low < low.high
+        (Some(loaded), Some(stored), Some(read), Some(written)) => {
+            loaded.base != stored.base || read.low < written.high && written.low < read.high
         }
         _ => false,
     }
