@@ -1,2 +1,4 @@
 pub mod Field
+pub mod Levels
 pub mod Regs
+pub mod Digits

@@ -1,4 +1,4 @@
-ghost use Rattle.std.specs.Prelude.{◌≡◌, ◌%◌, ◌<◌, ◌≤◌, ◌↔◌, IsNone, IfSome, IsSome};
+ghost use Rattle.std.specs.Prelude.{◌≡◌, ◌%◌, ◌<◌, ◌≤◌, IfSome, IfNone};
 
 use std::marker::Model;
 
@@ -26,8 +26,8 @@ impl Reg {
 
     /// The register with this number, `None` exactly above 31.
     pub fn new(number: u8) -> Option<Reg>
-        ensures there { IsSome result ↔ (number < 32) }
-        ensures value { IfSome result (λ r. r ≡ number) }
+        ensures found { IfSome result (λ r. r ≡ number) }
+        ensures none { IfNone result (32 ≤ number) }
     {
         if number < 32 {
             Some(Reg { number })
