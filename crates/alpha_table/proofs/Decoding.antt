@@ -1,13 +1,14 @@
 -- The decoded instruction of a word is the one of the table.
-use Rattle.std.proofs.Common.{◌≡◌, ◌<◌, ◌^◌, ℕ, pos, negsuc, ◌-ℤ◌, ◌≤ℤ◌, ltb, Bool, true, false, Option, Some, None, List, [], ◌∷◌, ◌==◌, ◌&&◌, cond, eqb, find, ◌⊎◌, inl, inr, ⊎_elim, refl, sym, ap, ◌∙◌, subst, arith}
-use Rattle.std.specs.Option.{option_map}
+use Rattle.std.proofs.Common.{◌≡◌, ◌≢◌, ◌<◌, ◌^◌, ℕ, pos, ◌+◌, ◌+ℤ◌, ◌-ℤ◌, ◌≤ℤ◌, ◌<ℤ◌, ltb, Bool, true, false, Option, Some, None, List, [], ◌∷◌, ◌==◌, ◌&&◌, cond, eqb, find, ◌⊎◌, inl, inr, ⊎_elim, refl, sym, ap, ◌∙◌, subst, arith}
+use Rattle.std.specs.Option.{option_map, option_or, IfNone}
 use Rattle.std.proofs.lemmas.Bool.{eq-eqb, eqb-true, eqb-false, ltb-true, ltb-false}
 use Rattle.std.proofs.lemmas.Int.{ints}
 use Rattle.std.proofs.lemmas.Option.{option_and_then_some, cond_some}
-use Rattle.alpha_words.specs.Field.{field, signed_field}
+use Rattle.alpha_words.specs.Field.{field}
 use Rattle.alpha_words.specs.declared.PalCall.{PalCall}
 use Rattle.alpha_table.specs.declared.op.Op.{Op}
-use Rattle.alpha_table.specs.declared.op.Op.TheVariants.{Amask, Sextb, Sextw, Implver}
+use Rattle.alpha_table.specs.declared.op.OperandRule.{OperandRule}
+use Rattle.alpha_table.specs.declared.op.OperandRule.TheVariants.{Any, Unary, UnaryRegister, Version}
 use Rattle.alpha_table.specs.declared.rows.MemOp.{MemOp}
 use Rattle.alpha_table.specs.declared.rows.BranchOp.{BranchOp}
 use Rattle.alpha_table.specs.declared.rows.JumpKind.{JumpKind}
@@ -17,10 +18,10 @@ use Rattle.alpha_table.specs.declared.form.Src.TheVariants.{Reg, Lit}
 use Rattle.alpha_table.specs.declared.form.Form.{Form}
 use Rattle.alpha_table.specs.declared.form.Form.TheVariants.{Mem, Branch, Jump, Operate, Misc, Fetch, Pal}
 use Rattle.alpha_table.specs.Op.{op_row}
-use Rattle.alpha_table.specs.Rows.{memory_opcode, branch_opcode, jump_kind, misc_function, pal_function}
-use Rattle.alpha_table.specs.Row.{Row, SourceField, OperandsFit, Fits}
-use Rattle.alpha_table.specs.Decoded.{operates, memories, branches, jumps, miscs, pal_calls, operate_at, memory_at, branch_at, jump_at, pal_at, source_of, source_is, operands_fit, memory_form, branch_form, jump_form, operate_form, misc_form, fetch_form, pal_form, or_else, decoded}
-use Rattle.alpha_table.proofs.Lookups.{operate_at-row, memory_at-row, branch_at-row, jump_at-row, misc_at-row, pal_at-row, memory_at-branch, memory_at-operate, branch_at-operate, jump-operate}
+use Rattle.alpha_table.specs.Rows.{mem_row, branch_row, jump_kind, misc_row, fetch_function, pal_function}
+use Rattle.alpha_table.specs.Row.{Row, SourceField, IsSource, IsRegister, OperandsFit, IsInsn}
+use Rattle.alpha_table.specs.Decoded.{every_op, every_mem, every_branch, every_jump, every_misc, every_pal, operate_at, memory_at, branch_at, jump_at, fetch_at, pal_at, source_of, source_is, is_register, operands_fit, memory_form, branch_form, jump_form, operate_form, misc_form, fetch_form, pal_form, decoded}
+use Rattle.alpha_table.proofs.Lookups.{operate_known, memory_known, branch_known, jump_known, misc_known, fetch_known, pal_known, memory_at-branch, memory_at-operate, branch_at-operate, jump-operate, IsOperateOpcode, IsBranchOpcode, opcode-operate, opcode-memory, opcode-branch}
 
 -- what is found passes the test
 find_passes : {X : Type 0} (p : X → Bool) (xs : List X) (x : X) → find p xs ≡ Some x → p x ≡ true
@@ -39,9 +40,9 @@ option_map_some : {A B : Type 0} (f : A → B) (o : Option A) (y : B) → option
 option_map_some f None y h = cc
 option_map_some f (Some x) y h = (x, refl, cc)
 
-or_else_some : (a b : Option Form) (i : Form) → or_else a b ≡ Some i → (a ≡ Some i) ⊎ (b ≡ Some i)
-or_else_some None b i h = inr h
-or_else_some (Some j) b i h = inl h
+option_or_some : (a b : Option Form) (i : Form) → option_or a b ≡ Some i → (a ≡ Some i) ⊎ (b ≡ Some i)
+option_or_some None b i h = inr h
+option_or_some (Some j) b i h = inl h
 
 -- a field of one bit that isn't 1 is 0
 not_one : (w : ℕ) → (field 12 12 w ≡ 1 → ⊥) → field 12 12 w ≡ 0
@@ -51,45 +52,47 @@ not_one w h = omega arith
 
 memory_form-row : (w : ℕ) (op : MemOp) (ra rb : ℕ) (disp : _) → Row w (Mem op ra rb disp) → memory_form w ≡ Some (Mem op ra rb disp)
 unfolding memory_form
-memory_form-row w op ra rb disp h = rw (h.0, memory_at-row op, h.1, h.2, h.3) refl
+memory_form-row w op ra rb disp h = rw (h.0, (memory_known op).0, h.1, h.2, h.3) refl
 
 branch_form-row : (w : ℕ) (op : BranchOp) (ra : ℕ) (disp : _) → Row w (Branch op ra disp) → branch_form w ≡ Some (Branch op ra disp)
 unfolding branch_form
-branch_form-row w op ra disp h = rw (h.0, branch_at-row op, h.1, h.2) refl
+branch_form-row w op ra disp h = rw (h.0, (branch_known op).0, h.1, h.2) refl
 
 jump_form-row : (w : ℕ) (kind : JumpKind) (ra rb hint : ℕ) → Row w (Jump kind ra rb hint) → jump_form w ≡ Some (Jump kind ra rb hint)
 unfolding jump_form
-jump_form-row w kind ra rb hint h = rw (h.0, h.3, jump_at-row kind, h.1, h.2, h.4) refl
+jump_form-row w kind ra rb hint h = rw (h.0, h.3, (jump_known kind).0, h.1, h.2, h.4) refl
 
 misc_form-row : (w : ℕ) (op : MiscOp) → Row w (Misc op) → misc_form w ≡ Some (Misc op)
 unfolding misc_form
-misc_form-row w op h = rw (h.0, h.1, h.2, h.3, misc_at-row op) refl
+misc_form-row w op h = rw (h.0, h.1, h.2, h.3, (misc_known op).0) refl
 
 fetch_form-row : (w : ℕ) (modify : Bool) (rb : ℕ) → Row w (Fetch modify rb) → fetch_form w ≡ Some (Fetch modify rb)
 unfolding fetch_form
-fetch_form-row w false rb h = rw (h.0, h.1, h.3, h.2) refl
-fetch_form-row w true rb h = rw (h.0, h.1, h.3, h.2) refl
+fetch_form-row w modify rb h = rw (h.0, h.1, h.3, h.2, (fetch_known modify).0) refl
 
 pal_form-row : (w : ℕ) (call : PalCall) → Row w (Pal call) → pal_form w ≡ Some (Pal call)
 unfolding pal_form
-pal_form-row w call h = rw (h.0, h.1, pal_at-row call) refl
+pal_form-row w call h = rw (h.0, h.1, (pal_known call).0) refl
 
 source_of-field : (w : ℕ) (src : Src) → SourceField w src → source_of w ≡ Some src
 unfolding source_of
 source_of-field w (Reg rb) h = rw (h.2, h.1, h.0) refl
 source_of-field w (Lit n) h = rw (h.1, h.0) refl
 
-operands_fit-fits : (op : Op) (ra : ℕ) (src : Src) → OperandsFit op ra src → operands_fit op ra src ≡ true
-operands_fit-fits Amask ra src h = eq-eqb ra 31 h
-operands_fit-fits Sextb ra src h = eq-eqb ra 31 h
-operands_fit-fits Sextw ra src h = eq-eqb ra 31 h
-operands_fit-fits Implver ra src h = rw (h.0, h.1) refl
-operands_fit-fits _ ra src h = refl
+is_register-fits : (src : Src) → IsRegister src → is_register src ≡ true
+is_register-fits (Reg r) h = refl
+is_register-fits (Lit n) h = absurd h
+
+operands_fit-fits : (rule : OperandRule) (ra : ℕ) (src : Src) → OperandsFit rule ra src → operands_fit rule ra src ≡ true
+operands_fit-fits Any ra src h = refl
+operands_fit-fits Unary ra src h = eq-eqb ra 31 h
+operands_fit-fits UnaryRegister ra src h = rw (h.0, is_register-fits src h.1) refl
+operands_fit-fits Version ra src h = rw (h.0, h.1) refl
 
 operate_form-row : (w : ℕ) (op : Op) (ra : ℕ) (src : Src) (rc : ℕ) → Row w (Operate op ra src rc) → operate_form w ≡ Some (Operate op ra src rc)
 unfolding operate_form
 operate_form-row w op ra src rc h =
-    rw (h.0, h.1, operate_at-row op, source_of-field w src h.3, h.2, operands_fit-fits op ra src h.5, h.4) refl
+    rw (h.0, h.1, (operate_known op).0, source_of-field w src h.3, h.2, operands_fit-fits (op_row op).operands ra src h.5, h.4) refl
 
 -- a word of one format has no row of an earlier one
 
@@ -130,11 +133,11 @@ pub decoded-Row : (w : ℕ) (i : Form) → Row w i → decoded w ≡ Some i
 unfolding decoded
 decoded-Row w (Mem op ra rb disp) h = rw (memory_form-row w op ra rb disp h) refl
 decoded-Row w (Branch op ra disp) h =
-    rw (memory_form-none w (branch_opcode op) h.0 (memory_at-branch op), branch_form-row w op ra disp h) refl
+    rw (memory_form-none w ((branch_row op).opcode) h.0 (memory_at-branch op), branch_form-row w op ra disp h) refl
 decoded-Row w (Jump kind ra rb hint) h =
     rw (memory_form-none w 0x1a h.0 refl, branch_form-none w 0x1a h.0 refl, jump_form-row w kind ra rb hint h) refl
 decoded-Row w (Operate op ra src rc) h =
-    rw (memory_form-none w (op_row op).0 h.0 (memory_at-operate op), branch_form-none w (op_row op).0 h.0 (branch_at-operate op), jump_form-none w (op_row op).0 h.0 (jump-operate op), operate_form-row w op ra src rc h) refl
+    rw (memory_form-none w (op_row op).opcode h.0 (memory_at-operate op), branch_form-none w (op_row op).opcode h.0 (branch_at-operate op), jump_form-none w (op_row op).opcode h.0 (jump-operate op), operate_form-row w op ra src rc h) refl
 decoded-Row w (Misc op) h =
     rw (memory_form-none w 0x18 h.0 refl, branch_form-none w 0x18 h.0 refl, jump_form-none w 0x18 h.0 refl, operate_form-none w 0x18 h.0 (λ _. refl), misc_form-row w op h) refl
 decoded-Row w (Fetch modify rb) h =
@@ -157,14 +160,14 @@ memory_form-is : (w : ℕ) (i : Form) → memory_form w ≡ Some i → Row w i
 unfolding memory_form
 memory_form-is w i h =
     let m = option_map_some _ _ i h in
-    let e = found_by memory_opcode memories (field 31 26 w) m.0 m.1 in
+    let e = found_by (λ op. (mem_row op).opcode) every_mem (field 31 26 w) m.0 m.1 in
     subst (Row w) m.2 (sym e, refl, refl, refl)
 
 branch_form-is : (w : ℕ) (i : Form) → branch_form w ≡ Some i → Row w i
 unfolding branch_form
 branch_form-is w i h =
     let m = option_map_some _ _ i h in
-    let e = found_by branch_opcode branches (field 31 26 w) m.0 m.1 in
+    let e = found_by (λ op. (branch_row op).opcode) every_branch (field 31 26 w) m.0 m.1 in
     subst (Row w) m.2 (sym e, refl, refl)
 
 jump_form-is : (w : ℕ) (i : Form) → jump_form w ≡ Some i → Row w i
@@ -172,7 +175,7 @@ unfolding jump_form
 jump_form-is w i h =
     let c = cond_none _ _ i h in
     let m = option_map_some (λ kind. Jump kind (field 25 21 w) (field 20 16 w) (field 13 0 w)) (jump_at (field 15 14 w)) i c.1 in
-    let e = found_by jump_kind jumps (field 15 14 w) m.0 m.1 in
+    let e = found_by jump_kind every_jump (field 15 14 w) m.0 m.1 in
     subst (Row w) m.2 (eqb-true (field 31 26 w) 0x1a c.0, refl, refl, sym e, refl)
 
 misc_form-is : (w : ℕ) (i : Form) → misc_form w ≡ Some i → Row w i
@@ -180,7 +183,7 @@ unfolding misc_form
 misc_form-is w i h =
     let c = cond_none _ _ i h in
     let m = option_map_some _ _ i c.1 in
-    let e = found_by misc_function miscs (field 15 0 w) m.0 m.1 in
+    let e = found_by (λ op. (misc_row op).function) every_misc (field 15 0 w) m.0 m.1 in
     let b = both (field 31 26 w == 0x18) (field 25 21 w == 31 && field 20 16 w == 31) c.0 in
     let r = both (field 25 21 w == 31) (field 20 16 w == 31) b.1 in
     subst (Row w) m.2 (eqb-true (field 31 26 w) 0x18 b.0, eqb-true (field 25 21 w) 31 r.0, eqb-true (field 20 16 w) 31 r.1, sym e)
@@ -189,20 +192,17 @@ fetch_form-is : (w : ℕ) (i : Form) → fetch_form w ≡ Some i → Row w i
 unfolding fetch_form
 fetch_form-is w i h =
     let c = cond_none _ _ i h in
-    let b = both _ _ c.0 in
-    cases (field 15 0 w == 0x8000) (field 15 0 w == 0xa000) refl refl c.1 (eqb-true _ _ b.0) (eqb-true _ _ b.1)
-  where
-    cases : (p q : Bool) → (field 15 0 w == 0x8000) ≡ p → (field 15 0 w == 0xa000) ≡ q → cond p (Some (Fetch false (field 20 16 w))) (cond q (Some (Fetch true (field 20 16 w))) None) ≡ Some i → field 31 26 w ≡ 0x18 → field 25 21 w ≡ 31 → Row w i
-    cases true q e f h o r = let m : Fetch false (field 20 16 w) ≡ i = cc in subst (Row w) m (o, r, refl, eqb-true _ _ e)
-    cases false true e f h o r = let m : Fetch true (field 20 16 w) ≡ i = cc in subst (Row w) m (o, r, refl, eqb-true _ _ f)
-    cases false false e f h o r = cc
+    let m = option_map_some (λ modify. Fetch modify (field 20 16 w)) (fetch_at (field 15 0 w)) i c.1 in
+    let e = found_by fetch_function (false ∷ true ∷ []) (field 15 0 w) m.0 m.1 in
+    let b = both (field 31 26 w == 0x18) (field 25 21 w == 31) c.0 in
+    subst (Row w) m.2 (eqb-true (field 31 26 w) 0x18 b.0, eqb-true (field 25 21 w) 31 b.1, refl, sym e)
 
 pal_form-is : (w : ℕ) (i : Form) → pal_form w ≡ Some i → Row w i
 unfolding pal_form
 pal_form-is w i h =
     let c = cond_none _ _ i h in
     let m = option_map_some Pal (pal_at (field 25 0 w)) i c.1 in
-    let e = found_by pal_function pal_calls (field 25 0 w) m.0 m.1 in
+    let e = found_by pal_function every_pal (field 25 0 w) m.0 m.1 in
     subst (Row w) m.2 (eqb-true (field 31 26 w) 0 c.0, sym e)
 
 source_of-is : (w : ℕ) (src : Src) → source_of w ≡ Some src → SourceField w src
@@ -218,27 +218,30 @@ source_is-same : (src : Src) (n : ℕ) → source_is src n ≡ true → src ≡ 
 source_is-same (Reg r) n h = cc
 source_is-same (Lit m) n h = ap Lit (eqb-true m n h)
 
-operands_fit-is : (op : Op) (ra : ℕ) (src : Src) → operands_fit op ra src ≡ true → OperandsFit op ra src
-operands_fit-is Amask ra src h = eqb-true ra 31 h
-operands_fit-is Sextb ra src h = eqb-true ra 31 h
-operands_fit-is Sextw ra src h = eqb-true ra 31 h
-operands_fit-is Implver ra src h = let b = both (ra == 31) (source_is src 1) h in (eqb-true ra 31 b.0, source_is-same src 1 b.1)
-operands_fit-is _ ra src h = tt
+is_register-is : (src : Src) → is_register src ≡ true → IsRegister src
+is_register-is (Reg r) h = tt
+is_register-is (Lit n) h = cc
 
-found_operate : (opcode function : ℕ) (op : Op) → operate_at opcode function ≡ Some op → ((op_row op).0 ≡ opcode) × ((op_row op).1 ≡ function)
+operands_fit-is : (rule : OperandRule) (ra : ℕ) (src : Src) → operands_fit rule ra src ≡ true → OperandsFit rule ra src
+operands_fit-is Any ra src h = tt
+operands_fit-is Unary ra src h = eqb-true ra 31 h
+operands_fit-is UnaryRegister ra src h = let b = both (ra == 31) (is_register src) h in (eqb-true ra 31 b.0, is_register-is src b.1)
+operands_fit-is Version ra src h = let b = both (ra == 31) (source_is src 1) h in (eqb-true ra 31 b.0, source_is-same src 1 b.1)
+
+found_operate : (opcode function : ℕ) (op : Op) → operate_at opcode function ≡ Some op → ((op_row op).opcode ≡ opcode) × ((op_row op).function ≡ function)
 found_operate opcode function op h =
-    let passes = find_passes (λ row. (op_row row).0 == opcode && (op_row row).1 == function) operates op h in
-    let b = both ((op_row op).0 == opcode) ((op_row op).1 == function) passes in
-    (eqb-true (op_row op).0 opcode b.0, eqb-true (op_row op).1 function b.1)
+    let passes = find_passes (λ row. (op_row row).opcode == opcode && (op_row row).function == function) every_op op h in
+    let b = both ((op_row op).opcode == opcode) ((op_row op).function == function) passes in
+    (eqb-true (op_row op).opcode opcode b.0, eqb-true (op_row op).function function b.1)
 
 operate_form-is : (w : ℕ) (i : Form) → operate_form w ≡ Some i → Row w i
 unfolding operate_form
 operate_form-is w i h =
     option_and_then_some _ _ i h (λ op found inner.
     option_and_then_some _ _ i inner (λ src taken last.
-    let c = cond_some (operands_fit op (field 25 21 w) src) (Operate op (field 25 21 w) src (field 4 0 w)) i last in
+    let c = cond_some (operands_fit (op_row op).operands (field 25 21 w) src) (Operate op (field 25 21 w) src (field 4 0 w)) i last in
     let e = found_operate (field 31 26 w) (field 11 5 w) op found in
-    subst (Row w) c.1 (sym e.0, sym e.1, refl, source_of-is w src taken, refl, operands_fit-is op (field 25 21 w) src c.0)))
+    subst (Row w) c.1 (sym e.0, sym e.1, refl, source_of-is w src taken, refl, operands_fit-is (op_row op).operands (field 25 21 w) src c.0)))
 
 pub Row-decoded : (w : ℕ) (i : Form) → decoded w ≡ Some i → Row w i
 unfolding decoded
@@ -249,7 +252,7 @@ Row-decoded w i h =
     ⊎_elim (operate_form-is w i) (λ h.
     ⊎_elim (misc_form-is w i) (λ h.
     ⊎_elim (fetch_form-is w i) (pal_form-is w i)
-    (or_else_some _ _ i h)) (or_else_some _ _ i h)) (or_else_some _ _ i h)) (or_else_some _ _ i h)) (or_else_some _ _ i h)) (or_else_some _ _ i h)
+    (option_or_some _ _ i h)) (option_or_some _ _ i h)) (option_or_some _ _ i h)) (option_or_some _ _ i h)) (option_or_some _ _ i h)) (option_or_some _ _ i h)
 
 -- a word has one instruction at most
 pub same_insn : (w : ℕ) (i j : Form) → Row w i → Row w j → i ≡ j
@@ -283,34 +286,102 @@ same_word v w (Misc op) a b h g = omega arith
 same_word v w (Fetch modify rb) a b h g = omega arith
 same_word v w (Pal call) a b h g = omega arith
 
-signed_range : (w : ℕ) → (negsuc 0xfffff ≤ℤ signed_field 20 0 w) × (signed_field 20 0 w ≤ℤ pos 0xfffff)
-signed_range w = cases (field 20 0 w) (ltb (field 20 0 w) (2 ^ 20)) refl (omega arith)
+signed_range : (half full f : ℕ) → half + half ≡ full → f < full → (pos 0 ≤ℤ (cond (ltb f half) (pos f) (pos f -ℤ pos full) +ℤ pos half)) × (cond (ltb f half) (pos f) (pos f -ℤ pos full) <ℤ pos half)
+signed_range half full f twice h = cases (ltb f half) refl
   where
-    cases : (f : ℕ) (b : Bool) → ltb f (2 ^ 20) ≡ b → f < 2 ^ 21 → (negsuc 0xfffff ≤ℤ cond b (pos f) (pos f -ℤ pos (2 ^ 21))) × (cond b (pos f) (pos f -ℤ pos (2 ^ 21)) ≤ℤ pos 0xfffff)
-    cases f true e h = let below = ltb-true _ _ e in (omega (arith, ints), omega (arith, ints))
-    cases f false e h = let above = ltb-false _ _ e in (omega (arith, ints), omega (arith, ints))
+    cases : (b : Bool) → ltb f half ≡ b → (pos 0 ≤ℤ (cond b (pos f) (pos f -ℤ pos full) +ℤ pos half)) × (cond b (pos f) (pos f -ℤ pos full) <ℤ pos half)
+    cases true e = let below = ltb-true _ _ e in (omega (arith, ints), omega (arith, ints))
+    cases false e = let above = ltb-false _ _ e in (omega (arith, ints), omega (arith, ints))
+
+IsSource-field : (w : ℕ) (src : Src) → SourceField w src → IsSource src
+IsSource-field w (Reg rb) h = omega arith
+IsSource-field w (Lit n) h = omega arith
 
 -- a word's instruction has each field within its row
-pub Fits-Row : (w : ℕ) (i : Form) → Row w i → Fits i
-Fits-Row w (Mem op ra rb disp) h = tt
-Fits-Row w (Branch op ra disp) h = rw (← h.2) (signed_range w)
-Fits-Row w (Jump kind ra rb hint) h = omega arith
-Fits-Row w (Operate op ra src rc) h = h.5
-Fits-Row w (Misc op) h = tt
-Fits-Row w (Fetch modify rb) h = tt
-Fits-Row w (Pal call) h = tt
+pub IsInsn-Row : (w : ℕ) (i : Form) → Row w i → IsInsn i
+IsInsn-Row w (Mem op ra rb disp) h = (omega arith, omega arith, rw (← h.3) (signed_range (2 ^ 15) (2 ^ 16) (field 15 0 w) refl (omega arith)))
+IsInsn-Row w (Branch op ra disp) h = (omega arith, rw (← h.2) (signed_range (2 ^ 20) (2 ^ 21) (field 20 0 w) refl (omega arith)))
+IsInsn-Row w (Jump kind ra rb hint) h = (omega arith, omega arith, omega arith)
+IsInsn-Row w (Operate op ra src rc) h = (omega arith, IsSource-field w src h.3, omega arith, h.5)
+IsInsn-Row w (Misc op) h = tt
+IsInsn-Row w (Fetch modify rb) h = omega arith
+IsInsn-Row w (Pal call) h = tt
 
--- a word that no format has stands for no instruction
-pub no_form : (w : ℕ) (i : Form) → Row w i
-    → ((op : MemOp) (ra rb : ℕ) (disp : _) → Row w (Mem op ra rb disp) → ⊥) → ((op : BranchOp) (ra : ℕ) (disp : _) → Row w (Branch op ra disp) → ⊥)
-    → ((kind : JumpKind) (ra rb hint : ℕ) → Row w (Jump kind ra rb hint) → ⊥) → ((op : Op) (ra : ℕ) (src : Src) (rc : ℕ) → Row w (Operate op ra src rc) → ⊥)
-    → ((op : MiscOp) → Row w (Misc op) → ⊥) → ((modify : Bool) (rb : ℕ) → Row w (Fetch modify rb) → ⊥) → ((call : PalCall) → Row w (Pal call) → ⊥) → ⊥
-no_form w (Mem op ra rb disp) h a b c d e f g = a op ra rb disp h
-no_form w (Branch op ra disp) h a b c d e f g = b op ra disp h
-no_form w (Jump kind ra rb hint) h a b c d e f g = c kind ra rb hint h
-no_form w (Operate op ra src rc) h a b c d e f g = d op ra src rc h
-no_form w (Misc op) h a b c d e f g = e op h
-no_form w (Fetch modify rb) h a b c d e f g = f modify rb h
-no_form w (Pal call) h a b c d e f g = g call h
+-- a word of one format's opcodes stands for no instruction of another
 
-pub ruleset decoding = (decoded-Row, decoded_none, Fits-Row)
+pub only_pal : (w : ℕ) → field 31 26 w ≡ 0 → ((call : PalCall) → Row w (Pal call) → ⊥) → (i : Form) → Row w i → ⊥
+only_pal w e none (Mem op ra rb disp) h = let o = opcode-memory op in omega arith
+only_pal w e none (Branch op ra disp) h = let o = opcode-branch op in omega arith
+only_pal w e none (Jump kind ra rb hint) h = omega arith
+only_pal w e none (Operate op ra src rc) h = let o = opcode-operate op in omega arith
+only_pal w e none (Misc op) h = omega arith
+only_pal w e none (Fetch modify rb) h = omega arith
+only_pal w e none (Pal call) h = none call h
+
+pub only_operate : (w : ℕ) → IsOperateOpcode (field 31 26 w) → (field 31 26 w ≢ 0x18) → (field 31 26 w ≢ 0x1a) → ((op : Op) (ra : ℕ) (src : Src) (rc : ℕ) → Row w (Operate op ra src rc) → ⊥) → (i : Form) → Row w i → ⊥
+only_operate w e no_misc no_jump none (Mem op ra rb disp) h = let o = opcode-memory op in omega arith
+only_operate w e no_misc no_jump none (Branch op ra disp) h = let o = opcode-branch op in omega arith
+only_operate w e no_misc no_jump none (Jump kind ra rb hint) h = no_jump h.0
+only_operate w e no_misc no_jump none (Operate op ra src rc) h = none op ra src rc h
+only_operate w e no_misc no_jump none (Misc op) h = no_misc h.0
+only_operate w e no_misc no_jump none (Fetch modify rb) h = no_misc h.0
+only_operate w e no_misc no_jump none (Pal call) h = omega arith
+
+pub only_misc : (w : ℕ) → field 31 26 w ≡ 0x18 → ((op : MiscOp) → Row w (Misc op) → ⊥) → ((modify : Bool) (rb : ℕ) → Row w (Fetch modify rb) → ⊥) → (i : Form) → Row w i → ⊥
+only_misc w e misc fetch (Mem op ra rb disp) h = let o = opcode-memory op in omega arith
+only_misc w e misc fetch (Branch op ra disp) h = let o = opcode-branch op in omega arith
+only_misc w e misc fetch (Jump kind ra rb hint) h = omega arith
+only_misc w e misc fetch (Operate op ra src rc) h = let o = opcode-operate op in omega arith
+only_misc w e misc fetch (Misc op) h = misc op h
+only_misc w e misc fetch (Fetch modify rb) h = fetch modify rb h
+only_misc w e misc fetch (Pal call) h = omega arith
+
+pub only_jump : (w : ℕ) → field 31 26 w ≡ 0x1a → ((kind : JumpKind) (ra rb hint : ℕ) → Row w (Jump kind ra rb hint) → ⊥) → (i : Form) → Row w i → ⊥
+only_jump w e none (Mem op ra rb disp) h = let o = opcode-memory op in omega arith
+only_jump w e none (Branch op ra disp) h = let o = opcode-branch op in omega arith
+only_jump w e none (Jump kind ra rb hint) h = none kind ra rb hint h
+only_jump w e none (Operate op ra src rc) h = let o = opcode-operate op in omega arith
+only_jump w e none (Misc op) h = omega arith
+only_jump w e none (Fetch modify rb) h = omega arith
+only_jump w e none (Pal call) h = omega arith
+
+pub only_branch : (w : ℕ) → IsBranchOpcode (field 31 26 w) → ((op : BranchOp) (ra : ℕ) (disp : _) → Row w (Branch op ra disp) → ⊥) → (i : Form) → Row w i → ⊥
+only_branch w e none (Mem op ra rb disp) h = let o = opcode-memory op in omega arith
+only_branch w e none (Branch op ra disp) h = none op ra disp h
+only_branch w e none (Jump kind ra rb hint) h = omega arith
+only_branch w e none (Operate op ra src rc) h = let o = opcode-operate op in omega arith
+only_branch w e none (Misc op) h = omega arith
+only_branch w e none (Fetch modify rb) h = omega arith
+only_branch w e none (Pal call) h = omega arith
+
+pub only_memory : (w : ℕ) → (field 31 26 w ≢ 0) × (IsOperateOpcode (field 31 26 w) → ⊥) × (field 31 26 w ≢ 0x18) × (field 31 26 w ≢ 0x1a) × (field 31 26 w < 0x30)
+    → ((op : MemOp) (ra rb : ℕ) (disp : _) → Row w (Mem op ra rb disp) → ⊥) → (i : Form) → Row w i → ⊥
+only_memory w e none (Mem op ra rb disp) h = none op ra rb disp h
+only_memory w e none (Branch op ra disp) h = let o = opcode-branch op in omega arith
+only_memory w e none (Jump kind ra rb hint) h = e.3 h.0
+only_memory w e none (Operate op ra src rc) h = e.1 (subst IsOperateOpcode (sym h.0) (opcode-operate op))
+only_memory w e none (Misc op) h = e.2 h.0
+only_memory w e none (Fetch modify rb) h = e.2 h.0
+only_memory w e none (Pal call) h = e.0 h.0
+
+-- what follows where there is nothing
+pub none_then : {A : Type 0} {P Q : Type 0} (o : Option A) → (P → Q) → IfNone o P → IfNone o Q
+none_then None f h = f h
+none_then (Some x) f h = tt
+
+-- an operate word whose operands its row refuses
+operate_of : (o f : ℕ) (op : Op) → o ≡ (op_row op).opcode → f ≡ (op_row op).function → operate_at o f ≡ Some op
+operate_of o f op a b = rw (a, b) ((operate_known op).0)
+
+pub refused_operate : (w : ℕ) (op : Op) (src : Src) → ((op_row op).opcode ≡ field 31 26 w) × ((op_row op).function ≡ field 11 5 w) → SourceField w src
+    → (OperandsFit (op_row op).operands (field 25 21 w) src → ⊥) → (other : Op) (ra : ℕ) (second : Src) (rc : ℕ) → Row w (Operate other ra second rc) → ⊥
+refused_operate w op src row taken refused other ra second rc h =
+    let a = operate_of (field 31 26 w) (field 11 5 w) op (sym row.0) (sym row.1) in
+    let b = operate_of (field 31 26 w) (field 11 5 w) other h.0 h.1 in
+    let c = source_of-field w src taken in
+    let d = source_of-field w second h.3 in
+    let same : other ≡ op = cc in
+    let alike : second ≡ src = cc in
+    refused (subst (λ o. OperandsFit (op_row o).operands (field 25 21 w) src) same (subst (λ s. OperandsFit (op_row other).operands (field 25 21 w) s) alike (subst (λ r. OperandsFit (op_row other).operands r second) (sym h.2) h.5)))
+
+pub ruleset decoding = (decoded-Row, decoded_none, IsInsn-Row)

@@ -1,2 +1,4 @@
 pub mod Lookups
 pub mod Decoding
+pub mod Words
+pub mod Naming

@@ -1,372 +1,256 @@
--- The look-ups find each row by its numbers, and nothing by the numbers of another format.
-use Rattle.std.proofs.Common.{◌≡◌, false, eqb, Some, None, refl}
+-- Each row is found by its numbers and by its name, and nothing by the numbers of another format.
+use Rattle.std.proofs.Common.{◌≡◌, ℕ, ◌<◌, ◌≤◌, ◌^◌, nat_lt, Bool, true, false, ◌==◌, ◌||◌, ◌&&◌, eqb, Option, Some, None, List, ◌++◌, find, refl, subst, sym, arith}
+use Rattle.std.specs.Str.{bytes_eq}
+use Rattle.std.proofs.lemmas.Bool.{eqb-true, ltb-true}
 use Rattle.alpha_words.specs.declared.PalCall.{PalCall}
-use Rattle.alpha_words.specs.declared.PalCall.TheVariants.{Bpt, Bugchk, Callsys, Imb, Rdunique, Wrunique, Gentrap}
+use Rattle.alpha_words.specs.declared.PalCall.TheVariants as calls
 use Rattle.alpha_table.specs.declared.op.Op.{Op}
-use Rattle.alpha_table.specs.declared.op.Op.TheVariants.{Addl, S4addl, Subl, S4subl, Cmpbge, S8addl, S8subl, Cmpult, Addq, S4addq, Subq, S4subq, Cmpeq, S8addq, S8subq, Cmpule, AddlV, SublV, Cmplt, AddqV, SubqV, Cmple, And, Bic, Cmovlbs, Cmovlbc, Bis, Cmoveq, Cmovne, Ornot, Xor, Cmovlt, Cmovge, Eqv, Amask, Cmovle, Cmovgt, Implver, Mskbl, Extbl, Insbl, Mskwl, Extwl, Inswl, Mskll, Extll, Insll, Zap, Zapnot, Mskql, Srl, Extql, Sll, Insql, Sra, Mskwh, Inswh, Extwh, Msklh, Inslh, Extlh, Mskqh, Insqh, Extqh, Mull, Mulq, Umulh, MullV, MulqV, Sextb, Sextw}
+use Rattle.alpha_table.specs.declared.op.Op.TheVariants as ops
 use Rattle.alpha_table.specs.declared.rows.MemOp.{MemOp}
-use Rattle.alpha_table.specs.declared.rows.MemOp.TheVariants.{Lda, Ldah, Ldbu, LdqU, Ldwu, Stw, Stb, StqU, Ldl, Ldq, LdlL, LdqL, Stl, Stq, StlC, StqC}
+use Rattle.alpha_table.specs.declared.rows.MemOp.TheVariants as memories
 use Rattle.alpha_table.specs.declared.rows.BranchOp.{BranchOp}
-use Rattle.alpha_table.specs.declared.rows.BranchOp.TheVariants.{Br, Bsr, Blbc, Beq, Blt, Ble, Blbs, Bne, Bge, Bgt}
+use Rattle.alpha_table.specs.declared.rows.BranchOp.TheVariants as branches
 use Rattle.alpha_table.specs.declared.rows.JumpKind.{JumpKind}
-use Rattle.alpha_table.specs.declared.rows.JumpKind.TheVariants.{Jmp, Jsr, Ret, JsrCoroutine}
+use Rattle.alpha_table.specs.declared.rows.JumpKind.TheVariants as jumps
 use Rattle.alpha_table.specs.declared.rows.MiscOp.{MiscOp}
-use Rattle.alpha_table.specs.declared.rows.MiscOp.TheVariants.{Trapb, Excb, Mb, Wmb}
+use Rattle.alpha_table.specs.declared.rows.MiscOp.TheVariants as miscs
+use Rattle.alpha_table.specs.declared.names.Mnemonic.{Mnemonic}
+use Rattle.alpha_table.specs.declared.names.Mnemonic.TheVariants.{Mem, Branch, Jump, Operate, Misc, Fetch, Pal}
+use Rattle.alpha_table.specs.declared.operate.TheConstants.{OPERATES}
+use Rattle.alpha_table.specs.declared.formats.TheConstants.{MEMORIES, BRANCHES, JUMPS, MISCS, FETCHES, PAL_CALLS}
 use Rattle.alpha_table.specs.Op.{op_row}
-use Rattle.alpha_table.specs.Rows.{memory_opcode, branch_opcode, jump_kind, misc_function, pal_function}
-use Rattle.alpha_table.specs.Decoded.{operate_at, memory_at, branch_at, jump_at, misc_at, pal_at}
+use Rattle.alpha_table.specs.Rows.{mem_row, branch_row, jump_kind, misc_row, fetch_function, pal_function}
+use Rattle.alpha_table.specs.Decoded.{operate_at, memory_at, branch_at, jump_at, misc_at, fetch_at, pal_at}
+use Rattle.alpha_table.specs.Names.{name_of}
 
-pub operate_at-row : (row : Op) → operate_at (op_row row).0 (op_row row).1 ≡ Some row
-operate_at-row Addl = refl
-operate_at-row S4addl = refl
-operate_at-row Subl = refl
-operate_at-row S4subl = refl
-operate_at-row Cmpbge = refl
-operate_at-row S8addl = refl
-operate_at-row S8subl = refl
-operate_at-row Cmpult = refl
-operate_at-row Addq = refl
-operate_at-row S4addq = refl
-operate_at-row Subq = refl
-operate_at-row S4subq = refl
-operate_at-row Cmpeq = refl
-operate_at-row S8addq = refl
-operate_at-row S8subq = refl
-operate_at-row Cmpule = refl
-operate_at-row AddlV = refl
-operate_at-row SublV = refl
-operate_at-row Cmplt = refl
-operate_at-row AddqV = refl
-operate_at-row SubqV = refl
-operate_at-row Cmple = refl
-operate_at-row And = refl
-operate_at-row Bic = refl
-operate_at-row Cmovlbs = refl
-operate_at-row Cmovlbc = refl
-operate_at-row Bis = refl
-operate_at-row Cmoveq = refl
-operate_at-row Cmovne = refl
-operate_at-row Ornot = refl
-operate_at-row Xor = refl
-operate_at-row Cmovlt = refl
-operate_at-row Cmovge = refl
-operate_at-row Eqv = refl
-operate_at-row Amask = refl
-operate_at-row Cmovle = refl
-operate_at-row Cmovgt = refl
-operate_at-row Implver = refl
-operate_at-row Mskbl = refl
-operate_at-row Extbl = refl
-operate_at-row Insbl = refl
-operate_at-row Mskwl = refl
-operate_at-row Extwl = refl
-operate_at-row Inswl = refl
-operate_at-row Mskll = refl
-operate_at-row Extll = refl
-operate_at-row Insll = refl
-operate_at-row Zap = refl
-operate_at-row Zapnot = refl
-operate_at-row Mskql = refl
-operate_at-row Srl = refl
-operate_at-row Extql = refl
-operate_at-row Sll = refl
-operate_at-row Insql = refl
-operate_at-row Sra = refl
-operate_at-row Mskwh = refl
-operate_at-row Inswh = refl
-operate_at-row Extwh = refl
-operate_at-row Msklh = refl
-operate_at-row Inslh = refl
-operate_at-row Extlh = refl
-operate_at-row Mskqh = refl
-operate_at-row Insqh = refl
-operate_at-row Extqh = refl
-operate_at-row Mull = refl
-operate_at-row Mulq = refl
-operate_at-row Umulh = refl
-operate_at-row MullV = refl
-operate_at-row MulqV = refl
-operate_at-row Sextb = refl
-operate_at-row Sextw = refl
+-- the opcodes of the operate instructions
+abbrev is_operate : ℕ → Bool
+is_operate o = o == 0x10 || (o == 0x11 || (o == 0x12 || (o == 0x13 || o == 0x1c)))
 
-pub memory_at-row : (row : MemOp) → memory_at (memory_opcode row) ≡ Some row
-memory_at-row Lda = refl
-memory_at-row Ldah = refl
-memory_at-row Ldbu = refl
-memory_at-row LdqU = refl
-memory_at-row Ldwu = refl
-memory_at-row Stw = refl
-memory_at-row Stb = refl
-memory_at-row StqU = refl
-memory_at-row Ldl = refl
-memory_at-row Ldq = refl
-memory_at-row LdlL = refl
-memory_at-row LdqL = refl
-memory_at-row Stl = refl
-memory_at-row Stq = refl
-memory_at-row StlC = refl
-memory_at-row StqC = refl
+-- the opcodes of the memory instructions
+abbrev is_memory : ℕ → Bool
+is_memory o = (nat_lt 0x07 o && nat_lt o 0x10) || (nat_lt 0x27 o && nat_lt o 0x30)
 
-pub branch_at-row : (row : BranchOp) → branch_at (branch_opcode row) ≡ Some row
-branch_at-row Br = refl
-branch_at-row Bsr = refl
-branch_at-row Blbc = refl
-branch_at-row Beq = refl
-branch_at-row Blt = refl
-branch_at-row Ble = refl
-branch_at-row Blbs = refl
-branch_at-row Bne = refl
-branch_at-row Bge = refl
-branch_at-row Bgt = refl
+-- the row with a name, by a look at each
+abbrev pub with_name : List ℕ → Option Mnemonic
+with_name name = find (λ m. bytes_eq (name_of m) name) (OPERATES ++ (MEMORIES ++ (BRANCHES ++ (JUMPS ++ (MISCS ++ (FETCHES ++ PAL_CALLS))))))
 
-pub jump_at-row : (row : JumpKind) → jump_at (jump_kind row) ≡ Some row
-jump_at-row Jmp = refl
-jump_at-row Jsr = refl
-jump_at-row Ret = refl
-jump_at-row JsrCoroutine = refl
+-- One line a row: it is found by its numbers, they are within their fields, and it is found by its name.
 
-pub misc_at-row : (row : MiscOp) → misc_at (misc_function row) ≡ Some row
-misc_at-row Trapb = refl
-misc_at-row Excb = refl
-misc_at-row Mb = refl
-misc_at-row Wmb = refl
+pub operate_known : (row : Op) → (operate_at (op_row row).opcode (op_row row).function ≡ Some row) × ((is_operate (op_row row).opcode && nat_lt (op_row row).function 128) ≡ true) × (with_name (name_of (Operate row)) ≡ Some (Operate row))
+operate_known ops.Addl = (refl, refl, refl)
+operate_known ops.S4addl = (refl, refl, refl)
+operate_known ops.Subl = (refl, refl, refl)
+operate_known ops.S4subl = (refl, refl, refl)
+operate_known ops.Cmpbge = (refl, refl, refl)
+operate_known ops.S8addl = (refl, refl, refl)
+operate_known ops.S8subl = (refl, refl, refl)
+operate_known ops.Cmpult = (refl, refl, refl)
+operate_known ops.Addq = (refl, refl, refl)
+operate_known ops.S4addq = (refl, refl, refl)
+operate_known ops.Subq = (refl, refl, refl)
+operate_known ops.S4subq = (refl, refl, refl)
+operate_known ops.Cmpeq = (refl, refl, refl)
+operate_known ops.S8addq = (refl, refl, refl)
+operate_known ops.S8subq = (refl, refl, refl)
+operate_known ops.Cmpule = (refl, refl, refl)
+operate_known ops.AddlV = (refl, refl, refl)
+operate_known ops.SublV = (refl, refl, refl)
+operate_known ops.Cmplt = (refl, refl, refl)
+operate_known ops.AddqV = (refl, refl, refl)
+operate_known ops.SubqV = (refl, refl, refl)
+operate_known ops.Cmple = (refl, refl, refl)
+operate_known ops.And = (refl, refl, refl)
+operate_known ops.Bic = (refl, refl, refl)
+operate_known ops.Cmovlbs = (refl, refl, refl)
+operate_known ops.Cmovlbc = (refl, refl, refl)
+operate_known ops.Bis = (refl, refl, refl)
+operate_known ops.Cmoveq = (refl, refl, refl)
+operate_known ops.Cmovne = (refl, refl, refl)
+operate_known ops.Ornot = (refl, refl, refl)
+operate_known ops.Xor = (refl, refl, refl)
+operate_known ops.Cmovlt = (refl, refl, refl)
+operate_known ops.Cmovge = (refl, refl, refl)
+operate_known ops.Eqv = (refl, refl, refl)
+operate_known ops.Amask = (refl, refl, refl)
+operate_known ops.Cmovle = (refl, refl, refl)
+operate_known ops.Cmovgt = (refl, refl, refl)
+operate_known ops.Implver = (refl, refl, refl)
+operate_known ops.Mskbl = (refl, refl, refl)
+operate_known ops.Extbl = (refl, refl, refl)
+operate_known ops.Insbl = (refl, refl, refl)
+operate_known ops.Mskwl = (refl, refl, refl)
+operate_known ops.Extwl = (refl, refl, refl)
+operate_known ops.Inswl = (refl, refl, refl)
+operate_known ops.Mskll = (refl, refl, refl)
+operate_known ops.Extll = (refl, refl, refl)
+operate_known ops.Insll = (refl, refl, refl)
+operate_known ops.Zap = (refl, refl, refl)
+operate_known ops.Zapnot = (refl, refl, refl)
+operate_known ops.Mskql = (refl, refl, refl)
+operate_known ops.Srl = (refl, refl, refl)
+operate_known ops.Extql = (refl, refl, refl)
+operate_known ops.Sll = (refl, refl, refl)
+operate_known ops.Insql = (refl, refl, refl)
+operate_known ops.Sra = (refl, refl, refl)
+operate_known ops.Mskwh = (refl, refl, refl)
+operate_known ops.Inswh = (refl, refl, refl)
+operate_known ops.Extwh = (refl, refl, refl)
+operate_known ops.Msklh = (refl, refl, refl)
+operate_known ops.Inslh = (refl, refl, refl)
+operate_known ops.Extlh = (refl, refl, refl)
+operate_known ops.Mskqh = (refl, refl, refl)
+operate_known ops.Insqh = (refl, refl, refl)
+operate_known ops.Extqh = (refl, refl, refl)
+operate_known ops.Mull = (refl, refl, refl)
+operate_known ops.Mulq = (refl, refl, refl)
+operate_known ops.Umulh = (refl, refl, refl)
+operate_known ops.MullV = (refl, refl, refl)
+operate_known ops.MulqV = (refl, refl, refl)
+operate_known ops.Sextb = (refl, refl, refl)
+operate_known ops.Sextw = (refl, refl, refl)
+operate_known ops.Ctpop = (refl, refl, refl)
+operate_known ops.Ctlz = (refl, refl, refl)
+operate_known ops.Cttz = (refl, refl, refl)
 
-pub pal_at-row : (row : PalCall) → pal_at (pal_function row) ≡ Some row
-pal_at-row Bpt = refl
-pal_at-row Bugchk = refl
-pal_at-row Callsys = refl
-pal_at-row Imb = refl
-pal_at-row Rdunique = refl
-pal_at-row Wrunique = refl
-pal_at-row Gentrap = refl
+pub memory_known : (row : MemOp) → (memory_at (mem_row row).opcode ≡ Some row) × (is_memory (mem_row row).opcode ≡ true) × (with_name (name_of (Mem row)) ≡ Some (Mem row))
+memory_known memories.Lda = (refl, refl, refl)
+memory_known memories.Ldah = (refl, refl, refl)
+memory_known memories.Ldbu = (refl, refl, refl)
+memory_known memories.LdqU = (refl, refl, refl)
+memory_known memories.Ldwu = (refl, refl, refl)
+memory_known memories.Stw = (refl, refl, refl)
+memory_known memories.Stb = (refl, refl, refl)
+memory_known memories.StqU = (refl, refl, refl)
+memory_known memories.Ldl = (refl, refl, refl)
+memory_known memories.Ldq = (refl, refl, refl)
+memory_known memories.LdlL = (refl, refl, refl)
+memory_known memories.LdqL = (refl, refl, refl)
+memory_known memories.Stl = (refl, refl, refl)
+memory_known memories.Stq = (refl, refl, refl)
+memory_known memories.StlC = (refl, refl, refl)
+memory_known memories.StqC = (refl, refl, refl)
 
-pub memory_at-branch : (row : BranchOp) → memory_at (branch_opcode row) ≡ None
-memory_at-branch Br = refl
-memory_at-branch Bsr = refl
-memory_at-branch Blbc = refl
-memory_at-branch Beq = refl
-memory_at-branch Blt = refl
-memory_at-branch Ble = refl
-memory_at-branch Blbs = refl
-memory_at-branch Bne = refl
-memory_at-branch Bge = refl
-memory_at-branch Bgt = refl
+pub branch_known : (row : BranchOp) → (branch_at (branch_row row).opcode ≡ Some row) × ((nat_lt 0x2f (branch_row row).opcode && nat_lt (branch_row row).opcode 0x40) ≡ true) × (with_name (name_of (Branch row)) ≡ Some (Branch row))
+branch_known branches.Br = (refl, refl, refl)
+branch_known branches.Bsr = (refl, refl, refl)
+branch_known branches.Blbc = (refl, refl, refl)
+branch_known branches.Beq = (refl, refl, refl)
+branch_known branches.Blt = (refl, refl, refl)
+branch_known branches.Ble = (refl, refl, refl)
+branch_known branches.Blbs = (refl, refl, refl)
+branch_known branches.Bne = (refl, refl, refl)
+branch_known branches.Bge = (refl, refl, refl)
+branch_known branches.Bgt = (refl, refl, refl)
 
-pub memory_at-operate : (row : Op) → memory_at (op_row row).0 ≡ None
-memory_at-operate Addl = refl
-memory_at-operate S4addl = refl
-memory_at-operate Subl = refl
-memory_at-operate S4subl = refl
-memory_at-operate Cmpbge = refl
-memory_at-operate S8addl = refl
-memory_at-operate S8subl = refl
-memory_at-operate Cmpult = refl
-memory_at-operate Addq = refl
-memory_at-operate S4addq = refl
-memory_at-operate Subq = refl
-memory_at-operate S4subq = refl
-memory_at-operate Cmpeq = refl
-memory_at-operate S8addq = refl
-memory_at-operate S8subq = refl
-memory_at-operate Cmpule = refl
-memory_at-operate AddlV = refl
-memory_at-operate SublV = refl
-memory_at-operate Cmplt = refl
-memory_at-operate AddqV = refl
-memory_at-operate SubqV = refl
-memory_at-operate Cmple = refl
-memory_at-operate And = refl
-memory_at-operate Bic = refl
-memory_at-operate Cmovlbs = refl
-memory_at-operate Cmovlbc = refl
-memory_at-operate Bis = refl
-memory_at-operate Cmoveq = refl
-memory_at-operate Cmovne = refl
-memory_at-operate Ornot = refl
-memory_at-operate Xor = refl
-memory_at-operate Cmovlt = refl
-memory_at-operate Cmovge = refl
-memory_at-operate Eqv = refl
-memory_at-operate Amask = refl
-memory_at-operate Cmovle = refl
-memory_at-operate Cmovgt = refl
-memory_at-operate Implver = refl
-memory_at-operate Mskbl = refl
-memory_at-operate Extbl = refl
-memory_at-operate Insbl = refl
-memory_at-operate Mskwl = refl
-memory_at-operate Extwl = refl
-memory_at-operate Inswl = refl
-memory_at-operate Mskll = refl
-memory_at-operate Extll = refl
-memory_at-operate Insll = refl
-memory_at-operate Zap = refl
-memory_at-operate Zapnot = refl
-memory_at-operate Mskql = refl
-memory_at-operate Srl = refl
-memory_at-operate Extql = refl
-memory_at-operate Sll = refl
-memory_at-operate Insql = refl
-memory_at-operate Sra = refl
-memory_at-operate Mskwh = refl
-memory_at-operate Inswh = refl
-memory_at-operate Extwh = refl
-memory_at-operate Msklh = refl
-memory_at-operate Inslh = refl
-memory_at-operate Extlh = refl
-memory_at-operate Mskqh = refl
-memory_at-operate Insqh = refl
-memory_at-operate Extqh = refl
-memory_at-operate Mull = refl
-memory_at-operate Mulq = refl
-memory_at-operate Umulh = refl
-memory_at-operate MullV = refl
-memory_at-operate MulqV = refl
-memory_at-operate Sextb = refl
-memory_at-operate Sextw = refl
+pub jump_known : (row : JumpKind) → (jump_at (jump_kind row) ≡ Some row) × (nat_lt (jump_kind row) 4 ≡ true) × (with_name (name_of (Jump row)) ≡ Some (Jump row))
+jump_known jumps.Jmp = (refl, refl, refl)
+jump_known jumps.Jsr = (refl, refl, refl)
+jump_known jumps.Ret = (refl, refl, refl)
+jump_known jumps.JsrCoroutine = (refl, refl, refl)
 
-pub branch_at-operate : (row : Op) → branch_at (op_row row).0 ≡ None
-branch_at-operate Addl = refl
-branch_at-operate S4addl = refl
-branch_at-operate Subl = refl
-branch_at-operate S4subl = refl
-branch_at-operate Cmpbge = refl
-branch_at-operate S8addl = refl
-branch_at-operate S8subl = refl
-branch_at-operate Cmpult = refl
-branch_at-operate Addq = refl
-branch_at-operate S4addq = refl
-branch_at-operate Subq = refl
-branch_at-operate S4subq = refl
-branch_at-operate Cmpeq = refl
-branch_at-operate S8addq = refl
-branch_at-operate S8subq = refl
-branch_at-operate Cmpule = refl
-branch_at-operate AddlV = refl
-branch_at-operate SublV = refl
-branch_at-operate Cmplt = refl
-branch_at-operate AddqV = refl
-branch_at-operate SubqV = refl
-branch_at-operate Cmple = refl
-branch_at-operate And = refl
-branch_at-operate Bic = refl
-branch_at-operate Cmovlbs = refl
-branch_at-operate Cmovlbc = refl
-branch_at-operate Bis = refl
-branch_at-operate Cmoveq = refl
-branch_at-operate Cmovne = refl
-branch_at-operate Ornot = refl
-branch_at-operate Xor = refl
-branch_at-operate Cmovlt = refl
-branch_at-operate Cmovge = refl
-branch_at-operate Eqv = refl
-branch_at-operate Amask = refl
-branch_at-operate Cmovle = refl
-branch_at-operate Cmovgt = refl
-branch_at-operate Implver = refl
-branch_at-operate Mskbl = refl
-branch_at-operate Extbl = refl
-branch_at-operate Insbl = refl
-branch_at-operate Mskwl = refl
-branch_at-operate Extwl = refl
-branch_at-operate Inswl = refl
-branch_at-operate Mskll = refl
-branch_at-operate Extll = refl
-branch_at-operate Insll = refl
-branch_at-operate Zap = refl
-branch_at-operate Zapnot = refl
-branch_at-operate Mskql = refl
-branch_at-operate Srl = refl
-branch_at-operate Extql = refl
-branch_at-operate Sll = refl
-branch_at-operate Insql = refl
-branch_at-operate Sra = refl
-branch_at-operate Mskwh = refl
-branch_at-operate Inswh = refl
-branch_at-operate Extwh = refl
-branch_at-operate Msklh = refl
-branch_at-operate Inslh = refl
-branch_at-operate Extlh = refl
-branch_at-operate Mskqh = refl
-branch_at-operate Insqh = refl
-branch_at-operate Extqh = refl
-branch_at-operate Mull = refl
-branch_at-operate Mulq = refl
-branch_at-operate Umulh = refl
-branch_at-operate MullV = refl
-branch_at-operate MulqV = refl
-branch_at-operate Sextb = refl
-branch_at-operate Sextw = refl
+pub misc_known : (row : MiscOp) → (misc_at (misc_row row).function ≡ Some row) × (nat_lt (misc_row row).function 0x10000 ≡ true) × (with_name (name_of (Misc row)) ≡ Some (Misc row))
+misc_known miscs.Trapb = (refl, refl, refl)
+misc_known miscs.Excb = (refl, refl, refl)
+misc_known miscs.Mb = (refl, refl, refl)
+misc_known miscs.Wmb = (refl, refl, refl)
 
-pub jump-operate : (row : Op) → eqb (op_row row).0 0x1a ≡ false
-jump-operate Addl = refl
-jump-operate S4addl = refl
-jump-operate Subl = refl
-jump-operate S4subl = refl
-jump-operate Cmpbge = refl
-jump-operate S8addl = refl
-jump-operate S8subl = refl
-jump-operate Cmpult = refl
-jump-operate Addq = refl
-jump-operate S4addq = refl
-jump-operate Subq = refl
-jump-operate S4subq = refl
-jump-operate Cmpeq = refl
-jump-operate S8addq = refl
-jump-operate S8subq = refl
-jump-operate Cmpule = refl
-jump-operate AddlV = refl
-jump-operate SublV = refl
-jump-operate Cmplt = refl
-jump-operate AddqV = refl
-jump-operate SubqV = refl
-jump-operate Cmple = refl
-jump-operate And = refl
-jump-operate Bic = refl
-jump-operate Cmovlbs = refl
-jump-operate Cmovlbc = refl
-jump-operate Bis = refl
-jump-operate Cmoveq = refl
-jump-operate Cmovne = refl
-jump-operate Ornot = refl
-jump-operate Xor = refl
-jump-operate Cmovlt = refl
-jump-operate Cmovge = refl
-jump-operate Eqv = refl
-jump-operate Amask = refl
-jump-operate Cmovle = refl
-jump-operate Cmovgt = refl
-jump-operate Implver = refl
-jump-operate Mskbl = refl
-jump-operate Extbl = refl
-jump-operate Insbl = refl
-jump-operate Mskwl = refl
-jump-operate Extwl = refl
-jump-operate Inswl = refl
-jump-operate Mskll = refl
-jump-operate Extll = refl
-jump-operate Insll = refl
-jump-operate Zap = refl
-jump-operate Zapnot = refl
-jump-operate Mskql = refl
-jump-operate Srl = refl
-jump-operate Extql = refl
-jump-operate Sll = refl
-jump-operate Insql = refl
-jump-operate Sra = refl
-jump-operate Mskwh = refl
-jump-operate Inswh = refl
-jump-operate Extwh = refl
-jump-operate Msklh = refl
-jump-operate Inslh = refl
-jump-operate Extlh = refl
-jump-operate Mskqh = refl
-jump-operate Insqh = refl
-jump-operate Extqh = refl
-jump-operate Mull = refl
-jump-operate Mulq = refl
-jump-operate Umulh = refl
-jump-operate MullV = refl
-jump-operate MulqV = refl
-jump-operate Sextb = refl
-jump-operate Sextw = refl
+pub fetch_known : (row : Bool) → (fetch_at (fetch_function row) ≡ Some row) × (nat_lt (fetch_function row) 0x10000 ≡ true) × (with_name (name_of (Fetch row)) ≡ Some (Fetch row))
+fetch_known false = (refl, refl, refl)
+fetch_known true = (refl, refl, refl)
+
+pub pal_known : (row : PalCall) → (pal_at (pal_function row) ≡ Some row) × (nat_lt (pal_function row) 0x4000000 ≡ true) × (with_name (name_of (Pal row)) ≡ Some (Pal row))
+pal_known calls.Bpt = (refl, refl, refl)
+pal_known calls.Bugchk = (refl, refl, refl)
+pal_known calls.Callsys = (refl, refl, refl)
+pal_known calls.Imb = (refl, refl, refl)
+pal_known calls.Rdunique = (refl, refl, refl)
+pal_known calls.Wrunique = (refl, refl, refl)
+pal_known calls.Gentrap = (refl, refl, refl)
+
+-- the numbers are within their fields
+
+both : (a b : Bool) → (a && b) ≡ true → (a ≡ true) × (b ≡ true)
+both true b h = (refl, h)
+both false b h = cc
+
+is_operate-row : (row : Op) → is_operate (op_row row).opcode ≡ true
+is_operate-row row = (both (is_operate (op_row row).opcode) (nat_lt (op_row row).function 128) (operate_known row).1).0
+
+pub function-operate : (row : Op) → (op_row row).function < 128
+function-operate row = ltb-true (op_row row).function 128 (both (is_operate (op_row row).opcode) (nat_lt (op_row row).function 128) (operate_known row).1).1
+
+pub kind-jump : (row : JumpKind) → jump_kind row < 4
+kind-jump row = ltb-true (jump_kind row) 4 (jump_known row).1
+
+pub function-misc : (row : MiscOp) → (misc_row row).function < 2 ^ 16
+function-misc row = ltb-true (misc_row row).function 0x10000 (misc_known row).1
+
+pub function-fetch : (row : Bool) → fetch_function row < 2 ^ 16
+function-fetch row = ltb-true (fetch_function row) 0x10000 (fetch_known row).1
+
+pub function-pal : (row : PalCall) → pal_function row < 2 ^ 26
+function-pal row = ltb-true (pal_function row) 0x4000000 (pal_known row).1
+
+-- where the opcodes of each format lie
+
+abbrev pub IsOperateOpcode : ℕ → Type 0
+IsOperateOpcode o = (0x10 ≤ o) × (o ≤ 0x1c) × (0x14 ≤ o → 0x1c ≤ o)
+
+abbrev pub IsMemoryOpcode : ℕ → Type 0
+IsMemoryOpcode o = (0x08 ≤ o) × (o ≤ 0x2f) × (0x10 ≤ o → 0x28 ≤ o)
+
+abbrev pub IsBranchOpcode : ℕ → Type 0
+IsBranchOpcode o = (0x30 ≤ o) × (o ≤ 0x3f)
+
+-- what holds of the five opcodes holds of each operate instruction's
+by_opcode : (P : ℕ → Type 0) (o : ℕ) → P 0x10 → P 0x11 → P 0x12 → P 0x13 → P 0x1c → is_operate o ≡ true → P o
+by_opcode P o a b c d e = first (o == 0x10) refl (first (o == 0x11) refl (first (o == 0x12) refl (first (o == 0x13) refl (λ h. same 0x1c h e) d) c) b) a
+  where
+    same : (n : ℕ) → (o == n) ≡ true → P n → P o
+    same n h p = subst P (sym (eqb-true o n h)) p
+
+    first : {n : ℕ} {rest : Bool} (t : Bool) → (o == n) ≡ t → (rest ≡ true → P o) → P n → (t || rest) ≡ true → P o
+    first {n} true e other p h = same n e p
+    first false e other p h = other h
+
+pub memory_at-operate : (row : Op) → memory_at (op_row row).opcode ≡ None
+memory_at-operate row = by_opcode (λ o. memory_at o ≡ None) (op_row row).opcode refl refl refl refl refl (is_operate-row row)
+
+pub branch_at-operate : (row : Op) → branch_at (op_row row).opcode ≡ None
+branch_at-operate row = by_opcode (λ o. branch_at o ≡ None) (op_row row).opcode refl refl refl refl refl (is_operate-row row)
+
+pub jump-operate : (row : Op) → eqb (op_row row).opcode 0x1a ≡ false
+jump-operate row = by_opcode (λ o. eqb o 0x1a ≡ false) (op_row row).opcode refl refl refl refl refl (is_operate-row row)
+
+pub opcode-operate : (row : Op) → IsOperateOpcode (op_row row).opcode
+opcode-operate row =
+    by_opcode IsOperateOpcode (op_row row).opcode (omega arith, omega arith, λ h. omega arith) (omega arith, omega arith, λ h. omega arith) (omega arith, omega arith, λ h. omega arith) (omega arith, omega arith, λ h. omega arith) (omega arith, omega arith, λ h. omega arith) (is_operate-row row)
+
+within : (low high o : ℕ) → (nat_lt low o && nat_lt o high) ≡ true → (low < o) × (o < high)
+within low high o h = let parts = both (nat_lt low o) (nat_lt o high) h in (ltb-true low o parts.0, ltb-true o high parts.1)
+
+pub opcode-memory : (row : MemOp) → IsMemoryOpcode (mem_row row).opcode
+opcode-memory row = either (nat_lt 0x07 o && nat_lt o 0x10) refl (memory_known row).1
+  where
+    o : ℕ
+    o = (mem_row row).opcode
+
+    either : (t : Bool) → (nat_lt 0x07 o && nat_lt o 0x10) ≡ t → (t || (nat_lt 0x27 o && nat_lt o 0x30)) ≡ true → IsMemoryOpcode o
+    either true e h = let lies = within 0x07 0x10 o e in (omega arith, omega arith, λ above. omega arith)
+    either false e h = let lies = within 0x27 0x30 o h in (omega arith, omega arith, λ above. omega arith)
+
+pub opcode-branch : (row : BranchOp) → IsBranchOpcode (branch_row row).opcode
+opcode-branch row = let lies = within 0x2f 0x40 (branch_row row).opcode (branch_known row).1 in (omega arith, omega arith)
+
+pub memory_at-branch : (row : BranchOp) → memory_at (branch_row row).opcode ≡ None
+memory_at-branch branches.Br = refl
+memory_at-branch branches.Bsr = refl
+memory_at-branch branches.Blbc = refl
+memory_at-branch branches.Beq = refl
+memory_at-branch branches.Blt = refl
+memory_at-branch branches.Ble = refl
+memory_at-branch branches.Blbs = refl
+memory_at-branch branches.Bne = refl
+memory_at-branch branches.Bge = refl
+memory_at-branch branches.Bgt = refl

@@ -1,7 +1,9 @@
 -- The columns of the instruction table, by class. Register 31 is never counted.
-use Rattle.std.specs.Prelude.{ℕ, pos, ◌+ℤ◌, ◌-ℤ◌, Bool, Option, Some, None, List, [], ◌∷◌, ◌==◌, ◌&&◌, nat_lt, if◌then◌else◌}
+use Rattle.std.specs.Prelude.{ℕ, pos, ◌+ℤ◌, ◌-ℤ◌, ◌<ℤ◌, Bool, Option, Some, None, List, [], ◌∷◌, ◌==◌, ◌&&◌, nat_lt, if◌then◌else◌}
 use Rattle.std.specs.List.{list_any}
-use Rattle.std.specs.Option.{option_map}
+use Rattle.std.specs.Option.{option_map, option_map_or}
+use Rattle.alpha_words.specs.declared.Level.{Level}
+use Rattle.alpha_words.specs.declared.Level.TheVariants.{One}
 use Rattle.alpha_table.specs.declared.op.OpRole.{OpRole}
 use Rattle.alpha_table.specs.declared.op.OpRole.TheVariants.{Plain, Move, Trap}
 use Rattle.alpha_table.specs.declared.op.TrapOp.{TrapOp}
@@ -12,9 +14,9 @@ use Rattle.alpha_table.specs.declared.columns.ByteSpan.{ByteSpan}
 use Rattle.alpha_table.specs.declared.form.Src.{Src}
 use Rattle.alpha_table.specs.declared.form.Src.TheVariants.{Reg, Lit}
 use Rattle.alpha_table.specs.declared.form.Form.{Form}
-use Rattle.alpha_table.specs.Op.{op_role}
-use Rattle.alpha_table.specs.Rows.{is_conditional}
-use Rattle.alpha_table.specs.Class.{Class, operate, trapping, address, load, store, load_locked, store_conditional, branch, jump, barrier, idle, class_of}
+use Rattle.alpha_table.specs.declared.form.Form.TheVariants.{Operate}
+use Rattle.alpha_table.specs.Op.{op_row}
+use Rattle.alpha_table.specs.Class.{Class, operate, trigger, address, load, store, load_locked, store_conditional, branch, jump, barrier, idle, class_of}
 
 -- the registers that an operate instruction reads: its sources, and the destination of a conditional move
 abbrev pub source_registers : Src → List ℕ
@@ -24,18 +26,18 @@ source_registers (Lit n) = []
 abbrev pub moved_register : OpRole → ℕ → List ℕ → List ℕ
 moved_register Move rc others = rc ∷ others
 moved_register Plain rc others = others
-moved_register Trap rc others = others
+moved_register (Trap op) rc others = others
 
 -- the registers that a class reads
 abbrev pub sources : Class → List ℕ
-sources (operate op ra src rc) = ra ∷ moved_register (op_role op) rc (source_registers src)
-sources (trapping op ra src rc) = ra ∷ source_registers src
+sources (operate op ra src rc) = ra ∷ moved_register (op_row op).role rc (source_registers src)
+sources (trigger op ra src rc) = ra ∷ source_registers src
 sources (address op ra rb disp) = rb ∷ []
-sources (load op at ra) = at.base ∷ []
-sources (store op at ra) = ra ∷ at.base ∷ []
-sources (load_locked op at ra) = at.base ∷ []
-sources (store_conditional op at ra) = ra ∷ at.base ∷ []
-sources (branch op ra disp) = if is_conditional op then ra ∷ [] else []
+sources (load extension at ra) = at.base ∷ []
+sources (store at ra) = ra ∷ at.base ∷ []
+sources (load_locked extension at ra) = at.base ∷ []
+sources (store_conditional at ra) = ra ∷ at.base ∷ []
+sources (branch condition ra disp) = option_map_or (λ _. ra ∷ []) condition []
 sources (jump ra rb) = rb ∷ []
 sources (barrier call) = []
 sources idle = []
@@ -43,13 +45,13 @@ sources idle = []
 -- the register that a class writes
 abbrev pub written : Class → Option ℕ
 written (operate op ra src rc) = Some rc
-written (trapping op ra src rc) = Some rc
+written (trigger op ra src rc) = Some rc
 written (address op ra rb disp) = Some ra
-written (load op at ra) = Some ra
-written (store op at ra) = None
-written (load_locked op at ra) = Some ra
-written (store_conditional op at ra) = Some ra
-written (branch op ra disp) = if is_conditional op then None else Some ra
+written (load extension at ra) = Some ra
+written (store at ra) = None
+written (load_locked extension at ra) = Some ra
+written (store_conditional at ra) = Some ra
+written (branch condition ra disp) = option_map_or (λ _. None) condition (Some ra)
 written (jump ra rb) = Some ra
 written (barrier call) = None
 written idle = None
@@ -73,39 +75,39 @@ sets_of i = but_zero (written (class_of i))
 
 abbrev pub class_kind : Class → InsnKind
 class_kind (operate op ra src rc) = kinds.Plain
-class_kind (trapping op ra src rc) = kinds.Trigger
+class_kind (trigger op ra src rc) = kinds.Trigger
 class_kind (address op ra rb disp) = kinds.Plain
-class_kind (load op at ra) = kinds.Load
-class_kind (store op at ra) = kinds.Store
-class_kind (load_locked op at ra) = kinds.Locked
-class_kind (store_conditional op at ra) = kinds.Locked
-class_kind (branch op ra disp) = kinds.Turn
+class_kind (load extension at ra) = kinds.Load
+class_kind (store at ra) = kinds.Store
+class_kind (load_locked extension at ra) = kinds.Locked
+class_kind (store_conditional at ra) = kinds.Locked
+class_kind (branch condition ra disp) = kinds.Turn
 class_kind (jump ra rb) = kinds.Turn
 class_kind (barrier call) = kinds.Barrier
 class_kind idle = kinds.Plain
 
 abbrev pub class_access : Class → Option MemAccess
 class_access (operate op ra src rc) = None
-class_access (trapping op ra src rc) = None
+class_access (trigger op ra src rc) = None
 class_access (address op ra rb disp) = None
-class_access (load op at ra) = Some at
-class_access (store op at ra) = Some at
-class_access (load_locked op at ra) = Some at
-class_access (store_conditional op at ra) = Some at
-class_access (branch op ra disp) = None
+class_access (load extension at ra) = Some at
+class_access (store at ra) = Some at
+class_access (load_locked extension at ra) = Some at
+class_access (store_conditional at ra) = Some at
+class_access (branch condition ra disp) = None
 class_access (jump ra rb) = None
 class_access (barrier call) = None
 class_access idle = None
 
 abbrev pub class_trap : Class → Option TrapOp
 class_trap (operate op ra src rc) = None
-class_trap (trapping op ra src rc) = Some op
+class_trap (trigger op ra src rc) = Some op
 class_trap (address op ra rb disp) = None
-class_trap (load op at ra) = None
-class_trap (store op at ra) = None
-class_trap (load_locked op at ra) = None
-class_trap (store_conditional op at ra) = None
-class_trap (branch op ra disp) = None
+class_trap (load extension at ra) = None
+class_trap (store at ra) = None
+class_trap (load_locked extension at ra) = None
+class_trap (store_conditional at ra) = None
+class_trap (branch condition ra disp) = None
 class_trap (jump ra rb) = None
 class_trap (barrier call) = None
 class_trap idle = None
@@ -125,5 +127,14 @@ abbrev pub bytes_spanned : MemAccess → ByteSpan
 bytes_spanned a =
     record { low = (if a.clears then a.disp -ℤ pos 7 else a.disp); high = a.disp +ℤ pos a.bytes }
 
+-- two spans, neither of them empty, share a byte
+abbrev pub SpansMeet : ByteSpan → ByteSpan → Type 0
+SpansMeet a b = (a.low <ℤ b.high) × (b.low <ℤ a.high)
+
 abbrev pub span_of : Form → Option ByteSpan
 span_of i = option_map bytes_spanned (access_of i)
+
+-- the least level whose implementations have the instruction
+abbrev pub level_of : Form → Level
+level_of (Operate op ra src rc) = (op_row op).level
+level_of _ = One

@@ -1,6 +1,9 @@
+pub mod Entry
 pub mod Op
 pub mod Rows
 pub mod Row
 pub mod Decoded
 pub mod Class
 pub mod Columns
+pub mod Code
+pub mod Names

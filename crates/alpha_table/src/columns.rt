@@ -1,22 +1,23 @@
 ghost use Rattle.std.specs.Prelude.{◌≡◌, ◌<◌, ℕ, ◌↔◌, ◌∷◌, IsTrue, IfSome};
 ghost use Rattle.alpha_table.specs.declared.form.Form.TheVariants.{Mem};
 ghost use Rattle.alpha_words.specs.Regs.{Has};
-ghost use Rattle.alpha_table.specs.Columns.{counts, source_registers, uses_of, sets_of, kind_of, access_of, span_of, trap_op_of};
+ghost use Rattle.alpha_table.specs.Columns.{counts, source_registers, uses_of, sets_of, kind_of, access_of, span_of, trap_op_of, level_of};
 
-use crate::op::OpRole;
-use crate::rows::MemRole;
-use crate::{Form, Insn, MemOp, MiscOp, Src, TrapOp};
-use alpha_words::{Reg, RegSet};
+use crate::{Form, Insn, MemOp, MemRole, OpRole, Src, TrapOp};
+use alpha_words::{Level, Reg, RegSet};
 
 /// What an instruction is to a trap shadow.
 #[derive(Clone, Copy, Debug, PartialEq, Eq)]
 pub enum InsnKind {
+    /// None of the others.
     Plain,
     /// It may trap on overflow.
     Trigger,
     /// A pending trap is reported before it.
     Barrier,
+    /// A load that isn't locked, into a register that counts.
     Load,
+    /// A store that isn't conditional.
     Store,
     /// A locked load or a conditional store.
     Locked,
@@ -27,8 +28,9 @@ pub enum InsnKind {
 /// An access to memory.
 #[derive(Clone, Copy, Debug, PartialEq, Eq)]
 pub struct MemAccess {
+    /// The base register.
     pub base: Reg,
-    /// In bytes.
+    /// The displacement, in bytes.
     pub disp: i16,
     /// How many bytes: 1, 2, 4 or 8.
     pub bytes: u8,
@@ -40,7 +42,9 @@ pub struct MemAccess {
 /// without, `high`.
 #[derive(Clone, Copy, Debug, PartialEq, Eq)]
 pub struct ByteSpan {
+    /// The first byte.
     pub low: i32,
+    /// The byte behind the last one.
     pub high: i32,
 }
 
@@ -60,11 +64,11 @@ impl MemAccess {
 }
 
 impl ByteSpan {
-    ghost use Rattle.std.specs.Prelude.{◌<ℤ◌};
+    ghost use Rattle.alpha_table.specs.Columns.{SpansMeet};
 
     /// Whether two spans, counted from one base register, share a byte.
     pub fn meets(&self, other: &ByteSpan) -> bool
-        ensures { IsTrue result ↔ ((self.now.low <ℤ other.now.high) × (other.now.low <ℤ self.now.high)) }
+        ensures { IsTrue result ↔ SpansMeet self.now other.now }
     {
         self.low < other.high && other.low < self.high
     }
@@ -77,16 +81,16 @@ pub fn uses(i: &Insn) -> RegSet
 {
     let none = RegSet::empty();
     match i.form() {
-        Form::Mem { op, ra, rb, .. } => match op.columns().role {
-            MemRole::Load if ra == Reg::ZERO => none,
-            MemRole::Address | MemRole::Load | MemRole::LoadLocked => none.with(rb),
+        Form::Mem { op, ra, rb, .. } => match op.row().role {
+            MemRole::Load(_) if ra == Reg::ZERO => none,
+            MemRole::Address | MemRole::Load(_) | MemRole::LoadLocked(_) => none.with(rb),
             MemRole::Store | MemRole::StoreConditional => none.with(ra).with(rb),
         },
-        Form::Branch { op, ra, .. } if op.is_conditional() => none.with(ra),
+        Form::Branch { op, ra, .. } if op.row().condition.is_some() => none.with(ra),
         Form::Jump { rb, .. } => none.with(rb),
-        Form::Operate { op, ra, src, rc } => match op.role() {
+        Form::Operate { op, ra, src, rc } => match op.row().role {
             OpRole::Move => operate_sources(ra, &src).with(rc),
-            OpRole::Plain | OpRole::Trap => operate_sources(ra, &src),
+            OpRole::Plain | OpRole::Trap(_) => operate_sources(ra, &src),
         },
         _ => none,
     }
@@ -108,11 +112,11 @@ pub fn sets(i: &Insn) -> Option<Reg>
     ensures bound { IfSome result (λ r. r < 31) }
 {
     let written = match i.form() {
-        Form::Mem { op, ra, .. } => match op.columns().role {
+        Form::Mem { op, ra, .. } => match op.row().role {
             MemRole::Store => None,
             _ => Some(ra),
         },
-        Form::Branch { op, ra, .. } if !op.is_conditional() => Some(ra),
+        Form::Branch { op, ra, .. } if op.row().condition.is_none() => Some(ra),
         Form::Jump { ra, .. } => Some(ra),
         Form::Operate { rc, .. } => Some(rc),
         _ => None,
@@ -127,14 +131,12 @@ pub fn kind(i: &Insn) -> InsnKind
     match i.form() {
         Form::Mem { op, ra, .. } => memory_kind(op, ra),
         Form::Branch { .. } | Form::Jump { .. } => InsnKind::Turn,
-        Form::Operate { op, .. } => match op.role() {
-            OpRole::Trap => InsnKind::Trigger,
+        Form::Operate { op, .. } => match op.row().role {
+            OpRole::Trap(_) => InsnKind::Trigger,
             OpRole::Plain | OpRole::Move => InsnKind::Plain,
         },
-        Form::Misc(op) => match op {
-            MiscOp::Trapb | MiscOp::Excb => InsnKind::Barrier,
-            MiscOp::Mb | MiscOp::Wmb => InsnKind::Plain,
-        },
+        Form::Misc(op) if op.row().reports => InsnKind::Barrier,
+        Form::Misc(_) => InsnKind::Plain,
         Form::Fetch { .. } => InsnKind::Plain,
         Form::Pal(_) => InsnKind::Barrier,
     }
@@ -144,9 +146,9 @@ pub fn kind(i: &Insn) -> InsnKind
 fn memory_kind(op: MemOp, ra: Reg) -> InsnKind
     ensures { (rb : ℕ) (disp : _) → result ≡ kind_of (Mem op ra rb disp) }
 {
-    match op.columns().role {
+    match op.row().role {
         MemRole::Address => InsnKind::Plain,
-        MemRole::Load => {
+        MemRole::Load(_) => {
             if ra == Reg::ZERO {
                 InsnKind::Plain
             } else {
@@ -154,7 +156,7 @@ fn memory_kind(op: MemOp, ra: Reg) -> InsnKind
             }
         }
         MemRole::Store => InsnKind::Store,
-        MemRole::LoadLocked | MemRole::StoreConditional => InsnKind::Locked,
+        MemRole::LoadLocked(_) | MemRole::StoreConditional => InsnKind::Locked,
     }
 }
 
@@ -165,15 +167,15 @@ pub fn access(i: &Insn) -> Option<MemAccess>
     let Form::Mem { op, ra, rb, disp } = i.form() else {
         return None;
     };
-    let columns = op.columns();
-    match columns.role {
+    let row = op.row();
+    match row.role {
         MemRole::Address => None,
-        MemRole::Load if ra == Reg::ZERO => None,
+        MemRole::Load(_) if ra == Reg::ZERO => None,
         _ => Some(MemAccess {
             base: rb,
             disp,
-            bytes: columns.bytes,
-            clears: columns.clears,
+            bytes: row.bytes,
+            clears: row.clears,
         }),
     }
 }
@@ -192,5 +194,15 @@ pub fn trap_op(i: &Insn) -> Option<TrapOp>
     match i.form() {
         Form::Operate { op, .. } => op.trap(),
         _ => None,
+    }
+}
+
+/// The least level whose implementations have the instruction.
+pub fn level_of(i: &Insn) -> Level
+    ensures { result ≡ level_of i.now }
+{
+    match i.form() {
+        Form::Operate { op, .. } => op.row().level,
+        _ => Level::One,
     }
 }

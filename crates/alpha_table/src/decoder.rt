@@ -1,16 +1,17 @@
 ghost use Rattle.std.specs.Prelude.{◌≡◌, ℕ, IfSome, IfNone};
+ghost use Rattle.alpha_words.specs.Field.{field};
 ghost use Rattle.alpha_table.specs.Row.{Row, SourceField};
 ghost use Rattle.alpha_table.specs.Decoded.{decoded};
 ghost use Rattle.alpha_table.specs.declared.form.Form.TheVariants.{Mem, Branch, Jump, Operate, Misc, Fetch, Pal};
 
+use crate::formats::{fetch_at, pal_call_at};
 use crate::insn::operands_fit;
-use crate::rows::pal_call_at;
 use crate::{BranchOp, Form, Insn, JumpKind, MemOp, MiscOp, Op, Src};
 use alpha_words::{Reg, Word};
 
 fn memory(w: Word) -> Option<Form>
     ensures found { IfSome result (λ form. Row w.0 form) }
-    ensures none { IfNone result ((op : _) (ra rb : ℕ) (disp : _) → Row w.0 (Mem op ra rb disp) → ⊥) }
+    ensures none { IfNone result ((op : _) (ra rb : ℕ) (d : _) → Row w.0 (Mem op ra rb d) → ⊥) }
 {
     let op = MemOp::at(w.opcode())?;
     Some(Form::Mem {
@@ -34,12 +35,10 @@ fn branch(w: Word) -> Option<Form>
 }
 
 fn jump(w: Word) -> Option<Form>
+    requires { field 31 26 w.0 ≡ 0x1a }
     ensures found { IfSome result (λ form. Row w.0 form) }
-    ensures none { IfNone result ((kind : _) (ra rb hint : ℕ) → Row w.0 (Jump kind ra rb hint) → ⊥) }
+    ensures none { IfNone result ((kind : _) (ra rb h : ℕ) → Row w.0 (Jump kind ra rb h) → ⊥) }
 {
-    if w.opcode() != 0x1a {
-        return None;
-    }
     let kind = JumpKind::at(w.kind())?;
     Some(Form::Jump {
         kind,
@@ -50,37 +49,35 @@ fn jump(w: Word) -> Option<Form>
 }
 
 fn misc(w: Word) -> Option<Form>
+    requires { field 31 26 w.0 ≡ 0x18 }
     ensures found { IfSome result (λ form. Row w.0 form) }
     ensures none { IfNone result ((op : _) → Row w.0 (Misc op) → ⊥) }
 {
-    if w.opcode() != 0x18 || w.ra() != Reg::ZERO || w.rb() != Reg::ZERO {
+    if w.ra() != Reg::ZERO || w.rb() != Reg::ZERO {
         return None;
     }
     Some(Form::Misc(MiscOp::at(w.misc())?))
 }
 
 fn fetch(w: Word) -> Option<Form>
+    requires { field 31 26 w.0 ≡ 0x18 }
     ensures found { IfSome result (λ form. Row w.0 form) }
     ensures none { IfNone result ((modify : _) (rb : ℕ) → Row w.0 (Fetch modify rb) → ⊥) }
 {
-    if w.opcode() != 0x18 || w.ra() != Reg::ZERO {
+    if w.ra() != Reg::ZERO {
         return None;
     }
-    let modify = match w.misc() {
-        0x8000 => false,
-        0xa000 => true,
-        _ => return None,
-    };
-    Some(Form::Fetch { modify, rb: w.rb() })
+    Some(Form::Fetch {
+        modify: fetch_at(w.misc())?,
+        rb: w.rb(),
+    })
 }
 
 fn pal(w: Word) -> Option<Form>
+    requires { field 31 26 w.0 ≡ 0x00 }
     ensures found { IfSome result (λ form. Row w.0 form) }
     ensures none { IfNone result ((call : _) → Row w.0 (Pal call) → ⊥) }
 {
-    if w.opcode() != 0 {
-        return None;
-    }
     Some(Form::Pal(pal_call_at(w.pal())?))
 }
 
@@ -99,12 +96,12 @@ fn source(w: Word) -> Option<Src>
 
 fn operate(w: Word) -> Option<Form>
     ensures found { IfSome result (λ form. Row w.0 form) }
-    ensures none { IfNone result ((op : _) (ra : ℕ) (src : _) (rc : ℕ) → Row w.0 (Operate op ra src rc) → ⊥) }
+    ensures none { IfNone result ((op : _) (a : ℕ) (b : _) (c : ℕ) → Row w.0 (Operate op a b c) → ⊥) }
 {
     let op = Op::at(w.opcode(), w.function())?;
     let src = source(w)?;
     let ra = w.ra();
-    if !operands_fit(op, ra, &src) {
+    if !operands_fit(op.row().operands, ra, &src) {
         return None;
     }
     Some(Form::Operate {
@@ -115,34 +112,22 @@ fn operate(w: Word) -> Option<Form>
     })
 }
 
-// The first format that has the word.
-
+// The instruction in the one format that words of this opcode have.
 fn form_of(w: Word) -> Option<Form>
     ensures found { IfSome result (λ form. Row w.0 form) }
     ensures none { IfNone result ((form : _) → Row w.0 form → ⊥) }
 {
-    if let Some(form) = operate(w) {
-        return Some(form);
+    match w.opcode() {
+        0x00 => pal(w),
+        0x10..=0x13 | 0x1c => operate(w),
+        0x18 => match misc(w) {
+            Some(form) => Some(form),
+            None => fetch(w),
+        },
+        0x1a => jump(w),
+        0x30..=0x3f => branch(w),
+        _ => memory(w),
     }
-    if let Some(form) = memory(w) {
-        return Some(form);
-    }
-    if let Some(form) = branch(w) {
-        return Some(form);
-    }
-    if let Some(form) = jump(w) {
-        return Some(form);
-    }
-    if let Some(form) = misc(w) {
-        return Some(form);
-    }
-    if let Some(form) = fetch(w) {
-        return Some(form);
-    }
-    if let Some(form) = pal(w) {
-        return Some(form);
-    }
-    None
 }
 
 /// The instruction that the word stands for, `None` exactly where it is outside the table.
@@ -152,8 +137,5 @@ pub fn decode(w: Word) -> Option<Insn>
     ensures none { IfNone result ((i : _) → Row w.0 i → ⊥) }
     ensures value { result ≡ decoded w.0 }
 {
-    match form_of(w) {
-        Some(form) => Insn::of(form),
-        None => None,
-    }
+    Some(Insn::new(form_of(w)?))
 }

@@ -1,9 +1,10 @@
-ghost use Rattle.std.specs.Prelude.{◌≡◌, ℕ, ◌^◌, ◌<◌, ◌*◌, ◌+◌, pos, negsuc, ◌≤ℤ◌};
+ghost use Rattle.std.specs.Prelude.{◌≡◌, ℕ, ◌^◌, ◌<◌, ◌*◌, ◌+◌};
 ghost use Rattle.alpha_words.specs.Field.{signed_field};
-ghost use Rattle.alpha_table.specs.Row.{Row, OperandsFit};
+ghost use Rattle.alpha_table.specs.Op.{op_row};
+ghost use Rattle.alpha_table.specs.Row.{Row, IsSigned, OperandsFit};
 ghost use Rattle.alpha_table.specs.declared.form.Form.TheVariants.{Operate};
 
-use crate::rows::pal_function;
+use crate::formats::{fetch_function, pal_function};
 use crate::{Form, Insn, Op, Src};
 use alpha_words::{Reg, Word};
 
@@ -20,18 +21,18 @@ fn word_of(i: &Insn) -> u32
 {
     match i.form() {
         Form::Mem { op, ra, rb, disp } => {
-            high(op.opcode(), ra, rb) + u32::from(disp.cast_unsigned())
+            high(op.row().opcode, ra, rb) + u32::from(disp.cast_unsigned())
         }
         Form::Branch { op, ra, disp } => {
-            (u32::from(op.opcode()) << 26) + (u32::from(ra.number()) << 21) + branch_field(disp)
+            (u32::from(op.row().opcode) << 26) + (u32::from(ra.number()) << 21) + branch_field(disp)
         }
         Form::Jump { kind, ra, rb, hint } => {
             high(0x1a, ra, rb) + (u32::from(kind.kind()) << 14) + u32::from(hint)
         }
         Form::Operate { op, ra, src, rc } => operate(op, ra, &src, rc),
-        Form::Misc(op) => high(0x18, Reg::ZERO, Reg::ZERO) + u32::from(op.function()),
+        Form::Misc(op) => high(0x18, Reg::ZERO, Reg::ZERO) + u32::from(op.row().function),
         Form::Fetch { modify, rb } => {
-            high(0x18, Reg::ZERO, rb) + if modify { 0xa000 } else { 0x8000 }
+            high(0x18, Reg::ZERO, rb) + u32::from(fetch_function(modify))
         }
         Form::Pal(call) => pal_function(call),
     }
@@ -39,7 +40,7 @@ fn word_of(i: &Insn) -> u32
 
 // A branch displacement as an unsigned field of 21 bits.
 fn branch_field(disp: i32) -> u32
-    requires { (negsuc 0xfffff ≤ℤ disp) × (disp ≤ℤ pos 0xfffff) }
+    requires { IsSigned 20 disp }
     ensures bound { result < 2 ^ 21 }
     ensures value { signed_field 20 0 result ≡ disp }
 {
@@ -52,12 +53,12 @@ fn branch_field(disp: i32) -> u32
 
 // The word of an operate instruction.
 fn operate(op: Op, ra: Reg, src: &Src, rc: Reg) -> u32
-    requires { OperandsFit op ra src.now }
+    requires { OperandsFit (op_row op).operands ra src.now }
     ensures { Row result (Operate op ra src.now rc) }
 {
-    let (opcode, function) = op.row();
-    let outer = (u32::from(opcode) << 26) + (u32::from(ra.number()) << 21);
-    let inner = (u32::from(function) << 5) + u32::from(rc.number());
+    let row = op.row();
+    let outer = (u32::from(row.opcode) << 26) + (u32::from(ra.number()) << 21);
+    let inner = (u32::from(row.function) << 5) + u32::from(rc.number());
     match *src {
         Src::Reg(rb) => outer + (u32::from(rb.number()) << 16) + inner,
         Src::Lit(n) => outer + (u32::from(n) << 13) + 0x1000 + inner,

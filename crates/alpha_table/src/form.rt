@@ -1,9 +1,13 @@
-use crate::{BranchOp, JumpKind, MemOp, MiscOp, Op};
+ghost use Rattle.std.specs.Prelude.{◌≡◌};
+ghost use Rattle.alpha_table.specs.Names.{mnemonic_of};
+
+use crate::{BranchOp, JumpKind, MemOp, MiscOp, Mnemonic, Op};
 use alpha_words::{PalCall, Reg};
 
 /// The second source of an operate instruction.
 #[derive(Clone, Copy, Debug, PartialEq, Eq)]
 pub enum Src {
+    /// A register.
     Reg(Reg),
     /// An unsigned literal of 8 bits.
     Lit(u8),
@@ -12,37 +16,74 @@ pub enum Src {
 /// An instruction with its operands, by format (Architecture Handbook, instruction formats).
 #[derive(Clone, Copy, Debug, PartialEq, Eq)]
 pub enum Form {
-    /// `disp` is in bytes.
+    /// A memory instruction with a displacement.
     Mem {
+        /// Its row.
         op: MemOp,
+        /// The register that it loads, stores or writes the address to.
         ra: Reg,
+        /// The base register.
         rb: Reg,
+        /// The displacement, in bytes; of LDAH in units of 65,536 bytes.
         disp: i16,
     },
-    /// `disp` is in words, from the next instruction on, and has 21 bits.
+    /// A branch.
     Branch {
+        /// Its row.
         op: BranchOp,
+        /// The register that it tests or writes the next address to.
         ra: Reg,
+        /// The displacement, in words, from the next instruction on. It has 21 bits.
         disp: i32,
     },
-    /// `hint` has 14 bits.
+    /// A jump.
     Jump {
+        /// Its row.
         kind: JumpKind,
+        /// The register that it writes the next address to.
         ra: Reg,
+        /// The register with the target.
         rb: Reg,
+        /// What it tells the branch predictor. It has 14 bits.
         hint: u16,
     },
+    /// An operate instruction.
     Operate {
+        /// Its row.
         op: Op,
+        /// The first source.
         ra: Reg,
+        /// The second source.
         src: Src,
+        /// The destination.
         rc: Reg,
     },
+    /// A barrier with the miscellaneous opcode.
     Misc(MiscOp),
-    /// A prefetch hint, with the intent to modify or without.
+    /// A prefetch, which is a hint.
     Fetch {
+        /// Whether it has the intent to modify (FETCH_M).
         modify: bool,
+        /// The register with the address.
         rb: Reg,
     },
+    /// A PALcode call.
     Pal(PalCall),
+}
+
+impl Form {
+    /// What the instruction's name stands for.
+    pub fn mnemonic(&self) -> Mnemonic
+        ensures { result ≡ mnemonic_of self.now }
+    {
+        match *self {
+            Form::Mem { op, .. } => Mnemonic::Mem(op),
+            Form::Branch { op, .. } => Mnemonic::Branch(op),
+            Form::Jump { kind, .. } => Mnemonic::Jump(kind),
+            Form::Operate { op, .. } => Mnemonic::Operate(op),
+            Form::Misc(op) => Mnemonic::Misc(op),
+            Form::Fetch { modify, .. } => Mnemonic::Fetch { modify },
+            Form::Pal(call) => Mnemonic::Pal(call),
+        }
+    }
 }

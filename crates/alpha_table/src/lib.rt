@@ -1,39 +1,50 @@
-//! The instruction table: which word stands for which instruction, and what each instruction uses,
-//! sets, accesses and is to a trap shadow (Architecture Handbook, instruction formats and
-//! instruction descriptions; integer instructions with the byte and word extension, and seven of
-//! the OSF/1 PALcode calls).
+//! The instruction table: which word stands for which instruction, what each instruction uses, sets,
+//! accesses and is to a trap shadow, and its name (Architecture Handbook, instruction formats and
+//! instruction descriptions; integer instructions with the byte and word extension and the count
+//! extension, and seven of the OSF/1 PALcode calls).
 //!
 //! - [`Form`] is an instruction with its operands, by format. [`Insn`] is one whose fields are
 //!   within its row of the table.
 //! - [`decode`] and [`encode`] are the table in both directions. Each instruction has one word, so
 //!   a word with other values in fields that the table fixes is outside it.
-//! - [`uses`], [`sets`], [`kind`], [`access`], [`span`] and [`trap_op`] are its columns. R31 is
-//!   never counted.
-//! - [`table_laws`] says that the table is one to one.
+//! - [`uses`], [`sets`], [`kind`], [`access`], [`span`], [`trap_op`] and [`level_of`] are its
+//!   columns. R31 is never counted. [`Op::row`], [`MemOp::row`] and [`BranchOp::row`] have those
+//!   that depend on the row alone.
+//! - [`Mnemonic`] is what a name stands for: [`Mnemonic::of`] finds it, [`Mnemonic::name`] gives
+//!   the name, and [`Form::mnemonic`] says which name an instruction has.
+//! - [`laws_of_the_table`] says that each instruction has one word and each word one instruction at
+//!   most, and [`laws_of_names`] that no two rows have one name.
 //!
-//! The rows stand once, in the macros of `op.rt` (operate instructions) and `rows.rt` (all others);
-//! `decoder.rt`, `encoder.rt` and `columns.rt` read them. `specs/Row.antt` says which word stands
-//! for which instruction, from the rows of `specs/Op.antt` and `specs/Rows.antt`;
-//! `specs/Decoded.antt` is the look-up from a word; `specs/Class.antt` has the classes by which
-//! `specs/Columns.antt` gives the columns.
+//! Each row stands once: in `operate.rt` for the operate instructions, in `formats.rt` for all
+//! others. `op.rt` and `rows.rt` have the types of the rows; `decoder.rt`, `encoder.rt`, `names.rt`
+//! and `columns.rt` read them. `specs/Row.antt` says which word stands for which instruction, from
+//! the rows of `specs/Op.antt` and `specs/Rows.antt`; `specs/Decoded.antt` is the look-up from a
+//! word; `specs/Class.antt` has the classes by which `specs/Columns.antt` gives the columns;
+//! `specs/Code.antt` has the columns by place; `specs/Names.antt` has the names.
 #![tactic(auto)]
 
 mod columns;
 mod decoder;
 mod encoder;
 mod form;
+mod formats;
 mod insn;
 mod laws;
+mod names;
 mod op;
+mod operate;
 mod rows;
 #[cfg(test)]
 mod tests;
 
-pub use columns::{ByteSpan, InsnKind, MemAccess, access, kind, sets, span, trap_op, uses};
+pub use columns::{
+    ByteSpan, InsnKind, MemAccess, access, kind, level_of, sets, span, trap_op, uses,
+};
 pub use decoder::decode;
 pub use encoder::encode;
 pub use form::{Form, Src};
 pub use insn::Insn;
-pub use laws::table_laws;
-pub use op::{Cond, Op, TrapOp};
-pub use rows::{BranchOp, JumpKind, MemOp, MiscOp};
+pub use laws::{laws_of_names, laws_of_the_table};
+pub use names::Mnemonic;
+pub use op::{Cond, Op, OpRole, OpRow, OperandRule, TrapOp};
+pub use rows::{BranchOp, BranchRow, Extension, JumpKind, MemOp, MemRole, MemRow, MiscOp};

@@ -1,8 +1,9 @@
 use crate::{
-    ByteSpan, Form, Insn, InsnKind, JumpKind, MemOp, Op, Src, TrapOp, access, decode, encode, kind,
-    sets, span, trap_op, uses,
+    BranchOp, ByteSpan, Cond, Extension, Form, Insn, InsnKind, JumpKind, MemOp, MemRole, Mnemonic,
+    Op, OperandRule, Src, TrapOp, access, decode, encode, kind, level_of, sets, span, trap_op,
+    uses,
 };
-use alpha_words::{Reg, Word};
+use alpha_words::{Level, PalCall, Reg, Word};
 use std::test::Fail;
 
 /// Words that the Handbook and assemblers give, each of the instruction beside it.
@@ -17,6 +18,7 @@ fn known_words_decode_and_encode(rt: HostRuntime) {
         0x4022_0c03, // addq/v $1,$2,$3
         0x201f_0001, // lda $0,1($31)
         0x0000_0083, // callsys
+        0x73e1_0602, // ctpop $1,$2
     ] {
         let again = decode(Word(word)).map(|insn| encode(&insn));
         assert_eq!(rt; again, Some(Word(word)), "{word:08x}");
@@ -33,10 +35,70 @@ fn words_outside_the_table(rt: HostRuntime) {
         0x0000_0000, // PALcode function 0
         0x0000_009d, // one below rdunique
         0x6bfa_8000 | 1 << 26, // opcode 1b
-        0x73fe_061f, // ctpop, which is of a later level
+        0x7021_0602, // ctpop with Ra = 1
+        0x73e1_0622, // function 31, beside ctpop
     ] {
         assert!(rt; decode(Word(word)).is_none(), "{word:08x}");
     }
+}
+
+/// No count instruction takes a literal.
+#[test]
+fn words_of_level_two_with_a_literal_are_outside(rt: HostRuntime) {
+    for function in [0x30, 0x32, 0x33] {
+        for literal in 0..=255 {
+            let word = 0x73e0_1002 | literal << 13 | function << 5;
+            assert!(rt; decode(Word(word)).is_none(), "{word:08x}");
+        }
+    }
+}
+
+#[test]
+fn names_and_what_they_stand_for(rt: HostRuntime) {
+    for (name, mnemonic) in [
+        (b"addq/v".as_slice(), Mnemonic::Operate(Op::AddqV)),
+        (b"ctpop".as_slice(), Mnemonic::Operate(Op::Ctpop)),
+        (b"zapnot".as_slice(), Mnemonic::Operate(Op::Zapnot)),
+        (b"ldq_l".as_slice(), Mnemonic::Mem(MemOp::LdqL)),
+        (b"bsr".as_slice(), Mnemonic::Branch(BranchOp::Bsr)),
+        (
+            b"jsr_coroutine".as_slice(),
+            Mnemonic::Jump(JumpKind::JsrCoroutine),
+        ),
+        (b"fetch_m".as_slice(), Mnemonic::Fetch { modify: true }),
+        (b"callsys".as_slice(), Mnemonic::Pal(PalCall::Callsys)),
+    ] {
+        assert_eq!(rt; Mnemonic::of(name), Some(mnemonic));
+        assert!(rt; mnemonic.name() == name);
+    }
+    for name in [
+        b"".as_slice(),
+        b"addq/".as_slice(),
+        b"ADDQ".as_slice(),
+        b"aaa".as_slice(),
+        b"nop".as_slice(),
+        b"zzz".as_slice(),
+    ] {
+        assert!(rt; Mnemonic::of(name).is_none());
+    }
+}
+
+#[test]
+fn columns_that_depend_on_the_row_alone(rt: HostRuntime) -> Result<(), Fail> {
+    assert_eq!(rt; MemOp::Ldwu.row().role, MemRole::Load(Extension::Zero));
+    assert_eq!(rt;
+        MemOp::LdlL.row().role,
+        MemRole::LoadLocked(Extension::Sign)
+    );
+    assert_eq!(rt; BranchOp::Blbc.row().condition, Some(Cond::Lbc));
+    assert_eq!(rt; BranchOp::Br.row().condition, None);
+    assert_eq!(rt; Op::Implver.row().operands, OperandRule::Version);
+    let count = decode(Word(0x73e1_0602)).ok_or("ctpop $1,$2")?;
+    assert_eq!(rt; level_of(&count), Level::Two);
+    assert_eq!(rt; count.form().mnemonic(), Mnemonic::Operate(Op::Ctpop));
+    let sum = decode(Word(0x4022_0c03)).ok_or("addq/v $1,$2,$3")?;
+    assert_eq!(rt; level_of(&sum), Level::One);
+    Ok(())
 }
 
 #[test]

@@ -1,0 +1,12 @@
+use Rattle.alpha_table.proofs.Decoding.{same_insn, same_word, decoded-Row, Row-decoded, IsInsn-Row}
+use Rattle.alpha_table.proofs.Words.{some_word}
+use Rattle.alpha_table.proofs.laws.laws_of_the_table.Goals as goal
+
+pub returns : goal.returns
+returns c = record {
+  some_word = some_word;
+  one_word = same_word;
+  one_instruction = same_insn;
+  within = IsInsn-Row;
+  looked_up = λ w i. (decoded-Row w i, Row-decoded w i);
+}
