@@ -3,4 +3,5 @@ pub mod FileMaps
 pub mod Fronts
 pub mod ReadAnswers
 pub mod Shelved
+pub mod Sinks
 pub mod Writes

@@ -1,18 +1,14 @@
 -- When `read_whole` gives which answer, where files are told: but for want of memory, each exactly in its case.
-use Rattle.std.proofs.Common.{◌≡◌, ◌⊎◌, ℕ, ◌<◌, ◌≤◌, List, length, Vec, Global, Option, Some, None, Result, Ok, Err, IsOkAnd, IsErrOf, IsSomeAnd, refl, sym, inl, inr, subst, arith, ap}
-use Rattle.alpha_io.specs.declared.read.ReadFault.{ReadFault}
+use Rattle.std.proofs.Common.{◌≡◌, ◌⊎◌, ℕ, ◌<◌, ◌≤◌, List, length, Option, Some, None, Ok, Err, IsOkAnd, IsErrOf, IsSomeAnd, refl, sym, inl, inr, subst, arith, ap}
 use Rattle.alpha_io.specs.declared.read.ReadFault.TheVariants.{Shelf, TooLarge, NoMemory}
 use Rattle.alpha_io.specs.Faults.{Rose, Calm}
 use Rattle.alpha_io.specs.Files.{Files, Lacks}
-use Rattle.alpha_io.specs.ReadWhole.{ReadCause}
+use Rattle.alpha_io.specs.ReadWhole.{ReadCause, Reading}
 use Rattle.alpha_io.proofs.Counts.{Rose-not_calm}
 use Rattle.alpha_io.proofs.Shelved.{Lacks-not_told}
 
-abbrev pub Answer : Type 0
-Answer = Result (Vec ℕ Global) ReadFault
-
 -- a name that isn't there
-pub ReadCause-lacks : (a : Files) (name : List ℕ) (limit before now : ℕ) (answer : Answer) → Lacks a name → ReadCause a name limit before now answer → IsErrOf answer Shelf ⊎ IsErrOf answer NoMemory
+pub ReadCause-lacks : (a : Files) (name : List ℕ) (limit before now : ℕ) (answer : Reading) → Lacks a name → ReadCause a name limit before now answer → IsErrOf answer Shelf ⊎ IsErrOf answer NoMemory
 ReadCause-lacks a name limit before now (Ok v) lacks cause = absurd (Lacks-not_told a name (λ file. file ≡ v.items) lacks cause.0)
 ReadCause-lacks a name limit before now (Err Shelf) lacks cause = inl refl
 ReadCause-lacks a name limit before now (Err TooLarge) lacks cause = absurd (Lacks-not_told a name (λ file. limit < length file) lacks cause.0)
@@ -23,7 +19,7 @@ no_fault files name file before now there calm (inl rose) = Rose-not_calm before
 no_fault files name file before now there calm (inr lacks) = let none = lacks.0 in cc
 
 -- a file within the limit, and no fault
-pub ReadCause-within : (files : List ℕ → Option (List ℕ)) (name file : List ℕ) (limit before now : ℕ) (answer : Answer) → files name ≡ Some file → length file ≤ limit → Calm before now
+pub ReadCause-within : (files : List ℕ → Option (List ℕ)) (name file : List ℕ) (limit before now : ℕ) (answer : Reading) → files name ≡ Some file → length file ≤ limit → Calm before now
     → ReadCause (Some files) name limit before now answer → IsOkAnd answer (λ v. v.items ≡ file) ⊎ IsErrOf answer NoMemory
 ReadCause-within files name file limit before now (Ok v) there within calm cause = inl (sym (subst (λ o. IsSomeAnd o (λ f. f ≡ v.items)) there cause.0))
 ReadCause-within files name file limit before now (Err Shelf) there within calm cause = absurd (no_fault files name file before now there calm cause)
@@ -32,7 +28,7 @@ ReadCause-within files name file limit before now (Err TooLarge) there within ca
 ReadCause-within files name file limit before now (Err NoMemory) there within calm cause = inr refl
 
 -- a file past the limit, and no fault
-pub ReadCause-past : (files : List ℕ → Option (List ℕ)) (name file : List ℕ) (limit before now : ℕ) (answer : Answer) → files name ≡ Some file → limit < length file → Calm before now
+pub ReadCause-past : (files : List ℕ → Option (List ℕ)) (name file : List ℕ) (limit before now : ℕ) (answer : Reading) → files name ≡ Some file → limit < length file → Calm before now
     → ReadCause (Some files) name limit before now answer → IsErrOf answer TooLarge ⊎ IsErrOf answer NoMemory
 ReadCause-past files name file limit before now (Ok v) there past calm cause =
     let same : file ≡ v.items = subst (λ o. IsSomeAnd o (λ f. f ≡ v.items)) there cause.0 in absurd (omega (arith, ap length same, cause.1))

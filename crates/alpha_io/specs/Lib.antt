@@ -1,9 +1,11 @@
 pub mod Faults
 pub mod Files
+pub mod Line
 pub mod ReadWhole
 pub mod ShelfState
+pub mod Shelved
 pub mod SinkState
 pub mod SourceState
+pub mod Sunk
 pub mod SureShelfState
 pub mod Written
-pub mod Line

@@ -6,8 +6,12 @@ use Rattle.alpha_io.specs.declared.read.ReadFault.TheVariants.{Shelf, TooLarge, 
 use Rattle.alpha_io.specs.Faults.{Rose}
 use Rattle.alpha_io.specs.Files.{Files, IfTold, HasFile, Lacks}
 
+-- what `read_whole` answers
+abbrev pub Reading : Type 0
+Reading = Result (Vec ℕ Global) ReadFault
+
 -- the answer's cause, by the files and the count of faults before and after
-abbrev pub ReadCause : Files → List ℕ → ℕ → ℕ → ℕ → Result (Vec ℕ Global) ReadFault → Type 0
+abbrev pub ReadCause : Files → List ℕ → ℕ → ℕ → ℕ → Reading → Type 0
 ReadCause files name limit before now (Ok v) = HasFile files name v.items × (length v.items ≤ limit) × (now ≡ before)
 ReadCause files name limit before now (Err Shelf) = Rose before now ⊎ (Lacks files name × (now ≡ before))
 ReadCause files name limit before now (Err TooLarge) = IfTold files name (λ file. limit < length file) × (now ≡ before)

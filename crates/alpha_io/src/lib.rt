@@ -14,15 +14,20 @@
 //! files are no faults: of a piece of a file that isn't there, and of a file that isn't taken. What
 //! is told changes only as an `Ok` says; a `keep` that failed may leave anything under its name.
 //!
-//! `specs/Faults.antt` has the words on counts, `specs/Written.antt` those on what was written,
-//! `specs/Files.antt` those on files, `specs/ReadWhole.antt` the answers of `read_whole`, and the
-//! other files what a clause sees of an object in memory. `proofs/Counts.antt`,
-//! `proofs/Writes.antt`, `proofs/Shelved.antt` and `proofs/ReadAnswers.antt` have the laws over calls in
-//! a row that a caller needs.
+//! The functions of `src/laws.rt` do nothing: their contracts are the laws over calls in a row.
+//! [`laws_of_counts`]: a count that rose stays risen, and isn't calm. [`laws_of_prefixes`] and
+//! [`laws_of_sinks`]: what was written in calls in a row, whole or in part. [`laws_of_files`]: files
+//! that stayed. [`laws_of_reading`]: what [`read_whole`] answers of files that are told.
+//!
+//! `specs/Faults.antt` has the words on counts, `specs/Written.antt` and `specs/Sunk.antt` those on
+//! what was written, `specs/Files.antt` and `specs/Shelved.antt` those on files, and
+//! `specs/ReadWhole.antt` the answers of `read_whole`. The other files say what a clause sees of an
+//! object in memory.
 #![tactic(auto)]
 
 mod disk;
 mod fault;
+mod laws;
 mod line;
 mod memory;
 mod read;
@@ -34,7 +39,8 @@ mod stream;
 mod tests;
 
 pub use disk::DiskShelf;
-pub use line::Line;
+pub use laws::{laws_of_counts, laws_of_files, laws_of_prefixes, laws_of_reading, laws_of_sinks};
+pub use line::{LINE_ROOM, Line};
 pub use memory::shelf::MemoryShelf;
 pub use memory::sink::{MemorySink, NullSink};
 pub use memory::source::{MemorySource, SureSource};

@@ -4,24 +4,25 @@ ghost use Rattle.alpha_io.specs.Line.{hex_digits};
 use itoa::Buffer;
 use std::marker::Model;
 
-// How many bytes a line holds.
-const ROOM: usize = 160;
+/// How many bytes a [`Line`] holds at most.
+pub const LINE_ROOM: usize = 160;
 
-/// A line of text in the making, of at most 160 bytes. A clause sees its bytes. It takes no memory.
+/// A line of text in the making, of at most [`LINE_ROOM`] bytes. A clause sees its bytes. It takes no memory.
 #[derive(Drop)]
 pub struct Line {
-    bytes: [u8; ROOM],
+    bytes: [u8; LINE_ROOM],
     len: usize,
 }
 
 impl Model for Line {
     ghost use Rattle.std.specs.Prelude.{◌≡◌, ◌≤◌, List, ℕ, length, take};
+    ghost use Rattle.alpha_io.specs.declared.line.TheConstants.{LINE_ROOM};
 
     ghost Value = { List ℕ };
 
     ghost view = { λ l. take l.len l.bytes };
 
-    ghost invariant = { λ l. (l.len ≤ 160) × (length l.bytes ≡ 160) };
+    ghost invariant = { λ l. (l.len ≤ LINE_ROOM) × (length l.bytes ≡ LINE_ROOM) };
 }
 
 impl Line {
@@ -30,7 +31,7 @@ impl Line {
         ensures { result ≡ [] }
     {
         Line {
-            bytes: [0; ROOM],
+            bytes: [0; LINE_ROOM],
             len: 0,
         }
     }
@@ -44,7 +45,7 @@ impl Line {
 
     /// Appends bytes.
     pub fn push(&mut self, bytes: &[u8])
-        requires { length self.old + length bytes.now ≤ 160 }
+        requires { length self.old + length bytes.now ≤ LINE_ROOM }
         ensures { self.new ≡ self.old ++ bytes.now }
     {
         let end = self.len + bytes.len();
@@ -55,8 +56,8 @@ impl Line {
     /// Appends 16 lower-case hexadecimal digits.
     #[tactic(auto, unfolding(crate::specs::Line::hex_digits))]
     pub fn push_hex(&mut self, number: u64)
-        requires { length self.old + 16 ≤ 160 }
-        ensures value { self.new ≡ self.old ++ hex_digits number }
+        requires { length self.old + 16 ≤ LINE_ROOM }
+        ensures state { self.new ≡ self.old ++ hex_digits number }
         ensures size { length (hex_digits number) ≡ 16 }
     {
         let mut digits = [0; 16];
@@ -67,8 +68,8 @@ impl Line {
 
     /// Appends a number's decimal digits, at most 20.
     pub fn push_decimal(&mut self, number: u64)
-        requires { length self.old + 20 ≤ 160 }
-        ensures value { self.new ≡ self.old ++ decimal number }
+        requires { length self.old + 20 ≤ LINE_ROOM }
+        ensures state { self.new ≡ self.old ++ decimal number }
         ensures size { length (decimal number) ≤ 20 }
     {
         let mut buffer = Buffer::new();
@@ -77,7 +78,7 @@ impl Line {
 
     /// Appends the line feed that ends a line.
     pub fn end(&mut self)
-        requires { length self.old + 1 ≤ 160 }
+        requires { length self.old + 1 ≤ LINE_ROOM }
         ensures { self.new ≡ self.old ++ 10 ∷ [] }
     {
         self.push(b"\n");

@@ -62,7 +62,7 @@ pub fn read_whole<H: Shelf>(
     ensures cause { ReadCause (H.files shelf.old) name.now limit
         (H.faults shelf.old) (H.faults shelf.new) result }
     ensures later { H.faults shelf.old ≤ H.faults shelf.new }
-    ensures refused { Lacks (H.files shelf.old) name.now → H.faults shelf.new ≡ H.faults shelf.old }
+    ensures calm { Lacks (H.files shelf.old) name.now → H.faults shelf.new ≡ H.faults shelf.old }
     ensures files { KeepsFiles (H.files shelf.old) (H.files shelf.new) }
     ensures takes { H.takes shelf.new ≡ H.takes shelf.old }
 {
@@ -100,7 +100,7 @@ fn append_piece<H: Shelf>(
     ensures cause { PieceCause (H.files shelf.old) name.now
         (H.faults shelf.old) (H.faults shelf.new) result }
     ensures later { H.faults shelf.old ≤ H.faults shelf.new }
-    ensures refused { Lacks (H.files shelf.old) name.now → H.faults shelf.new ≡ H.faults shelf.old }
+    ensures calm { Lacks (H.files shelf.old) name.now → H.faults shelf.new ≡ H.faults shelf.old }
 {
     let at = bytes.len() as u64;
     let count = shelf.piece(name, at, buffer)?;

@@ -32,11 +32,12 @@ pub trait Shelf {
     /// Makes the file exactly these bytes. A shelf that tells its files refuses those that
     /// it doesn't take, which is no fault.
     fn keep(&mut self, name: &str, bytes: &[u8]) -> Result<(), Failed>
-        ensures kept { OnOk result (HasFile (files self.new) name.now bytes.now) }
+        ensures ok { OnOk result (HasFile (files self.new) name.now bytes.now) }
         ensures others { KeepsOtherFiles (files self.old) (files self.new) name.now }
         ensures refused { Refuses (files self.old) (takes self.old name.now (length bytes.now)) →
             KeepsFiles (files self.old) (files self.new) }
         ensures takes { takes self.new ≡ takes self.old }
-        ensures cause { HasCauseOr (Refuses (files self.old) (takes self.old name.now (length bytes.now)))
+        ensures cause { HasCauseOr
+            (Refuses (files self.old) (takes self.old name.now (length bytes.now)))
             (faults self.old) (faults self.new) result };
 }

@@ -111,7 +111,7 @@ impl Shelf for MemoryShelf {
         ensures listed { Contains self.old.failing self.old.calls → IsErr result }
         ensures stored { OnOk result (self.new ≡ shelf_kept self.old name.now bytes.now) }
         ensures failed { OnErr result (self.new ≡ shelf_failed self.old) }
-        ensures kept { OnOk result (map.get self.new.files name.now ≡ Some bytes.now) }
+        ensures ok { OnOk result (map.get self.new.files name.now ≡ Some bytes.now) }
         ensures others { (other : List ℕ) → other ≢ name.now →
             map.get self.new.files other ≡ map.get self.old.files other }
         ensures cause { HasCause self.old.faults self.new.faults result }

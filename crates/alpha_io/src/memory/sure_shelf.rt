@@ -111,7 +111,7 @@ impl Shelf for SureShelf {
         ensures fails { IsErr result ↔ (sure_takes self.old name.now (length bytes.now) ≡ false) }
         ensures stored { OnOk result (self.new ≡ record self.old { kept = Some bytes.now }) }
         ensures refused { OnErr result (self.new ≡ self.old) }
-        ensures kept { OnOk result (sure_file self.new name.now ≡ Some bytes.now) }
+        ensures ok { OnOk result (sure_file self.new name.now ≡ Some bytes.now) }
         ensures others { (other : List ℕ) → other ≢ name.now →
             sure_file self.new other ≡ sure_file self.old other }
     {
