@@ -4,4 +4,4 @@ mod Faults
 mod Bytes
 mod Places
 mod Kept
-pub mod Laws
+pub mod LawLemmas

@@ -4,6 +4,7 @@ use Rattle.std.specs.List.{list_any, position_or_len}
 use Rattle.std.proofs.lemmas.Bool.{cond-true, cond-false, cond_both, or_parts, or_left, lt-ltb, cases_Bool}
 use Rattle.std.proofs.lemmas.Bool.Decides.{nat_tests}
 use Rattle.std.proofs.lemmas.List.Quantifiers.{position-Some}
+use Rattle.alpha_mem.specs.Intent.{Load, Store}
 use Rattle.alpha_mem.specs.Block.{Block, shape_of, shapes, holds, within, part, overwritten}
 use Rattle.alpha_mem.specs.Memory.{bytes_at, write_bytes}
 use Rattle.alpha_mem.proofs.Blocks.{list_any-map}
@@ -64,14 +65,14 @@ write_bytes-none (b ∷ m) a xs none =
     let p = or_parts (spans a (length xs) b) (list_any (spans a (length xs)) m) none in
     cond-false _ _ _ p.0 ∙ ap (λ (n : List Block). b ∷ n) (write_bytes-none m a xs p.1)
 
-pub within-position : (m : List Block) (a n : ℕ) → 0 < n → within (shapes m) false a n ≡ is_some (position (spans a n) m)
+pub within-position : (m : List Block) (a n : ℕ) → 0 < n → within (shapes m) Load a n ≡ is_some (position (spans a n) m)
 within-position m a n p =
-    within-one_block (shapes m) false a n p ∙ (list_any-map (λ s. holds s a n) shape_of m ∙ sym (is_some-position (spans a n) m))
+    within-one_block (shapes m) Load a n p ∙ (list_any-map (λ s. holds s a n) shape_of m ∙ sym (is_some-position (spans a n) m))
 
-pub within-found : (m : List Block) (a n i : ℕ) → (n ≡ 0 → ⊥) → position (spans a n) m ≡ Some i → within (shapes m) false a n ≡ true
+pub within-found : (m : List Block) (a n i : ℕ) → (n ≡ 0 → ⊥) → position (spans a n) m ≡ Some i → within (shapes m) Load a n ≡ true
 within-found m a n i some e = within-position m a n (omega arith) ∙ ap is_some e
 
-pub within-missing : (m : List Block) (a n : ℕ) → (n ≡ 0 → ⊥) → position (spans a n) m ≡ None → within (shapes m) false a n ≡ false
+pub within-missing : (m : List Block) (a n : ℕ) → (n ≡ 0 → ⊥) → position (spans a n) m ≡ None → within (shapes m) Load a n ≡ false
 within-missing m a n some e = within-position m a n (omega arith) ∙ ap is_some e
 
 pub bytes_at-empty : (m : List Block) (a : ℕ) → bytes_at m a 0 ≡ []
@@ -96,6 +97,6 @@ unchanged-missing m a xs e =
     sym (write_bytes-none m a xs (sym (is_some-position (spans a (length xs)) m) ∙ ap is_some e))
 
 -- one writable block holds the range
-pub within-writable : (m : List Block) (a n : ℕ) → (n ≡ 0 → ⊥) → within (shapes m) true a n ≡ list_any (λ b. b.writable && holds (shape_of b) a n) m
+pub within-writable : (m : List Block) (a n : ℕ) → (n ≡ 0 → ⊥) → within (shapes m) Store a n ≡ list_any (λ b. b.writable && holds (shape_of b) a n) m
 within-writable m a n some =
-    within-one_block (shapes m) true a n (omega arith) ∙ list_any-map (λ s. s.writable && holds s a n) shape_of m
+    within-one_block (shapes m) Store a n (omega arith) ∙ list_any-map (λ s. s.writable && holds s a n) shape_of m

@@ -1,6 +1,7 @@
 -- Blocks of memory, and where they lie.
-use Rattle.std.specs.Prelude.{ℕ, ◌+◌, ◌-◌, ◌==◌, Bool, not, ◌&&◌, ◌||◌, List, ◌++◌, length, map, take, drop, replicate, nat_le}
+use Rattle.std.specs.Prelude.{ℕ, ◌+◌, ◌-◌, ◌==◌, Bool, true, ◌&&◌, ◌||◌, List, ◌++◌, length, map, take, drop, replicate, nat_le}
 use Rattle.std.specs.List.{list_any}
+use Rattle.alpha_mem.specs.Intent.{Intent, Load, Store}
 
 -- bytes that stand in a row from the address `first` on
 pub record Block : Type 0 where
@@ -25,12 +26,13 @@ abbrev pub holds : Shape → ℕ → ℕ → Bool
 holds s a n = nat_le s.first a && nat_le (a + n) (s.first + s.size)
 
 -- a load may read each block, and a store write the writable ones
-abbrev pub allows : Shape → Bool → Bool
-allows s store = not store || s.writable
+abbrev pub allows : Shape → Intent → Bool
+allows s Load = true
+allows s Store = s.writable
 
--- n is 0, or one block that the load may read or the store write has all n bytes at address a
-abbrev pub within : List Shape → Bool → ℕ → ℕ → Bool
-within ss store a n = n == 0 || list_any (λ s. allows s store && holds s a n) ss
+-- n is 0, or one block that the access may go to has all n bytes at address a
+abbrev pub within : List Shape → Intent → ℕ → ℕ → Bool
+within ss intent a n = n == 0 || list_any (λ s. allows s intent && holds s a n) ss
 
 -- the block's bytes at address a
 abbrev pub part : Block → ℕ → ℕ → List ℕ

@@ -1,5 +1,5 @@
+pub mod Intent
 pub mod Block
 pub mod Size
-pub mod Number
 pub mod Fault
 pub mod Memory

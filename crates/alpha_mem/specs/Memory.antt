@@ -1,5 +1,6 @@
 -- A memory is a list of blocks: what stands at its addresses, and what a write leaves.
 use Rattle.std.specs.Prelude.{◌≡◌, ℕ, ◌+◌, ◌-◌, ◌%◌, ◌^◌, ◌<◌, ◌≤◌, false, if◌then◌else◌, List, [], ◌∷◌, length, slice_index, All, count_by}
+use Rattle.alpha_mem.specs.Intent.{Load}
 use Rattle.alpha_mem.specs.Block.{Block, Shape, shape_of, shapes, holds, within, part, overwritten}
 
 -- the n bytes at address a, which one block holds
@@ -21,7 +22,7 @@ write_bytes (b ∷ m) a xs =
 
 -- no block has one of the n addresses from a on
 abbrev pub IsFree : List Shape → ℕ → ℕ → Type 0
-IsFree ss a n = (x : ℕ) → a ≤ x → x < a + n → within ss false x 1 ≡ false
+IsFree ss a n = (x : ℕ) → a ≤ x → x < a + n → within ss Load x 1 ≡ false
 
 -- blocks begin at multiples of 16, end at or below 2 ^ 30, and share no address
 pub record IsLayout (ss : List Shape) : Type 0 where

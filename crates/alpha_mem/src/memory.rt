@@ -2,7 +2,8 @@ ghost use Rattle.std.specs.Prelude.{◌≡◌, ℕ, ◌+◌, ◌%◌, ◌^◌, �
 ghost use Rattle.std.specs.List.{list_any};
 ghost use Rattle.std.specs.Result.{result_err};
 ghost use Rattle.alpha_mem.specs.Size.{size_of};
-ghost use Rattle.alpha_mem.specs.Number.{little, low_bytes};
+ghost use Rattle.alpha_words.specs.Digits.{little, low_bytes};
+ghost use Rattle.alpha_mem.specs.Intent.{Load, Store};
 ghost use Rattle.alpha_mem.specs.Block.{shape_of, shapes, holds, within, block};
 ghost use Rattle.alpha_mem.specs.Fault.{fault_of};
 ghost use Rattle.alpha_mem.specs.Memory.{bytes_at, write_bytes, IsFree, IsMemory};
@@ -38,7 +39,7 @@ impl Memory {
     /// A memory of no regions.
     pub fn empty(alloc: Global) -> Memory
         ensures blocks { result ≡ [] }
-        ensures memory { IsMemory result }
+        ensures good { IsMemory result }
     {
         Memory {
             regions: Vec::new(alloc),
@@ -58,8 +59,8 @@ impl Memory {
         requires free { IsFree (shapes self.old) base (length bytes.now + zeroed) }
         ensures ok { OnOk result
             (self.new ≡ self.old ++ block base bytes.now zeroed writable ∷ []) }
-        ensures err { OnErr result (self.new ≡ self.old) }
-        ensures memory { IsMemory self.new }
+        ensures refused { OnErr result (self.new ≡ self.old) }
+        ensures good { IsMemory self.new }
     {
         let alloc = *self.regions.allocator();
         let region = Region::new(alloc, base, bytes, zeroed, writable)?;
@@ -71,9 +72,9 @@ impl Memory {
     /// (Architecture Handbook, section 4.2). `Align` where the address is no multiple of the size,
     /// else `Region` where a byte lies in no region.
     pub fn load(&self, addr: u64, size: Size) -> Result<u64, MemFault>
-        ensures fault { result_err result ≡ fault_of (shapes self.now) false addr (size_of size) }
-        ensures value { IfOk result (λ v. v ≡ little (bytes_at self.now addr (size_of size))) }
-        ensures memory { IsMemory self.now }
+        ensures fault { result_err result ≡ fault_of (shapes self.now) Load addr (size_of size) }
+        ensures ok { IfOk result (λ v. v ≡ little (bytes_at self.now addr (size_of size))) }
+        ensures good { IsMemory self.now }
     {
         let len = size.bytes();
         let bytes = self.bytes(addr, len);
@@ -90,12 +91,12 @@ impl Memory {
     /// (Architecture Handbook, section 4.2). `Align` where the address is no multiple of the size,
     /// else `Region` where a byte lies in no region that is writable. A fault changes nothing.
     pub fn store(&mut self, addr: u64, size: Size, value: u64) -> Result<(), MemFault>
-        ensures fault { result_err result ≡ fault_of (shapes self.old) true addr (size_of size) }
+        ensures fault { result_err result ≡ fault_of (shapes self.old) Store addr (size_of size) }
         ensures ok { OnOk result
             (self.new ≡ write_bytes self.old addr (low_bytes (size_of size) value)) }
-        ensures err { OnErr result (self.new ≡ self.old) }
+        ensures refused { OnErr result (self.new ≡ self.old) }
         ensures shapes { shapes self.new ≡ shapes self.old }
-        ensures memory { IsMemory self.new }
+        ensures good { IsMemory self.new }
     {
         self.writable(addr, size)?;
         let low = value.to_le_bytes();
@@ -105,8 +106,8 @@ impl Memory {
 
     /// What a store there would answer: `Align`, `Region` or neither.
     pub fn writable(&self, addr: u64, size: Size) -> Result<(), MemFault>
-        ensures fault { result_err result ≡ fault_of (shapes self.now) true addr (size_of size) }
-        ensures memory { IsMemory self.now }
+        ensures fault { result_err result ≡ fault_of (shapes self.now) Store addr (size_of size) }
+        ensures good { IsMemory self.now }
     {
         let len = size.bytes();
         let there = self.can_write(addr, len);
@@ -121,9 +122,9 @@ impl Memory {
 
     /// The bytes of a range: `None` where it has bytes and doesn't lie within one region.
     pub fn bytes(&self, addr: u64, len: u64) -> Option<&[u8]>
-        ensures there { IsSome result ↔ IsTrue (within (shapes self.now) false addr len) }
-        ensures value { IfSome result (λ bytes. bytes.now ≡ bytes_at self.now addr len) }
-        ensures memory { IsMemory self.now }
+        ensures none { IsSome result ↔ IsTrue (within (shapes self.now) Load addr len) }
+        ensures found { IfSome result (λ bytes. bytes.now ≡ bytes_at self.now addr len) }
+        ensures good { IsMemory self.now }
     {
         let regions = self.regions.as_slice();
         if len == 0 {
@@ -136,18 +137,18 @@ impl Memory {
 
     /// Whether the range has no bytes, or lies within one region that is writable.
     pub fn can_write(&self, addr: u64, len: u64) -> bool
-        ensures value { IsTrue result ↔ IsTrue (within (shapes self.now) true addr len) }
-        ensures memory { IsMemory self.now }
+        ensures value { IsTrue result ↔ IsTrue (within (shapes self.now) Store addr len) }
+        ensures good { IsMemory self.now }
     {
         len == 0 || any_writable(self.regions.as_slice(), addr, len)
     }
 
     /// Writes the bytes at the address. All other bytes stay. `can_write` says where it may.
     pub fn write(&mut self, addr: u64, bytes: &[u8])
-        requires { IsTrue (within (shapes self.old) true addr (length bytes.now)) }
+        requires { IsTrue (within (shapes self.old) Store addr (length bytes.now)) }
         ensures value { self.new ≡ write_bytes self.old addr bytes.now }
         ensures shapes { shapes self.new ≡ shapes self.old }
-        ensures memory { IsMemory self.new }
+        ensures good { IsMemory self.new }
     {
         if let Some(i) = index_of(self.regions.as_slice(), addr, bytes.len() as u64) {
             let region = &mut self.regions[i];

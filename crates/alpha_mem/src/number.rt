@@ -1,5 +1,5 @@
 ghost use Rattle.std.specs.Prelude.{◌≡◌, ◌≤◌, length};
-ghost use Rattle.alpha_mem.specs.Number.{little};
+ghost use Rattle.alpha_words.specs.Digits.{little};
 
 /// The number whose bytes these are, the lowest first.
 pub fn number_of(bytes: &[u8]) -> u64

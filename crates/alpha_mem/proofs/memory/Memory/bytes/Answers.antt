@@ -4,13 +4,13 @@ use Rattle.alpha_mem.specs.Memory.{bytes_at}
 use Rattle.alpha_mem.proofs.Places.{spans, bytes_at-empty, spans-at_position, part-at_position, within-found, within-missing}
 use Rattle.alpha_mem.proofs.memory.Memory.bytes.Goals as goal
 
-pub returns-then-len-eq0-clause-value : goal.returns-then-len-eq0-clause-value
-returns-then-len-eq0-clause-value c =
+pub returns-then-len-eq0-clause-found : goal.returns-then-len-eq0-clause-found
+returns-then-len-eq0-clause-found c =
     let m = c.args.self.now in
     sym (ap (bytes_at m c.args.addr) c.if-len-eq0.true ∙ bytes_at-empty m c.args.addr)
 
-pub returns-in_err-i-clause-there : goal.returns-in_err-i-clause-there
-returns-in_err-i-clause-there c =
+pub returns-in_err-i-clause-none : goal.returns-in_err-i-clause-none
+returns-in_err-i-clause-none c =
     let m = c.args.self.now in
     let same : c.as_slice-regions.result.now ≡ m = c.as_slice-regions.ensures.value ∙ c.self.view_is in
     let gone : position (spans c.args.addr c.args.len) m ≡ None = ap (position (spans c.args.addr c.args.len)) (sym same) ∙ sym c.in_err-i.ensures in
@@ -19,14 +19,14 @@ returns-in_err-i-clause-there c =
 pub part-requires : goal.part-requires
 part-requires c = spans-at_position _ _ _ _ _ (sym c.in_ok-i.ensures) c.index-regions-i.is
 
-pub returns-clause-there : goal.returns-clause-there
-returns-clause-there c =
+pub returns-clause-none : goal.returns-clause-none
+returns-clause-none c =
     let m = c.args.self.now in
     let same : c.as_slice-regions.result.now ≡ m = c.as_slice-regions.ensures.value ∙ c.self.view_is in
     let found : position (spans c.args.addr c.args.len) m ≡ Some c.in_ok-i.i = ap (position (spans c.args.addr c.args.len)) (sym same) ∙ sym c.in_ok-i.ensures in
     (λ h. within-found m c.args.addr c.args.len c.in_ok-i.i c.if-len-eq0.false found, λ h. refl)
 
-pub returns-clause-value : goal.returns-clause-value
-returns-clause-value c =
+pub returns-clause-found : goal.returns-clause-found
+returns-clause-found c =
     let same : c.as_slice-regions.result.now ≡ c.args.self.now = c.as_slice-regions.ensures.value ∙ c.self.view_is in
     c.part.ensures ∙ (part-at_position _ _ _ _ _ (sym c.in_ok-i.ensures) c.index-regions-i.is ∙ ap (λ m. bytes_at m c.args.addr c.args.len) same)

@@ -6,5 +6,5 @@ use Rattle.alpha_mem.proofs.memory.Memory.empty.Goals as goal
 pub invariant_of-result : goal.invariant_of-result
 invariant_of-result c = subst IsMemory (sym c.new.ensures.items) IsMemory-empty
 
-pub returns-clause-memory : goal.returns-clause-memory
-returns-clause-memory c = subst IsMemory (sym c.new.ensures.items) IsMemory-empty
+pub returns-clause-good : goal.returns-clause-good
+returns-clause-good c = subst IsMemory (sym c.new.ensures.items) IsMemory-empty

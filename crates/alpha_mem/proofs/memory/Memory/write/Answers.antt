@@ -29,8 +29,8 @@ pub returns-in-Some-clause-shapes : goal.returns-in-Some-clause-shapes
 returns-in-Some-clause-shapes c =
     ap shapes (after c) ∙ (shapes-write_bytes _ _ _ ∙ ap shapes c.self.view_is)
 
-pub returns-in-Some-clause-memory : goal.returns-in-Some-clause-memory
-returns-in-Some-clause-memory c = invariant_of-self c
+pub returns-in-Some-clause-good : goal.returns-in-Some-clause-good
+returns-in-Some-clause-good c = invariant_of-self c
 
 pub returns-in_default-clause-value : goal.returns-in_default-clause-value
 returns-in_default-clause-value c =

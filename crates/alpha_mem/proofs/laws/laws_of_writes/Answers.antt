@@ -1,11 +1,11 @@
-use Rattle.alpha_mem.proofs.Laws.{shapes-write_bytes, IsMemory-write_bytes, byte_at-write_bytes_outside, byte_at-write_bytes_inside, write_bytes-write_bytes, bytes_at-write_bytes}
-use Rattle.alpha_mem.proofs.law.laws_of_writes.Goals as goal
+use Rattle.alpha_mem.proofs.LawLemmas.{shapes-write_bytes, IsMemory-write_bytes, byte_at-write_bytes_outside, byte_at-write_bytes_inside, write_bytes-write_bytes, bytes_at-write_bytes}
+use Rattle.alpha_mem.proofs.laws.laws_of_writes.Goals as goal
 
 pub returns-clause-shapes : goal.returns-clause-shapes
 returns-clause-shapes c = shapes-write_bytes
 
-pub returns-clause-memory : goal.returns-clause-memory
-returns-clause-memory c = IsMemory-write_bytes
+pub returns-clause-good : goal.returns-clause-good
+returns-clause-good c = IsMemory-write_bytes
 
 pub returns-clause-outside : goal.returns-clause-outside
 returns-clause-outside c = byte_at-write_bytes_outside
