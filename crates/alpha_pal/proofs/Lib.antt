@@ -1,7 +1,6 @@
 pub mod Frames
 pub mod Registers
-pub mod Ranges
 pub mod Takings
 pub mod Serving
 pub mod Calling
-pub mod Laws
+pub mod LawLemmas

@@ -4,6 +4,7 @@ use Rattle.std.proofs.lemmas.Bool.{ne_eqb, false_from_ne_true, cases_lt}
 use Rattle.std.proofs.lemmas.List.{take_at, drop_at, take_all, drop_all}
 use Rattle.std.specs.Io.KnownBytes.{Appends, Consumes}
 use Rattle.std.proofs.KnownBytes.{Appends-nil}
+use Rattle.alpha_mem.specs.Intent.{Load, Store}
 use Rattle.alpha_mem.specs.Block.{Block, shapes, within}
 use Rattle.alpha_mem.specs.Memory.{bytes_at, write_bytes}
 use Rattle.alpha_pal.specs.declared.serve.Request.{Request}
@@ -82,17 +83,17 @@ Serves-none r mem left written n1 n3 n4 =
 read-descriptor : (r : Request) (mem : List Block) (o : Outside) → r.a0 ≢ 0 → read r mem o ≡ served (Error 9) mem o
 read-descriptor r mem o bad = rw (ne_eqb r.a0 0 bad) refl
 
-read-range : (r : Request) (mem : List Block) (o : Outside) → r.a0 ≡ 0 → within (shapes mem) true r.a1 r.a2 ≡ false → read r mem o ≡ served (Error 14) mem o
+read-range : (r : Request) (mem : List Block) (o : Outside) → r.a0 ≡ 0 → within (shapes mem) Store r.a1 r.a2 ≡ false → read r mem o ≡ served (Error 14) mem o
 read-range r mem o good bad = rw (good, bad) refl
 
-read-good : (r : Request) (mem : List Block) (o : Outside) → r.a0 ≡ 0 → within (shapes mem) true r.a1 r.a2 ≡ true → read r mem o ≡ served (Value (length (take r.a2 o.input))) (write_bytes mem r.a1 (take r.a2 o.input)) (outside o.unique (drop r.a2 o.input) o.output)
+read-good : (r : Request) (mem : List Block) (o : Outside) → r.a0 ≡ 0 → within (shapes mem) Store r.a1 r.a2 ≡ true → read r mem o ≡ served (Value (length (take r.a2 o.input))) (write_bytes mem r.a1 (take r.a2 o.input)) (outside o.unique (drop r.a2 o.input) o.output)
 read-good r mem o good range = rw (good, range) refl
 
 pub read_bad_descriptor : (r : Request) (mem : List Block) (left written : Option (List ℕ)) → r.number ≡ 3 → r.a0 ≢ 0 → Serves r (Error 9) mem mem left left written written
 read_bad_descriptor r mem left written number bad =
     Serves-same r (Error 9) mem left written (λ o. serve-read r mem o number ∙ read-descriptor r mem o bad)
 
-pub read_bad_range : (r : Request) (mem : List Block) (left written : Option (List ℕ)) → r.number ≡ 3 → r.a0 ≡ 0 → within (shapes mem) true r.a1 r.a2 ≡ false → Serves r (Error 14) mem mem left left written written
+pub read_bad_range : (r : Request) (mem : List Block) (left written : Option (List ℕ)) → r.number ≡ 3 → r.a0 ≡ 0 → within (shapes mem) Store r.a1 r.a2 ≡ false → Serves r (Error 14) mem mem left left written written
 read_bad_range r mem left written number good bad =
     Serves-same r (Error 14) mem left written (λ o. serve-read r mem o number ∙ read-range r mem o good bad)
 
@@ -105,7 +106,7 @@ drop-taken : (taken rest : List ℕ) (n : ℕ) → length taken ≤ n → (lengt
 drop-taken taken rest n fits ended =
     ⊎_elim (λ (p : length taken < n). let whole : taken ++ rest ≡ taken = ap (λ l. taken ++ l) (ended p) ∙ append-nil taken in ap (drop n) whole ∙ (drop_all n taken fits ∙ sym (ended p))) (λ (p : n ≤ length taken). drop_at taken rest n (omega arith)) (cases_lt (length taken) n)
 
-pub read_done : (r : Request) (mem mem' : List Block) (left left' written : Option (List ℕ)) (n : ℕ) → r.number ≡ 3 → r.a0 ≡ 0 → IsTrue (within (shapes mem) true r.a1 r.a2) → HasTaken mem mem' r.a1 n left left' → n ≤ r.a2 → (n < r.a2 → Ends left left') → Serves r (Value n) mem mem' left left' written written
+pub read_done : (r : Request) (mem mem' : List Block) (left left' written : Option (List ℕ)) (n : ℕ) → r.number ≡ 3 → r.a0 ≡ 0 → IsTrue (within (shapes mem) Store r.a1 r.a2) → HasTaken mem mem' r.a1 n left left' → n ≤ r.a2 → (n < r.a2 → Ends left left') → Serves r (Value n) mem mem' left left' written written
 read_done r mem mem' left left' written n number good range h fits ended =
     let rest = rest_of left left' in
     let ends : length h.taken < r.a2 → rest ≡ [] = λ p. rest_of-ended left left' (ended (omega (arith, h.count))) in
@@ -129,7 +130,7 @@ read_done r mem mem' left left' written n number good range h fits ended =
           ∙ ap (λ l. served (Value n) mem' (outside unique rest l)) (sym (append-nil output)))))));
     }
 
-pub read_failed : (r : Request) (mem mem' : List Block) (left left' : Option (List ℕ)) → r.number ≡ 3 → r.a0 ≡ 0 → IsTrue (within (shapes mem) true r.a1 r.a2) → TakesLess mem mem' r.a1 r.a2 left left' → TakesPart r mem mem' left left'
+pub read_failed : (r : Request) (mem mem' : List Block) (left left' : Option (List ℕ)) → r.number ≡ 3 → r.a0 ≡ 0 → IsTrue (within (shapes mem) Store r.a1 r.a2) → TakesLess mem mem' r.a1 r.a2 left left' → TakesPart r mem mem' left left'
 read_failed r mem mem' left left' number good range h = record {
   number = number;
   descriptor = good;
@@ -146,21 +147,21 @@ read_failed r mem mem' left left' number good range h = record {
 write-descriptor : (r : Request) (mem : List Block) (o : Outside) → r.a0 ≢ 1 → write r mem o ≡ served (Error 9) mem o
 write-descriptor r mem o bad = rw (ne_eqb r.a0 1 bad) refl
 
-write-range : (r : Request) (mem : List Block) (o : Outside) → r.a0 ≡ 1 → within (shapes mem) false r.a1 r.a2 ≡ false → write r mem o ≡ served (Error 14) mem o
+write-range : (r : Request) (mem : List Block) (o : Outside) → r.a0 ≡ 1 → within (shapes mem) Load r.a1 r.a2 ≡ false → write r mem o ≡ served (Error 14) mem o
 write-range r mem o good bad = rw (good, bad) refl
 
-write-good : (r : Request) (mem : List Block) (o : Outside) → r.a0 ≡ 1 → within (shapes mem) false r.a1 r.a2 ≡ true → write r mem o ≡ served (Value r.a2) mem (outside o.unique o.input (o.output ++ bytes_at mem r.a1 r.a2))
+write-good : (r : Request) (mem : List Block) (o : Outside) → r.a0 ≡ 1 → within (shapes mem) Load r.a1 r.a2 ≡ true → write r mem o ≡ served (Value r.a2) mem (outside o.unique o.input (o.output ++ bytes_at mem r.a1 r.a2))
 write-good r mem o good range = rw (good, range) refl
 
 pub write_bad_descriptor : (r : Request) (mem : List Block) (left written : Option (List ℕ)) → r.number ≡ 4 → r.a0 ≢ 1 → Serves r (Error 9) mem mem left left written written
 write_bad_descriptor r mem left written number bad =
     Serves-same r (Error 9) mem left written (λ o. serve-write r mem o number ∙ write-descriptor r mem o bad)
 
-pub write_bad_range : (r : Request) (mem : List Block) (left written : Option (List ℕ)) → r.number ≡ 4 → r.a0 ≡ 1 → within (shapes mem) false r.a1 r.a2 ≡ false → Serves r (Error 14) mem mem left left written written
+pub write_bad_range : (r : Request) (mem : List Block) (left written : Option (List ℕ)) → r.number ≡ 4 → r.a0 ≡ 1 → within (shapes mem) Load r.a1 r.a2 ≡ false → Serves r (Error 14) mem mem left left written written
 write_bad_range r mem left written number good bad =
     Serves-same r (Error 14) mem left written (λ o. serve-write r mem o number ∙ write-range r mem o good bad)
 
-pub write_done : (r : Request) (mem : List Block) (left written written' : Option (List ℕ)) (bytes : List ℕ) → r.number ≡ 4 → r.a0 ≡ 1 → IsTrue (within (shapes mem) false r.a1 r.a2) → bytes ≡ bytes_at mem r.a1 r.a2 → Appends written written' bytes → Serves r (Value r.a2) mem mem left left written written'
+pub write_done : (r : Request) (mem : List Block) (left written written' : Option (List ℕ)) (bytes : List ℕ) → r.number ≡ 4 → r.a0 ≡ 1 → IsTrue (within (shapes mem) Load r.a1 r.a2) → bytes ≡ bytes_at mem r.a1 r.a2 → Appends written written' bytes → Serves r (Value r.a2) mem mem left left written written'
 write_done r mem left written written' bytes number good range these wrote = record {
   taken = [];
   rest = rest_of left left;

@@ -1,27 +1,28 @@
 -- Input that was taken into memory, piece by piece.
-use Rattle.std.proofs.Common.{◌≡◌, ℕ, ◌+◌, ◌<◌, ◌≤◌, List, [], ◌++◌, length, Option, IsTrue, true, refl, sym, ap, subst, ◌∙◌, inl, inr, ⊎_elim, arith, length-append}
+use Rattle.std.proofs.Common.{◌≡◌, ℕ, ◌+◌, ◌<◌, ◌≤◌, List, [], ◌++◌, length, Option, IsTrue, refl, sym, ap, subst, ◌∙◌, inl, inr, ⊎_elim, arith, length-append}
 use Rattle.std.proofs.lemmas.Bool.{cases_lt}
 use Rattle.std.proofs.KnownBytes.{Consumes-nil, Consumes-trans}
+use Rattle.alpha_mem.specs.Intent.{Store}
 use Rattle.alpha_mem.specs.Block.{Block, shapes, within}
 use Rattle.alpha_mem.specs.Memory.{write_bytes, IsLayout}
-use Rattle.alpha_mem.proofs.Laws.{shapes-write_bytes, same_memory, byte_at-write_bytes_outside, write_bytes-write_bytes, within-readable}
+use Rattle.alpha_mem.proofs.LawLemmas.{shapes-write_bytes, same_memory, byte_at-write_bytes_outside, write_bytes-write_bytes, within-readable}
 use Rattle.alpha_pal.specs.Taken.{HasTaken}
-use Rattle.alpha_pal.proofs.Ranges.{within-part}
+use Rattle.alpha_mem.proofs.LawLemmas.{within-part}
 
 -- a write of no bytes changes nothing
 pub write_nothing : (m : List Block) (a : ℕ) → IsLayout (shapes m) → write_bytes m a [] ≡ m
 write_nothing m a layout =
-    let kept = shapes-write_bytes m a [] in
-    same_memory (write_bytes m a []) m kept (subst IsLayout (sym kept) layout) (λ x. byte_at-write_bytes_outside m a [] x (⊎_elim (λ (p : x < a). inl p) (λ (p : a ≤ x). inr (omega arith)) (cases_lt x a)))
+    let lies = shapes-write_bytes m a [] in
+    same_memory (write_bytes m a []) m lies (subst IsLayout (sym lies) layout) (λ x. byte_at-write_bytes_outside m a [] x (⊎_elim (λ (p : x < a). inl p) (λ (p : a ≤ x). inr (omega arith)) (cases_lt x a)))
 
 pub HasTaken-none : (m : List Block) (a : ℕ) (left : Option (List ℕ)) → IsLayout (shapes m) → HasTaken m m a 0 left left
 HasTaken-none m a left layout = record { taken = []; count = refl; there = sym (write_nothing m a layout); consumed = Consumes-nil left }
 
 -- a piece more
-pub HasTaken-more : (m m1 m2 : List Block) (a n k t size : ℕ) (l0 l1 l2 : Option (List ℕ)) → IsLayout (shapes m) → IsTrue (within (shapes m) true a size) → t ≡ n + k → t ≤ size → HasTaken m m1 a n l0 l1 → HasTaken m1 m2 (a + n) k l1 l2 → HasTaken m m2 a t l0 l2
+pub HasTaken-more : (m m1 m2 : List Block) (a n k t size : ℕ) (l0 l1 l2 : Option (List ℕ)) → IsLayout (shapes m) → IsTrue (within (shapes m) Store a size) → t ≡ n + k → t ≤ size → HasTaken m m1 a n l0 l1 → HasTaken m1 m2 (a + n) k l1 l2 → HasTaken m m2 a t l0 l2
 HasTaken-more m m1 m2 a n k t size l0 l1 l2 layout range total fits first more =
     let sized = length-append first.taken more.taken in
-    let there : IsTrue (within (shapes m) true a (length (first.taken ++ more.taken))) = within-part (shapes m) true a size a (length (first.taken ++ more.taken)) range (omega arith) (omega (arith, first.count, more.count)) in
+    let there : IsTrue (within (shapes m) Store a (length (first.taken ++ more.taken))) = within-part (shapes m) Store a size a (length (first.taken ++ more.taken)) range (omega arith) (omega (arith, first.count, more.count)) in
     record {
       taken = first.taken ++ more.taken;
       count = omega (arith, first.count, more.count);

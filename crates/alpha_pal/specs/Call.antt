@@ -1,8 +1,9 @@
 -- What a PAL call does: the calls' rules as functions of registers, memory and the world outside.
-use Rattle.std.specs.Prelude.{ℕ, ◌==◌, not, true, false, if◌then◌else◌, List, ◌++◌, length, take, drop}
+use Rattle.std.specs.Prelude.{ℕ, ◌==◌, not, if◌then◌else◌, List, ◌++◌, length, take, drop}
 use Rattle.alpha_words.specs.declared.PalCall.{PalCall}
 use Rattle.alpha_words.specs.declared.PalCall.TheVariants.{Bpt, Bugchk, Callsys, Imb, Rdunique, Wrunique, Gentrap}
 use Rattle.alpha_words.specs.Regs.{reg, put}
+use Rattle.alpha_mem.specs.Intent.{Load, Store}
 use Rattle.alpha_mem.specs.Block.{Block, shapes, within}
 use Rattle.alpha_mem.specs.Memory.{bytes_at, write_bytes}
 use Rattle.alpha_pal.specs.declared.serve.Request.{Request}
@@ -18,6 +19,33 @@ pub record Outside : Type 0 where
 abbrev pub outside : ℕ → List ℕ → List ℕ → Outside
 outside unique input output = record { unique = unique; input = input; output = output }
 
+-- the system calls, by R0
+abbrev pub exit_call : ℕ
+exit_call = 1
+
+abbrev pub read_call : ℕ
+read_call = 3
+
+abbrev pub write_call : ℕ
+write_call = 4
+
+-- the descriptors that a read and a write take
+abbrev pub input_descriptor : ℕ
+input_descriptor = 0
+
+abbrev pub output_descriptor : ℕ
+output_descriptor = 1
+
+-- the errors
+abbrev pub no_such_call : ℕ
+no_such_call = 78
+
+abbrev pub bad_descriptor : ℕ
+bad_descriptor = 9
+
+abbrev pub bad_range : ℕ
+bad_range = 14
+
 -- what a system call answers, and what it leaves of memory and the world outside
 pub record Served : Type 0 where
   pub answer : Answer
@@ -30,8 +58,8 @@ served answer mem after = record { answer = answer; mem = mem; after = after }
 -- read takes bytes of the input to memory until there are as many as asked for, or the input has ended
 abbrev pub read : Request → List Block → Outside → Served
 read r mem o =
-    if not (r.a0 == 0) then served (Error 9) mem o else
-    if not (within (shapes mem) true r.a1 r.a2) then served (Error 14) mem o else
+    if not (r.a0 == input_descriptor) then served (Error bad_descriptor) mem o else
+    if not (within (shapes mem) Store r.a1 r.a2) then served (Error bad_range) mem o else
     served (Value (length (take r.a2 o.input)))
     (write_bytes mem r.a1 (take r.a2 o.input))
     (outside o.unique (drop r.a2 o.input) o.output)
@@ -39,17 +67,17 @@ read r mem o =
 -- write puts bytes of memory to the output
 abbrev pub write : Request → List Block → Outside → Served
 write r mem o =
-    if not (r.a0 == 1) then served (Error 9) mem o else
-    if not (within (shapes mem) false r.a1 r.a2) then served (Error 14) mem o else
+    if not (r.a0 == output_descriptor) then served (Error bad_descriptor) mem o else
+    if not (within (shapes mem) Load r.a1 r.a2) then served (Error bad_range) mem o else
     served (Value r.a2) mem (outside o.unique o.input (o.output ++ bytes_at mem r.a1 r.a2))
 
--- exit is 1, read is 3, write is 4, and no other number is a system call
+-- a number that is none of the three is no system call
 unfoldable pub serve : Request → List Block → Outside → Served
 serve r mem o =
-    if r.number == 1 then served (Exit r.a0) mem o else
-    if r.number == 3 then read r mem o else
-    if r.number == 4 then write r mem o else
-    served (Error 78) mem o
+    if r.number == exit_call then served (Exit r.a0) mem o else
+    if r.number == read_call then read r mem o else
+    if r.number == write_call then write r mem o else
+    served (Error no_such_call) mem o
 
 -- the system call that the registers ask for
 abbrev pub request_of : List ℕ → Request

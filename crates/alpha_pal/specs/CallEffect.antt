@@ -1,11 +1,12 @@
 -- What the code of a call did, against the definition of the call, where devices may tell nothing.
-use Rattle.std.specs.Prelude.{◌≡◌, ⊤, ℕ, ◌<◌, ◌≤◌, true, false, IsTrue, List, ◌++◌, length, Option, Some, None, Result, Ok, Err}
+use Rattle.std.specs.Prelude.{◌≡◌, ⊤, ℕ, ◌<◌, ◌≤◌, true, IsTrue, List, ◌++◌, length, Option, Some, None, Result, Ok, Err}
 use Rattle.std.specs.Io.KnownBytes.{Appends}
 use Rattle.alpha_words.specs.declared.PalCall.{PalCall}
 use Rattle.alpha_words.specs.declared.PalCall.TheVariants.{Callsys}
 use Rattle.alpha_words.specs.Regs.{reg}
 use Rattle.alpha_io.specs.Faults.{Rose}
 use Rattle.alpha_io.specs.Written.{WritesPrefix}
+use Rattle.alpha_mem.specs.Intent.{Load, Store}
 use Rattle.alpha_mem.specs.Block.{Block, shapes, within}
 use Rattle.alpha_mem.specs.Memory.{bytes_at, write_bytes}
 use Rattle.alpha_pal.specs.declared.serve.Request.{Request}
@@ -16,7 +17,7 @@ use Rattle.alpha_pal.specs.declared.serve.Answer.TheVariants.{Value, Error, Exit
 use Rattle.alpha_pal.specs.declared.pal_end.PalEnd.{PalEnd}
 use Rattle.alpha_pal.specs.declared.pal_end.PalEnd.TheVariants.{Goes, Exit, Signal, InputFault, SinkFault}
 use Rattle.alpha_pal.specs.Kernel.{KernelState, call_frame}
-use Rattle.alpha_pal.specs.Call.{Outside, outside, served, serve, request_of, answered, goes, exits, signals, call}
+use Rattle.alpha_pal.specs.Call.{Outside, outside, read_call, write_call, input_descriptor, output_descriptor, served, serve, request_of, answered, goes, exits, signals, call}
 
 -- where the input was told, it was `taken` and then `rest`, and `rest` is left
 abbrev pub Takes : Option (List ℕ) → Option (List ℕ) → List ℕ → List ℕ → Type 0
@@ -38,9 +39,9 @@ pub record Serves
 
 -- a good read whose source failed: the bytes taken so far are in memory, and fewer than were asked for
 pub record TakesPart (r : Request) (mem mem' : List Block) (left left' : Option (List ℕ)) : Type 0 where
-  pub number : r.number ≡ 3
-  pub descriptor : r.a0 ≡ 0
-  pub range : IsTrue (within (shapes mem) true r.a1 r.a2)
+  pub number : r.number ≡ read_call
+  pub descriptor : r.a0 ≡ input_descriptor
+  pub range : IsTrue (within (shapes mem) Store r.a1 r.a2)
   pub taken : List ℕ
   pub rest : List ℕ
   pub took : Takes left left' taken rest
@@ -49,9 +50,9 @@ pub record TakesPart (r : Request) (mem mem' : List Block) (left left' : Option 
 
 -- a good write whose sink failed: a prefix of the bytes was put
 pub record PutsPart (r : Request) (mem : List Block) (written written' : Option (List ℕ)) : Type 0 where
-  pub number : r.number ≡ 4
-  pub descriptor : r.a0 ≡ 1
-  pub range : IsTrue (within (shapes mem) false r.a1 r.a2)
+  pub number : r.number ≡ write_call
+  pub descriptor : r.a0 ≡ output_descriptor
+  pub range : IsTrue (within (shapes mem) Load r.a1 r.a2)
   pub prefix : WritesPrefix written written' (bytes_at mem r.a1 r.a2)
 
 -- a system call's effect on memory, input and output, by its result
@@ -140,7 +141,7 @@ SinkCause (Signal code) before now = now ≡ before
 SinkCause InputFault before now = now ≡ before
 SinkCause SinkFault before now = (before ≤ now) × Rose before now
 
--- the kernel after a call: a system call leaves its frame and the stack pointer that it kept
+-- the kernel after a call: a system call leaves its frame and the stack pointer that it saved
 abbrev pub kernel_after : PalCall → ℕ → List ℕ → KernelState → KernelState
 kernel_after Callsys next regs k =
     record { user = true; frame = call_frame next regs; user_stack = reg regs 30 }

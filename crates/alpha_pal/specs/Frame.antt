@@ -1,32 +1,20 @@
 -- A trap frame: 48 bytes that hold six quadwords.
-use Rattle.std.specs.Prelude.{ℕ, List, ◌++◌, drop}
-use Rattle.byteorder.specs.Endian.{little_bytes, little_number}
+use Rattle.std.specs.Prelude.{ℕ, List, ◌++◌}
+use Rattle.alpha_words.specs.Digits.{low_bytes, little_at}
 use Rattle.alpha_pal.specs.declared.frame.Frame.{Frame}
 
--- the eight bytes of a number, the lowest first
-unfoldable pub quadword : ℕ → List ℕ
-quadword x = little_bytes 8 x
+-- the bytes of a frame, in this order
+unfoldable pub bytes_of : Frame → List ℕ
+bytes_of f =
+    low_bytes 8 f.ps ++ low_bytes 8 f.pc ++ low_bytes 8 f.gp ++ low_bytes 8 f.r16 ++ low_bytes 8 f.r17 ++ low_bytes 8 f.r18
 
--- the number in the eight bytes from a place on, the lowest first
-unfoldable pub quadword_at : ℕ → List ℕ → ℕ
-quadword_at at bytes = little_number 8 (drop at bytes)
-
--- the bytes of a frame: processor status, PC, global pointer and three registers, in this order
-unfoldable pub frame : ℕ → ℕ → ℕ → ℕ → ℕ → ℕ → List ℕ
-frame ps pc gp a b c =
-    quadword ps ++ quadword pc ++ quadword gp ++ quadword a ++ quadword b ++ quadword c
-
--- the bytes of these six numbers
-abbrev pub bytes_of : Frame → List ℕ
-bytes_of f = frame f.ps f.pc f.gp f.a f.b f.c
-
--- the six numbers that these bytes hold
+-- the frame that these bytes hold
 unfoldable pub frame_of : List ℕ → Frame
 frame_of bytes = record {
-  ps = quadword_at 0 bytes;
-  pc = quadword_at 8 bytes;
-  gp = quadword_at 16 bytes;
-  a = quadword_at 24 bytes;
-  b = quadword_at 32 bytes;
-  c = quadword_at 40 bytes;
+  ps = little_at 8 0 bytes;
+  pc = little_at 8 8 bytes;
+  gp = little_at 8 16 bytes;
+  r16 = little_at 8 24 bytes;
+  r17 = little_at 8 32 bytes;
+  r18 = little_at 8 40 bytes;
 }

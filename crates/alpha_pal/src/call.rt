@@ -77,9 +77,9 @@ impl Kernel {
             ps: USER_STATUS,
             pc: next,
             gp: regs.get(reg(GP)),
-            a: 0,
-            b: 0,
-            c: 0,
+            r16: 0,
+            r17: 0,
+            r18: 0,
         };
         self.enter(regs, frame);
         let served = request.serve(mem, input, out);

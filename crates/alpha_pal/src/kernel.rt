@@ -1,7 +1,7 @@
 ghost use Rattle.std.specs.Prelude.{◌≡◌, ℕ, true, false, IsTrue, IfOk, ◌==◌, ◌||◌, if◌then◌else◌, length, drop};
 ghost use Rattle.alpha_words.specs.Regs.{reg, put, IsFile};
 ghost use Rattle.alpha_pal.specs.Frame.{bytes_of, frame_of};
-ghost use Rattle.alpha_pal.specs.Kernel.{user_regs, arith_frame, entered, entry_regs, arith_regs, is_kept, keeping, new_kernel};
+ghost use Rattle.alpha_pal.specs.Kernel.{user_regs, arith_frame, entered, entry_regs, arith_regs, is_saved, saving, new_kernel};
 
 use crate::frame::{Frame, SIZE};
 use crate::named::{A0, A1, A2, GP, SP, reg};
@@ -30,18 +30,19 @@ pub struct Kernel {
 impl Model for Kernel {
     ghost use Rattle.std.specs.Prelude.{◌≡◌, drop, length};
     ghost use Rattle.alpha_pal.specs.Frame.{bytes_of, frame_of};
+    ghost use Rattle.alpha_pal.specs.declared.kernel.TheConstants.{FRAME_AT, STACK};
     ghost use Rattle.alpha_pal.specs.Kernel.{KernelState};
 
     ghost Value = { KernelState };
 
     ghost view = { λ k. record {
       user = k.user;
-      frame = frame_of (drop 4048 k.stack.items);
+      frame = frame_of (drop FRAME_AT k.stack.items);
       user_stack = k.user_stack;
     } };
 
-    ghost invariant = { λ k. (length k.stack.items ≡ 4096)
-        × (drop 4048 k.stack.items ≡ bytes_of (frame_of (drop 4048 k.stack.items))) };
+    ghost invariant = { λ k. (length k.stack.items ≡ STACK)
+        × (drop FRAME_AT k.stack.items ≡ bytes_of (frame_of (drop FRAME_AT k.stack.items))) };
 }
 
 impl Kernel {
@@ -72,7 +73,7 @@ impl Kernel {
     }
 
     /// Enters the kernel for an arithmetic trap (Reference Manual, OSF/1 entry entArith): the frame
-    /// keeps the user's status, the PC, GP and R16 to R18; R16 becomes the summary {IOV}, R17 the
+    /// saves the user's status, the PC, GP and R16 to R18; R16 becomes the summary {IOV}, R17 the
     /// set of registers that the trap may have spoilt, R29 zero and R30 the frame's place.
     pub fn enter_arith(&mut self, regs: &mut RegFile, pc: u64, mask: RegSet)
         requires { IsTrue self.old.user }
@@ -84,9 +85,9 @@ impl Kernel {
             ps: USER_STATUS,
             pc,
             gp: regs.get(reg(GP)),
-            a: regs.get(reg(A0)),
-            b: regs.get(reg(A1)),
-            c: regs.get(reg(A2)),
+            r16: regs.get(reg(A0)),
+            r17: regs.get(reg(A1)),
+            r18: regs.get(reg(A2)),
         };
         self.enter(regs, frame);
         regs.set(reg(A0), Summary::IOV.bits());
@@ -111,12 +112,12 @@ impl Kernel {
         requires { self.now.user ≡ false }
         ensures { result ≡ reg (user_regs self.now regs.now) r }
     {
-        let frame = self.kept();
+        let frame = self.saved();
         let live = regs.get(r);
         match r.number() {
-            A0 => frame.a,
-            A1 => frame.b,
-            A2 => frame.c,
+            A0 => frame.r16,
+            A1 => frame.r17,
+            A2 => frame.r18,
             GP => frame.gp,
             SP => self.user_stack,
             _ => live,
@@ -127,15 +128,24 @@ impl Kernel {
     pub fn set_user_reg(&mut self, regs: &mut RegFile, r: Reg, value: u64)
         requires { self.old.user ≡ false }
         ensures user { user_regs self.new regs.new ≡ put (user_regs self.old regs.old) r value }
-        ensures state { self.new ≡ keeping self.old r value }
-        ensures live { regs.new ≡ (if is_kept r then regs.old else put regs.old r value) }
+        ensures state { self.new ≡ saving self.old r value }
+        ensures live { regs.new ≡ (if is_saved r then regs.old else put regs.old r value) }
     {
-        let frame = self.kept();
+        let frame = self.saved();
         match r.number() {
-            A0 => self.keep(Frame { a: value, ..frame }),
-            A1 => self.keep(Frame { b: value, ..frame }),
-            A2 => self.keep(Frame { c: value, ..frame }),
-            GP => self.keep(Frame { gp: value, ..frame }),
+            A0 => self.save(Frame {
+                r16: value,
+                ..frame
+            }),
+            A1 => self.save(Frame {
+                r17: value,
+                ..frame
+            }),
+            A2 => self.save(Frame {
+                r18: value,
+                ..frame
+            }),
+            GP => self.save(Frame { gp: value, ..frame }),
             SP => self.user_stack = value,
             _ => regs.set(r, value),
         }
@@ -146,7 +156,7 @@ impl Kernel {
         requires { self.now.user ≡ false }
         ensures { result ≡ self.now.frame.pc }
     {
-        self.kept().pc
+        self.saved().pc
     }
 
     /// Changes the PC in the frame, in kernel mode.
@@ -154,8 +164,8 @@ impl Kernel {
         requires { self.old.user ≡ false }
         ensures { self.new ≡ record self.old { frame = record self.old.frame { pc = pc } } }
     {
-        let frame = self.kept();
-        self.keep(Frame { pc, ..frame });
+        let frame = self.saved();
+        self.save(Frame { pc, ..frame });
     }
 
     /// Returns to the user (Reference Manual, OSF/1 return from trap rti): the registers become the
@@ -166,10 +176,10 @@ impl Kernel {
         ensures pc { result ≡ self.old.frame.pc }
         ensures state { self.new ≡ record self.old { user = true } }
     {
-        let frame = self.kept();
-        regs.set(reg(A0), frame.a);
-        regs.set(reg(A1), frame.b);
-        regs.set(reg(A2), frame.c);
+        let frame = self.saved();
+        regs.set(reg(A0), frame.r16);
+        regs.set(reg(A1), frame.r17);
+        regs.set(reg(A2), frame.r18);
         self.retsys(regs);
         frame.pc
     }
@@ -179,21 +189,21 @@ impl Kernel {
         ensures regs { regs.new ≡ put (put regs.old 29 self.old.frame.gp) 30 self.old.user_stack }
         ensures state { self.new ≡ record self.old { user = true } }
     {
-        let frame = self.kept();
+        let frame = self.saved();
         regs.set(reg(GP), frame.gp);
         regs.set(reg(SP), self.user_stack);
         self.user = true;
     }
 
     // The numbers of the last entry's frame.
-    fn kept(&self) -> Frame
+    fn saved(&self) -> Frame
         ensures { result ≡ self.now.frame }
     {
         Frame::read(read_last(&self.stack))
     }
 
     // Writes the frame.
-    fn keep(&mut self, frame: Frame)
+    fn save(&mut self, frame: Frame)
         ensures { self.new ≡ record self.old { frame = frame } }
     {
         write_last(&mut self.stack, frame);
@@ -202,18 +212,18 @@ impl Kernel {
 
 // The frame at the end of the stack.
 fn read_last(stack: &[u8]) -> &[u8]
-    requires { length stack.now ≡ 4096 }
-    ensures bytes { result.now ≡ drop 4048 stack.now }
-    ensures size { length result.now ≡ 48 }
+    requires { length stack.now ≡ STACK }
+    ensures bytes { result.now ≡ drop FRAME_AT stack.now }
+    ensures size { length result.now ≡ SIZE }
 {
     &stack[FRAME_AT..]
 }
 
 // Writes the frame at the end of the stack.
 fn write_last(stack: &mut [u8], frame: Frame)
-    requires { length stack.old ≡ 4096 }
-    ensures bytes { drop 4048 stack.new ≡ bytes_of frame }
-    ensures numbers { frame_of (drop 4048 stack.new) ≡ frame }
+    requires { length stack.old ≡ STACK }
+    ensures bytes { drop FRAME_AT stack.new ≡ bytes_of frame }
+    ensures numbers { frame_of (drop FRAME_AT stack.new) ≡ frame }
 {
     frame.write(&mut stack[FRAME_AT..]);
 }

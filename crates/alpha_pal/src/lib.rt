@@ -3,10 +3,10 @@
 //!
 //! - [`Kernel`] has a mode and a kernel stack of 4,096 bytes outside the address space. The last 48
 //!   bytes of the stack are the frame of the last entry, six little-endian quadwords: PS, PC, GP,
-//!   R16, R17 and R18. The user's stack pointer is kept apart.
+//!   R16, R17 and R18. The user's stack pointer is saved apart.
 //! - An arithmetic trap enters by [`Kernel::enter_arith`]. In kernel mode `user_reg` and
 //!   `set_user_reg` are the user's registers: the live ones, with R16, R17, R18 and R29 from the
-//!   frame and R30 from the kept pointer. `rti` makes them the live ones again.
+//!   frame and R30 from the saved pointer. `rti` makes them the live ones again.
 //! - [`Kernel::call`] makes a PAL call. rdunique and wrunique move the unique value; bpt, bugchk and
 //!   gentrap end the program by a signal; imb does nothing; callsys makes the system call of R0:
 //!   1 is exit, 3 is read, 4 is write. An error's number is left in R0 with 1 in R19, and they are
@@ -27,7 +27,7 @@
 mod call;
 mod frame;
 mod kernel;
-mod law;
+mod laws;
 mod named;
 mod pal_end;
 mod serve;
@@ -35,7 +35,7 @@ mod summary;
 mod take;
 
 pub use kernel::Kernel;
-pub use law::laws_of_calls;
+pub use laws::laws_of_calls;
 pub use pal_end::PalEnd;
 pub use summary::Summary;
 

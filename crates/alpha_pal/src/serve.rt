@@ -92,7 +92,7 @@ impl Request {
     // Reads input into memory. It goes on until there are as many bytes as asked for, or the input
     // has ended.
     fn read<S: Source>(self, mem: &mut Memory, input: &mut S) -> Result<Answer, Fault>
-        requires { self.number ≡ 3 }
+        requires { self.number ≡ READ }
         ensures effect { (written : Option (List ℕ)) → ServeEffect self result mem.old mem.new
             (S.left input.old) (S.left input.new) written written }
         ensures shapes { shapes mem.new ≡ shapes mem.old }
@@ -113,7 +113,7 @@ impl Request {
 
     // Writes memory to the output.
     fn write<K: Sink>(self, mem: &Memory, out: &mut K) -> Result<Answer, Fault>
-        requires { self.number ≡ 4 }
+        requires { self.number ≡ WRITE }
         ensures effect { (left : Option (List ℕ)) → ServeEffect self result mem.now mem.now
             left left (K.written out.old) (K.written out.new) }
         ensures sink { SinkCause (end_of result) (K.faults out.old) (K.faults out.new) }

@@ -1,6 +1,7 @@
 ghost use Rattle.std.specs.Prelude.{◌≡◌, ◌<◌, ◌≤◌, true, IsTrue, length, IfOk, OnErr};
 ghost use Rattle.std.specs.Io.KnownBytes.{Keeps, IsAtEnd};
 ghost use Rattle.alpha_io.specs.Faults.{HasCause};
+ghost use Rattle.alpha_mem.specs.Intent.{Store};
 ghost use Rattle.alpha_mem.specs.Block.{shapes, within};
 ghost use Rattle.alpha_mem.specs.Memory.{IsMemory};
 ghost use Rattle.alpha_pal.specs.Taken.{HasTaken, TakesLess, Ends};
@@ -19,12 +20,12 @@ pub(crate) fn take_into<S: Source>(
     size: u64,
     input: &mut S,
 ) -> Result<u64, Failed>
-    requires range { IsTrue (within (shapes mem.old) true addr size) }
-    requires memory { IsMemory mem.old }
+    requires range { IsTrue (within (shapes mem.old) Store addr size) }
+    requires good { IsMemory mem.old }
     ensures ok { IfOk result (λ n. HasTaken mem.old mem.new addr n (S.left input.old) (S.left input.new)) }
     ensures bound { IfOk result (λ n. n ≤ size) }
-    ensures all { IfOk result (λ n. n < size → Ends (S.left input.old) (S.left input.new)) }
-    ensures part { OnErr result (TakesLess mem.old mem.new addr size (S.left input.old) (S.left input.new)) }
+    ensures ends { IfOk result (λ n. n < size → Ends (S.left input.old) (S.left input.new)) }
+    ensures refused { OnErr result (TakesLess mem.old mem.new addr size (S.left input.old) (S.left input.new)) }
     ensures shapes { shapes mem.new ≡ shapes mem.old }
     ensures cause { HasCause (S.faults input.old) (S.faults input.new) result }
 {
@@ -49,15 +50,15 @@ fn take_piece<S: Source>(
     input: &mut S,
 ) -> Result<usize, Failed>
     requires some { 0 < length piece.old }
-    requires range { IsTrue (within (shapes mem.old) true addr (length piece.old)) }
-    requires memory { IsMemory mem.old }
+    requires range { IsTrue (within (shapes mem.old) Store addr (length piece.old)) }
+    requires good { IsMemory mem.old }
     ensures ok { IfOk result (λ n. HasTaken mem.old mem.new addr n (S.left input.old) (S.left input.new)) }
     ensures bound { IfOk result (λ n. n ≤ length piece.old) }
-    ensures end { IfOk result (λ n. n ≡ 0 → IsAtEnd (S.left input.old)) }
-    ensures failed { OnErr result (mem.new ≡ mem.old) }
-    ensures kept { OnErr result (Keeps (S.left input.old) (S.left input.new)) }
+    ensures ends { IfOk result (λ n. n ≡ 0 → IsAtEnd (S.left input.old)) }
+    ensures same { OnErr result (mem.new ≡ mem.old) }
+    ensures input { OnErr result (Keeps (S.left input.old) (S.left input.new)) }
     ensures shapes { shapes mem.new ≡ shapes mem.old }
-    ensures memory { IsMemory mem.new }
+    ensures good { IsMemory mem.new }
     ensures cause { HasCause (S.faults input.old) (S.faults input.new) result }
 {
     let count = input.take(piece)?;

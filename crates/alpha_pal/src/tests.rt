@@ -88,7 +88,7 @@ fn asking(request: [u64; 4]) -> RegFile {
 }
 
 // R16, R17, R18, R29 and R30.
-fn kept(regs: &RegFile) -> [u64; 5] {
+fn saved(regs: &RegFile) -> [u64; 5] {
     [
         regs.get(reg(16)),
         regs.get(reg(17)),
@@ -99,7 +99,7 @@ fn kept(regs: &RegFile) -> [u64; 5] {
 }
 
 #[test]
-fn a_frame_keeps_what_the_return_restores(rt: HostRuntime) -> Result<(), Fail> {
+fn a_frame_saves_what_the_return_restores(rt: HostRuntime) -> Result<(), Fail> {
     let alloc = rt.alloc();
     let mut want = Vec::new(alloc);
     let quadwords: [u64; 6] = [8, 0x1_0008, 4, 1, 2, 3];
@@ -112,9 +112,9 @@ fn a_frame_keeps_what_the_return_restores(rt: HostRuntime) -> Result<(), Fail> {
     let mut kernel = Kernel::new(alloc)?;
     kernel.enter_arith(&mut regs, 0x1_0008, RegSet::of_bits(0x18));
     assert_eq!(rt; kernel.frame(), want.as_slice());
-    assert_eq!(rt; kept(&regs), [64, 24, 3, 0, 4_048]);
+    assert_eq!(rt; saved(&regs), [64, 24, 3, 0, 4_048]);
     assert_eq!(rt; kernel.rti(&mut regs), 65_544);
-    assert_eq!(rt; kept(&regs), [1, 2, 3, 4, 5]);
+    assert_eq!(rt; saved(&regs), [1, 2, 3, 4, 5]);
     Ok(())
 }
 
@@ -126,10 +126,10 @@ fn the_users_registers_are_in_the_frame(rt: HostRuntime) -> Result<(), Fail> {
     kernel.set_user_reg(&mut regs, reg(16), 7);
     kernel.set_user_reg(&mut regs, reg(30), 8);
     kernel.set_pc(kernel.trap_pc() - 4);
-    assert_eq!(rt; kept(&regs), [64, 0, 0, 0, 4_048]);
+    assert_eq!(rt; saved(&regs), [64, 0, 0, 0, 4_048]);
     assert_eq!(rt; kernel.user_reg(&regs, reg(16)), 7);
     assert_eq!(rt; kernel.rti(&mut regs), 0x1_0004);
-    assert_eq!(rt; kept(&regs), [7, 0, 0, 0, 8]);
+    assert_eq!(rt; saved(&regs), [7, 0, 0, 0, 8]);
     Ok(())
 }
 

@@ -1,8 +1,9 @@
-use Rattle.std.proofs.Common.{ℕ, true, length, take, arith, length-take}
+use Rattle.std.proofs.Common.{ℕ, length, take, arith, length-take}
+use Rattle.alpha_mem.specs.Intent.{Store}
 use Rattle.alpha_mem.specs.Block.{shapes}
-use Rattle.alpha_pal.proofs.Ranges.{within-part}
+use Rattle.alpha_mem.proofs.LawLemmas.{within-part}
 use Rattle.alpha_pal.proofs.take.take_piece.Goals as goal
 
 pub write-requires : goal.write-requires
 write-requires g c =
-    within-part (shapes c.args.mem.now) true c.args.addr (length c.args.piece.now) c.args.addr (length (take c.in_ok-count.count c.take.new.buf)) c.requires.range (omega arith) (omega (arith, length-take {A = ℕ}, c.in_ok-count.ensures.bound))
+    within-part (shapes c.args.mem.now) Store c.args.addr (length c.args.piece.now) c.args.addr (length (take c.in_ok-count.count c.take.new.buf)) c.requires.range (omega arith) (omega (arith, length-take {A = ℕ}, c.in_ok-count.ensures.bound))

@@ -1,15 +1,18 @@
-ghost use Rattle.std.specs.Prelude.{◌≡◌, ℕ, List, Some};
+ghost use Rattle.std.specs.Prelude.{◌≡◌, ℕ, List, length, Some};
 ghost use Rattle.alpha_words.specs.declared.PalCall.{PalCall};
 ghost use Rattle.alpha_mem.specs.Block.{Block, shapes};
 ghost use Rattle.alpha_pal.specs.Call.{Outside, goes, call};
 ghost use Rattle.alpha_pal.specs.CallEffect.{Seen, GoesOn, GoesOnTold};
 
-/// The laws of calls: a call keeps where the blocks of memory lie, and where the input was told,
+/// The laws of calls: a call leaves where the blocks of memory lie and how many registers there are, and where the input was told,
 /// what a call that goes on did is the definition at that input.
 pub fn laws_of_calls()
     ensures shapes { (function : PalCall) (regs regs' : List ℕ) (mem mem' : List Block)
         (o o' : Outside) → call function regs mem o ≡ goes regs' mem' o'
         → shapes mem' ≡ shapes mem }
+    ensures registers { (function : PalCall) (regs regs' : List ℕ) (mem mem' : List Block)
+        (o o' : Outside) → call function regs mem o ≡ goes regs' mem' o'
+        → length regs' ≡ length regs }
     ensures told { (function : PalCall) (old new : Seen) (left : List ℕ) → old.left ≡ Some left
         → GoesOn function old new → GoesOnTold function old new left }
 {}

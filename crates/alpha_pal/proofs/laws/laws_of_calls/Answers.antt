@@ -1,0 +1,11 @@
+use Rattle.alpha_pal.proofs.LawLemmas.{shapes-call, length-call, GoesOnTold-from}
+use Rattle.alpha_pal.proofs.laws.laws_of_calls.Goals as goal
+
+pub returns-clause-shapes : goal.returns-clause-shapes
+returns-clause-shapes c = shapes-call
+
+pub returns-clause-registers : goal.returns-clause-registers
+returns-clause-registers c = length-call
+
+pub returns-clause-told : goal.returns-clause-told
+returns-clause-told c = GoesOnTold-from
