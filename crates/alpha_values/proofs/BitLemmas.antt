@@ -3,9 +3,9 @@ use Rattle.std.proofs.Common.{◌≡◌, ℕ, ◌+◌, ◌-◌, ◌*◌, ◌%◌
 use Rattle.std.specs.Prelude.{bit_xor}
 use Rattle.std.proofs.lemmas.Nat.{and_block, or_block, xor_block, and_le_l, or_lt, xor_lt}
 use Rattle.std.proofs.lemmas.Nat.Bits.{bit_at_and, bit_at_or, bit_at_xor}
-use Rattle.alpha_values.specs.Digits.{bits_of, inverted}
+use Rattle.alpha_values.specs.Bits.{bits_of, inverted}
 use Rattle.alpha_values.specs.Op.{and_of, or_of, xor_of}
-use Rattle.alpha_values.proofs.DigitLemmas.{number-pairwise, digits-inverted}
+use Rattle.alpha_values.proofs.PairLemmas.{number-pairwise, digits-inverted}
 
 and_bits : (r s : ℕ) → r < 2 → s < 2 → bit_and r s ≡ min r s
 and_bits r s small also = omega (arith, bit_at_and r s 0, and_le_l r s)

@@ -2,16 +2,20 @@
 use Rattle.std.proofs.Common.{◌≡◌, ℕ, zero, suc, ◌+◌, ◌-◌, ◌*◌, ◌/◌, ◌%◌, ◌^◌, ◌<◌, ◌≤◌, Bool, true, false, cond, List, [], ◌∷◌, length, ap, arith}
 use Rattle.std.specs.Prelude.{nat_le, ◌==◌, if◌then◌else◌}
 use Rattle.std.proofs.Math.Nat.{pow-le-pow_right}
-use Rattle.std.proofs.lemmas.Nat.{mul-add-lt, pow_pos, pow-add, pow_below, mod_below, shr_below, shr_le, and_le_l, and_le_r, or_lt, xor_lt, mul-lt}
+use Rattle.std.proofs.lemmas.Nat.{mul-add-lt, pow_pos, pow-add, pow_below, mod_below, shr_below, shr_le, and_le_l, and_le_r, or_lt, xor_lt, mul-lt, ones-le, leading_le, trailing_le}
+use Rattle.alpha_words.specs.declared.Level.{Level}
+use Rattle.alpha_words.specs.declared.Level.TheVariants.{One, Two}
 use Rattle.alpha_table.specs.declared.op.Op.{Op}
-use Rattle.alpha_table.specs.declared.op.Op.TheVariants.{Addl, S4addl, Subl, S4subl, Cmpbge, S8addl, S8subl, Cmpult, Addq, S4addq, Subq, S4subq, Cmpeq, S8addq, S8subq, Cmpule, AddlV, SublV, Cmplt, AddqV, SubqV, Cmple, And, Bic, Cmovlbs, Cmovlbc, Bis, Cmoveq, Cmovne, Ornot, Xor, Cmovlt, Cmovge, Eqv, Amask, Cmovle, Cmovgt, Implver, Mskbl, Extbl, Insbl, Mskwl, Extwl, Inswl, Mskll, Extll, Insll, Zap, Zapnot, Mskql, Srl, Extql, Sll, Insql, Sra, Mskwh, Inswh, Extwh, Msklh, Inslh, Extlh, Mskqh, Insqh, Extqh, Mull, Mulq, Umulh, MullV, MulqV, Sextb, Sextw}
+use Rattle.alpha_table.specs.declared.op.Op.TheVariants.{Addl, S4addl, Subl, S4subl, Cmpbge, S8addl, S8subl, Cmpult, Addq, S4addq, Subq, S4subq, Cmpeq, S8addq, S8subq, Cmpule, AddlV, SublV, Cmplt, AddqV, SubqV, Cmple, And, Bic, Cmovlbs, Cmovlbc, Bis, Cmoveq, Cmovne, Ornot, Xor, Cmovlt, Cmovge, Eqv, Amask, Cmovle, Cmovgt, Implver, Mskbl, Extbl, Insbl, Mskwl, Extwl, Inswl, Mskll, Extll, Insll, Zap, Zapnot, Mskql, Srl, Extql, Sll, Insql, Sra, Mskwh, Inswh, Extwh, Msklh, Inslh, Extlh, Mskqh, Insqh, Extqh, Mull, Mulq, Umulh, MullV, MulqV, Sextb, Sextw, Ctpop, Ctlz, Cttz}
 use Rattle.alpha_table.specs.declared.op.Cond.TheVariants.{Lbc, Lbs, Eq, Ne, Lt, Le, Ge, Gt}
-use Rattle.alpha_values.specs.Digits.{number, pairwise, bits_of, bytes_of, inverted}
+use Rattle.alpha_words.specs.Digits.{number}
+use Rattle.alpha_values.specs.Bits.{pairwise, bits_of, bytes_of, inverted}
 use Rattle.alpha_values.specs.Bytes.{extracted_low, extracted_high, inserted_low, inserted_high, cleared, masked_low, masked_high, zapped, zapped_not, bytes_compared}
 use Rattle.alpha_values.specs.Cond.{is_taken}
-use Rattle.alpha_values.specs.Op.{flag, features, and_of, or_of, xor_of, result_of}
-use Rattle.alpha_values.proofs.Words.{kept_bound}
-use Rattle.alpha_values.proofs.DigitLemmas.{AllBelow, digits-AllBelow, length-digits}
+use Rattle.alpha_values.specs.Op.{flag, features, implementation, and_of, or_of, xor_of, result_of}
+use Rattle.alpha_values.proofs.Words.{register_bound}
+use Rattle.alpha_words.proofs.DigitLemmas.{AllBelow, digits-AllBelow, length-digits}
+use Rattle.alpha_values.proofs.CountLemmas.{sum_bits, leading_bits, trailing_bits}
 use Rattle.alpha_values.proofs.BitLemmas.{bit_and_is, bit_or_is, bit_xor_is, bit_not_is}
 use Rattle.alpha_values.proofs.ByteLemmas.{extracted_low_is, extracted_high_is, inserted_low_is, inserted_high_is}
 
@@ -100,76 +104,87 @@ zap_not_bound : (a b : ℕ) → zapped_not a b < 2 ^ 64
 unfolding zapped_not
 zap_not_bound a b = cleared_bound _ a
 
-pub result_bound : (op : Op) (a b old : ℕ) → a < 2 ^ 64 → b < 2 ^ 64 → old < 2 ^ 64 → result_of op a b old < 2 ^ 64
+features_bound : (level : Level) → features level < 2 ^ 64
+features_bound One = omega arith
+features_bound Two = omega arith
+
+implementation_bound : (level : Level) → implementation level < 2 ^ 64
+implementation_bound One = omega arith
+implementation_bound Two = omega arith
+
+pub result_bound : (level : Level) (op : Op) (a b old : ℕ) → a < 2 ^ 64 → b < 2 ^ 64 → old < 2 ^ 64 → result_of level op a b old < 2 ^ 64
 unfolding result_of
-result_bound Addl a b old p q r = kept_bound _
-result_bound AddlV a b old p q r = kept_bound _
-result_bound S4addl a b old p q r = kept_bound _
-result_bound S8addl a b old p q r = kept_bound _
-result_bound Subl a b old p q r = kept_bound _
-result_bound SublV a b old p q r = kept_bound _
-result_bound S4subl a b old p q r = kept_bound _
-result_bound S8subl a b old p q r = kept_bound _
-result_bound Mull a b old p q r = kept_bound _
-result_bound MullV a b old p q r = kept_bound _
-result_bound Addq a b old p q r = kept_bound _
-result_bound AddqV a b old p q r = kept_bound _
-result_bound S4addq a b old p q r = kept_bound _
-result_bound S8addq a b old p q r = kept_bound _
-result_bound Subq a b old p q r = kept_bound _
-result_bound SubqV a b old p q r = kept_bound _
-result_bound S4subq a b old p q r = kept_bound _
-result_bound S8subq a b old p q r = kept_bound _
-result_bound Mulq a b old p q r = kept_bound _
-result_bound MulqV a b old p q r = kept_bound _
-result_bound Sextb a b old p q r = kept_bound _
-result_bound Sextw a b old p q r = kept_bound _
-result_bound Sra a b old p q r = kept_bound _
-result_bound Umulh a b old p q r = high_product_bound a b p q
-result_bound Cmpeq a b old p q r = flag_bound _
-result_bound Cmplt a b old p q r = flag_bound _
-result_bound Cmple a b old p q r = flag_bound _
-result_bound Cmpult a b old p q r = flag_bound _
-result_bound Cmpule a b old p q r = flag_bound _
-result_bound Cmpbge a b old p q r = compared_bound a b
-result_bound And a b old p q r = and_bound a b p q
-result_bound Bis a b old p q r = or_bound a b p q
-result_bound Xor a b old p q r = xor_bound a b p q
-result_bound Bic a b old p q r = with_inverted and_of a b q (λ c s. and_bound a c p s)
-result_bound Ornot a b old p q r = with_inverted or_of a b q (λ c s. or_bound a c p s)
-result_bound Eqv a b old p q r = with_inverted xor_of a b q (λ c s. xor_bound a c p s)
-result_bound Amask a b old p q r = with_inverted and_of b features (omega arith) (λ c s. and_bound b c q s)
-result_bound Implver a b old p q r = omega arith
-result_bound Cmovlbs a b old p q r = choice_bound (is_taken Lbs a) b old (2 ^ 64) q r
-result_bound Cmovlbc a b old p q r = choice_bound (is_taken Lbc a) b old (2 ^ 64) q r
-result_bound Cmoveq a b old p q r = choice_bound (is_taken Eq a) b old (2 ^ 64) q r
-result_bound Cmovne a b old p q r = choice_bound (is_taken Ne a) b old (2 ^ 64) q r
-result_bound Cmovlt a b old p q r = choice_bound (is_taken Lt a) b old (2 ^ 64) q r
-result_bound Cmovle a b old p q r = choice_bound (is_taken Le a) b old (2 ^ 64) q r
-result_bound Cmovge a b old p q r = choice_bound (is_taken Ge a) b old (2 ^ 64) q r
-result_bound Cmovgt a b old p q r = choice_bound (is_taken Gt a) b old (2 ^ 64) q r
-result_bound Sll a b old p q r = omega arith
-result_bound Srl a b old p q r = omega (arith, shr_le a (b % 64))
-result_bound Extbl a b old p q r = low_extract_bound 1 a b (omega arith) p
-result_bound Insbl a b old p q r = low_insert_bound 1 a b (omega arith)
-result_bound Mskbl a b old p q r = low_mask_bound 1 a b
-result_bound Extwl a b old p q r = low_extract_bound 2 a b (omega arith) p
-result_bound Inswl a b old p q r = low_insert_bound 2 a b (omega arith)
-result_bound Mskwl a b old p q r = low_mask_bound 2 a b
-result_bound Extwh a b old p q r = high_extract_bound 2 a b (omega arith) p
-result_bound Inswh a b old p q r = high_insert_bound 2 a b (omega arith)
-result_bound Mskwh a b old p q r = high_mask_bound 2 a b
-result_bound Extll a b old p q r = low_extract_bound 4 a b (omega arith) p
-result_bound Insll a b old p q r = low_insert_bound 4 a b (omega arith)
-result_bound Mskll a b old p q r = low_mask_bound 4 a b
-result_bound Extlh a b old p q r = high_extract_bound 4 a b (omega arith) p
-result_bound Inslh a b old p q r = high_insert_bound 4 a b (omega arith)
-result_bound Msklh a b old p q r = high_mask_bound 4 a b
-result_bound Extql a b old p q r = low_extract_bound 8 a b (omega arith) p
-result_bound Insql a b old p q r = low_insert_bound 8 a b (omega arith)
-result_bound Mskql a b old p q r = low_mask_bound 8 a b
-result_bound Extqh a b old p q r = high_extract_bound 8 a b (omega arith) p
-result_bound Insqh a b old p q r = high_insert_bound 8 a b (omega arith)
-result_bound Mskqh a b old p q r = high_mask_bound 8 a b
-result_bound Zap a b old p q r = zap_bound a b
-result_bound Zapnot a b old p q r = zap_not_bound a b
+result_bound level Addl a b old p q r = register_bound _
+result_bound level AddlV a b old p q r = register_bound _
+result_bound level S4addl a b old p q r = register_bound _
+result_bound level S8addl a b old p q r = register_bound _
+result_bound level Subl a b old p q r = register_bound _
+result_bound level SublV a b old p q r = register_bound _
+result_bound level S4subl a b old p q r = register_bound _
+result_bound level S8subl a b old p q r = register_bound _
+result_bound level Mull a b old p q r = register_bound _
+result_bound level MullV a b old p q r = register_bound _
+result_bound level Addq a b old p q r = register_bound _
+result_bound level AddqV a b old p q r = register_bound _
+result_bound level S4addq a b old p q r = register_bound _
+result_bound level S8addq a b old p q r = register_bound _
+result_bound level Subq a b old p q r = register_bound _
+result_bound level SubqV a b old p q r = register_bound _
+result_bound level S4subq a b old p q r = register_bound _
+result_bound level S8subq a b old p q r = register_bound _
+result_bound level Mulq a b old p q r = register_bound _
+result_bound level MulqV a b old p q r = register_bound _
+result_bound level Sextb a b old p q r = register_bound _
+result_bound level Sextw a b old p q r = register_bound _
+result_bound level Sra a b old p q r = register_bound _
+result_bound level Umulh a b old p q r = high_product_bound a b p q
+result_bound level Cmpeq a b old p q r = flag_bound _
+result_bound level Cmplt a b old p q r = flag_bound _
+result_bound level Cmple a b old p q r = flag_bound _
+result_bound level Cmpult a b old p q r = flag_bound _
+result_bound level Cmpule a b old p q r = flag_bound _
+result_bound level Cmpbge a b old p q r = compared_bound a b
+result_bound level And a b old p q r = and_bound a b p q
+result_bound level Bis a b old p q r = or_bound a b p q
+result_bound level Xor a b old p q r = xor_bound a b p q
+result_bound level Bic a b old p q r = with_inverted and_of a b q (λ c s. and_bound a c p s)
+result_bound level Ornot a b old p q r = with_inverted or_of a b q (λ c s. or_bound a c p s)
+result_bound level Eqv a b old p q r = with_inverted xor_of a b q (λ c s. xor_bound a c p s)
+result_bound level Amask a b old p q r = with_inverted and_of b (features level) (features_bound level) (λ c s. and_bound b c q s)
+result_bound level Implver a b old p q r = implementation_bound level
+result_bound level Ctpop a b old p q r = omega (arith, sum_bits b q, ones-le 64 b q)
+result_bound level Ctlz a b old p q r = omega (arith, leading_bits b q, leading_le 64 b)
+result_bound level Cttz a b old p q r = omega (arith, trailing_bits b, trailing_le 64 b)
+result_bound level Cmovlbs a b old p q r = choice_bound (is_taken Lbs a) b old (2 ^ 64) q r
+result_bound level Cmovlbc a b old p q r = choice_bound (is_taken Lbc a) b old (2 ^ 64) q r
+result_bound level Cmoveq a b old p q r = choice_bound (is_taken Eq a) b old (2 ^ 64) q r
+result_bound level Cmovne a b old p q r = choice_bound (is_taken Ne a) b old (2 ^ 64) q r
+result_bound level Cmovlt a b old p q r = choice_bound (is_taken Lt a) b old (2 ^ 64) q r
+result_bound level Cmovle a b old p q r = choice_bound (is_taken Le a) b old (2 ^ 64) q r
+result_bound level Cmovge a b old p q r = choice_bound (is_taken Ge a) b old (2 ^ 64) q r
+result_bound level Cmovgt a b old p q r = choice_bound (is_taken Gt a) b old (2 ^ 64) q r
+result_bound level Sll a b old p q r = omega arith
+result_bound level Srl a b old p q r = omega (arith, shr_le a (b % 64))
+result_bound level Extbl a b old p q r = low_extract_bound 1 a b (omega arith) p
+result_bound level Insbl a b old p q r = low_insert_bound 1 a b (omega arith)
+result_bound level Mskbl a b old p q r = low_mask_bound 1 a b
+result_bound level Extwl a b old p q r = low_extract_bound 2 a b (omega arith) p
+result_bound level Inswl a b old p q r = low_insert_bound 2 a b (omega arith)
+result_bound level Mskwl a b old p q r = low_mask_bound 2 a b
+result_bound level Extwh a b old p q r = high_extract_bound 2 a b (omega arith) p
+result_bound level Inswh a b old p q r = high_insert_bound 2 a b (omega arith)
+result_bound level Mskwh a b old p q r = high_mask_bound 2 a b
+result_bound level Extll a b old p q r = low_extract_bound 4 a b (omega arith) p
+result_bound level Insll a b old p q r = low_insert_bound 4 a b (omega arith)
+result_bound level Mskll a b old p q r = low_mask_bound 4 a b
+result_bound level Extlh a b old p q r = high_extract_bound 4 a b (omega arith) p
+result_bound level Inslh a b old p q r = high_insert_bound 4 a b (omega arith)
+result_bound level Msklh a b old p q r = high_mask_bound 4 a b
+result_bound level Extql a b old p q r = low_extract_bound 8 a b (omega arith) p
+result_bound level Insql a b old p q r = low_insert_bound 8 a b (omega arith)
+result_bound level Mskql a b old p q r = low_mask_bound 8 a b
+result_bound level Extqh a b old p q r = high_extract_bound 8 a b (omega arith) p
+result_bound level Insqh a b old p q r = high_insert_bound 8 a b (omega arith)
+result_bound level Mskqh a b old p q r = high_mask_bound 8 a b
+result_bound level Zap a b old p q r = zap_bound a b
+result_bound level Zapnot a b old p q r = zap_not_bound a b

@@ -5,9 +5,11 @@ use Rattle.std.proofs.lemmas.Nat.{and_mask, pow_pos, mod_below, one_shl, shl_who
 use Rattle.std.proofs.lemmas.Nat.Bits.{ones_shr}
 use Rattle.std.proofs.Math.Nat.{mod-eq_of_lt}
 use Rattle.std.proofs.Math.Pow.{mod-mod-pow}
-use Rattle.alpha_values.specs.Digits.{digits, number, bytes_of}
+use Rattle.alpha_words.specs.Digits.{digits, number}
+use Rattle.alpha_values.specs.Bits.{bytes_of}
 use Rattle.alpha_values.specs.Bytes.{in_sixteen, extracted_low, extracted_high, inserted_low, inserted_high, cleared, masked_low, masked_high, zapped_not}
-use Rattle.alpha_values.proofs.DigitLemmas.{AllBelow, number-digits, digits-AllBelow, number-take, number-drop, digits-number, number-zeros_below, number-zeros_above, zeros-AllBelow, AllBelow-append, AllBelow-take, AllBelow-drop, digits-inverted}
+use Rattle.alpha_words.proofs.DigitLemmas.{AllBelow, number-digits, digits-AllBelow, number-take, number-drop, digits-number, number-zeros_below, number-zeros_above, zeros-AllBelow, AllBelow-append, AllBelow-take, AllBelow-drop}
+use Rattle.alpha_values.proofs.PairLemmas.{digits-inverted}
 
 number-bytes : (a : ℕ) → a < 2 ^ 64 → number 256 (bytes_of a) ≡ a
 number-bytes a small = number-digits 8 8 a ∙ mod-eq_of_lt small

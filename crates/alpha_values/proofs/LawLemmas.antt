@@ -4,27 +4,28 @@ use Rattle.std.specs.Bool.{FalseIff}
 use Rattle.std.specs.Int.{Width, saturate_signed}
 use Rattle.std.proofs.lemmas.Int.{int_wrap_fits}
 use Rattle.std.proofs.lemmas.Bool.{cases_lt}
+use Rattle.alpha_words.specs.declared.Level.{Level}
 use Rattle.alpha_words.specs.declared.Completion.{Completion}
-use Rattle.alpha_words.specs.declared.Completion.TheVariants.{Wrap, Saturate}
+use Rattle.alpha_words.specs.declared.Completion.TheVariants.{Wrap, Saturate, Stop}
 use Rattle.alpha_table.specs.declared.op.Op.{Op}
 use Rattle.alpha_table.specs.declared.op.Op.TheVariants.{AddlV, SublV, AddqV, SubqV, MullV, MulqV}
 use Rattle.alpha_table.specs.declared.op.TrapOp.{TrapOp}
 use Rattle.alpha_table.specs.declared.op.TrapOp.TheVariants as traps
 use Rattle.alpha_table.specs.Op.{trap_of}
-use Rattle.alpha_values.specs.Numbers.{kept}
+use Rattle.alpha_values.specs.Numbers.{register_of}
 use Rattle.alpha_values.specs.TrapOp.{size_of, exact, overflow_of, Overflows, completion_of, completed_of}
 use Rattle.alpha_values.specs.Op.{result_of}
 use Rattle.alpha_values.proofs.Ranges.{overflow_long, overflow_quad}
 
-pub completed-wrap : (op : Op) (trap : TrapOp) (a b old : ℕ) → trap_of op ≡ Some trap → completed_of trap a b Wrap ≡ result_of op a b old
+pub completed-wrap : (level : Level) (op : Op) (trap : TrapOp) (a b old : ℕ) → trap_of op ≡ Some trap → completed_of trap a b Wrap ≡ result_of level op a b old
 unfolding completed_of result_of
-completed-wrap AddlV trap a b old e = let same : trap ≡ traps.AddlV = cc in ap (λ t. completed_of t a b Wrap) same
-completed-wrap SublV trap a b old e = let same : trap ≡ traps.SublV = cc in ap (λ t. completed_of t a b Wrap) same
-completed-wrap MullV trap a b old e = let same : trap ≡ traps.MullV = cc in ap (λ t. completed_of t a b Wrap) same
-completed-wrap AddqV trap a b old e = let same : trap ≡ traps.AddqV = cc in ap (λ t. completed_of t a b Wrap) same
-completed-wrap SubqV trap a b old e = let same : trap ≡ traps.SubqV = cc in ap (λ t. completed_of t a b Wrap) same
-completed-wrap MulqV trap a b old e = let same : trap ≡ traps.MulqV = cc in ap (λ t. completed_of t a b Wrap) same
-completed-wrap _ trap a b old e = cc
+completed-wrap level AddlV trap a b old e = let same : trap ≡ traps.AddlV = cc in ap (λ t. completed_of t a b Wrap) same
+completed-wrap level SublV trap a b old e = let same : trap ≡ traps.SublV = cc in ap (λ t. completed_of t a b Wrap) same
+completed-wrap level MullV trap a b old e = let same : trap ≡ traps.MullV = cc in ap (λ t. completed_of t a b Wrap) same
+completed-wrap level AddqV trap a b old e = let same : trap ≡ traps.AddqV = cc in ap (λ t. completed_of t a b Wrap) same
+completed-wrap level SubqV trap a b old e = let same : trap ≡ traps.SubqV = cc in ap (λ t. completed_of t a b Wrap) same
+completed-wrap level MulqV trap a b old e = let same : trap ≡ traps.MulqV = cc in ap (λ t. completed_of t a b Wrap) same
+completed-wrap level _ trap a b old e = cc
 
 overflow_is : (overflow : Bool) (op : TrapOp) (a b : ℕ) → FalseIff overflow (FitsSigned (size_of op) (exact op a b)) → overflow ≡ overflow_of op a b
 unfolding overflow_of
@@ -52,10 +53,11 @@ saturate_fits w (negsuc n) fits = let h = fits.sfits in ap negsuc (omega arith)
 completion_fits : (how : Completion) (w : Width) (z : ℤ) → FitsSigned w z → completion_of how w z ≡ z
 completion_fits Wrap w z fits = int_wrap_fits w z fits
 completion_fits Saturate w z fits = saturate_fits w z fits
+completion_fits Stop w z fits = int_wrap_fits w z fits
 
-pub completed-exact : (op : TrapOp) (a b : ℕ) (how : Completion) → ¬ Overflows op a b → completed_of op a b how ≡ kept (exact op a b)
+pub completed-exact : (op : TrapOp) (a b : ℕ) (how : Completion) → ¬ Overflows op a b → completed_of op a b how ≡ register_of (exact op a b)
 unfolding completed_of
 completed-exact op a b how within =
-    ⊎_elim (λ (p : FitsSigned (size_of op) (exact op a b)). ap kept (completion_fits how _ _ p))
+    ⊎_elim (λ (p : FitsSigned (size_of op) (exact op a b)). ap register_of (completion_fits how _ _ p))
     (λ (p : FitsSigned (size_of op) (exact op a b) → ⊥). absurd (within ((Overflows-range op a b).1 p)))
     (fits_cases (size_of op) (exact op a b))

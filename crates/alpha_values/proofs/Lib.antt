@@ -1,8 +1,10 @@
 pub mod Words
-pub mod DigitLemmas
+pub mod PairLemmas
 pub mod BitLemmas
 pub mod ByteLemmas
 pub mod PlaceLemmas
 pub mod Ranges
+pub mod CountLemmas
 pub mod Bounds
 pub mod LawLemmas
+pub mod AddressLemmas

@@ -2,7 +2,8 @@
 use Rattle.std.proofs.Common.{◌≡◌, ℕ, suc, ◌+◌, ◌-◌, ◌*◌, ◌/◌, ◌%◌, ◌^◌, ◌<◌, ◌≤◌, ◌∙◌, ap, arith, bit_or}
 use Rattle.std.specs.Prelude.{if◌then◌else◌, ◌==◌, nat_le}
 use Rattle.std.proofs.lemmas.Nat.{shl_whole, or_shifted, mul-add-lt, pow-add, shr-shr}
-use Rattle.alpha_values.specs.Digits.{digits, number, pairwise}
+use Rattle.alpha_words.specs.Digits.{digits, number}
+use Rattle.alpha_values.specs.Bits.{pairwise}
 use Rattle.alpha_values.specs.Bytes.{cleared, bytes_compared}
 
 -- the number so far has `room` bits, and a digit of w bits comes below it

@@ -1,6 +1,7 @@
 pub mod Numbers
 pub mod TrapOp
 pub mod Cond
-pub mod Digits
+pub mod Bits
 pub mod Bytes
+pub mod Address
 pub mod Op

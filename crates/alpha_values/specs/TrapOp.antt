@@ -2,10 +2,10 @@
 use Rattle.std.specs.Prelude.{ℕ, ◌^◌, ℤ, pos, neg_ℤ, ◌+ℤ◌, ◌-ℤ◌, ◌*ℤ◌, int_lt, int_le, Bool, ◌||◌, IsTrue}
 use Rattle.std.specs.Int.{Width, w32, w64, int_wrap, saturate_signed}
 use Rattle.alpha_words.specs.declared.Completion.{Completion}
-use Rattle.alpha_words.specs.declared.Completion.TheVariants.{Wrap, Saturate}
+use Rattle.alpha_words.specs.declared.Completion.TheVariants.{Wrap, Saturate, Stop}
 use Rattle.alpha_table.specs.declared.op.TrapOp.{TrapOp}
 use Rattle.alpha_table.specs.declared.op.TrapOp.TheVariants.{AddlV, SublV, AddqV, SubqV, MullV, MulqV}
-use Rattle.alpha_values.specs.Numbers.{signed, kept}
+use Rattle.alpha_values.specs.Numbers.{signed, register_of}
 
 abbrev pub size_of : TrapOp → Width
 size_of AddlV = w32
@@ -41,10 +41,11 @@ abbrev pub Overflows : TrapOp → ℕ → ℕ → Type 0
 Overflows op a b = IsTrue (overflow_of op a b)
 
 -- the number that stands for the exact result in the signed range of the size: itself where it lies there, else by
--- wrap the one that is congruent to it, by saturate the nearest bound
+-- wrap and by stop the one that is congruent to it, by saturate the nearest bound
 abbrev pub completion_of : Completion → Width → ℤ → ℤ
 completion_of Wrap size z = int_wrap size z
 completion_of Saturate size z = saturate_signed size z
+completion_of Stop size z = int_wrap size z
 
 unfoldable pub completed_of : TrapOp → ℕ → ℕ → Completion → ℕ
-completed_of op a b how = kept (completion_of how (size_of op) (exact op a b))
+completed_of op a b how = register_of (completion_of how (size_of op) (exact op a b))

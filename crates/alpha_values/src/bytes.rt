@@ -1,9 +1,10 @@
 ghost use Rattle.std.specs.Prelude.{◌≡◌, ◌-◌, ◌*◌, ◌/◌, ◌%◌, ◌^◌, ◌<◌, ◌≤◌, ◌==◌, nat_le, if◌then◌else◌};
-ghost use Rattle.alpha_values.specs.Digits.{digits, inverted};
+ghost use Rattle.alpha_words.specs.Digits.{digits};
+ghost use Rattle.alpha_values.specs.Bits.{inverted};
 ghost use Rattle.alpha_values.specs.Bytes.{extracted_low, extracted_high, inserted_low, inserted_high, cleared, masked_low, masked_high, zapped, zapped_not, bytes_compared};
 
-/// EXTxL: so many bytes of Ra from Rb's place on (Architecture Handbook, byte manipulation
-/// instructions). A size is in bytes.
+/// EXTxL: the bytes of Ra from Rb's place on, as many as the size has (Architecture Handbook, byte
+/// manipulation instructions). A size is in bytes.
 pub(crate) fn extract_low(size: u32, a: u64, b: u64) -> u64
     requires some { 0 < size }
     requires most { size ≤ 8 }
@@ -40,7 +41,7 @@ pub(crate) fn insert_high(size: u32, a: u64, b: u64) -> u64
     (placed(size, a, b) >> 64) as u64
 }
 
-/// MSKxL: the bytes from Rb's place on are cleared, so many.
+/// MSKxL: as many bytes as the size has, from Rb's place on, are cleared.
 pub(crate) fn mask_low(size: u32, a: u64, b: u64) -> u64
     requires some { 0 < size }
     requires most { size ≤ 8 }
@@ -49,7 +50,8 @@ pub(crate) fn mask_low(size: u32, a: u64, b: u64) -> u64
     clear(a, marked(size, b))
 }
 
-/// MSKxH: the bytes are cleared that run past the eighth, so many from Rb's place on.
+/// MSKxH: of as many bytes as the size has, from Rb's place on, those past the eighth are cleared
+/// from the first on.
 pub(crate) fn mask_high(size: u32, a: u64, b: u64) -> u64
     requires some { 0 < size }
     requires most { size ≤ 8 }
@@ -127,7 +129,7 @@ fn place(b: u64) -> u32
     (b & 7) as u32
 }
 
-// The lowest bytes, so many.
+// The lowest bytes, as many as the size has.
 fn low_bytes(a: u64, size: u32) -> u64
     requires some { 0 < size }
     requires most { size ≤ 8 }
@@ -145,7 +147,7 @@ fn placed(size: u32, a: u64, b: u64) -> u128
     u128::from(low_bytes(a, size)) << (8 * place(b))
 }
 
-// A bit for each of the sixteen bytes, 1 at those from Rb's place on, so many.
+// A bit for each of the sixteen bytes, 1 at as many as the size has from Rb's place on.
 fn marked(size: u32, b: u64) -> u64
     requires some { 0 < size }
     requires most { size ≤ 8 }

@@ -1,5 +1,7 @@
-ghost use Rattle.std.specs.Prelude.{◌≡◌};
-ghost use Rattle.alpha_values.specs.Numbers.{address_of, high_address_of};
+ghost use Rattle.std.specs.Prelude.{◌≡◌, ◌*◌, ◌/◌};
+ghost use Rattle.alpha_values.specs.Address.{address_of, high_address_of, access_address};
+
+use alpha_table::MemAccess;
 
 /// The base plus the displacement in bytes, modulo 2^64 (Architecture Handbook, load address
 /// instructions).
@@ -14,4 +16,22 @@ pub fn high_address(base: u64, disp: i16) -> u64
     ensures { result ≡ high_address_of base disp }
 {
     base.wrapping_add_signed(i64::from(disp) * 0x1_0000)
+}
+
+/// The address of an access whose base register has this value, with the three low bits cleared for
+/// LDQ_U and STQ_U (Architecture Handbook, memory integer load and store instructions).
+#[tactic(auto, unfolding(crate::specs::Address::access_address))]
+pub fn access_address(access: &MemAccess, base: u64) -> u64
+    ensures { result ≡ access_address access.now base }
+{
+    let MemAccess { disp, clears, .. } = *access;
+    let at = address(base, disp);
+    if clears { cleared(at) } else { at }
+}
+
+// The number with its three low bits cleared.
+fn cleared(at: u64) -> u64
+    ensures { result ≡ at / 8 * 8 }
+{
+    at >> 3 << 3
 }

@@ -1,25 +1,53 @@
-ghost use Rattle.std.specs.Prelude.{◌≡◌, ℕ, ℤ, pos, ◌-ℤ◌, ◌+◌, ◌*◌, ◌%◌, ◌^◌, ◌<◌, ◌↔◌, Some, FitsSigned};
-ghost use Rattle.alpha_words.specs.declared.Completion.TheVariants.{Wrap};
+ghost use Rattle.std.specs.Prelude.{◌≡◌, ℕ, ℤ, pos, ◌-ℤ◌, ◌+◌, ◌*◌, ◌%◌, ◌^◌, ◌<◌, ◌≤◌, ◌↔◌, Some, false, FitsSigned};
+ghost use Rattle.std.specs.Int.{w16};
+ghost use Rattle.alpha_words.specs.declared.Completion.TheVariants.{Wrap, Stop};
 ghost use Rattle.alpha_table.specs.declared.op.Op.TheVariants.{Addq, Subq, Mulq};
+ghost use Rattle.alpha_table.specs.declared.columns.MemAccess.{MemAccess};
 ghost use Rattle.alpha_table.specs.Op.{trap_of};
-ghost use Rattle.alpha_values.specs.Numbers.{kept, address_of, high_address_of};
+ghost use Rattle.alpha_values.specs.Numbers.{register_of};
 ghost use Rattle.alpha_values.specs.TrapOp.{size_of, exact, Overflows, completed_of};
+ghost use Rattle.alpha_values.specs.Address.{address_of, high_address_of, access_address, Covers, SpansMeet};
 ghost use Rattle.alpha_values.specs.Op.{result_of};
 
-/// The laws of results and completed values: each fits a register, the value completed by wrap is
-/// what [`operate`](crate::operate) gives, and without an overflow either completion is the exact
-/// result. Quadword sums, differences and products are those of the unsigned operands modulo 2^64.
-pub fn value_laws()
-    ensures result_fits { (op : _) (a b old : ℕ) → a < 2 ^ 64 → b < 2 ^ 64 → old < 2 ^ 64 → result_of op a b old < 2 ^ 64 }
-    ensures completed_fits { (op : _) (a b : ℕ) (how : _) → completed_of op a b how < 2 ^ 64 }
-    ensures address_fits { (base : ℕ) (disp : ℤ) → address_of base disp < 2 ^ 64 }
-    ensures high_address_fits { (base : ℕ) (disp : ℤ) → high_address_of base disp < 2 ^ 64 }
+/// The laws of results: each fits a register. Quadword sums, differences and products are those of
+/// the unsigned operands modulo 2^64.
+pub fn laws_of_results()
+    ensures bound { (level : _) (op : _) (a b old : ℕ) → a < 2 ^ 64 → b < 2 ^ 64 → old < 2 ^ 64
+        → result_of level op a b old < 2 ^ 64 }
+    ensures sum { (level : _) (a b old : ℕ) → result_of level Addq a b old ≡ (a + b) % 2 ^ 64 }
+    ensures difference { (level : _) (a b old : ℕ)
+        → result_of level Subq a b old ≡ register_of (pos a -ℤ pos b) }
+    ensures product { (level : _) (a b old : ℕ) → result_of level Mulq a b old ≡ a * b % 2 ^ 64 }
+{}
 
-    ensures range { (op : _) (a b : ℕ) → Overflows op a b ↔ ¬ FitsSigned (size_of op) (exact op a b) }
-    ensures wrap { (row : _) (op : _) (a b old : ℕ) → trap_of row ≡ Some op → completed_of op a b Wrap ≡ result_of row a b old }
-    ensures unchanged { (op : _) (a b : ℕ) (how : _) → ¬ Overflows op a b → completed_of op a b how ≡ kept (exact op a b) }
+/// The laws of completion: an instruction overflows exactly where its exact result lies outside the
+/// signed range of its size. Each completed value fits a register. Completed by wrap or stop it is
+/// the result of [`operate_at`](crate::operate_at), and without an overflow it is the exact result.
+pub fn laws_of_completion()
+    ensures range { (op : _) (a b : ℕ)
+        → Overflows op a b ↔ ¬ FitsSigned (size_of op) (exact op a b) }
+    ensures bound { (op : _) (a b : ℕ) (how : _) → completed_of op a b how < 2 ^ 64 }
+    ensures wrap { (level : _) (row : _) (op : _) (a b old : ℕ) → trap_of row ≡ Some op
+        → completed_of op a b Wrap ≡ result_of level row a b old }
+    ensures stop { (op : _) (a b : ℕ) → completed_of op a b Stop ≡ completed_of op a b Wrap }
+    ensures exact { (op : _) (a b : ℕ) (how : _) → ¬ Overflows op a b
+        → completed_of op a b how ≡ register_of (exact op a b) }
+{}
 
-    ensures sum { (a b old : ℕ) → result_of Addq a b old ≡ (a + b) % 2 ^ 64 }
-    ensures difference { (a b old : ℕ) → result_of Subq a b old ≡ kept (pos a -ℤ pos b) }
-    ensures product { (a b old : ℕ) → result_of Mulq a b old ≡ a * b % 2 ^ 64 }
+/// The laws of addresses: each fits a register. Of two accesses by one base that both lie in memory,
+/// below 2 ^ 30, the spans meet where both touch a byte; and where their spans meet they touch one,
+/// if neither clears bits of its address.
+pub fn laws_of_addresses()
+    ensures bound { (base : ℕ) (disp : ℤ) → address_of base disp < 2 ^ 64 }
+    ensures high_bound { (base : ℕ) (disp : ℤ) → high_address_of base disp < 2 ^ 64 }
+    ensures access_bound { (c : MemAccess) (base : ℕ) → access_address c base < 2 ^ 64 }
+    ensures meets { (a b : MemAccess) (base y : ℕ) → base < 2 ^ 64
+        → FitsSigned w16 a.disp → FitsSigned w16 b.disp
+        → access_address a base + a.bytes ≤ 2 ^ 30 → access_address b base + b.bytes ≤ 2 ^ 30
+        → Covers a base y → Covers b base y → SpansMeet a b }
+    ensures touches { (a b : MemAccess) (base : ℕ) → base < 2 ^ 64
+        → FitsSigned w16 a.disp → FitsSigned w16 b.disp → 0 < a.bytes → 0 < b.bytes
+        → access_address a base + a.bytes ≤ 2 ^ 30 → access_address b base + b.bytes ≤ 2 ^ 30
+        → a.clears ≡ false → b.clears ≡ false → SpansMeet a b
+        → (y : ℕ) × Covers a base y × Covers b base y }
 {}

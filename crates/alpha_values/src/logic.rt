@@ -1,5 +1,5 @@
 ghost use Rattle.std.specs.Prelude.{◌≡◌};
-ghost use Rattle.alpha_values.specs.Digits.{bits_of, inverted};
+ghost use Rattle.alpha_values.specs.Bits.{bits_of, inverted};
 ghost use Rattle.alpha_values.specs.Op.{and_of, or_of, xor_of};
 
 /// Each bit is 1 where it is in both.

@@ -1,6 +1,6 @@
 ghost use Rattle.std.specs.Prelude.{◌≡◌};
 ghost use Rattle.std.specs.Int.{w32, w64};
-ghost use Rattle.alpha_values.specs.Numbers.{signed, kept};
+ghost use Rattle.alpha_values.specs.Numbers.{signed, register_of};
 
 /// The signed number in the low 32 bits.
 pub(crate) fn longword(register: u64) -> i32
@@ -18,7 +18,7 @@ pub(crate) fn quadword(register: u64) -> i64
 
 /// The register that holds a number.
 pub(crate) fn register(number: i64) -> u64
-    ensures { result ≡ kept number }
+    ensures { result ≡ register_of number }
 {
     number.cast_unsigned()
 }

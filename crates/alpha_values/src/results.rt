@@ -1,12 +1,14 @@
 ghost use Rattle.std.specs.Prelude.{◌≡◌, if◌then◌else◌};
 ghost use Rattle.alpha_values.specs.Cond.{is_taken};
 ghost use Rattle.alpha_values.specs.TrapOp.{completed_of};
-ghost use Rattle.alpha_values.specs.Op.{result_of};
+ghost use Rattle.alpha_words.specs.declared.Level.TheVariants.{One};
+ghost use Rattle.alpha_values.specs.Op.{features, implementation, result_of};
 
 use crate::bytes::{
     compare_bytes, extract_high, extract_low, insert_high, insert_low, mask_high, mask_low, zap,
     zap_not,
 };
+use crate::counts::{ones, zeros_above, zeros_below};
 use crate::logic::{and, not, or, xor};
 use crate::number::quadword;
 use crate::shifts::{shifted_left, shifted_right, shifted_signed};
@@ -16,21 +18,21 @@ use crate::sums::{
 };
 use crate::{completed, taken};
 use alpha_table::{Cond, Op, TrapOp};
-use alpha_words::Completion;
+use alpha_words::{Completion, Level};
 
-/// The bits of AMASK that an implementation of level 1 clears: bit 0, the byte and word
-/// instructions.
-const FEATURES: u64 = 1;
-
-/// IMPLVER of level 1.
-const IMPLEMENTATION: u64 = 1;
+/// The result of an operate instruction of an implementation of level one: [`operate_at`] there.
+pub fn operate(op: Op, a: u64, b: u64, old: u64) -> u64
+    ensures { result ≡ result_of One op a b old }
+{
+    operate_at(Level::One, op, a, b, old)
+}
 
 /// The result of an operate instruction (Architecture Handbook, instruction descriptions): `a` is
 /// Ra, `b` is Rb or the literal, and `old` is what the destination had, which a conditional move
-/// may leave there. A `/V` row gives the wrapped result.
+/// may leave there. A `/V` row gives the wrapped result. AMASK and IMPLVER alone depend on the level.
 #[tactic(auto, unfolding(crate::specs::Op::result_of, crate::specs::TrapOp::completed_of))]
-pub fn operate(op: Op, a: u64, b: u64, old: u64) -> u64
-    ensures { result ≡ result_of op a b old }
+pub fn operate_at(level: Level, op: Op, a: u64, b: u64, old: u64) -> u64
+    ensures { result ≡ result_of level op a b old }
 {
     match op {
         Op::Addl | Op::AddlV => wrapped(TrapOp::AddlV, a, b),
@@ -62,8 +64,11 @@ pub fn operate(op: Op, a: u64, b: u64, old: u64) -> u64
         Op::Bic => and(a, not(b)),
         Op::Ornot => or(a, not(b)),
         Op::Eqv => xor(a, not(b)),
-        Op::Amask => and(b, not(FEATURES)),
-        Op::Implver => IMPLEMENTATION,
+        Op::Amask => and(b, not(features(level))),
+        Op::Implver => implementation(level),
+        Op::Ctpop => ones(b),
+        Op::Ctlz => zeros_above(b),
+        Op::Cttz => zeros_below(b),
         Op::Cmovlbs => moved(Cond::Lbs, a, b, old),
         Op::Cmovlbc => moved(Cond::Lbc, a, b, old),
         Op::Cmoveq => moved(Cond::Eq, a, b, old),
@@ -113,4 +118,25 @@ fn moved(c: Cond, a: u64, b: u64, old: u64) -> u64
     ensures { result ≡ (if is_taken c a then b else old) }
 {
     if taken(c, a) { b } else { old }
+}
+
+// The features of an implementation, which AMASK clears: bit 0 for the byte and word instructions,
+// bit 2 for the counts.
+fn features(level: Level) -> u64
+    ensures { result ≡ features level }
+{
+    match level {
+        Level::One => 1,
+        Level::Two => 5,
+    }
+}
+
+// What IMPLVER answers: 1 for a 21164, 2 for a 21264.
+fn implementation(level: Level) -> u64
+    ensures { result ≡ implementation level }
+{
+    match level {
+        Level::One => 1,
+        Level::Two => 2,
+    }
 }

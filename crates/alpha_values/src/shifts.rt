@@ -1,6 +1,6 @@
 ghost use Rattle.std.specs.Prelude.{◌≡◌, ◌*◌, ◌/◌, ◌%◌, ◌^◌};
 ghost use Rattle.std.specs.Int.{w64, int_shr};
-ghost use Rattle.alpha_values.specs.Numbers.{signed, kept};
+ghost use Rattle.alpha_values.specs.Numbers.{signed, register_of};
 
 use crate::number::{quadword, register};
 
@@ -20,7 +20,7 @@ pub(crate) fn shifted_right(a: u64, b: u64) -> u64
 
 /// Ra shifted right by Rb modulo 64, with the sign shifted in.
 pub(crate) fn shifted_signed(a: u64, b: u64) -> u64
-    ensures { result ≡ kept (int_shr (signed w64 a) (b % 64)) }
+    ensures { result ≡ register_of (int_shr (signed w64 a) (b % 64)) }
 {
     register(quadword(a) >> (b & 63))
 }

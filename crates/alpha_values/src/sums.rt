@@ -1,6 +1,6 @@
 ghost use Rattle.std.specs.Prelude.{◌≡◌, ◌+ℤ◌, ◌-ℤ◌, ◌*ℤ◌, ◌*◌, ◌/◌, ◌^◌};
 ghost use Rattle.std.specs.Int.{w8, w16, w32, w64};
-ghost use Rattle.alpha_values.specs.Numbers.{signed, kept, wrapped};
+ghost use Rattle.alpha_values.specs.Numbers.{signed, register_of, wrapped};
 
 use crate::number::{longword, quadword, register};
 
@@ -45,14 +45,14 @@ pub(crate) fn high_product(a: u64, b: u64) -> u64
 
 /// The low byte, as a signed number.
 pub(crate) fn extended_byte(b: u64) -> u64
-    ensures { result ≡ kept (signed w8 b) }
+    ensures { result ≡ register_of (signed w8 b) }
 {
     register(i64::from(((b & 0xff) as u8).cast_signed()))
 }
 
 /// The low word of 16 bits, as a signed number.
 pub(crate) fn extended_word(b: u64) -> u64
-    ensures { result ≡ kept (signed w16 b) }
+    ensures { result ≡ register_of (signed w16 b) }
 {
     register(i64::from(((b & 0xffff) as u16).cast_signed()))
 }

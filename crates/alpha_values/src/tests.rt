@@ -1,72 +1,6 @@
-// A table of measured results: a row has the instruction, Ra, Rb, what the destination had, and the
-// result.
-macro_rules! measured {
-    ($($op:ident $a:literal $b:literal $old:literal $want:literal,)*) => {
-        [$((Op::$op, $a, $b, $old, $want),)*]
-    };
-}
-
-// A table of measured traps: the instruction, Ra, Rb, the wrapped result, and whether it overflowed.
-macro_rules! trapping {
-    ($($op:ident $a:literal $b:literal $want:literal $overflow:literal,)*) => {
-        [$((TrapOp::$op, $a, $b, $want, $overflow),)*]
-    };
-}
-
-mod compares;
-mod extracts;
-mod inserts;
-mod logic;
-mod long_sums;
-mod masks;
-mod moves;
-mod products;
-mod quad_sums;
-mod traps;
-
 use crate::*;
-use alpha_table::{Cond, Op, TrapOp};
-use alpha_words::Completion;
-use std::process::Abort;
-
-/// A result measured on another implementation of the processor: the instruction, Ra, Rb, what the
-/// destination had, and the result.
-type Measured = (Op, u64, u64, u64, u64);
-
-fn assert_measured(rt: &impl Abort, rows: &[Measured]) {
-    for &(op, a, b, old, want) in rows {
-        assert_eq!(rt;
-            operate(op, a, b, old),
-            want,
-            "at {op:?} {a:x} {b:x} {old:x}"
-        );
-    }
-}
-
-#[test]
-fn results_are_the_measured_ones(rt: HostRuntime) {
-    assert_measured(&rt, &long_sums::LONG_SUMS);
-    assert_measured(&rt, &quad_sums::QUAD_SUMS);
-    assert_measured(&rt, &products::PRODUCTS);
-    assert_measured(&rt, &compares::COMPARES);
-    assert_measured(&rt, &logic::LOGIC);
-    assert_measured(&rt, &moves::MOVES);
-    assert_measured(&rt, &extracts::EXTRACTS);
-    assert_measured(&rt, &inserts::INSERTS);
-    assert_measured(&rt, &masks::MASKS);
-}
-
-#[test]
-fn traps_are_the_measured_ones(rt: HostRuntime) {
-    for &(op, a, b, want, overflow) in &traps::TRAPS {
-        assert_eq!(rt; overflows(op, a, b), overflow, "at {op:?} {a:x} {b:x}");
-        assert_eq!(rt;
-            completed(op, a, b, Completion::Wrap),
-            want,
-            "at {op:?} {a:x} {b:x}"
-        );
-    }
-}
+use alpha_table::{Cond, MemAccess, Op, TrapOp};
+use alpha_words::{Completion, Level, Reg};
 
 // Chosen results: sums, products and byte forms at their edges.
 #[test]
@@ -124,6 +58,65 @@ fn saturation_gives_the_nearest_bound(rt: HostRuntime) {
             "at {op:?} {a:x} {b:x}"
         );
     }
+}
+
+#[test]
+fn counts_at_their_ends(rt: HostRuntime) {
+    for (b, ones, above, below) in [
+        (0, 0, 64, 64),
+        (1, 1, 63, 0),
+        (1 << 63, 1, 0, 63),
+        (240, 4, 56, 4),
+        (u64::MAX, 64, 0, 0),
+    ] {
+        assert_eq!(rt;
+            operate_at(Level::Two, Op::Ctpop, 0, b, 0),
+            ones,
+            "at {b:x}"
+        );
+        assert_eq!(rt;
+            operate_at(Level::Two, Op::Ctlz, 0, b, 0),
+            above,
+            "at {b:x}"
+        );
+        assert_eq!(rt;
+            operate_at(Level::Two, Op::Cttz, 0, b, 0),
+            below,
+            "at {b:x}"
+        );
+    }
+}
+
+#[test]
+fn each_level_says_what_it_has(rt: HostRuntime) {
+    assert_eq!(rt; operate_at(Level::One, Op::Amask, 0, 255, 0), 254);
+    assert_eq!(rt; operate_at(Level::Two, Op::Amask, 0, 255, 0), 250);
+    assert_eq!(rt; operate_at(Level::One, Op::Implver, 0, 1, 0), 1);
+    assert_eq!(rt; operate_at(Level::Two, Op::Implver, 0, 1, 0), 2);
+}
+
+#[test]
+fn stop_completes_as_wrap(rt: HostRuntime) {
+    let most = 0x7fff_ffff_ffff_ffff;
+    assert_eq!(rt;
+        completed(TrapOp::AddqV, most, 1, Completion::Stop),
+        1 << 63
+    );
+    assert_eq!(rt; completed(TrapOp::AddqV, 2, 3, Completion::Stop), 5);
+}
+
+#[test]
+fn an_unaligned_access_begins_at_its_quadword(rt: HostRuntime) {
+    let mut access = MemAccess {
+        base: Reg::ZERO,
+        disp: -1,
+        bytes: 8,
+        clears: true,
+    };
+    assert_eq!(rt; access_address(&access, 0x1_0010), 0x1_0008);
+    assert_eq!(rt; access_address(&access, 0), 0xffff_ffff_ffff_fff8);
+    access.clears = false;
+    assert_eq!(rt; access_address(&access, 0x1_0010), 0x1_000f);
 }
 
 #[test]

@@ -23,15 +23,16 @@ pub fn overflows(op: TrapOp, a: u64, b: u64) -> bool
     }
 }
 
-/// The value that a trap handler completes the instruction with, from Ra and Rb: the exact result
-/// where it lies in the signed range of the size, else the number of the range that is congruent to
-/// it, or the nearest bound.
+/// The value that completes the instruction, from Ra and Rb: the exact result where it lies in the
+/// signed range of the size, else by wrap the number of the range that is congruent to it, and by
+/// saturate the nearest bound. Stop has the value of wrap, since the instruction completes by it
+/// where nothing overflows.
 #[tactic(auto, unfolding(crate::specs::TrapOp::completed_of))]
 pub fn completed(op: TrapOp, a: u64, b: u64, how: Completion) -> u64
     ensures { result ≡ completed_of op a b how }
 {
     register(match how {
-        Completion::Wrap => wrapping(op, a, b),
+        Completion::Wrap | Completion::Stop => wrapping(op, a, b),
         Completion::Saturate => saturating(op, a, b),
     })
 }

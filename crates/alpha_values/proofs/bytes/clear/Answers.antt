@@ -1,6 +1,7 @@
 use Rattle.std.proofs.Common.{◌≡◌, ◌∙◌, refl, ap, arith}
 use Rattle.alpha_values.proofs.PlaceLemmas.{cleared_from, cleared_from-all, cleared_from-more}
-use Rattle.alpha_values.specs.Digits.{number, pairwise, digits}
+use Rattle.alpha_words.specs.Digits.{number, digits}
+use Rattle.alpha_values.specs.Bits.{pairwise}
 use Rattle.alpha_values.proofs.bytes.clear.Goals as goal
 
 pub loop-k-init : goal.loop-k-init

@@ -1,6 +1,7 @@
 use Rattle.std.proofs.Common.{◌≡◌, ◌∙◌, refl, ap, arith}
 use Rattle.alpha_values.proofs.PlaceLemmas.{compared_from, compared_from-all, compared_from-more}
-use Rattle.alpha_values.specs.Digits.{number, pairwise, digits}
+use Rattle.alpha_words.specs.Digits.{number, digits}
+use Rattle.alpha_values.specs.Bits.{pairwise}
 use Rattle.alpha_values.proofs.bytes.compare_bytes.Goals as goal
 
 pub loop-k-init : goal.loop-k-init

@@ -1,5 +1,5 @@
 use Rattle.std.proofs.Common.{◌∙◌, ap}
-use Rattle.alpha_values.specs.Digits.{digits}
+use Rattle.alpha_words.specs.Digits.{digits}
 use Rattle.alpha_values.specs.Bytes.{cleared}
 use Rattle.alpha_values.proofs.ByteLemmas.{masked_low_is}
 use Rattle.alpha_values.proofs.bytes.mask_low.Goals as goal

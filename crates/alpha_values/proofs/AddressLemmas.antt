@@ -1,0 +1,114 @@
+-- Where two accesses by one base touch a common byte.
+use Rattle.std.proofs.Common.{◌≡◌, ℕ, ◌+◌, ◌-◌, ◌*◌, ◌/◌, ◌%◌, ◌^◌, ◌<◌, ◌≤◌, Bool, true, false, cond, ℤ, pos, negsuc, ◌+ℤ◌, ◌-ℤ◌, ◌<ℤ◌, FitsSigned, sym, ap, arith, max}
+use Rattle.std.specs.Int.{w16}
+use Rattle.std.proofs.lemmas.Int.{ints}
+use Rattle.std.proofs.lemmas.Bool.{cond_both}
+use Rattle.alpha_table.specs.declared.columns.MemAccess.{MemAccess}
+use Rattle.alpha_table.specs.Columns.{bytes_spanned}
+use Rattle.alpha_values.specs.Address.{address_of, access_address, Covers, SpansMeet}
+use Rattle.alpha_values.proofs.Words.{register_is, register_bound}
+
+-- a displacement, counted from the lowest one
+raised : ℤ → ℕ
+raised (pos n) = n + 32768
+raised (negsuc n) = 32767 - n
+
+raised_is : (d : ℤ) → FitsSigned w16 d → (pos (raised d) ≡ d +ℤ pos 32768) × (raised d < 65536)
+unfolding raised
+raised_is (pos n) fits = let h = fits.sfits in (omega (arith, ints), omega arith)
+raised_is (negsuc n) fits = let h = fits.sfits in (omega (arith, ints), omega arith)
+
+address_raised : (base : ℕ) (d : ℤ) → FitsSigned w16 d → address_of base d ≡ (base + (2 ^ 64 - 32768) + raised d) % 2 ^ 64
+unfolding address_of
+address_raised base d fits =
+    let is = (raised_is d fits).0 in
+    register_is (pos base +ℤ d) 1 (base + (2 ^ 64 - 32768) + raised d) (omega (arith, ints))
+
+-- where two addresses by one base lie in memory, they lie as far apart as their displacements
+as_far : (base : ℕ) (d e : ℤ) → base < 2 ^ 64 → FitsSigned w16 d → FitsSigned w16 e
+    → address_of base d < 2 ^ 31 → address_of base e < 2 ^ 31 → address_of base d + raised e ≡ address_of base e + raised d
+as_far base d e small fits also low under =
+    omega (arith, address_raised base d fits, address_raised base e also, (raised_is d fits).1, (raised_is e also).1)
+
+address_of-lt : (base : ℕ) (d : ℤ) → address_of base d < 2 ^ 64
+unfolding address_of
+address_of-lt base d = register_bound _
+
+-- an access by the way it comes to its address
+access_by : (c : MemAccess) (base : ℕ) (clears : Bool) → c.clears ≡ clears → access_address c base ≡ cond clears (address_of base c.disp / 8 * 8) (address_of base c.disp)
+unfolding access_address
+access_by c base clears e = ap (λ b. cond b (address_of base c.disp / 8 * 8) (address_of base c.disp)) e
+
+pub access_address-lt : (c : MemAccess) (base : ℕ) → access_address c base < 2 ^ 64
+unfolding access_address
+access_address-lt c base =
+    let small = address_of-lt base c.disp in
+    cond_both c.clears (address_of base c.disp / 8 * 8) (address_of base c.disp) (λ n. n < 2 ^ 64) (λ e. omega arith) (λ e. small)
+
+-- the access begins at its address or, with bits cleared, up to seven bytes before
+record Near (c : MemAccess) (base : ℕ) : Type 0 where
+  low : address_of base c.disp ≤ access_address c base + cond c.clears 7 0
+  high : access_address c base ≤ address_of base c.disp
+
+cleared_low : (clears : Bool) (n : ℕ) → n ≤ cond clears (n / 8 * 8) n + cond clears 7 0
+cleared_low true n = omega arith
+cleared_low false n = omega arith
+
+cleared_high : (clears : Bool) (n : ℕ) → cond clears (n / 8 * 8) n ≤ n
+cleared_high true n = omega arith
+cleared_high false n = omega arith
+
+near : (c : MemAccess) (base : ℕ) → Near c base
+unfolding access_address
+near c base = record {
+  low = cleared_low c.clears (address_of base c.disp);
+  high = cleared_high c.clears (address_of base c.disp);
+}
+
+-- what lies in memory lies below 2 ^ 31 before its bits are cleared
+in_memory : (c : MemAccess) (base : ℕ) → access_address c base + c.bytes ≤ 2 ^ 30 → address_of base c.disp < 2 ^ 31
+in_memory c base h =
+    let close = near c base in
+    let few : cond c.clears 7 0 ≤ 7 = cond_both c.clears 7 0 (λ n. n ≤ 7) (λ e. omega arith) (λ e. omega arith) in
+    omega arith
+
+-- a displacement below another and some bytes
+below_end : (clears : Bool) (d e : ℤ) (n : ℕ) → FitsSigned w16 d → FitsSigned w16 e
+    → raised d < raised e + n + cond clears 7 0 → cond clears (d -ℤ pos 7) d <ℤ (e +ℤ pos n)
+below_end true d e n fits also h = let p = (raised_is d fits).0 in let q = (raised_is e also).0 in omega (arith, ints)
+below_end false d e n fits also h = let p = (raised_is d fits).0 in let q = (raised_is e also).0 in omega (arith, ints)
+
+below_end-back : (clears : Bool) (d e : ℤ) (n : ℕ) → FitsSigned w16 d → FitsSigned w16 e → clears ≡ false
+    → cond clears (d -ℤ pos 7) d <ℤ (e +ℤ pos n) → raised d < raised e + n
+below_end-back true d e n fits also none h = absurd cc
+below_end-back false d e n fits also none h = let p = (raised_is d fits).0 in let q = (raised_is e also).0 in omega (arith, ints)
+
+-- where a byte of a isn't past the end of b, a begins below b's end
+one_end : (a b : MemAccess) (base y : ℕ) → FitsSigned w16 a.disp → FitsSigned w16 b.disp
+    → address_of base a.disp + raised b.disp ≡ address_of base b.disp + raised a.disp
+    → access_address a base ≤ y → y < access_address b base + b.bytes
+    → (bytes_spanned a).low <ℤ (bytes_spanned b).high
+one_end a b base y fits also far from below =
+    let near_a = near a base in
+    let near_b = near b base in
+    below_end a.clears a.disp b.disp b.bytes fits also (omega (arith, near_a.low, near_b.high))
+
+-- two accesses by one base that touch a common byte of memory: their spans meet
+pub common-meets : (a b : MemAccess) (base y : ℕ) → base < 2 ^ 64 → FitsSigned w16 a.disp → FitsSigned w16 b.disp
+    → access_address a base + a.bytes ≤ 2 ^ 30 → access_address b base + b.bytes ≤ 2 ^ 30
+    → Covers a base y → Covers b base y → SpansMeet a b
+common-meets a b base y small fits also there there_too one other =
+    let far = as_far base a.disp b.disp small fits also (in_memory a base there) (in_memory b base there_too) in
+    (one_end a b base y fits also far one.from other.below, one_end b a base y also fits (sym far) other.from one.below)
+
+-- and where their spans meet they touch one, if neither clears bits of its address
+pub meeting-touches : (a b : MemAccess) (base : ℕ) → base < 2 ^ 64 → FitsSigned w16 a.disp → FitsSigned w16 b.disp → 0 < a.bytes → 0 < b.bytes
+    → access_address a base + a.bytes ≤ 2 ^ 30 → access_address b base + b.bytes ≤ 2 ^ 30 → a.clears ≡ false → b.clears ≡ false
+    → SpansMeet a b → (y : ℕ) × Covers a base y × Covers b base y
+meeting-touches a b base small fits also some some_too there there_too plain plain_too meet =
+    let far = as_far base a.disp b.disp small fits also (in_memory a base there) (in_memory b base there_too) in
+    let x = access_by a base false plain in
+    let y = access_by b base false plain_too in
+    let low = below_end-back a.clears a.disp b.disp b.bytes fits also plain meet.0 in
+    let high = below_end-back b.clears b.disp a.disp a.bytes also fits plain_too meet.1 in
+    (max (access_address a base) (access_address b base), record { from = omega arith; below = omega arith }, record { from = omega arith; below = omega arith })
