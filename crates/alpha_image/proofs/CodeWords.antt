@@ -1,19 +1,24 @@
--- The words in a list of bytes, and the first word outside the table.
-use Rattle.std.proofs.Common.{◌≡◌, ℕ, zero, suc, ◌+◌, ◌*◌, ◌-◌, ◌/◌, ◌^◌, ◌<◌, ◌≤◌, cond, ◌++◌, Bool, true, false, List, [], ◌∷◌, length, get_or, Option, Some, None, refl, ap, sym, ◌∙◌, arith, slice_index, is_none, position}
+-- The words in a list of bytes, and the first word outside the table or above the level.
+use Rattle.std.proofs.Common.{◌≡◌, ℕ, zero, suc, ◌+◌, ◌*◌, ◌-◌, ◌/◌, ◌^◌, ◌<◌, ◌≤◌, cond, ◌++◌, Bool, true, false, List, [], ◌∷◌, length, get_or, Option, Some, None, not, refl, ap, sym, ◌∙◌, arith, slice_index, position}
 use Rattle.std.specs.List.{position_or_len, flat_map, All}
-use Rattle.std.specs.Option.{option_map, IsSome}
+use Rattle.std.specs.Option.{option_map, IsSomeAnd}
 use Rattle.std.proofs.lemmas.List.Elements.{All-from_get_or, All-get_or, All-head, All-tail}
 use Rattle.std.proofs.lemmas.Bool.{ltb-false}
 use Rattle.std.proofs.lemmas.List.{length-append}
 use Rattle.std.proofs.Common.{ltb}
-use Rattle.std.proofs.lemmas.Bool.{lt-ltb, le-ltb}
+use Rattle.std.proofs.lemmas.Bool.{lt-ltb, le-ltb, le-leb}
+use Rattle.std.proofs.lemmas.Bool.Decides.{nat_tests}
 use Rattle.std.proofs.lemmas.List.Sums.{position_or_len_is, fails_before_first}
+use Rattle.alpha_words.specs.declared.Level.{Level}
+use Rattle.alpha_table.specs.declared.form.Form.{Form}
 use Rattle.alpha_table.specs.Decoded.{decoded}
+use Rattle.alpha_table.specs.Columns.{level_of}
 use Rattle.alpha_image.specs.declared.fault.ImageFault.TheVariants.{BadWord}
 use Rattle.alpha_image.specs.Layout.{words_of, longword, longword_at}
-use Rattle.alpha_image.specs.Parts.{IsTableWord}
+use Rattle.alpha_words.specs.Levels.{level_number}
+use Rattle.alpha_image.specs.Parts.{IsCodeWord, IsWithin}
 use Rattle.alpha_image.proofs.Numbers.{IsBytes, longword_at-lt, IsBytes-take, longword-longword_at, longword_at-front, length-longword}
-use Rattle.alpha_image.specs.ImageFault.{bad_place, word_fault}
+use Rattle.alpha_image.specs.ImageFault.{is_there, bad_place, word_fault}
 
 pub length-words_of : (bytes : List ℕ) → length (words_of bytes) ≡ length bytes / 4
 length-words_of [] = refl
@@ -41,24 +46,24 @@ get_or-words_of (a ∷ b ∷ c ∷ d ∷ rest) (suc place) h =
     let four : 4 * suc place ≡ suc (suc (suc (suc (4 * place)))) = omega arith in
     get_or-words_of rest place (omega arith) ∙ sym (longword_at-later a b c d (4 * place) rest) ∙ ap (λ (n : ℕ). longword_at n (a ∷ b ∷ c ∷ d ∷ rest)) (sym four)
 
-abbrev outside : ℕ → Bool
-outside word = is_none (decoded word)
+abbrev outside : Level → ℕ → Bool
+outside level word = not (is_there level (decoded word))
 
--- each word below a place is in the table
-abbrev pub AreInside : List ℕ → ℕ → Type 0
-AreInside words place = (k : ℕ) → k < place → is_none (decoded (get_or words k 0)) ≡ false
+-- each word below a place is in the table at the level
+abbrev pub AreInside : Level → List ℕ → ℕ → Type 0
+AreInside level words place = (k : ℕ) → k < place → is_there level (decoded (get_or words k 0)) ≡ true
 
-pub word_fault-first : (words : List ℕ) (place : ℕ) → place < length words → AreInside words place → is_none (decoded (get_or words place 0)) ≡ true → word_fault words ≡ Some (BadWord place (get_or words place 0))
+pub word_fault-first : (level : Level) (words : List ℕ) (place : ℕ) → place < length words → AreInside level words place → is_there level (decoded (get_or words place 0)) ≡ false → word_fault level words ≡ Some (BadWord place (get_or words place 0))
 unfolding word_fault bad_place
-word_fault-first words place below inside here =
-    let e = position_or_len_is outside words place 0 (omega arith) inside (λ _. here) in
+word_fault-first level words place below inside here =
+    let e = position_or_len_is (outside level) words place 0 (omega arith) (λ k h. ap not (inside k h)) (λ h. ap not here) in
     let t : ltb place (length words) ≡ true = lt-ltb _ _ below in
     rw (e, t) refl
 
-pub word_fault-none : (words : List ℕ) → AreInside words (length words) → word_fault words ≡ None
+pub word_fault-none : (level : Level) (words : List ℕ) → AreInside level words (length words) → word_fault level words ≡ None
 unfolding word_fault bad_place
-word_fault-none words inside =
-    let e = position_or_len_is outside words (length words) 0 (omega arith) inside (λ h. absurd (omega arith)) in
+word_fault-none level words inside =
+    let e = position_or_len_is (outside level) words (length words) 0 (omega arith) (λ k h. ap not (inside k h)) (λ h. absurd (omega arith)) in
     let t : ltb (length words) (length words) ≡ false = le-ltb _ _ (omega arith) in
     rw (e, t) refl
 
@@ -71,27 +76,27 @@ chosen_none : {A : Type 0} (b : Bool) (x : A) → cond b (Some x) None ≡ None 
 chosen_none true x e = absurd cc
 chosen_none false x e = refl
 
-some_from_test : {A : Type 0} (o : Option A) → is_none o ≡ false → IsSome o
-some_from_test None e = absurd cc
-some_from_test (Some x) e = refl
+code_word_from_test : (level : Level) (o : Option Form) → not (is_there level o) ≡ false → IsSomeAnd o (λ i. IsWithin (level_of i) level)
+code_word_from_test level None e = absurd cc
+code_word_from_test level (Some i) e = grind (arith, nat_tests)
 
-test_from_some : {A : Type 0} (o : Option A) → IsSome o → is_none o ≡ false
-test_from_some None e = absurd cc
-test_from_some (Some x) e = refl
+test_from_code_word : (level : Level) (o : Option Form) → IsSomeAnd o (λ i. IsWithin (level_of i) level) → is_there level o ≡ true
+test_from_code_word level None e = absurd e
+test_from_code_word level (Some i) e = le-leb (level_number (level_of i)) (level_number level) e
 
--- words without a fault are of the table
-pub All-word_fault : (words : List ℕ) → ((k : ℕ) → k < length words → get_or words k 0 < 2 ^ 32) → word_fault words ≡ None → All IsTableWord words
+-- words without a fault are of the table, at the level
+pub All-word_fault : (level : Level) (words : List ℕ) → ((k : ℕ) → k < length words → get_or words k 0 < 2 ^ 32) → word_fault level words ≡ None → All (IsCodeWord level) words
 unfolding word_fault bad_place
-All-word_fault words small e =
-    let place = position_or_len outside words in
-    let none = option_map-none (λ (k : ℕ). BadWord k (slice_index words k)) (position outside words) e in
+All-word_fault level words small e =
+    let place = position_or_len (outside level) words in
+    let none = option_map-none (λ (k : ℕ). BadWord k (slice_index words k)) (position (outside level) words) e in
     let past : length words ≤ place = ltb-false _ _ (chosen_none (ltb place (length words)) place none) in
-    All-from_get_or IsTableWord words 0 (λ k h. (small k h, some_from_test _ (fails_before_first outside words k 0 (omega arith))))
+    All-from_get_or (IsCodeWord level) words 0 (λ k h. (small k h, code_word_from_test level (decoded (get_or words k 0)) (fails_before_first (outside level) words k 0 (omega arith))))
 
 -- and the other way round
-pub word_fault-All : (words : List ℕ) → All IsTableWord words → word_fault words ≡ None
-word_fault-All words all =
-    word_fault-none words (λ k h. let w = All-get_or IsTableWord words k 0 h all in test_from_some _ w.1)
+pub word_fault-All : (level : Level) (words : List ℕ) → All (IsCodeWord level) words → word_fault level words ≡ None
+word_fault-All level words all =
+    word_fault-none level words (λ k h. let w = All-get_or (IsCodeWord level) words k 0 h all in test_from_code_word level (decoded (get_or words k 0)) w.1)
 
 -- each word has 32 bits
 pub words_of-lt : (bytes : List ℕ) → IsBytes bytes → (k : ℕ) → k < length (words_of bytes) → get_or (words_of bytes) k 0 < 2 ^ 32
@@ -103,11 +108,11 @@ unfolding longword
 words_of-front w rest small = ap (λ (n : ℕ). n ∷ words_of rest) (longword_at-front (longword w) 0 w [] refl small)
 
 -- the words of four bytes each are those that the bytes were made of
-pub words_of-flat_map : (words : List ℕ) → All IsTableWord words → words_of (flat_map longword words) ≡ words
-words_of-flat_map [] all = refl
-words_of-flat_map (w ∷ words) all =
-    words_of-front w (flat_map longword words) (All-head IsTableWord w words all).0
-    ∙ ap (λ (ws : List ℕ). w ∷ ws) (words_of-flat_map words (All-tail IsTableWord w words all))
+pub words_of-flat_map : (level : Level) (words : List ℕ) → All (IsCodeWord level) words → words_of (flat_map longword words) ≡ words
+words_of-flat_map level [] all = refl
+words_of-flat_map level (w ∷ words) all =
+    words_of-front w (flat_map longword words) (All-head (IsCodeWord level) w words all).0
+    ∙ ap (λ (ws : List ℕ). w ∷ ws) (words_of-flat_map level words (All-tail (IsCodeWord level) w words all))
 
 pub flat_map-words_of : (bytes : List ℕ) (n : ℕ) → length bytes ≡ 4 * n → IsBytes bytes → flat_map longword (words_of bytes) ≡ bytes
 flat_map-words_of [] n len fits = refl

@@ -1,132 +1,184 @@
 -- Bytes without a fault are the spelling of the good image that they give.
-use Rattle.std.proofs.Common.{◌≡◌, ◌≢◌, ℕ, ◌*◌, ◌-◌, ◌^◌, ◌<◌, IsTrue, eqb, leb, nat_eq, List, ◌++◌, length, take, drop, Option, Some, None, inl, inr, refl, sym, ap, subst, ◌∙◌, arith}
+use Rattle.std.proofs.Common.{◌≡◌, ◌≢◌, ℕ, ◌*◌, ◌-◌, ◌^◌, ◌<◌, Bool, true, false, cond, IsTrue, eqb, leb, nat_eq, List, ◌++◌, length, take, drop, Option, Some, None, inl, inr, ⊎_elim, refl, sym, ap, subst, ◌∙◌, arith}
 use Rattle.std.specs.List.{starts_with, flat_map, All}
-use Rattle.std.specs.Option.{option_map}
-use Rattle.std.proofs.lemmas.Bool.{eqb-true}
+use Rattle.std.specs.Option.{option_map, option_or}
+use Rattle.std.proofs.lemmas.Bool.{eqb-true, cases_lt}
 use Rattle.std.proofs.lemmas.Bool.Decides.{Decides-eqb}
 use Rattle.std.proofs.lemmas.Slice.Eq.{starts_is}
-use Rattle.std.proofs.lemmas.List.{length-take, length-drop, take-append-drop, append-nil, take_all, get_or_past}
-use Rattle.std.proofs.lemmas.Bool.{cases_lt}
+use Rattle.std.proofs.lemmas.List.{length-take, length-drop, take-append-drop, take_rest, get_or_past}
 use Rattle.std.proofs.lemmas.List.Elements.{All-from_get_or, All-get_or}
-use Rattle.alpha_image.specs.declared.header.Header.{Header}
+use Rattle.alpha_words.specs.declared.Level.{Level}
 use Rattle.alpha_image.specs.declared.fault.ImageFault.{ImageFault}
 use Rattle.alpha_image.specs.declared.fault.ImageFault.TheVariants.{Short, Magic, Field, Length, BadWord, NoMemory}
-use Rattle.alpha_image.specs.Layout.{magic, quadword, longword, words_of, header_of, size_of, words_in, filled_in}
-use Rattle.alpha_image.specs.Header.{unless, or_else, FieldsFit, least_bad_field}
-use Rattle.alpha_image.specs.Parts.{Parts, header, parts_with, parts_of, IsImage, IsByte, spelling, HasForm}
-use Rattle.alpha_image.specs.ImageFault.{word_fault, field_fault, form_fault, first_fault, parts_fault, Refuses}
-use Rattle.alpha_image.proofs.Numbers.{IsBytes, IsBytes-take, IsBytes-drop, drop-quadword, drop-longword}
-use Rattle.alpha_image.proofs.Rules.{or_else-none, unless-none, FieldsFit-least}
+use Rattle.alpha_image.specs.declared.version.Version.{Version}
+use Rattle.alpha_image.specs.declared.version.Version.TheVariants.{One, Two}
+use Rattle.alpha_image.specs.Numbers.{Numbers}
+use Rattle.alpha_image.specs.Layout.{magic, longword, words_of, front, front_size, version_of, numbers_in, numbers_of, size_of, filled_size, behind_front, words_in, data_in}
+use Rattle.alpha_image.specs.Rules.{unless, FieldsFit, LevelFits, least_bad_field}
+use Rattle.alpha_words.specs.Levels.{level_number}
+use Rattle.alpha_image.specs.Parts.{Parts, SuitsVersion, numbers, numbered_level, parts_with, parts_of, IsImage, IsByte, spelling, HasForm}
+use Rattle.alpha_image.specs.ImageFault.{word_fault, field_fault, front_fault, form_fault, first_fault, parts_fault, Refuses}
+use Rattle.alpha_image.proofs.Numbers.{IsBytes, IsBytes-take, IsBytes-drop}
+use Rattle.alpha_image.proofs.Fronts.{front-numbers_in}
+use Rattle.alpha_image.proofs.FieldRules.{option_or-none, unless-none, FieldsFit-least}
 use Rattle.alpha_image.proofs.CodeWords.{length-words_of, All-word_fault, words_of-lt, flat_map-words_of, option_map-none}
+use Rattle.alpha_image.proofs.Spelled.{same_level}
 
-starts_magic : (bytes : List ℕ) → IsTrue (starts_with nat_eq bytes magic) → bytes ≡ magic ++ drop 8 bytes
-starts_magic bytes t = (starts_is Decides-eqb bytes magic _ refl).0 t
+starts_magic : (v : Version) (bytes : List ℕ) → IsTrue (starts_with nat_eq bytes (magic v)) → bytes ≡ magic v ++ drop 8 bytes
+starts_magic One bytes t = (starts_is Decides-eqb bytes (magic One) _ refl).0 t
+starts_magic Two bytes t = (starts_is Decides-eqb bytes (magic Two) _ refl).0 t
+
+two_from : (b : Bool) → cond b Two One ≡ Two → IsTrue b
+two_from true e = refl
+two_from false e = absurd cc
+
+starts_two : (bytes : List ℕ) → version_of bytes ≡ Two → IsTrue (starts_with nat_eq bytes (magic Two))
+unfolding version_of
+starts_two bytes e = two_from (starts_with nat_eq bytes (magic Two)) e
+
+starts-front_fault : (v : Version) (bytes : List ℕ) → version_of bytes ≡ v → front_fault v bytes ≡ None → bytes ≡ magic v ++ drop 8 bytes
+unfolding front_fault
+starts-front_fault One bytes e none =
+    let a = option_or-none (unless (leb 48 (length bytes)) (Short (length bytes))) _ none in
+    let b = option_or-none (unless (starts_with nat_eq bytes (magic One)) Magic) _ a.1 in
+    starts_magic One bytes (unless-none _ _ b.0)
+starts-front_fault Two bytes e none = starts_magic Two bytes (starts_two bytes e)
 
 pub HasForm-form_fault : (bytes : List ℕ) → form_fault bytes ≡ None → HasForm bytes
 unfolding form_fault field_fault
 HasForm-form_fault bytes e =
-    let h = header_of bytes in
-    let a = or_else-none (unless (leb 48 (length bytes)) (Short (length bytes))) _ e in
-    let b = or_else-none (unless (starts_with nat_eq bytes magic) Magic) _ a.1 in
-    let c = or_else-none (option_map Field (least_bad_field h)) _ b.1 in
-    let d = or_else-none (unless (eqb (length bytes) (size_of h)) (Length (length bytes) (size_of h))) _ c.1 in
+    let n = numbers_of bytes in
+    let wanted = size_of (version_of bytes) n in
+    let a = option_or-none (front_fault (version_of bytes) bytes) _ e in
+    let b = option_or-none (option_map Field (least_bad_field n)) _ a.1 in
+    let c = option_or-none (unless (eqb (length bytes) wanted) (Length (length bytes) wanted)) _ b.1 in
     record {
-      magic = starts_magic bytes (unless-none _ _ b.0);
-      fields = FieldsFit-least h (option_map-none Field (least_bad_field h) c.0);
-      size = eqb-true _ _ (unless-none _ _ d.0);
+      magic = starts-front_fault (version_of bytes) bytes refl a.0;
+      fields = FieldsFit-least n (option_map-none Field (least_bad_field n) b.0);
+      size = eqb-true _ _ (unless-none _ _ c.0);
     }
 
--- a header whose numbers of words and data bytes are written another way
-same_header : (h : Header) (words filled : ℕ) → words ≡ h.words → filled ≡ h.filled → FieldsFit h → FieldsFit (record h { words = words; filled = filled })
-same_header h words filled e f fit =
-    subst (λ (n : ℕ). FieldsFit (record h { words = words; filled = n })) (sym f)
-    (subst (λ (n : ℕ). FieldsFit (record h { words = n; filled = h.filled })) (sym e) fit)
+-- and what is looked at step by step
+pub HasForm-checked : (bytes : List ℕ) → front_fault (version_of bytes) bytes ≡ None → FieldsFit (numbers_of bytes) → length bytes ≡ size_of (version_of bytes) (numbers_of bytes) → HasForm bytes
+HasForm-checked bytes none fit size = record { magic = starts-front_fault (version_of bytes) bytes refl none; fields = fit; size = size }
 
--- a header whose fields fit, with as many words and data bytes as it says, is a good image's
-pub IsImage-parts_with : (h : Header) (code filled : List ℕ) → FieldsFit h → length code ≡ 4 * h.words → length filled ≡ h.filled → IsBytes code → IsBytes filled → word_fault (words_of code) ≡ None → IsImage (parts_with h (words_of code) filled)
-IsImage-parts_with h code filled fit len1 len2 bytes1 bytes2 none =
-    let words : length (words_of code) ≡ h.words = omega (arith, length-words_of code) in
+-- the level of a number that fits has that number
+pub same_number : (n : Numbers) → LevelFits n → level_number (numbered_level n.level) ≡ n.level
+same_number n fits = ⊎_elim (λ (e : n.level ≡ 1). rw e refl) (λ (e : n.level ≡ 2). rw e refl) fits
+
+-- the numbers of parts with numbers that fit
+pub numbers-parts_with : (v : Version) (n : Numbers) (words bytes : List ℕ) → FieldsFit n → length words ≡ n.words → numbers (parts_with v n words bytes) ≡ n
+numbers-parts_with v n words bytes fit len = rw (same_number n fit.level, len) refl
+
+-- parts with numbers that fit, with as many words and data bytes as they say, are a good image
+pub IsImage-parts_with : (v : Version) (n : Numbers) (code bytes : List ℕ) → FieldsFit n → SuitsVersion v n → length code ≡ 4 * n.words → length bytes ≡ filled_size n.segments → IsBytes code → IsBytes bytes → word_fault (numbered_level n.level) (words_of code) ≡ None → IsImage (parts_with v n (words_of code) bytes)
+IsImage-parts_with v n code bytes fit suits len1 len2 bytes1 bytes2 none =
+    let words : length (words_of code) ≡ n.words = omega (arith, length-words_of code) in
+    let same = sym (numbers-parts_with v n (words_of code) bytes fit words) in
     record {
-      fields = same_header h (length (words_of code)) (length filled) words len2 fit;
-      words = All-word_fault (words_of code) (words_of-lt code bytes1) none;
-      filled = All-from_get_or IsByte filled 0 (λ i _. bytes2 i);
+      version = subst (λ (m : Numbers). SuitsVersion v m) same suits;
+      fields = subst (λ (m : Numbers). FieldsFit m) same fit;
+      words = All-word_fault (numbered_level n.level) (words_of code) (words_of-lt code bytes1) none;
+      bytes = All-from_get_or IsByte bytes 0 (λ i _. bytes2 i);
+      filled = len2;
     }
+
+pub suits-numbers_in : (v : Version) (bytes : List ℕ) → SuitsVersion v (numbers_in v bytes)
+suits-numbers_in One bytes = (refl, refl)
+suits-numbers_in Two bytes = tt
+
+-- the code bytes that stand behind a front
+abbrev pub code_in : List ℕ → List ℕ
+code_in bytes = take (4 * (numbers_of bytes).words) (behind_front bytes)
+
+length-code_in : (bytes : List ℕ) → HasForm bytes → length (code_in bytes) ≡ 4 * (numbers_of bytes).words
+unfolding behind_front
+length-code_in bytes form =
+    let size = front_size (version_of bytes) (numbers_of bytes) in
+    omega (arith, form.size, length-take (4 * (numbers_of bytes).words) (drop size bytes), length-drop size bytes)
+
+length-data_in : (bytes : List ℕ) → HasForm bytes → length (data_in bytes) ≡ filled_size (numbers_of bytes).segments
+unfolding behind_front data_in
+length-data_in bytes form =
+    let size = front_size (version_of bytes) (numbers_of bytes) in
+    omega (arith, form.size, length-drop (4 * (numbers_of bytes).words) (drop size bytes), length-drop size bytes)
+
+bytes-code_in : (bytes : List ℕ) → IsBytes bytes → IsBytes (code_in bytes)
+unfolding behind_front
+bytes-code_in bytes fits =
+    IsBytes-take (4 * (numbers_of bytes).words) (behind_front bytes) (IsBytes-drop (front_size (version_of bytes) (numbers_of bytes)) bytes fits)
+
+bytes-data_in : (bytes : List ℕ) → IsBytes bytes → IsBytes (data_in bytes)
+unfolding behind_front data_in
+bytes-data_in bytes fits =
+    IsBytes-drop (4 * (numbers_of bytes).words) (behind_front bytes) (IsBytes-drop (front_size (version_of bytes) (numbers_of bytes)) bytes fits)
+
+front-behind : (bytes : List ℕ) → IsBytes bytes → HasForm bytes → bytes ≡ front (version_of bytes) (numbers_of bytes) ++ behind_front bytes
+unfolding behind_front
+front-behind bytes fits form = front-numbers_in (version_of bytes) bytes fits (omega (arith, form.size)) form.magic
+
+-- the words of the code
+code-words_in : (bytes : List ℕ) → IsBytes bytes → HasForm bytes → flat_map longword (words_in bytes) ≡ code_in bytes
+unfolding words_in
+code-words_in bytes fits form = flat_map-words_of (code_in bytes) (numbers_of bytes).words (length-code_in bytes form) (bytes-code_in bytes fits)
+
+behind-parts : (bytes : List ℕ) → behind_front bytes ≡ code_in bytes ++ data_in bytes
+unfolding data_in
+behind-parts bytes = sym (take-append-drop (4 * (numbers_of bytes).words) (behind_front bytes))
+
+length-words_in : (bytes : List ℕ) → HasForm bytes → length (words_in bytes) ≡ (numbers_of bytes).words
+unfolding words_in
+length-words_in bytes form = omega (arith, length-words_of (code_in bytes), length-code_in bytes form)
 
 pub spelling-parts_of : (bytes : List ℕ) → IsBytes bytes → HasForm bytes → bytes ≡ spelling (parts_of bytes)
-unfolding spelling words_in filled_in
+unfolding spelling
 spelling-parts_of bytes fits form =
-    let h = header_of bytes in
-    let code = take (4 * h.words) (drop 48 bytes) in
-    let filled = drop (4 * h.words) (drop 48 bytes) in
-    let code_len : length code ≡ 4 * h.words = omega (arith, form.size, length-take (4 * h.words) (drop 48 bytes), length-drop 48 bytes) in
-    let words : h.words ≡ length (words_of code) = omega (arith, length-words_of code) in
-    let filled_len : h.filled ≡ length filled = omega (arith, form.size, length-drop (4 * h.words) (drop 48 bytes), length-drop 48 bytes) in
-    form.magic
-    ∙ ap (λ (t : List ℕ). magic ++ t) (drop-quadword bytes 8 16 fits (omega (arith, form.size)) refl
-    ∙ ap (λ (t : List ℕ). quadword h.code_base ++ t) (drop-quadword bytes 16 24 fits (omega (arith, form.size)) refl
-    ∙ ap (λ (t : List ℕ). quadword h.data_base ++ t) (drop-quadword bytes 24 32 fits (omega (arith, form.size)) refl
-    ∙ ap (λ (t : List ℕ). quadword h.entry ++ t) (drop-longword bytes 32 36 fits (omega (arith, form.size)) refl
-    ∙ (ap (λ (n : ℕ). longword n ++ drop 36 bytes) words
-    ∙ ap (λ (t : List ℕ). longword (length (words_of code)) ++ t) (drop-longword bytes 36 40 fits (omega (arith, form.size)) refl
-    ∙ (ap (λ (n : ℕ). longword n ++ drop 40 bytes) filled_len
-    ∙ ap (λ (t : List ℕ). longword (length filled) ++ t) (drop-longword bytes 40 44 fits (omega (arith, form.size)) refl
-    ∙ ap (λ (t : List ℕ). longword h.zeroed ++ t) (drop-longword bytes 44 48 fits (omega (arith, form.size)) refl
-    ∙ ap (λ (t : List ℕ). longword h.stack ++ t) (sym (take-append-drop (4 * h.words) (drop 48 bytes))
-    ∙ (ap (λ (t : List ℕ). t ++ filled) (sym (flat_map-words_of code h.words code_len (IsBytes-take (4 * h.words) (drop 48 bytes) (IsBytes-drop 48 bytes fits))))
-    ∙ ap (λ (t : List ℕ). flat_map longword (words_of code) ++ t) (sym (append-nil filled)))))))))))))
+    let v = version_of bytes in
+    let n = numbers_of bytes in
+    let same : numbers (parts_of bytes) ≡ n = numbers-parts_with v n (words_in bytes) (data_in bytes) form.fields (length-words_in bytes form) in
+    front-behind bytes fits form
+    ∙ (ap (λ (t : List ℕ). front v n ++ t) (behind-parts bytes ∙ ap (λ (t : List ℕ). t ++ data_in bytes) (sym (code-words_in bytes fits form)))
+    ∙ ap (λ (m : Numbers). front v m ++ (flat_map longword (words_in bytes) ++ data_in bytes)) (sym same))
 
 -- bytes without a fault
-pub IsImage-first_fault : (bytes : List ℕ) → IsBytes bytes → HasForm bytes → word_fault (words_in bytes) ≡ None → IsImage (parts_of bytes)
-unfolding words_in filled_in
+pub IsImage-first_fault : (bytes : List ℕ) → IsBytes bytes → HasForm bytes → word_fault (numbered_level (numbers_of bytes).level) (words_in bytes) ≡ None → IsImage (parts_of bytes)
+unfolding words_in
 IsImage-first_fault bytes fits form none =
-    let h = header_of bytes in
-    let code = take (4 * h.words) (drop 48 bytes) in
-    let filled = drop (4 * h.words) (drop 48 bytes) in
-    let behind = IsBytes-drop 48 bytes fits in
-    IsImage-parts_with h code filled form.fields
-    (omega (arith, form.size, length-take (4 * h.words) (drop 48 bytes), length-drop 48 bytes))
-    (omega (arith, form.size, length-drop (4 * h.words) (drop 48 bytes), length-drop 48 bytes))
-    (IsBytes-take (4 * h.words) (drop 48 bytes) behind) (IsBytes-drop (4 * h.words) (drop 48 bytes) behind) none
+    IsImage-parts_with (version_of bytes) (numbers_of bytes) (code_in bytes) (data_in bytes) form.fields (suits-numbers_in (version_of bytes) bytes)
+    (length-code_in bytes form) (length-data_in bytes form) (bytes-code_in bytes fits) (bytes-data_in bytes fits) none
+
+-- a fault is the first of two
+pub Refuses-option_or : (e : ImageFault) (o p : Option ImageFault) → e ≢ NoMemory → Refuses e o → Refuses e (option_or o p)
+Refuses-option_or (Short n) o p ne h = ap (λ (q : Option ImageFault). option_or q p) h
+Refuses-option_or Magic o p ne h = ap (λ (q : Option ImageFault). option_or q p) h
+Refuses-option_or (Field n) o p ne h = ap (λ (q : Option ImageFault). option_or q p) h
+Refuses-option_or (Length m n) o p ne h = ap (λ (q : Option ImageFault). option_or q p) h
+Refuses-option_or (BadWord m n) o p ne h = ap (λ (q : Option ImageFault). option_or q p) h
+Refuses-option_or NoMemory o p ne h = absurd (ne refl)
 
 -- a fault of the form is the first fault
-Refuses-or_else : (e : ImageFault) (o p : Option ImageFault) → e ≢ NoMemory → Refuses e o → Refuses e (or_else o p)
-Refuses-or_else (Short n) o p ne h = ap (λ (q : Option ImageFault). or_else q p) h
-Refuses-or_else Magic o p ne h = ap (λ (q : Option ImageFault). or_else q p) h
-Refuses-or_else (Field n) o p ne h = ap (λ (q : Option ImageFault). or_else q p) h
-Refuses-or_else (Length m n) o p ne h = ap (λ (q : Option ImageFault). or_else q p) h
-Refuses-or_else (BadWord m n) o p ne h = ap (λ (q : Option ImageFault). or_else q p) h
-Refuses-or_else NoMemory o p ne h = absurd (ne refl)
-
 pub Refuses-form_fault : (e : ImageFault) (bytes : List ℕ) → e ≢ NoMemory → Refuses e (form_fault bytes) → Refuses e (first_fault bytes)
 unfolding first_fault
-Refuses-form_fault e bytes ne h = Refuses-or_else e (form_fault bytes) (word_fault (words_in bytes)) ne h
+Refuses-form_fault e bytes ne h = Refuses-option_or e (form_fault bytes) (word_fault (numbered_level (numbers_of bytes).level) (words_in bytes)) ne h
+
+-- a fault at the front is the fault of the form
+pub Refuses-front_fault : (e : ImageFault) (bytes : List ℕ) → e ≢ NoMemory → Refuses e (front_fault (version_of bytes) bytes) → Refuses e (form_fault bytes)
+unfolding form_fault
+Refuses-front_fault e bytes ne h = Refuses-option_or e (front_fault (version_of bytes) bytes) _ ne h
 
 -- behind a good form the first fault is that of the words
-pub first_fault-form : (bytes code : List ℕ) → form_fault bytes ≡ None → code ≡ take (4 * (header_of bytes).words) (drop 48 bytes) → word_fault (words_of code) ≡ first_fault bytes
+pub first_fault-form : (bytes code : List ℕ) → form_fault bytes ≡ None → code ≡ code_in bytes → word_fault (numbered_level (numbers_of bytes).level) (words_of code) ≡ first_fault bytes
 unfolding first_fault words_in
 first_fault-form bytes code none e = rw (none, e) refl
 
--- all that stands behind the header
-pub all_behind : (bytes : List ℕ) → take (length bytes - 48) (drop 48 bytes) ≡ drop 48 bytes
-all_behind bytes = take_all (length bytes - 48) (drop 48 bytes) (omega (arith, length-drop 48 bytes))
-
 -- the parts that are cut out of bytes are those that the bytes give
-pub parts_with-cut : (bytes code filled : List ℕ) (h : Header) → h ≡ header_of bytes → code ≡ take (4 * h.words) (drop 48 bytes) → filled ≡ drop (4 * h.words) (drop 48 bytes) → parts_with h (words_of code) filled ≡ parts_of bytes
-unfolding words_in filled_in
-parts_with-cut bytes code filled h same front back = rw (front, back, same) refl
-
--- the first fault of parts, by their header
-pub parts_fault-field : (p : Parts) (h : Header) (n : ℕ) → header p ≡ h → Some n ≡ least_bad_field h → parts_fault p ≡ Some (Field n)
-unfolding parts_fault field_fault
-parts_fault-field p h n same e =
-    let least : least_bad_field (header p) ≡ Some n = ap least_bad_field same ∙ sym e in
-    rw least refl
-
-pub parts_fault-words : (p : Parts) (h : Header) → header p ≡ h → None ≡ least_bad_field h → word_fault p.words ≡ parts_fault p
-unfolding parts_fault field_fault
-parts_fault-words p h same e =
-    let least : least_bad_field (header p) ≡ None = ap least_bad_field same ∙ sym e in
-    rw least refl
+pub parts_with-cut : (bytes code rest : List ℕ) (v : Version) (n : Numbers) → v ≡ version_of bytes → n ≡ numbers_of bytes → code ≡ code_in bytes → rest ≡ data_in bytes → parts_with v n (words_of code) rest ≡ parts_of bytes
+unfolding words_in
+parts_with-cut bytes code rest v n ev en ec ed =
+    ap (λ (w : Version). parts_with w n (words_of code) rest) ev
+    ∙ (ap (λ (m : Numbers). parts_with (version_of bytes) m (words_of code) rest) en
+    ∙ (ap (λ (c : List ℕ). parts_with (version_of bytes) (numbers_of bytes) (words_of c) rest) ec
+    ∙ ap (λ (d : List ℕ). parts_with (version_of bytes) (numbers_of bytes) (words_of (code_in bytes)) d) ed))
 
 pub IsBytes-All : (bytes : List ℕ) → All IsByte bytes → IsBytes bytes
 IsBytes-All bytes all i =
@@ -139,17 +191,46 @@ IsBytes-All bytes all i =
 pub no_fault : (bytes : List ℕ) → IsBytes bytes → first_fault bytes ≡ None → IsImage (parts_of bytes) × (bytes ≡ spelling (parts_of bytes))
 unfolding first_fault
 no_fault bytes fits e =
-    let none = or_else-none (form_fault bytes) (word_fault (words_in bytes)) e in
+    let none = option_or-none (form_fault bytes) (word_fault (numbered_level (numbers_of bytes).level) (words_in bytes)) e in
     let form = HasForm-form_fault bytes none.0 in
     (IsImage-first_fault bytes fits form none.1, spelling-parts_of bytes fits form)
 
 -- parts without a fault
-pub IsImage-parts_fault : (p : Parts) → All (λ (w : ℕ). w < 2 ^ 32) p.words → All IsByte p.filled → parts_fault p ≡ None → IsImage p
+pub IsImage-parts_fault : (p : Parts) → SuitsVersion p.version (numbers p) → length p.bytes ≡ filled_size p.segments → All (λ (w : ℕ). w < 2 ^ 32) p.words → All IsByte p.bytes → parts_fault (numbers p) p.words ≡ None → IsImage p
 unfolding parts_fault field_fault
-IsImage-parts_fault p words filled e =
-    let none = or_else-none (option_map Field (least_bad_field (header p))) (word_fault p.words) e in
+IsImage-parts_fault p suits filled words bytes e =
+    let level = numbered_level (level_number p.level) in
+    let none = option_or-none (option_map Field (least_bad_field (numbers p))) (word_fault level p.words) e in
+    let at : word_fault p.level p.words ≡ None = ap (λ (l : Level). word_fault l p.words) (sym (same_level p.level)) ∙ none.1 in
     record {
-      fields = FieldsFit-least (header p) (option_map-none Field (least_bad_field (header p)) none.0);
-      words = All-word_fault p.words (λ k h. All-get_or (λ (w : ℕ). w < 2 ^ 32) p.words k 0 h words) none.1;
+      version = suits;
+      fields = FieldsFit-least (numbers p) (option_map-none Field (least_bad_field (numbers p)) none.0);
+      words = All-word_fault p.level p.words (λ k h. All-get_or (λ (w : ℕ). w < 2 ^ 32) p.words k 0 h words) at;
+      bytes = bytes;
       filled = filled;
     }
+
+-- the first fault of numbers and words, where the numbers have one
+pub parts_fault-field : (n : Numbers) (words : List ℕ) (field : ℕ) → Some field ≡ least_bad_field n → parts_fault n words ≡ Some (Field field)
+unfolding parts_fault field_fault
+parts_fault-field n words field e = rw (sym e) refl
+
+-- and where they have none
+pub parts_fault-words : (n : Numbers) (words : List ℕ) → None ≡ least_bad_field n → word_fault (numbered_level n.level) words ≡ parts_fault n words
+unfolding parts_fault field_fault
+parts_fault-words n words e = rw (sym e) refl
+
+-- what stands behind a front, cut into code and data bytes
+pub cut_behind : (bytes : List ℕ) (size : ℕ) (v : Version) (n : Numbers) (k : ℕ) (code rest : List ℕ)
+    → size ≡ front_size v n → v ≡ version_of bytes → n ≡ numbers_of bytes → k ≡ 4 * n.words
+    → code ≡ take k (take (length bytes - size) (drop size bytes))
+    → rest ≡ drop k (take (length bytes - size) (drop size bytes))
+    → (code ≡ code_in bytes) × (rest ≡ data_in bytes)
+unfolding behind_front data_in
+cut_behind bytes size v n k code rest es ev en ek ec er =
+    let whole = take_rest bytes size in
+    let at : size ≡ front_size (version_of bytes) (numbers_of bytes) = es ∙ (ap (λ (w : Version). front_size w n) ev ∙ ap (λ (m : Numbers). front_size (version_of bytes) m) en) in
+    let words : k ≡ 4 * (numbers_of bytes).words = ek ∙ ap (λ (m : Numbers). 4 * m.words) en in (
+      ec ∙ (ap (λ (t : List ℕ). take k t) whole ∙ (ap (λ (j : ℕ). take j (drop size bytes)) words ∙ ap (λ (j : ℕ). take (4 * (numbers_of bytes).words) (drop j bytes)) at)),
+      er ∙ (ap (λ (t : List ℕ). drop k t) whole ∙ (ap (λ (j : ℕ). drop j (drop size bytes)) words ∙ ap (λ (j : ℕ). drop (4 * (numbers_of bytes).words) (drop j bytes)) at)),
+    )

@@ -1,6 +1,10 @@
 pub mod Numbers
-pub mod Rules
+pub mod FieldRules
+pub mod Apart
+pub mod SegmentLists
 pub mod CodeWords
-pub mod Form
+pub mod Fronts
 pub mod Spelled
+pub mod Form
+pub mod Pieces
 pub mod Places

@@ -1,6 +1,7 @@
+pub mod Numbers
+pub mod Rules
 pub mod Layout
-pub mod Header
 pub mod Parts
 pub mod ImageFault
+pub mod Header
 pub mod Image
-pub mod Fields

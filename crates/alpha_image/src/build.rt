@@ -1,38 +1,25 @@
 //! Images that are made of their parts.
 
-ghost use Rattle.std.specs.Prelude.{◌≡◌, ◌%◌, length, IfOk};
-ghost use Rattle.alpha_image.specs.Fields.{given_parts};
-ghost use Rattle.alpha_image.specs.Parts.{IsImage};
+ghost use Rattle.std.specs.Prelude.{◌≡◌, ◌%◌, ◌/◌, ◌≤◌, length, IfOk};
+ghost use Rattle.alpha_image.specs.Numbers.{level_numbers, first_numbers};
+ghost use Rattle.alpha_image.specs.Layout.{words_of, filled_size};
+ghost use Rattle.alpha_image.specs.Parts.{IsImage, SuitsVersion, parts_with};
 ghost use Rattle.alpha_image.specs.ImageFault.{Tells, parts_fault};
 
 use crate::header::Header;
-use crate::{Image, ImageFault};
+use crate::segment::MOST_SEGMENTS;
+use crate::{Fields, Image, ImageFault, LevelFields, Segment, Version};
+use arrayvec::ArrayVec;
 use std::alloc::Global;
 
-/// The numbers of an image that its code and data bytes do not give.
-#[derive(Clone, Copy, Debug, PartialEq, Eq)]
-pub struct Fields {
-    /// The address of the first code word.
-    pub code_base: u64,
-    /// The address of the first data byte.
-    pub data_base: u64,
-    /// The address of the code word that runs first.
-    pub entry: u64,
-    /// The number of zero bytes that follow the data bytes.
-    pub zeroed: u64,
-    /// The number of stack bytes.
-    pub stack: u64,
-}
-
 impl Image {
-    /// The image of these fields, code words and data bytes. The code has each word as four bytes with
-    /// the lowest first. Memory taken is that of the code and data bytes.
+    /// The image of version 1 with these fields, code words and data bytes. The code has each word as
+    /// four bytes with the lowest first. Memory taken is that of the code and data bytes.
     ///
     /// # Errors
     ///
-    /// `Field` with the least number of a bad field, else `BadWord` with the first code word outside the
-    /// instruction table. `NoMemory` comes only where there is neither.
-    #[tactic(auto, unfolding(crate::specs::ImageFault::parts_fault, crate::specs::ImageFault::field_fault))]
+    /// `Field` with the least number of a bad field, else `BadWord` with the first code word that is
+    /// outside the instruction table or of level 2. `NoMemory` comes only where there is neither.
     pub fn build(
         alloc: Global,
         fields: &Fields,
@@ -40,22 +27,91 @@ impl Image {
         filled: &[u8],
     ) -> Result<Image, ImageFault>
         requires { length code.now % 4 ≡ 0 }
-        ensures parts { IfOk result (λ image. image ≡ given_parts fields.now code.now filled.now) }
+        ensures parts { let words = words_of code.now in
+            let n = first_numbers fields.now (length words) (length filled.now) in
+            IfOk result (λ image. image ≡ parts_with Version.One n words filled.now) }
         ensures good { IfOk result IsImage }
-        ensures fault { Tells result (parts_fault (given_parts fields.now code.now filled.now)) }
+        ensures fault { let words = words_of code.now in
+            let n = first_numbers fields.now (length words) (length filled.now) in
+            Tells result (parts_fault n words) }
     {
-        let header = Header {
-            code_base: fields.code_base,
-            data_base: fields.data_base,
-            entry: fields.entry,
-            words: code.len() as u64 / 4,
-            filled: filled.len() as u64,
-            zeroed: fields.zeroed,
-            stack: fields.stack,
-        };
-        if let Some(field) = header.bad_field() {
-            return Err(ImageFault::Field(field));
-        }
-        Image::checked(alloc, &header, code, filled)
+        let segment = fields.segment(filled.len() as u64);
+        let fields = fields.level_fields();
+        build(alloc, Version::One, &fields, &[segment], code, filled)
     }
+
+    /// The image of version 2 with these fields, segments, code words and data bytes. The code has each
+    /// word as four bytes with the lowest first, and the data bytes are those of the segments in order.
+    /// Memory taken is that of the code and data bytes.
+    ///
+    /// # Errors
+    ///
+    /// `Field` with the least number of a bad field, else `BadWord` with the first code word that is
+    /// outside the instruction table or above the level. `NoMemory` comes only where there is neither.
+    pub fn build_level(
+        alloc: Global,
+        fields: &LevelFields,
+        segments: &[Segment],
+        code: &[u8],
+        bytes: &[u8],
+    ) -> Result<Image, ImageFault>
+        requires code { length code.now % 4 ≡ 0 }
+        requires bytes { length bytes.now ≡ filled_size segments.now }
+        ensures parts { let words = words_of code.now in
+            let n = level_numbers fields.now (length words) segments.now in
+            IfOk result (λ image. image ≡ parts_with Version.Two n words bytes.now) }
+        ensures good { IfOk result IsImage }
+        ensures fault { let words = words_of code.now in
+            let n = level_numbers fields.now (length words) segments.now in
+            Tells result (parts_fault n words) }
+    {
+        build(alloc, Version::Two, fields, segments, code, bytes)
+    }
+}
+
+// The image of a version with these fields, segments, code words and data bytes.
+#[tactic(auto, unfolding(crate::specs::ImageFault::parts_fault, crate::specs::ImageFault::field_fault))]
+fn build(
+    alloc: Global,
+    version: Version,
+    fields: &LevelFields,
+    segments: &[Segment],
+    code: &[u8],
+    bytes: &[u8],
+) -> Result<Image, ImageFault>
+    requires code { length code.now % 4 ≡ 0 }
+    requires bytes { length bytes.now ≡ filled_size segments.now }
+    requires suits { let words = length code.now / 4 in
+        SuitsVersion version (level_numbers fields.now words segments.now) }
+    ensures parts { let words = words_of code.now in
+        let n = level_numbers fields.now (length words) segments.now in
+        IfOk result (λ image. image ≡ parts_with version n words bytes.now) }
+    ensures good { IfOk result IsImage }
+    ensures fault { let words = words_of code.now in
+        let n = level_numbers fields.now (length words) segments.now in
+        Tells result (parts_fault n words) }
+{
+    let words = code.len() as u64 / 4;
+    if let Some(field) = fields.bad_field(words, segments) {
+        return Err(ImageFault::Field(field));
+    }
+    let header = Header {
+        version,
+        fields: *fields,
+        words,
+        segments: few(segments),
+    };
+    Image::checked(alloc, header, code, bytes)
+}
+
+// At most eight segments, without memory.
+fn few(segments: &[Segment]) -> ArrayVec<Segment, MOST_SEGMENTS>
+    requires { length segments.now ≤ 8 }
+    ensures value { result.items ≡ segments.now }
+{
+    let mut few = ArrayVec::new();
+    for segment in segments {
+        few.push(*segment);
+    }
+    few
 }

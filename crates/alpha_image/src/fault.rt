@@ -6,16 +6,19 @@ ghost use Rattle.alpha_image.specs.declared.fault.ImageFault.TheVariants.{NoMemo
 use std::alloc::{AllocError, AllocFailed};
 use thiserror::Error;
 
-/// The first fault of bytes that spell no image, in the order of the variants. The fields are numbered
-/// 1 code base, 2 data base, 3 code words, 4 data bytes, 5 zeroed bytes, 6 stack bytes, 7 entry and
-/// 8 overlap.
+/// Why there is no image. The first fault in this order is told: for bytes that begin with `ALPHAIM2`,
+/// `Short` below 40 bytes, field 10, `Short` below the end of the segments' numbers, the least bad
+/// `Field`, `Length`, `BadWord`; for all other bytes the order of the variants.
+///
+/// The fields are numbered 1 code base, 2 data bases, 3 code words, 4 data bytes, 5 zeroed bytes,
+/// 6 stack bytes, 7 entry, 8 overlap, 9 level and 10 number of segments.
 #[derive(Clone, Copy, Debug, PartialEq, Eq, Error)]
 pub enum ImageFault {
-    /// There are only so many bytes, fewer than the 48 of a header.
-    #[error("the image has {0} bytes, fewer than a header's 48")]
+    /// There are only so many bytes, fewer than stand before the code.
+    #[error("the image has {0} bytes, fewer than stand before its code")]
     Short(u64),
-    /// The first eight bytes are not `ALPHAIM1`.
-    #[error("the image does not begin with ALPHAIM1")]
+    /// The first eight bytes are neither `ALPHAIM1` nor `ALPHAIM2`.
+    #[error("the image begins with neither ALPHAIM1 nor ALPHAIM2")]
     Magic,
     /// The least number of a bad field.
     #[error("field {0} of the image is bad")]
@@ -23,8 +26,9 @@ pub enum ImageFault {
     /// The given number of bytes is not the number wanted.
     #[error("the image has {0} bytes in place of {1}")]
     Length(u64, u64),
-    /// The place of the first code word that is outside the instruction table, and the word.
-    #[error("code word {0} is {1:#010x}, which is no instruction")]
+    /// The place of the first code word that is outside the instruction table or above the image's level,
+    /// and the word.
+    #[error("code word {0} is {1:#010x}, which is no instruction of the image's level")]
     BadWord(u32, u32),
     /// Memory ran out.
     #[error("out of memory")]

@@ -1,28 +1,27 @@
-ghost use Rattle.std.specs.Prelude.{◌≡◌, ◌+◌, ◌*◌, ◌<◌, ◌≤◌, ◌≢◌, ◌^◌, ◌↔◌, ℕ, length, slice_index, IfSome, IfNone, IfOk, IsSome};
-ghost use Rattle.alpha_table.specs.Decoded.{decoded};
+ghost use Rattle.std.specs.Prelude.{◌≡◌, ◌+◌, ◌*◌, ◌<◌, ◌≤◌, ◌≢◌, ◌^◌, ◌↔◌, ℕ, length, slice_index, slice_get, IfSome, IfNone, IfOk, IsSome};
 ghost use Rattle.std.specs.List.{flat_map};
-ghost use Rattle.alpha_image.specs.Layout.{longword, words_of};
-ghost use Rattle.alpha_image.specs.Header.{FieldsFit};
+ghost use Rattle.std.specs.Option.{option_map};
+ghost use Rattle.alpha_image.specs.Header.{header_numbers};
+ghost use Rattle.alpha_image.specs.Layout.{longword, words_of, first_segment, filled_size};
+ghost use Rattle.alpha_image.specs.Parts.{IsCodeWord};
+ghost use Rattle.alpha_image.specs.Rules.{FieldsFit};
 ghost use Rattle.alpha_image.specs.ImageFault.{Tells, word_fault};
 
-use crate::ImageFault;
 use crate::header::Header;
 use crate::words::{check_words, word_at};
-use alpha_words::Word;
+use crate::{ImageFault, Segment};
+use alpha_words::{Level, Word};
 use std::alloc::Global;
 use std::marker::Model;
 
-/// A program image. A clause sees its parts, a record of the addresses, the code words, the data bytes,
-/// and the numbers of zeroed and stack bytes. Code and data are kept as the bytes of the image.
+/// A program image. A clause sees its parts, a record of the version, the level, the addresses, the
+/// number of stack bytes, the segments, the code words and the data bytes. Code and data are kept as the
+/// bytes of the image.
 #[derive(Debug, Drop)]
 pub struct Image {
-    code_base: u64,
-    data_base: u64,
-    entry: u64,
-    zeroed: u32,
-    stack: u32,
+    header: Header,
     code: Vec<u8>,
-    filled: Vec<u8>,
+    bytes: Vec<u8>,
 }
 
 impl Model for Image {
@@ -38,22 +37,37 @@ impl Model for Image {
 }
 
 impl Image {
-    ghost use Rattle.alpha_image.specs.Parts.{IsImage, parts_with, place_of};
+    ghost use Rattle.alpha_image.specs.Parts.{IsImage, SuitsVersion, version_number, numbers, numbered_level, parts_with, pieces, place_of};
+
+    /// The version of the layout, 1 or 2.
+    pub fn version(&self) -> u8
+        ensures value { result ≡ version_number self.now.version }
+    {
+        self.header.version.number()
+    }
+
+    /// Which instructions the code may have.
+    pub fn level(&self) -> Level
+        ensures value { result ≡ self.now.level }
+    {
+        self.header.level()
+    }
 
     /// The address of the first code word, a multiple of 8,192 below 2^30.
     pub fn code_base(&self) -> u64
         ensures value { result ≡ self.now.code_base }
         ensures good { IsImage self.now }
     {
-        self.code_base
+        self.header.fields.code_base
     }
 
-    /// The address of the first data byte, a multiple of 8,192 below 2^30.
+    /// The address of the first data byte of the first segment, a multiple of 8,192 below 2^30. It is 0
+    /// where there is no segment.
     pub fn data_base(&self) -> u64
-        ensures value { result ≡ self.now.data_base }
+        ensures value { result ≡ (first_segment self.now.segments).base }
         ensures good { IsImage self.now }
     {
-        self.data_base
+        self.header.first_segment().base
     }
 
     /// The address of the code word that runs first.
@@ -61,7 +75,7 @@ impl Image {
         ensures value { result ≡ self.now.entry }
         ensures good { IsImage self.now }
     {
-        self.entry
+        self.header.fields.entry
     }
 
     /// The number of code words, 1 to 262,144.
@@ -69,15 +83,16 @@ impl Image {
         ensures value { result ≡ length self.now.words }
         ensures good { IsImage self.now }
     {
-        (self.code.len() / 4) as u32
+        self.header.words as u32
     }
 
-    /// The number of zero bytes that follow the data bytes. Both together are at most 16,777,216.
+    /// The number of zero bytes that follow the data bytes of the first segment. It is 0 where there is
+    /// no segment.
     pub fn zeroed(&self) -> u32
-        ensures value { result ≡ self.now.zeroed }
+        ensures value { result ≡ (first_segment self.now.segments).zeroed }
         ensures good { IsImage self.now }
     {
-        self.zeroed
+        self.header.first_segment().zeroed as u32
     }
 
     /// The number of stack bytes, a multiple of 16 from 16 to 1,048,576. The stack ends at 2^30.
@@ -85,7 +100,38 @@ impl Image {
         ensures value { result ≡ self.now.stack }
         ensures good { IsImage self.now }
     {
-        self.stack
+        self.header.fields.stack as u32
+    }
+
+    /// The number of data segments, 0 to 8.
+    pub fn segments(&self) -> u32
+        ensures value { result ≡ length self.now.segments }
+        ensures good { IsImage self.now }
+    {
+        self.header.segments.len() as u32
+    }
+
+    /// A data segment, `None` exactly where the number is not below that of the segments. The bases rise,
+    /// and no two segments overlap.
+    pub fn segment(&self, n: u32) -> Option<Segment>
+        ensures value { result ≡ slice_get self.now.segments n }
+        ensures good { IsImage self.now }
+    {
+        self.header.segments.get(n as usize).copied()
+    }
+
+    /// The data bytes of a segment, `None` exactly where the number is not below that of the segments.
+    pub fn segment_bytes(&self, n: u32) -> Option<&[u8]>
+        ensures found { IsSome result ↔ (n < length self.now.segments) }
+        ensures value { option_map (λ bytes. bytes.now) result
+            ≡ option_map (λ piece. piece.bytes) (slice_get (pieces self.now) n) }
+        ensures good { IsImage self.now }
+    {
+        let segment = self.segment(n)?;
+        let before = self.header.filled_before(n as usize);
+        let (_, behind) = self.bytes.split_at(before);
+        let (bytes, _) = behind.split_at(segment.filled as usize);
+        Some(bytes)
     }
 
     /// The code words, each as four bytes with the lowest first.
@@ -98,12 +144,12 @@ impl Image {
         self.code.as_slice()
     }
 
-    /// The data bytes.
+    /// The data bytes of all segments, in order.
     pub fn data_bytes(&self) -> &[u8]
-        ensures value { result.now ≡ self.now.filled }
+        ensures value { result.now ≡ self.now.bytes }
         ensures good { IsImage self.now }
     {
-        self.filled.as_slice()
+        self.bytes.as_slice()
     }
 
     /// The place of the code word at an address, `None` exactly where the address is not that of a
@@ -111,58 +157,71 @@ impl Image {
     #[tactic(auto, unfolding(crate::specs::Parts::place_of))]
     pub fn place_of(&self, pc: u64) -> Option<u32>
         ensures value { result ≡ place_of self.now pc }
-        ensures found { IfSome result (λ place. (place < length self.now.words) × (pc ≡ self.now.code_base + 4 * place)) }
-        ensures none { IfNone result ((place : ℕ) → place < length self.now.words → pc ≢ self.now.code_base + 4 * place) }
+        ensures found { IfSome result (λ place.
+            (place < length self.now.words) × (pc ≡ self.now.code_base + 4 * place)) }
+        ensures none { IfNone result ((place : ℕ) →
+            place < length self.now.words → pc ≢ self.now.code_base + 4 * place) }
     {
+        let base = self.code_base();
         let words = u64::from(self.words());
-        if pc % 4 == 0 && self.code_base <= pc && pc < self.code_base + 4 * words {
-            Some(((pc - self.code_base) / 4) as u32)
+        if pc % 4 == 0 && base <= pc && pc < base + 4 * words {
+            Some(((pc - base) / 4) as u32)
         } else {
             None
         }
     }
 
     /// The image with this header, these code bytes and these data bytes, if each code word is in the
-    /// instruction table.
+    /// instruction table at the header's level.
     pub(crate) fn checked(
         alloc: Global,
-        header: &Header,
+        header: Header,
         code: &[u8],
-        filled: &[u8],
+        bytes: &[u8],
     ) -> Result<Image, ImageFault>
-        requires fields { FieldsFit header.now }
-        requires words { length code.now ≡ 4 * header.now.words }
-        requires filled { length filled.now ≡ header.now.filled }
-        ensures fault { Tells result (word_fault (words_of code.now)) }
+        requires fields { FieldsFit (header_numbers header) }
+        requires suits { SuitsVersion header.version (header_numbers header) }
+        requires words { length code.now ≡ 4 * header.words }
+        requires filled { length bytes.now ≡ filled_size header.segments.items }
+        ensures fault { let level = numbered_level header.fields.level in
+            Tells result (word_fault level (words_of code.now)) }
         ensures good { IfOk result IsImage }
-        ensures parts { IfOk result (λ image. image ≡ parts_with header.now (words_of code.now) filled.now) }
+        ensures parts { let n = header_numbers header in IfOk result (λ image.
+            image ≡ parts_with header.version n (words_of code.now) bytes.now) }
     {
-        check_words(code)?;
+        check_words(header.level(), code)?;
         Ok(Image {
-            code_base: header.code_base,
-            data_base: header.data_base,
-            entry: header.entry,
-            zeroed: header.zeroed as u32,
-            stack: header.stack as u32,
+            header,
             code: Vec::from_slice(alloc, code)?,
-            filled: Vec::from_slice(alloc, filled)?,
+            bytes: Vec::from_slice(alloc, bytes)?,
         })
+    }
+
+    /// The numbers that the image begins with.
+    pub(crate) fn header(&self) -> &Header
+        ensures version { result.now.version ≡ self.now.version }
+        ensures numbers { header_numbers result.now ≡ numbers self.now }
+        ensures good { IsImage self.now }
+    {
+        &self.header
     }
 
     // The code word at a place.
     fn word(&self, place: u32) -> Word
         requires { place < length self.now.words }
         ensures value { result.0 ≡ slice_index self.now.words place }
+        ensures good { IsImage self.now }
     {
         word_at(&self.code, place as usize)
     }
 }
 
-/// The code word at a place, `None` exactly where the place is not below the number of words.
+/// The code word at a place, `None` exactly where the place is not below the number of words. The word is
+/// in the instruction table, and its instruction is there at the image's level.
 pub fn code_word(image: &Image, n: u32) -> Option<Word>
-    ensures there { IsSome result ↔ (n < length image.now.words) }
+    ensures found { IsSome result ↔ (n < length image.now.words) }
     ensures value { IfSome result (λ word. word.0 ≡ slice_index image.now.words n) }
-    ensures table { IfSome result (λ word. IsSome (decoded word.0)) }
+    ensures table { IfSome result (λ word. IsCodeWord image.now.level word.0) }
 {
     if n < image.words() {
         Some(image.word(n))

@@ -1,7 +1,8 @@
 //! Program images. An image stands for exactly one list of bytes, and every other list of bytes is
 //! refused with its first fault, so that a user can repair what made it.
 //!
-//! An image begins with a header of 48 bytes. All numbers are little-endian.
+//! An image has a version, which is the layout of its bytes. All numbers are little-endian. Version 1
+//! has one data segment, and its code is of level 1:
 //!
 //! | Offset | Field |
 //! |---|---|
@@ -10,43 +11,70 @@
 //! | 32, 36, 40, 44 | code words, data bytes, zeroed bytes and stack bytes, of 32 bits each |
 //! | 48 | the code words, then the data bytes |
 //!
-//! - [`Image`] is a good image: no field is bad, and each code word is in the instruction table. A
-//!   clause sees its `Parts`.
+//! Version 2 has a level and k data segments, 0 to 8:
+//!
+//! | Offset | Field |
+//! |---|---|
+//! | 0 | the 8 bytes `ALPHAIM2` |
+//! | 8, 16 | code base and entry, of 64 bits each |
+//! | 24, 28, 32, 36 | code words, stack bytes, level and k, of 32 bits each |
+//! | 40 + 16 * n | of segment n: its base, of 64 bits, its data bytes and zeroed bytes, of 32 bits each |
+//! | 40 + 16 * k | the code words, then the data bytes of the segments in order |
+//!
+//! - [`Image`] is a good image: no field is bad, and each code word is in the instruction table at the
+//!   image's level. A clause sees its `Parts`, one record for both versions.
 //! - [`ImageFault`] says why there is no image.
-//! - [`Fields`] are the numbers that [`Image::build`] makes an image of, with its code and data bytes.
+//! - [`Fields`] are the numbers that [`Image::build`] makes an image of version 1 of, with its code and
+//!   data bytes. [`LevelFields`] and [`Segment`] are those of [`Image::build_level`], for version 2. The
+//!   least bad field of such numbers is [`Fields::bad_field`] and [`LevelFields::bad_field`], which need
+//!   no code or data bytes but only their sizes.
 //!
 //! The laws, each with the call that carries it:
 //!
 //! - What [`read_image`] answers is good, and the bytes are its spelling. A refusal is the first fault of
 //!   the bytes. Memory runs out only where there is none.
 //! - [`image_bytes`] gives the spelling.
-//! - [`Image::build`] gives the image of the parts given, or the least bad field, or the first bad word.
-//! - [`spelling_laws`]: bytes have no fault exactly where they are the spelling of a good image, and that
-//!   is one image. [`field_laws`]: the tests of the fields decide their rules. [`place_laws`]: where the
-//!   code words stand.
+//! - [`Image::build`] and [`Image::build_level`] give the image of the parts given, or the least bad
+//!   field, or the first bad word.
+//! - [`laws_of_spelling`]: bytes have no fault exactly where they are the spelling of a good image, and
+//!   that is one image. [`laws_of_fields`]: the tests of the fields decide their rules.
+//!   [`laws_of_places`]: where the code words stand. [`laws_of_pieces`]: the data bytes are those of the
+//!   segments.
 //! - [`code_word`] and [`Image::place_of`] answer `None` exactly outside the code, with constant work and
 //!   no memory.
 //!
-//! `specs/Layout.antt` has the layout of the bytes, `specs/Header.antt` the rules of the fields,
-//! `specs/Parts.antt` what an image is and its spelling, `specs/ImageFault.antt` the first fault,
-//! `specs/Image.antt` what an [`Image`] keeps, and `specs/Fields.antt` the parts that are given to
-//! [`Image::build`].
+//! All tests of bytes and parts come before the first memory is taken. `src/header.rt` reads what stands
+//! before the code, `src/rules.rt` tests the fields, `src/words.rt` the code words; `src/read.rt`,
+//! `src/build.rt` and `src/write.rt` are the ways in and out, and `src/image.rt` is what there is between.
+//!
+//! `specs/Layout.antt` has the layout of the bytes, `specs/Rules.antt` the rules of the fields over the
+//! `specs/Numbers.antt` of either version, `specs/Parts.antt` what an image is and its spelling,
+//! `specs/ImageFault.antt` the first fault, and `specs/Image.antt` and `specs/Header.antt` what an
+//! [`Image`] keeps.
 #![tactic(auto)]
 
 mod build;
 mod fault;
+mod fields;
 mod header;
 mod image;
 mod laws;
+mod number;
 mod read;
+mod region;
+mod rules;
+mod segment;
 #[cfg(test)]
 mod tests;
+mod version;
 mod words;
 mod write;
 
-pub use build::Fields;
 pub use fault::ImageFault;
+pub use fields::{Fields, LevelFields};
 pub use image::{Image, code_word};
-pub use laws::{field_laws, place_laws, spelling_laws};
+pub use laws::{laws_of_fields, laws_of_pieces, laws_of_places, laws_of_spelling};
 pub use read::read_image;
+pub use segment::Segment;
+pub use version::Version;
 pub use write::image_bytes;

@@ -1,11 +1,12 @@
 //! Images that are read from their bytes.
 
 ghost use Rattle.std.specs.Prelude.{◌≡◌, ◌≢◌, IfOk, IfErr, OnOk};
-ghost use Rattle.alpha_image.specs.Layout.{header_of};
+ghost use Rattle.alpha_image.specs.Header.{header_numbers};
+ghost use Rattle.alpha_image.specs.Layout.{version_of, numbers_of};
 ghost use Rattle.alpha_image.specs.Parts.{IsImage, HasForm, spelling};
 ghost use Rattle.alpha_image.specs.ImageFault.{Tells, form_fault, first_fault};
 
-use crate::header::{HEADER_BYTES, Header, MAGIC};
+use crate::header::Header;
 use crate::{Image, ImageFault};
 use std::alloc::Global;
 
@@ -14,20 +15,15 @@ use std::alloc::Global;
 fn checked_header(bytes: &[u8]) -> Result<Header, ImageFault>
     ensures fault { Tells result (form_fault bytes.now) }
     ensures memory { IfErr result (λ e. e ≢ ImageFault.NoMemory) }
-    ensures header { IfOk result (λ h. h ≡ header_of bytes.now) }
+    ensures version { IfOk result (λ h. h.version ≡ version_of bytes.now) }
+    ensures numbers { IfOk result (λ h. header_numbers h ≡ numbers_of bytes.now) }
     ensures form { OnOk result (HasForm bytes.now) }
 {
-    let given = bytes.len() as u64;
-    if bytes.len() < HEADER_BYTES {
-        return Err(ImageFault::Short(given));
-    }
-    if !bytes.starts_with(&MAGIC) {
-        return Err(ImageFault::Magic);
-    }
-    let header = Header::read(bytes);
+    let header = Header::read(bytes)?;
     if let Some(field) = header.bad_field() {
         return Err(ImageFault::Field(field));
     }
+    let given = bytes.len() as u64;
     let wanted = header.size();
     if given != wanted {
         return Err(ImageFault::Length(given, wanted));
@@ -39,14 +35,13 @@ fn checked_header(bytes: &[u8]) -> Result<Header, ImageFault>
 ///
 /// # Errors
 ///
-/// The first fault, in the order of the variants of [`ImageFault`]. `NoMemory` comes only where there is
-/// no fault.
+/// The first fault, in the order that [`ImageFault`] has. `NoMemory` comes only where there is no fault.
 pub fn read_image(alloc: Global, bytes: &[u8]) -> Result<Image, ImageFault>
     ensures good { IfOk result IsImage }
     ensures spelled { IfOk result (λ image. bytes.now ≡ spelling image) }
     ensures fault { Tells result (first_fault bytes.now) }
 {
     let header = checked_header(bytes)?;
-    let (code, filled) = bytes[HEADER_BYTES..].split_at(4 * header.words as usize);
-    Image::checked(alloc, &header, code, filled)
+    let (code, data) = bytes[header.front_size()..].split_at(4 * header.words as usize);
+    Image::checked(alloc, header, code, data)
 }

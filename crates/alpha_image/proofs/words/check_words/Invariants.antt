@@ -3,4 +3,4 @@ use Rattle.alpha_image.proofs.CodeWords.{AreInside}
 use Rattle.alpha_image.proofs.words.check_words.Given as goal
 
 abbrev pub invariant-loop-place : goal.invariant-loop-place
-invariant-loop-place l = AreInside (words_of l.code) l.place
+invariant-loop-place l = AreInside l.level (words_of l.code) l.place
