@@ -1,3 +1,10 @@
-pub mod Fronts
 pub mod Conditions
-pub mod Walks
+pub mod Tables
+pub mod Shadows
+pub mod Loads
+pub mod Ends
+pub mod Places
+pub mod Steps
+pub mod Passing
+pub mod Judging
+pub mod Decided

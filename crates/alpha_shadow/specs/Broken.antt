@@ -2,37 +2,27 @@
 use Rattle.std.specs.Prelude.{◌≡◌, ◌≢◌, ◌<◌, ◌≤◌, ◌+◌, ℕ, ◌<ℤ◌, ◌⊎◌, Some, List, length}
 use Rattle.alpha_table.specs.declared.columns.InsnKind.TheVariants as kinds
 use Rattle.alpha_table.specs.declared.columns.MemAccess.{MemAccess}
-use Rattle.alpha_table.specs.declared.form.Form.{Form}
-use Rattle.alpha_table.specs.Columns.{kind_of, access_of, bytes_spanned}
+use Rattle.alpha_table.specs.Columns.{bytes_spanned}
+use Rattle.alpha_table.specs.Code.{Straight}
 use Rattle.alpha_shadow.specs.declared.broken.Condition.{Condition}
 use Rattle.alpha_shadow.specs.declared.broken.Condition.TheVariants.{ZeroDestination, SourceLost, SameDestination, WildBase, LoadThenStore, Locked, Turn, Open, Long}
 use Rattle.alpha_shadow.specs.declared.broken.Broken.{Broken}
-use Rattle.alpha_shadow.specs.Code.{insn_at, kind_at, destination_at, access_at, Sets, SetIn, ExposedIn}
-
--- no barrier and no turn stands in [from, to)
-abbrev pub Straight : List ℕ → ℕ → ℕ → Type 0
-Straight code from to = (k : ℕ) → from ≤ k → k < to → (kind_at code k ≢ Some kinds.Barrier) × (kind_at code k ≢ Some kinds.Turn)
+use Rattle.alpha_shadow.specs.Code.{kind_at, destination_at, access_at, Sets, SetIn, ExposedIn}
 
 -- two accesses that may touch a common byte: by different bases, or by one base where their spans meet
 abbrev pub MayMeet : MemAccess → MemAccess → Type 0
 MayMeet a b =
     (a.base ≢ b.base) ⊎ (((bytes_spanned a).low <ℤ (bytes_spanned b).high) × ((bytes_spanned b).low <ℤ (bytes_spanned a).high))
 
--- an instruction is a load that may touch a byte of an access
-pub record IsLoadThatMeets (insn : Form) (store : MemAccess) : Type 0 where
-  pub load : kind_of insn ≡ kinds.Load
-  pub access : MemAccess
-  pub accesses : access_of insn ≡ Some access
-  pub meets : MayMeet access store
-
 -- some load in [from, to) may touch a byte of the access
 pub record LoadMeets (code : List ℕ) (from to : ℕ) (store : MemAccess) : Type 0 where
   pub place : ℕ
   pub above : from ≤ place
   pub below : place < to
-  pub insn : Form
-  pub there : insn_at code place ≡ Some insn
-  pub meets : IsLoadThatMeets insn store
+  pub load : kind_at code place ≡ Some kinds.Load
+  pub access : MemAccess
+  pub accesses : access_at code place ≡ Some access
+  pub meets : MayMeet access store
 
 -- an access by a register that a word in [from, at) sets
 pub record BaseSet (code : List ℕ) (from at : ℕ) : Type 0 where

@@ -1,6 +1,7 @@
 pub mod Code
 pub mod Broken
-pub mod Shadow
-pub mod Least
+pub mod Columns
+pub mod Window
+pub mod Place
 pub mod Fetched
 pub mod Report

@@ -1,6 +1,7 @@
-ghost use Rattle.std.specs.Prelude.{◌≡◌, ℕ, ◌+◌, ◌-◌, ◌^◌, ◌<◌, List, Some, min, length, slice_get, IsSome};
+ghost use Rattle.std.specs.Prelude.{◌≡◌, ℕ, ◌+◌, ◌-◌, ◌^◌, ◌<◌, ◌≤◌, List, Some, min, length, slice_get, IsSome};
 ghost use Rattle.alpha_table.specs.Decoded.{decoded};
-ghost use Rattle.alpha_shadow.specs.Code.{insn_at};
+ghost use Rattle.alpha_table.specs.Class.{class_of};
+ghost use Rattle.alpha_table.specs.Code.{class_at};
 
 use alpha_table::{Insn, decode};
 use alpha_words::Word;
@@ -27,11 +28,12 @@ pub trait Fetch {
 }
 
 /// The instruction at a place.
-#[tactic(auto, unfolding(crate::specs::Code::insn_at))]
+#[tactic(auto, unfolding(alpha_table::specs::Code::class_at))]
 pub(crate) fn insn_of<F: Fetch>(code: &mut F, place: u32) -> Insn
     requires { place < length (F.code code.old) }
-    ensures insn { insn_at (F.code code.old) place ≡ Some result }
+    ensures class { class_at (F.code code.old) place ≡ Some (class_of result) }
     ensures code { F.code code.new ≡ F.code code.old }
+    ensures count { F.fetches code.new ≤ F.fetches code.old + 1 }
 {
     match decode(code.word(place)) {
         Some(insn) => insn,

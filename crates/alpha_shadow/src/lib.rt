@@ -2,27 +2,38 @@
 //! reported late, or the least place that breaks a shadow.
 //!
 //! - [`Condition`] is one of the nine conditions, C1 to C9, and [`Broken`] a broken place.
-//! - [`judge`] is the verdict on the words that a [`Fetch`] gives, one at a time. [`ImageCode`] is
-//!   the code of an image. It takes no memory.
+//! - [`judge`] is the verdict on the words that a [`Fetch`] gives. It looks at each word once at most,
+//!   in their order, and takes no memory. [`ImageCode`] is the code of an image.
 //! - [`write_broken`] writes the line of a broken place.
+//! - [`laws_of_verdicts`] says that each condition is decided, and that every list of words is
+//!   accepted or has a least broken place.
 //!
-//! `specs/Code.antt` reads the code by place, `specs/Broken.antt` says when a place is broken, which
-//! code is accepted and which broken place is the least. The body is `verdict.rt` (all triggers)
-//! over `shadow.rt` (the front of one shadow, whose meaning is `specs/Shadow.antt`);
-//! `specs/Least.antt` says how the verdict is put together. `proofs/Fronts.antt` has the laws of a
-//! front with one more word, `proofs/Conditions.antt` those of the conditions, `proofs/Walks.antt`
-//! those of the walk and the verdict.
+//! `specs/Code.antt` reads the columns of the code by place, `specs/Broken.antt` says when a place is
+//! broken, which code is accepted and which broken place is the least. The body is `verdict.rt` (the
+//! walk over the words) over `place.rt` (the least broken place at one word, condition by condition),
+//! `window.rt` (what is known of the words before a place, whose meaning is `specs/Window.antt`),
+//! `last.rt` (the last place of each register) and `columns.rt` (what is read of one word).
+//!
+//! `proofs/Shadows.antt`, `Loads.antt` and `Ends.antt` follow the open triggers, the kept loads and the
+//! registers' places word by word; `Places.antt` ties each condition to them, `Steps.antt` joins the
+//! conditions, `Passing.antt` and `Judging.antt` make the walk, `Decided.antt` has the laws, and
+//! `Tables.antt` alone looks into the instruction table.
 #![tactic(auto)]
 
 mod broken;
+mod columns;
 mod fetch;
 mod image_code;
+mod last;
+mod laws;
+mod place;
 mod report;
-mod shadow;
 mod verdict;
+mod window;
 
 pub use broken::{Broken, Condition};
 pub use fetch::Fetch;
 pub use image_code::ImageCode;
-pub use report::write_broken;
+pub use laws::laws_of_verdicts;
+pub use report::{line_of_broken, write_broken};
 pub use verdict::judge;

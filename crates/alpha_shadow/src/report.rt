@@ -10,15 +10,18 @@ use alpha_io::{Failed, Line, Sink, write_whole};
 /// Appends the line of a broken place, with the addresses of the trigger and of the place, or on
 /// `Failed` a prefix of it: `broken trigger A at B condition Cn`.
 pub fn write_broken<K: Sink>(broken: &Broken, code_base: u64, to: &mut K) -> Result<(), Failed>
-    ensures written { OnOk result (Appends (K.written to.old) (K.written to.new) (broken_line broken.now code_base)) }
-    ensures prefix { WritesPrefix (K.written to.old) (K.written to.new) (broken_line broken.now code_base) }
+    ensures written { OnOk result (Appends (K.written to.old) (K.written to.new) (broken_line
+        broken.now code_base)) }
+    ensures prefix { WritesPrefix (K.written to.old) (K.written to.new) (broken_line broken.now
+        code_base) }
     ensures cause { HasCause (K.faults to.old) (K.faults to.new) result }
 {
-    write_whole(to, line_of(broken, code_base).as_bytes())
+    write_whole(to, line_of_broken(broken, code_base).as_bytes())
 }
 
+/// The line of a broken place, with the addresses of the trigger and of the place.
 #[tactic(auto, unfolding(crate::specs::Report::broken_line))]
-fn line_of(broken: &Broken, code_base: u64) -> Line
+pub fn line_of_broken(broken: &Broken, code_base: u64) -> Line
     ensures { result ≡ broken_line broken.now code_base }
 {
     let mut line = Line::new();

@@ -1,63 +1,97 @@
-use Rattle.std.proofs.Common.{◌≡◌, ◌<◌, ◌+◌, ◌∙◌, ap, ℕ, Option, true, Some, None, length, subst, sym, arith}
-use Rattle.std.proofs.lemmas.Bool.{ltb-true}
-use Rattle.alpha_shadow.specs.declared.broken.Broken.{Broken}
+use Rattle.std.proofs.Common.{◌≡◌, ◌≢◌, ◌+◌, ◌∙◌, [], length, ap, subst, sym, refl, arith}
+use Rattle.alpha_table.specs.declared.columns.InsnKind.TheVariants as kinds
+use Rattle.alpha_table.specs.Class.{class_of}
+use Rattle.alpha_shadow.specs.declared.broken.Condition.TheVariants.{Open}
 use Rattle.alpha_shadow.specs.Broken.{IsAccepted, IsLeastBroken}
-use Rattle.alpha_shadow.specs.Least.{IsFirstSoFar, IsBeforeIf}
-use Rattle.alpha_shadow.proofs.Walks.{no_more, one_more, all_accepted, all_least, later_least}
+use Rattle.alpha_shadow.specs.Window.{Summarizes, IsUnbroken, IsFirstThat}
+use Rattle.alpha_shadow.specs.Place.{IsLeastUpTo}
+use Rattle.alpha_shadow.proofs.Tables.{kind_here}
+use Rattle.alpha_shadow.proofs.Places.{window_first}
+use Rattle.alpha_shadow.proofs.Passing.{skipped}
+use Rattle.alpha_shadow.proofs.Judging.{room, unbroken_passed, unbroken_skipped, found_least, end_accepted, end_least}
 use Rattle.alpha_shadow.proofs.verdict.judge.Goals as goal
-use Rattle.alpha_shadow.proofs.verdict.judge.Goals.{in-Some, in_default, else-loop-trigger-test, then-loop-trigger-test+then-is_before}
 
-pub loop-trigger-preserved : goal.loop-trigger-preserved
-loop-trigger-preserved g c =
-    let code = g.F.Fetch.code c.loop-trigger.code in
-    let same = c.first_broken.ensures.code in
-    let first = c.loop-trigger.invariant.2 in
-    let next : IsFirstSoFar code (c.loop-trigger.trigger + 1) c.match-first_broken.least =
-    elim c.match-first_broken.branch [
-      | in-Some w ↦
-          let found = one_more code c.loop-trigger.trigger c.loop-trigger.least w.in-Some.found first w.in-Some.ensures.found in
-          rw (w.least-is, w.earlier.ensures) found
-      | in_default w ↦ rw w.least-is (no_more code c.loop-trigger.trigger c.loop-trigger.least first w.in_default.ensures.none)
-    ] in (
-      same ∙ c.loop-trigger.invariant.0,
-      c.loop-trigger.invariant.1 ∙ ap length (sym same),
-      subst (λ k. IsFirstSoFar k (c.loop-trigger.trigger + 1) c.match-first_broken.least) (sym same) next,
-    )
+pub loop-at-init : goal.loop-at-init
+loop-at-init g c = record {
+  same = refl;
+  words = c.words-words.ensures;
+  summary = c.empty-window.ensures (g.F.Fetch.code c.args.code.now);
+  unbroken = λ p place d below b. omega arith;
+  fetches = omega arith;
+}
 
--- a place that is before another was found
-found_before : (least : Option Broken) (place : ℕ) (b : Broken) → IsBeforeIf least place true → least ≡ Some b → b.at < place
-found_before None place b before e = cc
-found_before (Some found) place b before e =
-    let less = ltb-true found.at place (sym before) in
-    let same : found ≡ b = cc in
-    subst (λ b. b.at < place) same less
+pub loop-at-preserved-then-is_quiet : goal.loop-at-preserved-then-is_quiet
+loop-at-preserved-then-is_quiet g c =
+    let code = g.F.Fetch.code c.loop-at.code in
+    let at = c.loop-at.at in
+    let same = c.insn_of-insn.ensures.code in
+    let kind = kind_here code at (class_of c.insn_of-insn.result) c.kind-kind.result c.insn_of-insn.ensures.class c.kind-kind.ensures in
+    let quiet = c.is_quiet.ensures.0 c.if-is_quiet.true in
+    record {
+      same = same ∙ c.loop-at.invariant.same;
+      words = c.loop-at.invariant.words ∙ ap length (sym same);
+      summary = subst (λ k. Summarizes k c.loop-at.window (at + 1)) (sym same) (skipped code at c.loop-at.window c.kind-kind.result c.loop-at.invariant.summary kind quiet.0 quiet.1);
+      unbroken = subst (λ k. IsUnbroken k (at + 1)) (sym same) (unbroken_skipped code at c.loop-at.window c.kind-kind.result c.loop-at.invariant.summary kind quiet.0 quiet.1 c.loop-at.invariant.unbroken);
+      fetches = let n = c.insn_of-insn.ensures.count in let f = c.loop-at.invariant.fetches in omega arith;
+    }
 
-none_before : (least : Option Broken) (place : ℕ) → IsBeforeIf least place true → least ≡ None → ⊥
-none_before None place before e = cc
-none_before (Some found) place before e = cc
+pub loop-at-preserved : goal.loop-at-preserved
+loop-at-preserved g c =
+    let code = g.F.Fetch.code c.loop-at.code in
+    let at = c.loop-at.at in
+    let same = c.insn_of-insn.ensures.code in
+    let word = c.of-word.ensures code at c.insn_of-insn.ensures.class in
+    let none = subst (IsLeastUpTo code at 9) c.in_default.is (c.broken_at.ensures code c.loop-at.invariant.summary c.loop-at.invariant.unbroken word) in
+    let kind = kind_here code at (class_of c.insn_of-insn.result) c.kind-kind.result c.insn_of-insn.ensures.class c.kind-kind.ensures in
+    let again = word.kind in
+    let shadow : (c.loop-at.window.triggers.items ≡ []) × (c.of-word.result.kind ≢ kinds.Trigger) → ⊥ = λ q.
+    let quiet = c.is_quiet.ensures.1 (q.0, λ t. q.1 cc) in
+    let loud = c.if-is_quiet.false in
+    cc in
+    record {
+      same = same ∙ c.loop-at.invariant.same;
+      words = c.loop-at.invariant.words ∙ ap length (sym same);
+      summary = subst (λ k. Summarizes k c.pass.new.self (at + 1)) (sym same) (c.pass.ensures code c.loop-at.invariant.summary word shadow);
+      unbroken = subst (λ k. IsUnbroken k (at + 1)) (sym same) (unbroken_passed code at c.loop-at.invariant.unbroken none);
+      fetches = let n = c.insn_of-insn.ensures.count in let f = c.loop-at.invariant.fetches in omega arith;
+    }
+
+pub pass-requires : goal.pass-requires
+pass-requires g c =
+    let code = g.F.Fetch.code c.loop-at.code in
+    let at = c.loop-at.at in
+    let word = c.of-word.ensures code at c.insn_of-insn.ensures.class in
+    let none = subst (IsLeastUpTo code at 9) c.in_default.is (c.broken_at.ensures code c.loop-at.invariant.summary c.loop-at.invariant.unbroken word) in
+    record {
+      bound = omega arith;
+      room = room code at c.loop-at.window c.of-word.result.kind c.loop-at.invariant.summary c.loop-at.invariant.unbroken none word.within word.kind;
+    }
+
+pub returns-in-Some-clause-broken : goal.returns-in-Some-clause-broken
+returns-in-Some-clause-broken g c =
+    let code = g.F.Fetch.code c.loop-at.code in
+    let at = c.loop-at.at in
+    let word = c.of-word.ensures code at c.insn_of-insn.ensures.class in
+    let some = subst (IsLeastUpTo code at 9) c.in-Some.is (c.broken_at.ensures code c.loop-at.invariant.summary c.loop-at.invariant.unbroken word) in
+    subst (λ k. IsLeastBroken k c.in-Some.broken) c.loop-at.invariant.same (found_least code at c.in-Some.broken c.loop-at.invariant.unbroken some)
 
 pub returns-in-None-clause-accepted : goal.returns-in-None-clause-accepted
 returns-in-None-clause-accepted g c =
-    let code = g.F.Fetch.code c.loop-trigger.code in
-    let first = subst (IsFirstSoFar code c.loop-trigger.trigger) c.in-None.is c.loop-trigger.invariant.2 in
-    elim c.loop-trigger-test.branch [
-      | else-loop-trigger-test w ↦
-          let end : c.loop-trigger.trigger ≡ c.words-trigger-end.result = omega arith in
-          subst IsAccepted c.loop-trigger.invariant.0 (all_accepted code c.loop-trigger.trigger (end ∙ c.loop-trigger.invariant.1) first)
-      | then-loop-trigger-test+then-is_before w ↦
-          absurd (none_before c.loop-trigger.least c.loop-trigger.trigger (subst (IsBeforeIf c.loop-trigger.least c.loop-trigger.trigger) w.if-is_before.true w.is_before.ensures) c.in-None.is)
-    ]
+    let code = g.F.Fetch.code c.loop-at.code in
+    let w = c.loop-at.window in
+    let end : c.loop-at.at ≡ length code = let e = c.loop-at.invariant.words in omega arith in
+    let summary = subst (Summarizes code w) end c.loop-at.invariant.summary in
+    let first = subst (IsFirstThat code (length code) (λ p. Unit {0})) c.in-None.is (window_first code w (length code) summary c.first.result c.first.ensures) in
+    subst IsAccepted c.loop-at.invariant.same (end_accepted code w summary (subst (IsUnbroken code) end c.loop-at.invariant.unbroken) first)
 
-pub returns-in-Some-least-clause-broken : goal.returns-in-Some-least-clause-broken
-returns-in-Some-least-clause-broken g c =
-    let code = g.F.Fetch.code c.loop-trigger.code in
-    let b = c.in-Some-least.broken in
-    let first = subst (IsFirstSoFar code c.loop-trigger.trigger) c.in-Some-least.is c.loop-trigger.invariant.2 in
-    elim c.loop-trigger-test.branch [
-      | else-loop-trigger-test w ↦
-          let end : c.loop-trigger.trigger ≡ c.words-trigger-end.result = omega arith in
-          subst (λ k. IsLeastBroken k b) c.loop-trigger.invariant.0 (all_least code c.loop-trigger.trigger b (end ∙ c.loop-trigger.invariant.1) first)
-      | then-loop-trigger-test+then-is_before w ↦
-          let before = found_before c.loop-trigger.least c.loop-trigger.trigger b (subst (IsBeforeIf c.loop-trigger.least c.loop-trigger.trigger) w.if-is_before.true w.is_before.ensures) c.in-Some-least.is in
-          subst (λ k. IsLeastBroken k b) c.loop-trigger.invariant.0 (later_least code c.loop-trigger.trigger b before first)
-    ]
+pub returns-in-Some-first-clause-broken : goal.returns-in-Some-first-clause-broken
+returns-in-Some-first-clause-broken g c =
+    let code = g.F.Fetch.code c.loop-at.code in
+    let w = c.loop-at.window in
+    let t = c.in-Some-first.trigger in
+    let end : c.loop-at.at ≡ length code = let e = c.loop-at.invariant.words in omega arith in
+    let summary = subst (Summarizes code w) end c.loop-at.invariant.summary in
+    let first = subst (IsFirstThat code (length code) (λ p. Unit {0})) c.in-Some-first.is (window_first code w (length code) summary c.first.result c.first.ensures) in
+    subst (λ k. IsLeastBroken k (record { trigger = t; at = c.words-words.result; condition = Open })) c.loop-at.invariant.same
+    (subst (λ n. IsLeastBroken code (record { trigger = t; at = n; condition = Open })) (sym c.loop-at.invariant.words)
+    (end_least code w t summary (subst (IsUnbroken code) end c.loop-at.invariant.unbroken) first))

@@ -1,0 +1,320 @@
+-- Each condition is decided, and a list of words is accepted or has a least broken place.
+use Rattle.std.proofs.Common.{◌≡◌, ◌<◌, ◌≤◌, ◌+◌, ◌⊎◌, ℕ, zero, suc, Bool, true, false, Option, Some, None, List, length, ℤ, ◌<ℤ◌, ap, inl, inr, ⊎_elim, arith, subst, sym, refl, ◌∙◌, ◌==◌, if◌then◌else◌}
+use Rattle.std.proofs.lemmas.Bool.{cases_eq, cases_lt}
+use Rattle.std.proofs.lemmas.Int.{by_lt_z, ints}
+use Rattle.alpha_table.specs.declared.columns.InsnKind.{InsnKind}
+use Rattle.alpha_table.specs.declared.columns.InsnKind.TheVariants as kinds
+use Rattle.alpha_table.specs.declared.columns.MemAccess.{MemAccess}
+use Rattle.alpha_table.specs.Columns.{bytes_spanned}
+use Rattle.alpha_table.specs.Code.{class_at, uses, Straight}
+use Rattle.alpha_shadow.specs.declared.broken.Condition.{Condition}
+use Rattle.alpha_shadow.specs.declared.broken.Condition.TheVariants.{ZeroDestination, SourceLost, SameDestination, WildBase, LoadThenStore, Locked, Turn, Open, Long}
+use Rattle.alpha_shadow.specs.declared.broken.Broken.{Broken}
+use Rattle.alpha_shadow.specs.Code.{kind_at, destination_at, access_at, sets_at, Sets, Uses, SetIn, ExposedIn}
+use Rattle.alpha_shadow.specs.Broken.{MayMeet, LoadMeets, BaseSet, StoreMeets, LosesSource, Holds, IsBroken, IsAccepted, IsLeastBroken, condition_number}
+use Rattle.alpha_shadow.proofs.Conditions.{numbered, numbered-condition_number}
+use Rattle.alpha_shadow.proofs.Tables.{kind_within, past_end}
+use Rattle.alpha_shadow.proofs.Steps.{number_bound}
+
+-- a fact that holds, or doesn't
+abbrev pub Decided : Type 0 → Type 0
+Decided P = P ⊎ (P → ⊥)
+
+both : {P Q : Type 0} → Decided P → Decided Q → Decided (P × Q)
+both (inl p) (inl q) = inl (p, q)
+both (inl p) (inr n) = inr (λ w. n w.1)
+both (inr n) q = inr (λ w. n w.0)
+
+either : {P Q : Type 0} → Decided P → Decided Q → Decided (P ⊎ Q)
+either (inl p) q = inl (inl p)
+either (inr n) (inl q) = inl (inr q)
+either (inr n) (inr m) = inr (λ w. ⊎_elim n m w)
+
+opposite : {P : Type 0} → Decided P → Decided (P → ⊥)
+opposite (inl p) = inr (λ n. n p)
+opposite (inr n) = inl n
+
+-- what stands for a fact is decided with it
+told : {P Q : Type 0} → (P → Q) → (Q → P) → Decided P → Decided Q
+told to from (inl p) = inl (to p)
+told to from (inr n) = inr (λ q. n (from q))
+
+equal : (a b : ℕ) → Decided (a ≡ b)
+equal a b = cases_eq a b
+
+less : (a b : ℕ) → Decided (a < b)
+less a b = ⊎_elim (λ (q : a < b). inl q) (λ (q : b ≤ a). inr (λ r. omega arith)) (cases_lt a b)
+
+at_most : (a b : ℕ) → Decided (a ≤ b)
+at_most a b = ⊎_elim (λ (q : b < a). inr (λ r. omega arith)) (λ (q : a ≤ b). inl q) (cases_lt b a)
+
+-- the least number below a bound for which a fact holds
+pub record IsLeast (P : ℕ → Type 0) (bound n : ℕ) : Type 0 where
+  pub below : n < bound
+  pub holds : P n
+  pub least : (k : ℕ) → P k → n ≤ k
+
+least_below : (P : ℕ → Type 0) → ((k : ℕ) → Decided (P k)) → (bound : ℕ) → ((n : ℕ) × IsLeast P bound n) ⊎ ((k : ℕ) → k < bound → P k → ⊥)
+least_below P d zero = inr (λ k below p. omega arith)
+least_below P d (suc n) = next (least_below P d n) (d n)
+  where
+    next : ((m : ℕ) × IsLeast P n m) ⊎ ((k : ℕ) → k < n → P k → ⊥) → Decided (P n) → ((m : ℕ) × IsLeast P (suc n) m) ⊎ ((k : ℕ) → k < suc n → P k → ⊥)
+    next (inl f) here = inl (f.0, record { below = let b = f.1.below in omega arith; holds = f.1.holds; least = f.1.least })
+    next (inr none) (inl p) = inl (
+      n,
+      record {
+        below = omega arith;
+        holds = p;
+        least = λ k q. ⊎_elim (λ (l : k < n). absurd (none k l q)) (λ (l : n ≤ k). l) (cases_lt k n);
+      },
+    )
+    next (inr none) (inr not_here) = inr (λ k below p. ⊎_elim
+        (λ (e : k ≡ n). not_here (subst P e p))
+        (λ apart. none k (omega arith) p)
+        (cases_eq k n))
+
+-- some number below a bound
+some_below : (P : ℕ → Type 0) → ((k : ℕ) → Decided (P k)) → (bound : ℕ) → Decided ((k : ℕ) × (k < bound) × P k)
+some_below P d bound = ⊎_elim
+    (λ (f : (n : ℕ) × IsLeast P bound n). inl (f.0, f.1.below, f.1.holds))
+    (λ none. inr (λ w. none w.0 w.1 w.2))
+    (least_below P d bound)
+
+option_equal : (a b : Option ℕ) → Decided (a ≡ b)
+option_equal None None = inl refl
+option_equal None (Some y) = inr (λ e. cc)
+option_equal (Some x) None = inr (λ e. cc)
+option_equal (Some x) (Some y) = told (λ e. ap Some e) (λ e. cc) (equal x y)
+
+is_true : (b : Bool) → Decided (b ≡ true)
+is_true true = inl refl
+is_true false = inr (λ e. cc)
+
+kind_number : InsnKind → ℕ
+kind_number kinds.Plain = 0
+kind_number kinds.Trigger = 1
+kind_number kinds.Barrier = 2
+kind_number kinds.Load = 3
+kind_number kinds.Store = 4
+kind_number kinds.Locked = 5
+kind_number kinds.Turn = 6
+
+kind_numbered : ℕ → InsnKind
+kind_numbered n =
+    if n == 0 then kinds.Plain
+    else (if n == 1 then kinds.Trigger
+    else (if n == 2 then kinds.Barrier
+    else (if n == 3 then kinds.Load
+    else (if n == 4 then kinds.Store
+    else (if n == 5 then kinds.Locked
+    else kinds.Turn)))))
+
+kind_numbered-kind_number : (k : InsnKind) → kind_numbered (kind_number k) ≡ k
+unfolding kind_numbered kind_number
+kind_numbered-kind_number kinds.Plain = refl
+kind_numbered-kind_number kinds.Trigger = refl
+kind_numbered-kind_number kinds.Barrier = refl
+kind_numbered-kind_number kinds.Load = refl
+kind_numbered-kind_number kinds.Store = refl
+kind_numbered-kind_number kinds.Locked = refl
+kind_numbered-kind_number kinds.Turn = refl
+
+kind_is : (o : Option InsnKind) (k : InsnKind) → Decided (o ≡ Some k)
+kind_is None k = inr (λ e. cc)
+kind_is (Some j) k = told
+    (λ e. ap Some (sym (kind_numbered-kind_number j) ∙ (ap kind_numbered e ∙ kind_numbered-kind_number k)))
+    (λ e. let same : j ≡ k = cc in ap kind_number same)
+    (equal (kind_number j) (kind_number k))
+
+-- the parts of the conditions
+
+set_in : (code : List ℕ) (from to r : ℕ) → Decided (SetIn code from to r)
+set_in code from to r = told
+    (λ w. record { place = w.0; above = w.2.0; below = w.1; sets = w.2.1 })
+    (λ h. (h.place, h.below, (h.above, h.sets)))
+    (some_below (λ k. (from ≤ k) × Sets code k r) (λ k. both (at_most from k) (option_equal (sets_at code k) (Some r))) to)
+
+exposed_in : (code : List ℕ) (from to r : ℕ) → Decided (ExposedIn code from to r)
+exposed_in code from to r = told
+    (λ w. record { place = w.0; above = w.2.0; below = w.1; uses = w.2.1.0; unset = w.2.1.1 })
+    (λ h. (h.place, h.below, (h.above, (h.uses, h.unset))))
+    (some_below (λ k. (from ≤ k) × (Uses code k r × (SetIn code from k r → ⊥)))
+    (λ k. both (at_most from k) (both (is_true (uses (class_at code k) r)) (opposite (set_in code from k r)))) to)
+
+loses_source : (code : List ℕ) (from at : ℕ) → Decided (LosesSource code from at)
+loses_source code from at = cases (sets_at code at) refl
+  where
+    cases : (o : Option ℕ) → sets_at code at ≡ o → Decided (LosesSource code from at)
+    cases None e = inr (λ h. let s = h.sets in cc)
+    cases (Some r) e = told
+        (λ x. record { register = r; sets = e; source = x })
+        (λ h. let s = h.sets in let same : h.register ≡ r = cc in subst (ExposedIn code from (at + 1)) same h.source)
+        (exposed_in code from (at + 1) r)
+
+less_signed : (a b : ℤ) → Decided (a <ℤ b)
+less_signed a b = by_lt_z a b (λ l. inl l) (λ l. inr (λ m. omega (arith, ints)))
+
+may_meet : (a b : MemAccess) → Decided (MayMeet a b)
+may_meet a b = either (opposite (equal a.base b.base))
+    (both (less_signed (bytes_spanned a).low (bytes_spanned b).high) (less_signed (bytes_spanned b).low (bytes_spanned a).high))
+
+-- an access at a place that meets another
+record Reaches (code : List ℕ) (place : ℕ) (store : MemAccess) : Type 0 where
+  access : MemAccess
+  accesses : access_at code place ≡ Some access
+  meets : MayMeet access store
+
+reaches : (code : List ℕ) (place : ℕ) (store : MemAccess) → Decided (Reaches code place store)
+reaches code place store = cases (access_at code place) refl
+  where
+    cases : (o : Option MemAccess) → access_at code place ≡ o → Decided (Reaches code place store)
+    cases None e = inr (λ h. let a = h.accesses in cc)
+    cases (Some a) e = told
+        (λ m. record { access = a; accesses = e; meets = m })
+        (λ h. let b = h.accesses in let same : h.access ≡ a = cc in subst (λ x. MayMeet x store) same h.meets)
+        (may_meet a store)
+
+load_meets : (code : List ℕ) (from to : ℕ) (store : MemAccess) → Decided (LoadMeets code from to store)
+load_meets code from to store = told
+    (λ w. record { place = w.0; above = w.2.0; below = w.1; load = w.2.1.0; access = w.2.1.1.access; accesses = w.2.1.1.accesses; meets = w.2.1.1.meets })
+    (λ h. (h.place, h.below, (h.above, (h.load, record { access = h.access; accesses = h.accesses; meets = h.meets }))))
+    (some_below (λ k. (from ≤ k) × ((kind_at code k ≡ Some kinds.Load) × Reaches code k store))
+    (λ k. both (at_most from k) (both (kind_is (kind_at code k) kinds.Load) (reaches code k store))) to)
+
+store_meets : (code : List ℕ) (from at : ℕ) → Decided (StoreMeets code from at)
+store_meets code from at = cases (access_at code at) refl
+  where
+    cases : (o : Option MemAccess) → access_at code at ≡ o → Decided (StoreMeets code from at)
+    cases None e = inr (λ h. let a = h.accesses in cc)
+    cases (Some a) e = told
+        (λ w. record { store = w.0; access = a; accesses = e; load = w.1 })
+        (λ h. let b = h.accesses in let same : h.access ≡ a = cc in (h.store, subst (LoadMeets code from at) same h.load))
+        (both (kind_is (kind_at code at) kinds.Store) (load_meets code from at a))
+
+base_set : (code : List ℕ) (from at : ℕ) → Decided (BaseSet code from at)
+base_set code from at = cases (access_at code at) refl
+  where
+    cases : (o : Option MemAccess) → access_at code at ≡ o → Decided (BaseSet code from at)
+    cases None e = inr (λ h. let a = h.accesses in cc)
+    cases (Some a) e = told
+        (λ s. record { access = a; accesses = e; base = s })
+        (λ h. let b = h.accesses in let same : h.access ≡ a = cc in subst (λ x. SetIn code from at x.base) same h.base)
+        (set_in code from at a.base)
+
+straight : (code : List ℕ) (from to : ℕ) → Decided (Straight code from to)
+straight code from to = told
+    (λ none k above below. (λ b. none (k, below, (above, inl b)), λ t. none (k, below, (above, inr t))))
+    (λ s w. ⊎_elim (s w.0 w.2.0 w.1).0 (s w.0 w.2.0 w.1).1 w.2.1)
+    (opposite (some_below (λ k. (from ≤ k) × ((kind_at code k ≡ Some kinds.Barrier) ⊎ (kind_at code k ≡ Some kinds.Turn)))
+    (λ k. both (at_most from k) (either (kind_is (kind_at code k) kinds.Barrier) (kind_is (kind_at code k) kinds.Turn))) to))
+
+holds : (code : List ℕ) (trigger at : ℕ) (c : Condition) → Decided (Holds code trigger at c)
+holds code trigger at ZeroDestination = both (equal at trigger) (option_equal (destination_at code trigger) (Some 31))
+holds code trigger at SourceLost = loses_source code trigger at
+holds code trigger at SameDestination = told
+    (λ w. (w.0, w.1.0, w.1.1)) (λ w. (w.0, (w.1, w.2)))
+    (both (less trigger at) (both (kind_is (kind_at code at) kinds.Trigger) (option_equal (destination_at code at) (destination_at code trigger))))
+holds code trigger at WildBase = both (less trigger at) (base_set code trigger at)
+holds code trigger at LoadThenStore = store_meets code (trigger + 1) at
+holds code trigger at Locked = kind_is (kind_at code at) kinds.Locked
+holds code trigger at Turn = kind_is (kind_at code at) kinds.Turn
+holds code trigger at Open = equal at (length code)
+holds code trigger at Long = told
+    (λ w. (w.0, w.1.0, w.1.1)) (λ w. (w.0, (w.1, w.2)))
+    (both (equal at (trigger + 1025)) (both (less at (length code)) (opposite (kind_is (kind_at code at) kinds.Barrier))))
+
+pub broken : (code : List ℕ) (trigger at : ℕ) (c : Condition) → Decided (IsBroken code trigger at c)
+broken code trigger at c = told
+    (λ w. record { trigger_kind = w.0.0; order = w.0.1; straight = w.1.0; holds = w.1.1 })
+    (λ b. ((b.trigger_kind, b.order), (b.straight, b.holds)))
+    (both (both (kind_is (kind_at code trigger) kinds.Trigger) (at_most trigger at)) (both (straight code trigger at) (holds code trigger at c)))
+
+-- the least broken place
+
+-- no place past the end is broken
+not_past_end : (code : List ℕ) (trigger at : ℕ) (c : Condition) → length code < at → IsBroken code trigger at c → ⊥
+not_past_end code trigger at ZeroDestination past b = let w = kind_within code trigger kinds.Trigger b.trigger_kind in omega (arith, b.holds.0)
+not_past_end code trigger at SourceLost past b = let n = past_end code at (omega arith) in let s = b.holds.sets in cc
+not_past_end code trigger at SameDestination past b = let n = past_end code at (omega arith) in let s = b.holds.1 in cc
+not_past_end code trigger at WildBase past b = let n = past_end code at (omega arith) in let s = b.holds.1.accesses in cc
+not_past_end code trigger at LoadThenStore past b = let n = past_end code at (omega arith) in let s = b.holds.store in cc
+not_past_end code trigger at Locked past b = let n = past_end code at (omega arith) in let s = b.holds in cc
+not_past_end code trigger at Turn past b = let n = past_end code at (omega arith) in let s = b.holds in cc
+not_past_end code trigger at Open past b = let s = b.holds in omega arith
+not_past_end code trigger at Long past b = let s = b.holds.1 in omega arith
+
+-- broken under the condition with this number
+record BrokenBy (code : List ℕ) (trigger at n : ℕ) : Type 0 where
+  condition : Condition
+  number : condition_number condition ≡ n
+  broken : IsBroken code trigger at condition
+
+broken_by : (code : List ℕ) (trigger at n : ℕ) → Decided (BrokenBy code trigger at n)
+broken_by code trigger at n = told
+    (λ w. record { condition = numbered n; number = w.0; broken = w.1 })
+    (λ h.
+    let same : h.condition ≡ numbered n = sym (numbered-condition_number h.condition) ∙ ap numbered h.number in
+    (ap condition_number (sym same) ∙ h.number, subst (IsBroken code trigger at) same h.broken))
+    (both (equal (condition_number (numbered n)) n) (broken code trigger at (numbered n)))
+
+-- a trigger breaks at a place, and some trigger does
+abbrev Breaks : List ℕ → ℕ → ℕ → Type 0
+Breaks code at trigger = (n : ℕ) × (n < 10) × BrokenBy code trigger at n
+
+breaks : (code : List ℕ) (at trigger : ℕ) → Decided (Breaks code at trigger)
+breaks code at trigger = some_below (BrokenBy code trigger at) (broken_by code trigger at) 10
+
+abbrev AnyBreaks : List ℕ → ℕ → Type 0
+AnyBreaks code at = (trigger : ℕ) × (trigger < at + 1) × Breaks code at trigger
+
+breaks_by : (code : List ℕ) (trigger at : ℕ) (c : Condition) → IsBroken code trigger at c → Breaks code at trigger
+breaks_by code trigger at c b = let n = number_bound c in (condition_number c, omega arith, record { condition = c; number = refl; broken = b })
+
+any_breaks : (code : List ℕ) (trigger at : ℕ) (c : Condition) → IsBroken code trigger at c → AnyBreaks code at
+any_breaks code trigger at c b = let o = b.order in (trigger, omega arith, breaks_by code trigger at c b)
+
+assembled : (code : List ℕ) (at bound trigger n : ℕ) → IsLeast (AnyBreaks code) bound at → IsLeast (Breaks code at) (at + 1) trigger
+    → IsLeast (BrokenBy code trigger at) 10 n → (b : Broken) × IsLeastBroken code b
+assembled code at bound trigger n a t k = (
+  record { trigger = trigger; at = at; condition = k.holds.condition },
+  record {
+    broken = k.holds.broken;
+    least = λ p place c b.
+        let above = a.least place (any_breaks code p place c b) in
+        ⊎_elim
+        (λ (l : at < place). inl l)
+        (λ (l : place ≤ at).
+        let e : at ≡ place = omega arith in
+        let here = subst (λ m. IsBroken code p m c) (sym e) b in
+        let first = t.least p (breaks_by code p at c here) in
+        inr (
+          e,
+          ⊎_elim
+              (λ (m : trigger < p). inl m)
+              (λ (m : p ≤ trigger).
+              let same : trigger ≡ p = omega arith in
+              let low = k.least (condition_number c) (record { condition = c; number = refl; broken = subst (λ q. IsBroken code q at c) (sym same) here }) in
+              let number = k.holds.number in
+              inr (same, omega arith))
+              (cases_lt trigger p),
+        ))
+        (cases_lt at place);
+  },
+)
+
+pub verdict : (code : List ℕ) → IsAccepted code ⊎ ((b : Broken) × IsLeastBroken code b)
+verdict code = ⊎_elim
+    (λ (a : (at : ℕ) × IsLeast (AnyBreaks code) (length code + 1) at).
+    ⊎_elim
+    (λ (t : (trigger : ℕ) × IsLeast (Breaks code a.0) (a.0 + 1) trigger).
+    ⊎_elim
+    (λ (k : (n : ℕ) × IsLeast (BrokenBy code t.0 a.0) 10 n). inr (assembled code a.0 (length code + 1) t.0 k.0 a.1 t.1 k.1))
+    (λ none. let h = t.1.holds in absurd (none h.0 h.1 h.2))
+    (least_below (BrokenBy code t.0 a.0) (broken_by code t.0 a.0) 10))
+    (λ none. let h = a.1.holds in absurd (none h.0 h.1 h.2))
+    (least_below (Breaks code a.0) (breaks code a.0) (a.0 + 1)))
+    (λ none. inl (λ trigger at c b. ⊎_elim
+    (λ (past : length code < at). not_past_end code trigger at c past b)
+    (λ (within : at ≤ length code). none at (omega arith) (any_breaks code trigger at c b))
+    (cases_lt (length code) at)))
+    (least_below (AnyBreaks code) (λ at. some_below (Breaks code at) (breaks code at) (at + 1)) (length code + 1))

@@ -1,0 +1,11 @@
+use Rattle.std.proofs.Common.{◌≡◌, length, rules}
+use Rattle.alpha_shadow.specs.declared.window.Window.{Window}
+use Rattle.alpha_shadow.proofs.Passing.{nothing_passed}
+use Rattle.alpha_shadow.proofs.window.Window.empty.Goals as goal
+
+pub returns : goal.returns
+returns c = λ code.
+    let set : length c.empty.result.ends ≡ 32 = search rules in
+    let used : length c.empty-2.result.ends ≡ 32 = search rules in
+    let w : Window = record { triggers = c.new.result; loads = c.new-2.result; set = c.empty.result; used = c.empty-2.result } in
+    nothing_passed code w c.new.ensures c.new-2.ensures set c.empty.ensures used c.empty-2.ensures

@@ -1,0 +1,176 @@
+ghost use Rattle.std.specs.Prelude.{◌≡◌, ◌≢◌, ◌<◌, ◌+◌, ◌-◌, ◌^◌, ◌↔◌, ◌⊎◌, ◌==◌, ℕ, List, [], IsTrue, find, slice_get};
+ghost use Rattle.std.specs.Option.{option_map};
+ghost use Rattle.std.specs.List.{Any};
+ghost use Rattle.alpha_table.specs.declared.columns.InsnKind.TheVariants as kinds;
+ghost use Rattle.alpha_shadow.specs.Code.{Sets, Uses};
+ghost use Rattle.alpha_shadow.specs.Columns.{HasColumns};
+ghost use Rattle.alpha_shadow.specs.Window.{Summarizes, HasRoom, Notes, place_of, stands_within, reach_of, MayTouch};
+
+use crate::columns::Columns;
+use crate::last::LastPlaces;
+use alpha_table::{ByteSpan, InsnKind, MemAccess};
+use alpha_words::Reg;
+use arrayvec::ArrayVec;
+
+/// An instruction that may trap.
+#[derive(Clone, Copy)]
+pub(crate) struct Trigger {
+    pub(crate) place: u32,
+    pub(crate) destination: Reg,
+}
+
+impl Default for Trigger {
+    fn default() -> Trigger {
+        Trigger {
+            place: 0,
+            destination: Reg::ZERO,
+        }
+    }
+}
+
+/// The bytes that an access may touch, counted from a base register.
+#[derive(Clone, Copy)]
+pub(crate) struct Reach {
+    pub(crate) base: Reg,
+    pub(crate) span: ByteSpan,
+}
+
+impl Default for Reach {
+    fn default() -> Reach {
+        Reach {
+            base: Reg::ZERO,
+            span: ByteSpan { low: 0, high: 0 },
+        }
+    }
+}
+
+impl Reach {
+    pub(crate) fn of(access: &MemAccess) -> Reach
+        ensures { result ≡ reach_of access.now }
+    {
+        Reach {
+            base: access.base,
+            span: access.span(),
+        }
+    }
+
+    /// Whether both may touch a byte: by different bases, or where their spans meet.
+    pub(crate) fn may_meet(&self, other: &Reach) -> bool
+        ensures { IsTrue result ↔ MayTouch self.now other.now }
+    {
+        self.base != other.base || self.span.meets(&other.span)
+    }
+}
+
+/// What is known of the words before a place: the triggers whose shadows reach it, in order, the
+/// loads after the first of them, and for each register the last word that set it and the last that
+/// used it. The last two speak of the words of these shadows alone, and are never cleared.
+#[derive(Drop)]
+pub(crate) struct Window {
+    pub(crate) triggers: ArrayVec<Trigger, 1025>,
+    pub(crate) loads: ArrayVec<Reach, 1025>,
+    pub(crate) set: LastPlaces,
+    pub(crate) used: LastPlaces,
+}
+
+impl Window {
+    /// What is known before the first word.
+    pub(crate) fn empty() -> Window
+        ensures { (code : List ℕ) → Summarizes code result 0 }
+    {
+        Window {
+            triggers: ArrayVec::new(),
+            loads: ArrayVec::new(),
+            set: LastPlaces::empty(),
+            used: LastPlaces::empty(),
+        }
+    }
+
+    /// The first trigger whose shadow reaches the place.
+    pub(crate) fn first(&self) -> Option<u32>
+        ensures { result ≡ option_map place_of (slice_get self.now.triggers.items 0) }
+    {
+        self.triggers.first().map(|trigger| trigger.place)
+    }
+
+    /// The first open trigger at a place in [from, to).
+    pub(crate) fn first_within(&self, from: u32, to: u32) -> Option<u32>
+        ensures { result ≡ option_map place_of (find (stands_within from to)
+            self.now.triggers.items) }
+    {
+        if to <= from {
+            return None;
+        }
+        let mut triggers = self.triggers.iter();
+        triggers
+            .find(|t| from <= t.place && t.place < to)
+            .map(|t| t.place)
+    }
+
+    /// The first open trigger with a destination.
+    pub(crate) fn first_with_destination(&self, destination: Reg) -> Option<u32>
+        ensures { result ≡ option_map place_of (find (λ t. t.destination == destination)
+            self.now.triggers.items) }
+    {
+        let mut triggers = self.triggers.iter();
+        triggers
+            .find(|t| t.destination == destination)
+            .map(|t| t.place)
+    }
+
+    /// Whether a load after the first open trigger may touch a byte of a store.
+    pub(crate) fn has_load_that_may_meet(&self, store: &Reach) -> bool
+        ensures { IsTrue result ↔ Any (λ load. MayTouch load store.now) self.now.loads.items }
+    {
+        self.loads.iter().any(|load| load.may_meet(store))
+    }
+
+    /// Whether no shadow has a word of this kind: none reaches its place, and it begins none.
+    pub(crate) fn is_quiet(&self, kind: InsnKind) -> bool
+        ensures { IsTrue result ↔ ((self.now.triggers.items ≡ []) × (kind ≢ kinds.Trigger)) }
+    {
+        self.triggers.is_empty() && kind != InsnKind::Trigger
+    }
+
+    /// Goes on behind the next word, which breaks no shadow.
+    pub(crate) fn pass(&mut self, place: u32, columns: &Columns)
+        requires bound { place < 2 ^ 32 - 1 }
+        requires room { HasRoom self.old columns.now.kind }
+        ensures { (code : List ℕ) → Summarizes code self.old place
+            → HasColumns code place columns.now → ¬ ((self.old.triggers.items ≡ [])
+            × (columns.now.kind ≢ kinds.Trigger)) → Summarizes code self.new (place + 1) }
+    {
+        self.note(place, columns);
+        match columns.kind {
+            InsnKind::Barrier | InsnKind::Turn => {
+                self.triggers.clear();
+                self.loads.clear();
+            }
+            InsnKind::Trigger => self.triggers.push(Trigger {
+                place,
+                destination: columns.destination(),
+            }),
+            InsnKind::Load => {
+                if let Some(access) = columns.access {
+                    self.loads.push(Reach::of(&access));
+                }
+            }
+            InsnKind::Plain | InsnKind::Store | InsnKind::Locked => {}
+        }
+    }
+    // Notes what the next word uses and sets.
+    fn note(&mut self, place: u32, columns: &Columns)
+        requires { place < 2 ^ 32 - 1 }
+        ensures triggers { self.new.triggers ≡ self.old.triggers }
+        ensures loads { self.new.loads ≡ self.old.loads }
+        ensures set { (code : List ℕ) → HasColumns code place columns.now
+            → Notes (Sets code place) place self.old.set.ends self.new.set.ends }
+        ensures used { (code : List ℕ) → HasColumns code place columns.now
+            → Notes (Uses code place) place self.old.used.ends self.new.used.ends }
+    {
+        self.used.note_all(columns.uses, place);
+        if let Some(r) = columns.sets {
+            self.set.note(r, place);
+        }
+    }
+}
