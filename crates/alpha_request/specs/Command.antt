@@ -1,0 +1,10 @@
+-- What a request asks for, with the bytes of its texts.
+use Rattle.std.specs.Prelude.{ℕ, List}
+use Rattle.alpha_request.specs.declared.request.Request.{Request}
+use Rattle.alpha_request.specs.declared.request.Request.TheVariants.{Check}
+
+pub data Command : Type 0 where
+  check : List ℕ → Command
+
+abbrev pub command_of : Request → Command
+command_of (Check file) = check file.now

@@ -1,0 +1,19 @@
+ghost use Rattle.std.specs.Prelude.{◌≡◌};
+ghost use Rattle.alpha_request.specs.Asked.{name_of};
+
+/// The name of a command.
+#[derive(Clone, Copy, Debug, PartialEq, Eq)]
+pub(crate) enum Name {
+    /// `check`
+    Check,
+}
+
+/// The command that a word names, letter by letter.
+pub(crate) fn name_of(word: &str) -> Option<Name>
+    ensures { result ≡ name_of word.now }
+{
+    match word {
+        "check" => Some(Name::Check),
+        _ => None,
+    }
+}

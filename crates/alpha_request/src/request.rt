@@ -1,0 +1,65 @@
+ghost use Rattle.std.specs.Prelude.{◌≡◌, option_map};
+ghost use Rattle.clap.specs.Words.{found_of, rows_of};
+ghost use Rattle.alpha_request.specs.Command.{command_of};
+ghost use Rattle.alpha_request.specs.Asked.{asked, command_in, Reads};
+
+use crate::Words;
+use crate::matches::{matches_of, text};
+use crate::name::{Name, name_of};
+use clap::ArgMatches;
+use std::alloc::Global;
+
+/// What good words ask for.
+#[derive(Clone, Copy, Debug, PartialEq, Eq)]
+pub enum Request<'a> {
+    /// `check FILE`: whether the code of the image FILE can be restarted after a late trap.
+    Check {
+        /// The name of the file.
+        file: &'a str,
+    },
+}
+
+/// Why there is no request.
+#[derive(Clone, Copy, Debug, PartialEq, Eq)]
+pub enum Refusal {
+    /// The words are no command.
+    BadWords,
+    /// Memory ran out.
+    NoMemory,
+}
+
+/// What the words ask for.
+///
+/// # Errors
+///
+/// `BadWords` exactly where they ask for nothing. Memory may run out on any words.
+pub fn request_of<'a>(alloc: Global, words: &'a Words) -> Result<Request<'a>, Refusal>
+    ensures { Reads (asked words.now) result }
+{
+    let words = words.as_slice();
+    let Some(first) = words.first() else {
+        return Err(Refusal::BadWords);
+    };
+    let Some(name) = name_of(first.as_str()) else {
+        return Err(Refusal::BadWords);
+    };
+    match matches_of(alloc, name, words) {
+        Ok(matches) => match request_in(name, &matches) {
+            Some(request) => Ok(request),
+            None => Err(Refusal::BadWords),
+        },
+        Err(refusal) => Err(refusal),
+    }
+}
+
+// The request that a command's matches make, by the product's own rules.
+fn request_in<'a>(name: Name, matches: &ArgMatches<'a>) -> Option<Request<'a>>
+    ensures { option_map command_of result ≡ command_in name (rows_of (found_of matches.now)) }
+{
+    match name {
+        Name::Check => match text(matches, "file") {
+            Some(file) => Some(Request::Check { file }),
+            None => None,
+        },
+    }
+}
