@@ -1,3 +1,4 @@
-pub mod Pairs
-pub mod Answering
+pub mod Causes
+pub mod Existence
+pub mod Trying
 pub mod Uniqueness

@@ -1,46 +1,121 @@
--- Over told files, where no device fails, the words have one answer, but for want of memory.
-use Rattle.std.proofs.Common.{◌≡◌, ◌⊎◌, ◌<◌, ◌≤◌, ◌∙◌, ap, List, ℕ, [], ◌∷◌, length, Option, None, Some, IsSomeAnd, refl, sym, subst, inl, inr, ⊎_elim, arith}
+-- Where files are told, a stage has one outcome, and words have one answer.
+use Rattle.std.proofs.Common.{◌≡◌, ◌⊎◌, ◌<◌, ◌≤◌, ◌∙◌, ℕ, List, length, Option, None, Some, IsSome, IsSomeAnd, sym, ap, subst, inl, inr, ⊎_elim, arith}
 use Rattle.alpha_io.specs.Files.{Files}
-use Rattle.alpha_image.specs.declared.fault.ImageFault.{ImageFault}
-use Rattle.alpha_image.specs.Parts.{Parts, IsImage, spelling, parts_of}
+use Rattle.alpha_image.specs.Parts.{Parts, IsImage, spelling}
 use Rattle.alpha_image.specs.ImageFault.{first_fault}
-use Rattle.alpha_image.proofs.Spelled.{parts_of-spelling, first_fault-spelling}
-use Rattle.alpha_shadow.specs.declared.broken.Condition.{Condition}
+use Rattle.alpha_image.proofs.Spelled.{one_image, first_fault-spelling}
 use Rattle.alpha_shadow.specs.declared.broken.Broken.{Broken}
-use Rattle.alpha_shadow.specs.Broken.{IsBroken, IsAccepted, IsLeastBroken, NoLater, condition_number}
+use Rattle.alpha_shadow.specs.Broken.{IsLeastBroken, NoLater}
 use Rattle.alpha_shadow.specs.Report.{broken_line}
-use Rattle.alpha_cmd.specs.declared.check.TheConstants.{IMAGE_LIMIT}
-use Rattle.alpha_cmd.specs.declared.status.Status.{Status}
-use Rattle.alpha_cmd.specs.declared.status.Status.TheVariants.{Done, NotRestartable, BadWords, BadImage, ShelfFault, SinkFault, TooLarge, NoMemory}
-use Rattle.alpha_cmd.specs.Command.{IsCheck, AreGood}
-use Rattle.alpha_cmd.specs.Status.{output_of, status_line}
-use Rattle.alpha_cmd.specs.Answer.{OfFile, Spells, Cause, Notes, Answer, IsAnswer, Gives}
 use Rattle.alpha_shadow.proofs.Conditions.{condition_number-injective}
+use Rattle.alpha_request.specs.Command.{Command, check}
+use Rattle.alpha_cmd.specs.declared.status.Status.{Status}
+use Rattle.alpha_cmd.specs.declared.status.Status.TheVariants.{NotRestartable, BadImage}
+use Rattle.alpha_cmd.specs.Status.{status_line}
+use Rattle.alpha_cmd.specs.Outcome.{Outcome, goes, stops, Then, Gives}
+use Rattle.alpha_cmd.specs.Image.{Reads, Spells, ImageOf, Judges, image_limit}
+use Rattle.alpha_cmd.specs.Answer.{World, Answer, accepted, answer_of, Steps, AnswerOf, IsAnswer}
+use Rattle.alpha_cmd.proofs.Causes.{Missed, missing, large, Unread-cause, Faulty, NoImage-cause, Refused, IsRefused-cause}
 
--- what bytes of a file come to: too many, an image's fault, accepted, or a least broken place
-data Outcome : Type 0 where
-  large : Outcome
-  faulty : ImageFault → Outcome
-  accepted : Outcome
-  broken : Broken → Outcome
+-- a stage has one outcome
+abbrev pub IsSingle : {X : Type 0} → (Outcome X → Type 0) → Type 0
+IsSingle {X = X} R = (o p : Outcome X) → R o → R p → o ≡ p
 
-abbrev status_of : Outcome → Status
-status_of large = TooLarge IMAGE_LIMIT
-status_of (faulty fault) = BadImage fault
-status_of accepted = Done 0
-status_of (broken b) = NotRestartable b
+same_stop : {X : Type 0} (s t : Status) (l m : List ℕ) → s ≡ t → l ≡ m → ◌≡◌ {A = Outcome X} (stops s l) (stops t m)
+same_stop s t l m e f = cc
 
-abbrev Says : List ℕ → Outcome → Type 0
-Says bytes large = IMAGE_LIMIT < length bytes
-Says bytes (faulty fault) = (length bytes ≤ IMAGE_LIMIT) × (first_fault bytes ≡ Some fault)
-Says bytes accepted = (length bytes ≤ IMAGE_LIMIT) × (first_fault bytes ≡ None) × IsAccepted (parts_of bytes).words
-Says bytes (broken b) = (length bytes ≤ IMAGE_LIMIT) × (first_fault bytes ≡ None) × IsLeastBroken (parts_of bytes).words b
+-- ---- one stage after another
 
-same_check : (words : List (List ℕ)) (f g : List ℕ) → IsCheck words f → IsCheck words g → f ≡ g
-same_check words f g a b = let x = a.0 in let y = b.0 in cc
+pub Then-single : {X Y : Type 0} (R : Outcome X → Type 0) (S : X → Outcome Y → Type 0) → IsSingle R → ((x : X) → IsSingle (S x)) → IsSingle (Then R S)
+Then-single {X = X} {Y = Y} R S first second = go
+  where
+    same : (x z : X) → R (goes x) → R (goes z) → x ≡ z
+    same x z h g = let e = first (goes x) (goes z) h g in cc
+
+    moved : (x z : X) (o : Outcome Y) → R (goes x) → R (goes z) → S z o → S x o
+    moved x z o h g s = subst (λ v. S v o) (sym (same x z h g)) s
+
+    apart : (x : X) (s : Status) (l : List ℕ) → R (goes x) → R (stops s l) → ⊥
+    apart x s l h g = let e = first (goes x) (stops s l) h g in cc
+
+    go : (o p : Outcome Y) → Then R S o → Then R S p → o ≡ p
+    go (goes y) (goes z) h g = second h.0 (goes y) (goes z) h.2 (moved h.0 g.0 (goes z) h.1 g.1 g.2)
+    go (goes y) (stops t m) h (inl g) = absurd (apart h.0 t m h.1 g)
+    go (goes y) (stops t m) h (inr g) = second h.0 (goes y) (stops t m) h.2 (moved h.0 g.0 (stops t m) h.1 g.1 g.2)
+    go (stops s l) (goes z) (inl h) g = absurd (apart g.0 s l g.1 h)
+    go (stops s l) (goes z) (inr h) g = second h.0 (stops s l) (goes z) h.2 (moved h.0 g.0 (goes z) h.1 g.1 g.2)
+    go (stops s l) (stops t m) (inl h) (inl g) =
+        let e = first (stops s l) (stops t m) h g in same_stop s t l m (cc) (cc)
+    go (stops s l) (stops t m) (inl h) (inr g) = absurd (apart g.0 s l g.1 h)
+    go (stops s l) (stops t m) (inr h) (inl g) = absurd (apart h.0 t m h.1 g)
+    go (stops s l) (stops t m) (inr h) (inr g) = second h.0 (stops s l) (stops t m) h.2 (moved h.0 g.0 (stops t m) h.1 g.1 g.2)
+
+pub Gives-single : {X : Type 0} (x : X) → IsSingle (Gives x)
+Gives-single x (goes y) (goes z) h g = ap goes (h ∙ sym g)
+Gives-single x (goes y) (stops t m) h g = absurd g
+Gives-single x (stops s l) p h g = absurd h
+
+-- ---- a file
+
+same_file : (o : Option (List ℕ)) (a b : List ℕ) → IsSomeAnd o (λ file. file ≡ a) → IsSomeAnd o (λ file. file ≡ b) → a ≡ b
+same_file None a b h g = absurd h
+same_file (Some file) a b h g = sym h ∙ g
+
+not_there : (o : Option (List ℕ)) (P : List ℕ → Type 0) → o ≡ None → IsSomeAnd o P → ⊥
+not_there None P e h = h
+not_there (Some file) P e h = cc
+
+too_long : (o : Option (List ℕ)) (a : List ℕ) (limit : ℕ) → IsSomeAnd o (λ file. file ≡ a) → length a ≤ limit → IsSomeAnd o (λ file. limit < length file) → ⊥
+too_long None a limit h within longer = h
+too_long (Some file) a limit h within longer = omega (arith, ap length h)
+
+read_apart : (files : List ℕ → Option (List ℕ)) (name : List ℕ) (limit : ℕ) (a : List ℕ) (s : Status)
+    → IsSomeAnd (files name) (λ file. file ≡ a) → length a ≤ limit → Missed (Some files) name limit s → ⊥
+read_apart files name limit a s there within (missing is lacks) = not_there (files name) (λ file. file ≡ a) lacks there
+read_apart files name limit a s there within (large is longer) = too_long (files name) a limit there within longer
+
+same_miss : (files : List ℕ → Option (List ℕ)) (name : List ℕ) (limit : ℕ) (s t : Status) → Missed (Some files) name limit s → Missed (Some files) name limit t → s ≡ t
+same_miss files name limit s t (missing e lacks) (missing f absent) = e ∙ sym f
+same_miss files name limit s t (missing e lacks) (large f longer) = absurd (not_there (files name) (λ file. limit < length file) lacks longer)
+same_miss files name limit s t (large e longer) (missing f lacks) = absurd (not_there (files name) (λ file. limit < length file) lacks longer)
+same_miss files name limit s t (large e longer) (large f other) = e ∙ sym f
+
+pub Reads-single : (files : Files) (name : List ℕ) (limit : ℕ) → IsSome files → IsSingle (Reads files name limit)
+Reads-single None name limit told o p h g = cc
+Reads-single (Some files) name limit told (goes a) (goes b) h g = ap goes (same_file (files name) a b h.0 g.0)
+Reads-single (Some files) name limit told (goes a) (stops t m) h g = absurd (read_apart files name limit a t h.0 h.1 (Unread-cause (Some files) name limit t g.0))
+Reads-single (Some files) name limit told (stops s l) (goes b) h g = absurd (read_apart files name limit b s g.0 g.1 (Unread-cause (Some files) name limit s h.0))
+Reads-single (Some files) name limit told (stops s l) (stops t m) h g =
+    let same = same_miss files name limit s t (Unread-cause (Some files) name limit s h.0) (Unread-cause (Some files) name limit t g.0) in
+    same_stop s t l m same (h.1 ∙ (ap status_line same ∙ sym g.1))
+
+-- ---- an image
+
+spelled_apart : (bytes : List ℕ) (image : Parts) (s : Status) → IsImage image → bytes ≡ spelling image → Faulty bytes s → ⊥
+spelled_apart bytes image s good e f = let none = ap first_fault e ∙ first_fault-spelling image good in let some = f.first in cc
+
+same_fault : (bytes : List ℕ) (s t : Status) → Faulty bytes s → Faulty bytes t → s ≡ t
+same_fault bytes s t f g =
+    let a = f.first in
+    let b = g.first in
+    let same : f.fault ≡ g.fault = cc in
+    f.is ∙ (ap BadImage same ∙ sym g.is)
+
+pub Spells-single : (bytes : List ℕ) → IsSingle (Spells bytes)
+Spells-single bytes (goes a) (goes b) h g = ap goes (one_image a b h.0 g.0 (sym h.1 ∙ g.1))
+Spells-single bytes (goes a) (stops t m) h g = absurd (spelled_apart bytes a t h.0 h.1 (NoImage-cause bytes t g.0))
+Spells-single bytes (stops s l) (goes b) h g = absurd (spelled_apart bytes b s g.0 g.1 (NoImage-cause bytes s h.0))
+Spells-single bytes (stops s l) (stops t m) h g =
+    let same = same_fault bytes s t (NoImage-cause bytes s h.0) (NoImage-cause bytes t g.0) in
+    same_stop s t l m same (h.1 ∙ (ap status_line same ∙ sym g.1))
+
+pub ImageOf-single : (files : Files) (name : List ℕ) → IsSome files → IsSingle (ImageOf files name)
+ImageOf-single files name told = Then-single (Reads files name image_limit) Spells (Reads-single files name image_limit told) Spells-single
+
+-- ---- the verdict
 
 -- two least broken places are one
-same_least : (code : List ℕ) (b c : Broken) → IsLeastBroken code b → IsLeastBroken code c → b ≡ c
+pub same_least : (code : List ℕ) (b c : Broken) → IsLeastBroken code b → IsLeastBroken code c → b ≡ c
 same_least code b c x y = go (x.least c.trigger c.at c.condition y.broken) (y.least b.trigger b.at b.condition x.broken)
   where
     joined : b.at ≡ c.at → b.trigger ≡ c.trigger → b.condition ≡ c.condition → b ≡ c
@@ -61,172 +136,34 @@ same_least code b c x y = go (x.least c.trigger c.at c.condition y.broken) (y.le
         q)
         p
 
-same_outcome : (bytes : List ℕ) (o p : Outcome) → Says bytes o → Says bytes p → o ≡ p
-same_outcome bytes large large h g = refl
-same_outcome bytes large (faulty f) h g = absurd (omega (arith, g.0))
-same_outcome bytes large accepted h g = absurd (omega (arith, g.0))
-same_outcome bytes large (broken b) h g = absurd (omega (arith, g.0))
-same_outcome bytes (faulty f) large h g = absurd (omega (arith, h.0))
-same_outcome bytes (faulty e) (faulty f) h g = let x = h.1 in let y = g.1 in let same : e ≡ f = cc in ap faulty same
-same_outcome bytes (faulty f) accepted h g = let x = h.1 in let y = g.1 in cc
-same_outcome bytes (faulty f) (broken b) h g = let x = h.1 in let y = g.1 in cc
-same_outcome bytes accepted large h g = absurd (omega (arith, h.0))
-same_outcome bytes accepted (faulty f) h g = let x = h.1 in let y = g.1 in cc
-same_outcome bytes accepted accepted h g = refl
-same_outcome bytes accepted (broken b) h g = absurd (h.2 b.trigger b.at b.condition g.2.broken)
-same_outcome bytes (broken b) large h g = absurd (omega (arith, h.0))
-same_outcome bytes (broken b) (faulty f) h g = let x = h.1 in let y = g.1 in cc
-same_outcome bytes (broken b) accepted h g = absurd (g.2 b.trigger b.at b.condition h.2.broken)
-same_outcome bytes (broken b) (broken c) h g = ap broken (same_least (parts_of bytes).words b c h.2 g.2)
+same_refusal : (image : Parts) (s t : Status) (l m : List ℕ) → Refused image s l → Refused image t m → ◌≡◌ {A = Outcome Parts} (stops s l) (stops t m)
+same_refusal image s t l m r q =
+    let same = same_least image.words r.place q.place r.least q.least in
+    same_stop s t l m (r.is ∙ (ap NotRestartable same ∙ sym q.is)) (r.line_is ∙ (ap (λ b. broken_line b image.code_base) same ∙ sym q.line_is))
 
--- a status with a file that is there is that of an outcome
-record HasOutcome (bytes : List ℕ) (status : Status) : Type 0 where
-  outcome : Outcome
-  is : status ≡ status_of outcome
-  says : Says bytes outcome
+pub Judges-single : (image : Parts) → IsSingle (Judges image)
+Judges-single image (goes a) (goes b) h g = ap goes (h.1 ∙ sym g.1)
+Judges-single image (goes a) (stops t m) h g = let r = IsRefused-cause image t m g in absurd (h.0 r.place.trigger r.place.at r.place.condition r.least.broken)
+Judges-single image (stops s l) (goes b) h g = let r = IsRefused-cause image s l h in absurd (g.0 r.place.trigger r.place.at r.place.condition r.least.broken)
+Judges-single image (stops s l) (stops t m) h g = same_refusal image s t l m (IsRefused-cause image s l h) (IsRefused-cause image t m g)
 
-spelled : (bytes : List ℕ) (P : List ℕ → Type 0) → Spells bytes (λ image. P image.words) → (length bytes ≤ IMAGE_LIMIT) × (first_fault bytes ≡ None) × P (parts_of bytes).words
-spelled bytes P h =
-    let image = h.1.0 in
-    let good = h.1.1 in
-    let e = h.1.2 in (
-      h.0,
-      ap first_fault e ∙ first_fault-spelling image good,
-      subst (λ p. P p.words) (sym (ap parts_of e ∙ parts_of-spelling image good)) h.1.3,
-    )
+-- ---- an answer
 
-of_file : (words : List (List ℕ)) (files : List ℕ → Option (List ℕ)) (file : List ℕ) (o : Option (List ℕ)) (P : List ℕ → Type 0)
-    → IsCheck words file → files file ≡ o → OfFile words (Some files) P → IsSomeAnd o P
-of_file words files file o P check e h =
-    let same = same_check words h.0 file h.1 check in
-    subst (λ o. IsSomeAnd o P) (ap files same ∙ e) h.2
+pub Steps-single : (command : Command) (w : World) → IsSome w.files → IsSingle (Steps command w)
+Steps-single (check file) w told =
+    Then-single (Then (ImageOf w.files file) Judges) (λ image. Gives accepted)
+    (Then-single (ImageOf w.files file) Judges (ImageOf-single w.files file told) Judges-single)
+    (λ image. Gives-single accepted)
 
-has_outcome : (words : List (List ℕ)) (files : List ℕ → Option (List ℕ)) (file bytes : List ℕ) (s : Status)
-    → IsCheck words file → files file ≡ Some bytes → Cause ⊥ words (Some files) s → (s ≡ NoMemory → ⊥) → HasOutcome bytes s
-has_outcome words files file bytes (Done n) check e cause not = record {
-  outcome = accepted;
-  is = ap Done cause.0;
-  says = spelled bytes IsAccepted (of_file words files file (Some bytes) _ check e cause.1);
-}
-has_outcome words files file bytes (NotRestartable b) check e cause not = record {
-  outcome = broken b;
-  is = refl;
-  says = spelled bytes (λ code. IsLeastBroken code b) (of_file words files file (Some bytes) _ check e cause);
-}
-has_outcome words files file bytes BadWords check e cause not = absurd (cause (file, check))
-has_outcome words files file bytes (BadImage fault) check e cause not = record {
-  outcome = faulty fault;
-  is = refl;
-  says = of_file words files file (Some bytes) _ check e cause;
-}
-has_outcome words files file bytes ShelfFault check e cause not =
-    let same = same_check words cause.0 file cause.1 check in
-    absurd (⊎_elim (λ (p : ⊥). p) (λ p. let lacks : files file ≡ None = ap files (sym same) ∙ p in cc) cause.2)
-has_outcome words files file bytes SinkFault check e cause not = absurd cause
-has_outcome words files file bytes (TooLarge limit) check e cause not = record {
-  outcome = large;
-  is = ap TooLarge cause.0;
-  says = of_file words files file (Some bytes) _ check e cause.1;
-}
-has_outcome words files file bytes NoMemory check e cause not = absurd (not refl)
+pub AnswerOf-single : (command : Command) (w : World) (a b : Answer) → IsSome w.files → AnswerOf command w a → AnswerOf command w b → a ≡ b
+AnswerOf-single command w a b told h g = h.2 ∙ (ap answer_of (Steps-single command w told h.0 g.0 h.1 g.1) ∙ sym g.2)
 
-is_missing : (words : List (List ℕ)) (files : List ℕ → Option (List ℕ)) (file : List ℕ) (s : Status)
-    → IsCheck words file → files file ≡ None → Cause ⊥ words (Some files) s → (s ≡ NoMemory → ⊥) → s ≡ ShelfFault
-is_missing words files file (Done n) check e cause not = absurd (of_file words files file None _ check e cause.1)
-is_missing words files file (NotRestartable b) check e cause not = absurd (of_file words files file None _ check e cause)
-is_missing words files file BadWords check e cause not = absurd (cause (file, check))
-is_missing words files file (BadImage fault) check e cause not = absurd (of_file words files file None _ check e cause)
-is_missing words files file ShelfFault check e cause not = refl
-is_missing words files file SinkFault check e cause not = absurd cause
-is_missing words files file (TooLarge limit) check e cause not = absurd (of_file words files file None _ check e cause.1)
-is_missing words files file NoMemory check e cause not = absurd (not refl)
-
--- the words are bad, or good
-words_of : (words : List (List ℕ)) (files : List ℕ → Option (List ℕ)) (s : Status) → Cause ⊥ words (Some files) s → ((s ≡ BadWords) × (AreGood words → ⊥)) ⊎ AreGood words
-words_of words files (Done n) cause = inr (cause.1.0, cause.1.1)
-words_of words files (NotRestartable b) cause = inr (cause.0, cause.1)
-words_of words files BadWords cause = inl (refl, cause)
-words_of words files (BadImage fault) cause = inr (cause.0, cause.1)
-words_of words files ShelfFault cause = inr (cause.0, cause.1)
-words_of words files SinkFault cause = absurd cause
-words_of words files (TooLarge limit) cause = inr (cause.1.0, cause.1.1)
-words_of words files NoMemory cause = inr cause
-
-pub same_status : (words : List (List ℕ)) (files : List ℕ → Option (List ℕ)) (s t : Status) → Cause ⊥ words (Some files) s → Cause ⊥ words (Some files) t
-    → (s ≡ NoMemory → ⊥) → (t ≡ NoMemory → ⊥) → s ≡ t
-same_status words files s t a b u v =
-    ⊎_elim
-    (λ p. ⊎_elim (λ q. p.0 ∙ sym q.0) (λ q. absurd (p.1 q)) (words_of words files t b))
-    (λ p. ⊎_elim (λ q. absurd (q.1 p)) (λ q. in_file p.0 p.1 (files p.0) refl) (words_of words files t b))
-    (words_of words files s a)
-  where
-    in_file : (file : List ℕ) → IsCheck words file → (o : Option (List ℕ)) → files file ≡ o → s ≡ t
-    in_file file check None e = is_missing words files file s check e a u ∙ sym (is_missing words files file t check e b v)
-    in_file file check (Some bytes) e =
-        let x = has_outcome words files file bytes s check e a u in
-        let y = has_outcome words files file bytes t check e b v in
-        x.is ∙ (ap status_of (same_outcome bytes x.outcome y.outcome x.says y.says) ∙ sym y.is)
-
--- a status has one line
-same_line : (words : List (List ℕ)) (files : List ℕ → Option (List ℕ)) (s : Status) (x y : List ℕ) → Cause ⊥ words (Some files) s
-    → Notes words (Some files) s x → Notes words (Some files) s y → x ≡ y
-same_line words files (Done n) x y cause h g = h ∙ sym g
-same_line words files (NotRestartable b) x y cause h g =
-    go (files cause.0) refl
-  where
-    go : (o : Option (List ℕ)) → files cause.0 ≡ o → x ≡ y
-    go None e = absurd (of_file words files cause.0 None _ cause.1 e cause)
-    go (Some bytes) e =
-        let base = of_file words files cause.0 (Some bytes) _ cause.1 e h.2 in
-        let other = of_file words files cause.0 (Some bytes) _ cause.1 e g.2 in
-        h.1 ∙ (ap (broken_line b) (base ∙ sym other) ∙ sym g.1)
-same_line words files BadWords x y cause h g = h ∙ sym g
-same_line words files (BadImage fault) x y cause h g = h ∙ sym g
-same_line words files ShelfFault x y cause h g = h ∙ sym g
-same_line words files SinkFault x y cause h g = h ∙ sym g
-same_line words files (TooLarge limit) x y cause h g = h ∙ sym g
-same_line words files NoMemory x y cause h g = h ∙ sym g
-
-pub same_answer : (words : List (List ℕ)) (files : List ℕ → Option (List ℕ)) (a b : Answer) → IsAnswer ⊥ words (Some files) a → IsAnswer ⊥ words (Some files) b
-    → (a.status ≡ NoMemory → ⊥) → (b.status ≡ NoMemory → ⊥) → a ≡ b
-same_answer words files a b x y u v =
-    let status = same_status words files a.status b.status x.cause y.cause u v in
-    let output = x.output ∙ (ap output_of status ∙ sym y.output) in
-    let notes = same_line words files a.status a.notes b.notes x.cause x.notes (subst (λ s. Notes words (Some files) s b.notes) (sym status) y.notes) in
-    λ i. record { status = status i; output = output i; notes = notes i }
-
--- an answer for which the shelf didn't fail
-without_fault : (failed : Type 0) (words : List (List ℕ)) (files : Files) (a : Answer) → (failed → ⊥) → IsAnswer failed words files a → IsAnswer ⊥ words files a
-without_fault failed words files a calm x = record { cause = go a.status x.cause; output = x.output; notes = x.notes }
-  where
-    go : (s : Status) → Cause failed words files s → Cause ⊥ words files s
-    go (Done n) c = c
-    go (NotRestartable b) c = c
-    go BadWords c = c
-    go (BadImage fault) c = c
-    go ShelfFault c = (c.0, c.1, ⊎_elim (λ p. absurd (calm p)) (λ p. inr p) c.2)
-    go SinkFault c = c
-    go (TooLarge limit) c = c
-    go NoMemory c = c
-
-is_memory : (s : Status) → (s ≡ NoMemory) ⊎ (s ≡ NoMemory → ⊥)
-is_memory (Done n) = inr (λ e. cc)
-is_memory (NotRestartable b) = inr (λ e. cc)
-is_memory BadWords = inr (λ e. cc)
-is_memory (BadImage fault) = inr (λ e. cc)
-is_memory ShelfFault = inr (λ e. cc)
-is_memory SinkFault = inr (λ e. cc)
-is_memory (TooLarge limit) = inr (λ e. cc)
-is_memory NoMemory = inl refl
-
--- where no device failed, the status that was given is that of any answer, or memory ran out
-pub exact_status : (failed : Type 0) (words : List (List ℕ)) (told : Files) (files : List ℕ → Option (List ℕ)) (status : Status)
-    (out out' notes notes' : Option (List ℕ)) (a : Answer) → told ≡ Some files → (failed → ⊥) → Gives failed words told status out out' notes notes'
-    → IsAnswer ⊥ words (Some files) a → (a.status ≡ NoMemory → ⊥) → (status ≡ a.status) ⊎ (status ≡ NoMemory)
-exact_status failed words told files status out out' notes notes' a e calm g is some =
-    let given = subst (λ t. IsAnswer ⊥ words t g.answer) e (without_fault failed words told g.answer calm g.is) in
-    ⊎_elim
-    (λ (p : status ≡ NoMemory). inr p)
-    (λ (p : status ≡ NoMemory → ⊥).
-    inl (sym g.status_is ∙ same_status words files g.answer.status a.status given.cause is.cause (λ q. p (sym g.status_is ∙ q)) some))
-    (is_memory status)
+pub IsAnswer-single : (words : List (List ℕ)) (w : World) (a b : Answer) → IsSome w.files → IsAnswer words w a → IsAnswer words w b → a ≡ b
+IsAnswer-single words w a b told (inl h) (inl g) = h.1 ∙ sym g.1
+IsAnswer-single words w a b told (inl h) (inr g) = let x = h.0 in let y = g.1 in cc
+IsAnswer-single words w a b told (inr h) (inl g) = let x = h.1 in let y = g.0 in cc
+IsAnswer-single words w a b told (inr h) (inr g) =
+    let x = h.1 in
+    let y = g.1 in
+    let same : g.0 ≡ h.0 = cc in
+    AnswerOf-single h.0 w a b told h.2 (subst (λ c. AnswerOf c w b) same g.2)

@@ -1,66 +1,81 @@
--- What the program answers to its words: a status, and the bytes for the output and for the notes.
-use Rattle.std.specs.Prelude.{◌≡◌, ◌⊎◌, ◌<◌, ◌≤◌, ℕ, List, length, Option, Some}
-use Rattle.std.specs.Io.KnownBytes.{Appends}
-use Rattle.alpha_io.specs.Files.{Files, IfTold, Lacks}
-use Rattle.alpha_io.specs.Written.{WritesPrefix}
-use Rattle.alpha_image.specs.Parts.{Parts, IsImage, spelling, parts_of}
-use Rattle.alpha_image.specs.ImageFault.{first_fault}
-use Rattle.alpha_shadow.specs.Broken.{IsAccepted, IsLeastBroken}
-use Rattle.alpha_shadow.specs.Report.{broken_line}
-use Rattle.alpha_cmd.specs.declared.check.TheConstants.{IMAGE_LIMIT}
+-- What a list of words has as its answer, where no device fails and memory lasts.
+use Rattle.std.specs.Prelude.{◌≡◌, ◌⊎◌, ℕ, List, [], ◌∷◌, ◌++◌, Bool, codes, All, Option, Some, None}
+use Rattle.alpha_io.specs.Files.{Files}
+use Rattle.alpha_io.specs.Sunk.{Sunk, Puts}
+use Rattle.alpha_image.specs.Parts.{IsByte}
+use Rattle.alpha_request.specs.Command.{Command, check}
+use Rattle.alpha_request.specs.Asked.{asked}
 use Rattle.alpha_cmd.specs.declared.status.Status.{Status}
-use Rattle.alpha_cmd.specs.declared.status.Status.TheVariants.{Done, NotRestartable, BadWords, BadImage, ShelfFault, SinkFault, TooLarge, NoMemory}
-use Rattle.alpha_cmd.specs.Command.{IsCheck, AreGood}
-use Rattle.alpha_cmd.specs.Status.{status_line, output_of}
+use Rattle.alpha_cmd.specs.declared.status.Status.TheVariants.{Done, BadWords}
+use Rattle.alpha_cmd.specs.Outcome.{Outcome, goes, stops, Then, Gives}
+use Rattle.alpha_cmd.specs.Status.{status_line}
+use Rattle.alpha_cmd.specs.Image.{ImageOf, Judges}
 
--- the words are `check` and a file, and where files are told, that file is there and its bytes have P
-abbrev pub OfFile : List (List ℕ) → Files → (List ℕ → Type 0) → Type 0
-OfFile words files P = (file : List ℕ) × IsCheck words file × IfTold files file P
+-- what the devices tell: the files, which files may be kept, and the input still to come
+pub record World : Type 0 where
+  pub files : Files
+  pub takes : List ℕ → ℕ → Bool
+  pub input : Option (List ℕ)
 
--- bytes within the limit that spell a good image with P
-abbrev pub Spells : List ℕ → (Parts → Type 0) → Type 0
-Spells bytes P = (length bytes ≤ IMAGE_LIMIT) × ((image : Parts) × IsImage image × (bytes ≡ spelling image) × P image)
+-- by `Shelf.files`, `Shelf.takes` and `Source.left`
+abbrev pub world : {H S : Type 0} → (H → Files) → (H → List ℕ → ℕ → Bool) → (S → Option (List ℕ)) → H → S → World
+world files takes left shelf input = record { files = files shelf; takes = takes shelf; input = left input }
 
--- What a status says of the words and the files, a line a status. The first fact is that the shelf failed.
--- Want of memory may come with any good words.
-abbrev pub Cause : Type 0 → List (List ℕ) → Files → Status → Type 0
-Cause failed words files (Done n) = (n ≡ 0) × OfFile words files (λ bytes. Spells bytes (λ image. IsAccepted image.words))
-Cause failed words files (NotRestartable b) = OfFile words files (λ bytes. Spells bytes (λ image. IsLeastBroken image.words b))
-Cause failed words files BadWords = AreGood words → ⊥
-Cause failed words files (BadImage fault) = OfFile words files (λ bytes. (length bytes ≤ IMAGE_LIMIT) × (first_fault bytes ≡ Some fault))
-Cause failed words files ShelfFault = (file : List ℕ) × IsCheck words file × (failed ⊎ Lacks files file)
-Cause failed words files SinkFault = ⊥
-Cause failed words files (TooLarge limit) = (limit ≡ IMAGE_LIMIT) × OfFile words files (λ bytes. IMAGE_LIMIT < length bytes)
-Cause failed words files NoMemory = AreGood words
+-- each file that is told is one of bytes
+abbrev pub HaveBytes : Files → Type 0
+HaveBytes None = Unit {0}
+HaveBytes (Some files) = (name file : List ℕ) → files name ≡ Some file → All IsByte file
 
--- the bytes for the notes: the line of the status; that of a broken place has addresses from the image's code base on
-abbrev pub Notes : List (List ℕ) → Files → Status → List ℕ → Type 0
-Notes words files (NotRestartable b) line =
-    (base : ℕ) × (line ≡ broken_line b base) × OfFile words files (λ bytes. base ≡ (parts_of bytes).code_base)
-Notes words files status line = line ≡ status_line status
-
+-- A status, the bytes for the output, and those for the notes: what is written there while the command works, and the
+-- line at its end.
 pub record Answer : Type 0 where
   pub status : Status
   pub output : List ℕ
-  pub notes : List ℕ
+  pub trace : List ℕ
+  pub line : List ℕ
 
--- an answer to the words over the files
-pub record IsAnswer (failed : Type 0) (words : List (List ℕ)) (files : Files) (a : Answer) : Type 0 where
-  pub cause : Cause failed words files a.status
-  pub output : a.output ≡ output_of a.status
-  pub notes : Notes words files a.status a.notes
+abbrev pub notes_of : Answer → List ℕ
+notes_of a = a.trace ++ a.line
 
--- an answer with this status was written whole
-pub record Gives (failed : Type 0) (words : List (List ℕ)) (files : Files) (status : Status) (out out' notes notes' : Option (List ℕ)) : Type 0 where
-  pub answer : Answer
-  pub is : IsAnswer failed words files answer
-  pub status_is : answer.status ≡ status
-  pub output : Appends out out' answer.output
-  pub line : Appends notes notes' answer.notes
+-- a status that is said by its line alone
+abbrev pub said : Status → List ℕ → Answer
+said status line = record { status = status; output = []; trace = []; line = line }
 
--- of some answer a prefix was written
-pub record GivesPrefix (failed : Type 0) (words : List (List ℕ)) (files : Files) (out out' notes notes' : Option (List ℕ)) : Type 0 where
-  pub answer : Answer
-  pub is : IsAnswer failed words files answer
-  pub output : WritesPrefix out out' answer.output
-  pub line : WritesPrefix notes notes' answer.notes
+-- `accepted` and a line feed
+abbrev pub accepted : Answer
+accepted = record { status = Done 0; output = codes "accepted" ++ 10 ∷ []; trace = []; line = [] }
+
+abbrev pub answer_of : Outcome Answer → Answer
+answer_of (goes a) = a
+answer_of (stops status line) = said status line
+
+-- ---- the stages of each command
+
+abbrev pub Steps : Command → World → Outcome Answer → Type 0
+Steps (check file) w = Then (Then (ImageOf w.files file) Judges) (λ image. Gives accepted)
+
+-- ---- the answer to words
+
+-- words that ask for a command
+abbrev pub Asks : List (List ℕ) → Command → Type 0
+Asks words command = asked words ≡ Some command
+
+-- words that ask for nothing
+abbrev pub AsksNothing : List (List ℕ) → Type 0
+AsksNothing words = asked words ≡ None
+
+-- an answer of a command
+abbrev pub AnswerOf : Command → World → Answer → Type 0
+AnswerOf command w a = (o : Outcome Answer) × Steps command w o × (a ≡ answer_of o)
+
+-- an answer to words
+abbrev pub IsAnswer : List (List ℕ) → World → Answer → Type 0
+IsAnswer words w a =
+    (AsksNothing words × (a ≡ said BadWords (status_line BadWords)))
+    ⊎ ((command : Command) × Asks words command × AnswerOf command w a)
+
+-- an answer was given: its status, and all of its bytes
+pub record IsAnswered (a : Answer) (status : Status) (out notes : Sunk) : Type 0 where
+  pub status_is : status ≡ a.status
+  pub output : Puts out a.output
+  pub line : Puts notes (notes_of a)

@@ -1,4 +1,7 @@
-pub mod Command
-pub mod Status
-pub mod Check
 pub mod Answer
+pub mod Decision
+pub mod Ends
+pub mod Image
+pub mod Outcome
+pub mod Status
+pub mod Tried

@@ -3,14 +3,16 @@ use Rattle.std.specs.Prelude.{ℕ, List, [], ◌∷◌, ◌++◌, codes, decimal
 use Rattle.alpha_image.specs.declared.fault.ImageFault.{ImageFault}
 use Rattle.alpha_image.specs.declared.fault.ImageFault.TheVariants as faults
 use Rattle.alpha_cmd.specs.declared.status.Status.{Status}
-use Rattle.alpha_cmd.specs.declared.status.Status.TheVariants.{Done, NotRestartable, BadWords, BadImage, ShelfFault, SinkFault, TooLarge, NoMemory}
+use Rattle.alpha_cmd.specs.declared.status.Status.TheVariants.{Done, NotRestartable, BadWords, BadImage, StepsSpent, ShelfFault, InputFault, SinkFault, TooLarge, NoMemory}
 
 abbrev pub status_number : Status → ℕ
 status_number (Done n) = 0
 status_number (NotRestartable b) = 1
 status_number BadWords = 2
 status_number (BadImage fault) = 4
+status_number StepsSpent = 6
 status_number ShelfFault = 8
+status_number InputFault = 9
 status_number SinkFault = 10
 status_number (TooLarge limit) = 11
 status_number NoMemory = 12
@@ -32,18 +34,15 @@ fault_line faults.NoMemory = numbered_line 6 0 0
 unfoldable pub limit_line : ℕ → List ℕ
 limit_line limit = codes "too large " ++ decimal limit ++ 10 ∷ []
 
--- the line of a status that needs no file; `accepted` and a broken place have their own
+-- the line of a status; that of a broken place needs the image's code base, and a failed sink gets none
 abbrev pub status_line : Status → List ℕ
 status_line (Done n) = []
 status_line (NotRestartable b) = []
 status_line BadWords = codes "words" ++ 10 ∷ []
 status_line (BadImage fault) = fault_line fault
+status_line StepsSpent = codes "steps" ++ 10 ∷ []
 status_line ShelfFault = codes "shelf" ++ 10 ∷ []
+status_line InputFault = codes "input" ++ 10 ∷ []
 status_line SinkFault = []
 status_line (TooLarge limit) = limit_line limit
 status_line NoMemory = codes "no memory" ++ 10 ∷ []
-
--- the bytes for the output: `accepted` and a line feed
-abbrev pub output_of : Status → List ℕ
-output_of (Done n) = codes "accepted" ++ 10 ∷ []
-output_of _ = []

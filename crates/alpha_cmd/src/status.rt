@@ -3,7 +3,7 @@ ghost use Rattle.std.specs.Prelude.{◌≡◌};
 use alpha_image::ImageFault;
 use alpha_shadow::Broken;
 
-/// How a call of the program ended.
+/// How a call of the program ended. The exit status of each is its [`Status::number`].
 #[derive(Clone, Copy, Debug, PartialEq, Eq)]
 pub enum Status {
     /// It did what was asked. The number is 0.
@@ -14,8 +14,12 @@ pub enum Status {
     BadWords,
     /// The bytes of the file are no image: their first fault.
     BadImage(ImageFault),
+    /// The program was run for as many steps as it was given, and hasn't ended.
+    StepsSpent,
     /// A file that the words name isn't there, or the file system failed.
     ShelfFault,
+    /// The input failed.
+    InputFault,
     /// What was to be written could not be.
     SinkFault,
     /// The file has more bytes than this limit.
@@ -36,7 +40,9 @@ impl Status {
             Status::NotRestartable(_) => 1,
             Status::BadWords => 2,
             Status::BadImage(_) => 4,
+            Status::StepsSpent => 6,
             Status::ShelfFault => 8,
+            Status::InputFault => 9,
             Status::SinkFault => 10,
             Status::TooLarge(_) => 11,
             Status::NoMemory => 12,

@@ -1,6 +1,6 @@
-use crate::{Status, Words, alpha_top};
-use alpha_image::{Fields, Image, ImageFault, image_bytes};
-use alpha_io::{MemoryShelf, MemorySink, SureSource};
+use crate::{Status, Words, alpha_sure, alpha_top, image_of};
+use alpha_image::{Fields, Image, ImageFault, LevelFields, Segment, image_bytes};
+use alpha_io::{MemoryShelf, MemorySink, SureShelf, SureSource};
 use alpha_shadow::{Broken, Condition};
 use alpha_words::NoMemory;
 use std::alloc::Global;
@@ -190,72 +190,167 @@ fn judges_the_most_code_that_an_image_may_hold(rt: HostRuntime) -> Result<(), Fa
     Ok(())
 }
 
+/// An image of version 2, at level 2 and with two segments, of these three words.
+fn level_image(alloc: Global, words: [u32; 3]) -> Result<Vec<u8>, Fail> {
+    let mut code = [0; 12];
+    code[..4].copy_from_slice(&words[0].to_le_bytes());
+    code[4..8].copy_from_slice(&words[1].to_le_bytes());
+    code[8..].copy_from_slice(&words[2].to_le_bytes());
+    let fields = LevelFields {
+        code_base: 0x1_0000,
+        entry: 0x1_0000,
+        stack: 65_536,
+        level: 2,
+    };
+    let segments = [
+        Segment {
+            base: 0x1000_0000,
+            filled: 1,
+            zeroed: 0,
+        },
+        Segment {
+            base: 0x1000_2000,
+            filled: 0,
+            zeroed: 8,
+        },
+    ];
+    let image = Image::build_level(alloc, &fields, &segments, &code, &[1])?;
+    Ok(image_bytes(alloc, &image)?)
+}
+
+/// `ctpop $1,$2` stands in a shadow as any other operate instruction does.
+#[test]
+fn judges_images_of_version_2(rt: HostRuntime) -> Result<(), Fail> {
+    let alloc = rt.alloc();
+    let bytes = level_image(alloc, [0x4022_0c03, 0x73e1_0602, 0x63ff_0000])?;
+    let outcome = outcome_of(alloc, &["check", "a"], Some(&bytes), &[])?;
+    assert_eq!(rt;
+        outcome.status,
+        Status::NotRestartable(Broken {
+            trigger: 0,
+            at: 1,
+            condition: Condition::SourceLost,
+        })
+    );
+    let bytes = level_image(alloc, [0x4022_0c03, 0x73e1_0604, 0x63ff_0000])?;
+    let outcome = outcome_of(alloc, &["check", "a"], Some(&bytes), &[])?;
+    assert_eq!(rt; outcome.status, Status::Done(0));
+    assert_eq!(rt; outcome.out.as_slice(), b"accepted\n".as_slice());
+    Ok(())
+}
+
 /// The image of the first worked example.
 const ACCEPTED: [u8; 68] =
     *b"ALPHAIM1\x00\x00\x01\x00\x00\x00\x00\x00\x00\x00\x00\x10\x00\x00\x00\x00\x00\x00\x01\x00\x00\x00\x00\x00\x05\x00\x00\x00\x00\x00\x00\x00\x00\x00\x00\x00\x00\x00\x01\x00\x02\x00\x3f\x20\x03\x00\x5f\x20\x03\x0c\x22\x40\x00\x00\xff\x63\x83\x00\x00\x00";
 
+/// The first bytes of an image.
+fn front(image: &[u8], len: usize) -> &[u8] {
+    image.get(..len).unwrap_or(image)
+}
+
+/// That image with the word 0 at place 2.
+fn unknown_word() -> [u8; 68] {
+    let mut image = ACCEPTED;
+    image[56] = 0;
+    image[57] = 0;
+    image[58] = 0;
+    image[59] = 0;
+    image
+}
+
+/// That image with bits in the zeros of a register operand, at place 2.
+fn word_with_bits() -> [u8; 68] {
+    let mut image = ACCEPTED;
+    image[57] = 0x2c;
+    image
+}
+
+/// That image with `ctpop $1,$2`, of level 2, at place 0.
+fn word_above_the_level() -> [u8; 68] {
+    let mut image = ACCEPTED;
+    image[48] = 0x02;
+    image[49] = 0x06;
+    image[50] = 0xe1;
+    image[51] = 0x73;
+    image
+}
+
+/// The front of an image of version 2 with nine segments.
+fn nine_segments() -> [u8; 40] {
+    let mut image = [0; 40];
+    image[0] = b'A';
+    image[1] = b'L';
+    image[2] = b'P';
+    image[3] = b'H';
+    image[4] = b'A';
+    image[5] = b'I';
+    image[6] = b'M';
+    image[7] = b'2';
+    image[36] = 9;
+    image
+}
+
 #[test]
-fn writes_the_line_of_each_status(rt: HostRuntime) -> Result<(), Fail> {
+fn writes_the_line_of_words_and_files(rt: HostRuntime) -> Result<(), Fail> {
     let alloc = rt.alloc();
-    let mut unknown = ACCEPTED;
-    unknown[56] = 0;
-    unknown[57] = 0;
-    unknown[58] = 0;
-    unknown[59] = 0;
-    let mut other = ACCEPTED;
-    other[57] = 0x2c;
-    let refused = image(alloc, &[0x4022_0c01, 0x63ff_0000, 0x83])?;
-    let large = vec![in alloc; 0u8; 18_874_369]?;
-    let rows: [(&[&str], Option<&[u8]>, u8, &[u8]); 12] = [
-        (&["check"], None, 2, b"words\n"),
-        (&["check", "-a"], None, 2, b"words\n"),
-        (&["check", "a", "b"], None, 2, b"words\n"),
-        (&["Check", "a"], None, 2, b"words\n"),
-        (&["check", "a"], None, 8, b"shelf\n"),
-        (
-            &["check", "a"],
-            Some(&[]),
-            4,
-            b"image kind 1 first 0 second 0\n",
-        ),
-        (
-            &["check", "a"],
-            Some(&ACCEPTED[..47]),
-            4,
-            b"image kind 1 first 47 second 0\n",
-        ),
-        (
-            &["check", "a"],
-            Some(&ACCEPTED[..67]),
-            4,
-            b"image kind 4 first 67 second 68\n",
-        ),
-        (
-            &["check", "a"],
-            Some(&unknown),
-            4,
-            b"image kind 5 first 2 second 0\n",
-        ),
-        (
-            &["check", "a"],
-            Some(&other),
-            4,
-            b"image kind 5 first 2 second 1075981315\n",
-        ),
-        (
-            &["check", "a"],
-            Some(&refused),
-            1,
-            b"broken trigger 0000000000010000 at 0000000000010000 condition C2\n",
-        ),
-        (&["check", "a"], Some(&large), 11, b"too large 18874368\n"),
+    let rows: [(&[&str], u8, &[u8]); 6] = [
+        (&["check"], 2, b"words\n"),
+        (&["check", "-a"], 2, b"words\n"),
+        (&["check", "--", "-a"], 8, b"shelf\n"),
+        (&["check", "a", "b"], 2, b"words\n"),
+        (&["Check", "a"], 2, b"words\n"),
+        (&["check", "a"], 8, b"shelf\n"),
     ];
-    for (words, file, number, line) in rows {
-        let outcome = outcome_of(alloc, words, file, &[])?;
+    for (words, number, line) in rows {
+        let outcome = outcome_of(alloc, words, None, &[])?;
         assert_eq!(rt; outcome.status.number(), number);
         assert_eq!(rt; outcome.notes.as_slice(), line);
         assert!(rt; outcome.out.is_empty());
     }
+    Ok(())
+}
+
+#[test]
+fn writes_the_line_of_each_image(rt: HostRuntime) -> Result<(), Fail> {
+    let alloc = rt.alloc();
+    let (unknown, bits) = (unknown_word(), word_with_bits());
+    let (above, nine) = (word_above_the_level(), nine_segments());
+    let rows: [(&[u8], &[u8]); 8] = [
+        (&[], b"image kind 1 first 0 second 0\n"),
+        (front(&ACCEPTED, 47), b"image kind 1 first 47 second 0\n"),
+        (front(&ACCEPTED, 67), b"image kind 4 first 67 second 68\n"),
+        (&unknown, b"image kind 5 first 2 second 0\n"),
+        (&bits, b"image kind 5 first 2 second 1075981315\n"),
+        (&above, b"image kind 5 first 0 second 1944126978\n"),
+        (b"ALPHAIM2", b"image kind 1 first 8 second 0\n"),
+        (&nine, b"image kind 3 first 10 second 0\n"),
+    ];
+    for (file, line) in rows {
+        let outcome = outcome_of(alloc, &["check", "a"], Some(file), &[])?;
+        assert_eq!(rt; outcome.status.number(), 4);
+        assert_eq!(rt; outcome.notes.as_slice(), line);
+        assert!(rt; outcome.out.is_empty());
+    }
+    Ok(())
+}
+
+#[test]
+fn writes_the_line_of_a_refused_image_and_of_a_large_file(rt: HostRuntime) -> Result<(), Fail> {
+    let alloc = rt.alloc();
+    let refused = image(alloc, &[0x4022_0c01, 0x63ff_0000, 0x83])?;
+    let outcome = outcome_of(alloc, &["check", "a"], Some(&refused), &[])?;
+    assert_eq!(rt; outcome.status.number(), 1);
+    assert_eq!(rt;
+        outcome.notes.as_slice(),
+        b"broken trigger 0000000000010000 at 0000000000010000 condition C2\n".as_slice()
+    );
+    let large = vec![in alloc; 0u8; 18_874_369]?;
+    let outcome = outcome_of(alloc, &["check", "a"], Some(&large), &[])?;
+    assert_eq!(rt; outcome.status.number(), 11);
+    assert_eq!(rt;
+        outcome.notes.as_slice(),
+        b"too large 18874368\n".as_slice()
+    );
     Ok(())
 }
 
@@ -330,5 +425,54 @@ fn a_failed_put_is_a_sink_fault(rt: HostRuntime) -> Result<(), Fail> {
     assert_eq!(rt; outcome.status, Status::SinkFault);
     assert_eq!(rt; outcome.status.number(), 10);
     assert!(rt; outcome.out.is_empty() && outcome.notes.is_empty());
+    Ok(())
+}
+
+#[test]
+fn a_failed_piece_is_a_shelf_fault(rt: HostRuntime) -> Result<(), Fail> {
+    let alloc = rt.alloc();
+    let mut words = Words::new(alloc);
+    words.push("check")?;
+    words.push("a")?;
+    let mut shelf = MemoryShelf::new(alloc, [0].to_vec(alloc)?);
+    shelf.add("a", &ACCEPTED)?;
+    let mut input = SureSource::new(Vec::new(alloc));
+    let mut out = MemorySink::new(alloc, 64, Vec::new(alloc))?;
+    let mut notes = MemorySink::new(alloc, 64, Vec::new(alloc))?;
+    let status = alpha_top(alloc, &words, &mut shelf, &mut input, &mut out, &mut notes);
+    assert_eq!(rt; status, Status::ShelfFault);
+    assert_eq!(rt; notes.bytes(), b"shelf\n".as_slice());
+    Ok(())
+}
+
+#[test]
+fn sure_devices_serve(rt: HostRuntime) -> Result<(), Fail> {
+    let alloc = rt.alloc();
+    let mut words = Words::new(alloc);
+    words.push("check")?;
+    words.push("a")?;
+    let name = String::from_str(alloc, "a")?;
+    let out = String::from_str(alloc, "b")?;
+    assert!(rt; name != out);
+    let mut shelf = SureShelf::new(alloc, name, ACCEPTED.to_vec(alloc)?, out, 0)?;
+    let mut input = SureSource::new(Vec::new(alloc));
+    assert_eq!(rt;
+        alpha_sure(alloc, &words, &mut shelf, &mut input),
+        Status::Done(0)
+    );
+    Ok(())
+}
+
+#[test]
+fn bytes_give_their_image(rt: HostRuntime) -> Result<(), Fail> {
+    let alloc = rt.alloc();
+    match image_of(alloc, &ACCEPTED) {
+        Ok(image) => assert!(rt; image.code_base() == 0x1_0000),
+        Err(_) => return Err(Fail::from("no image")),
+    }
+    match image_of(alloc, &ACCEPTED[..67]) {
+        Ok(_) => return Err(Fail::from("an image")),
+        Err(status) => { assert_eq!(rt; status, Status::BadImage(ImageFault::Length(67, 68))) }
+    }
     Ok(())
 }

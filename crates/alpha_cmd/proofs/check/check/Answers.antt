@@ -1,20 +1,23 @@
-use Rattle.alpha_cmd.proofs.Answering.{verdict_gives, verdict_gives_prefix, load_answer, line_gives, line_gives_prefix}
+use Rattle.std.proofs.Common.{refl, ap, subst, inl}
+use Rattle.alpha_shadow.specs.Broken.{IsAccepted, IsLeastBroken}
+use Rattle.alpha_shadow.specs.Report.{broken_line}
+use Rattle.alpha_cmd.specs.Answer.{World}
+use Rattle.alpha_cmd.proofs.Trying.{accepted_answer, refused_answer, unloaded_tried}
 use Rattle.alpha_cmd.proofs.check.check.Goals as goal
 
-pub returns-in-Ok-clause-answer : goal.returns-in-Ok-clause-answer
-returns-in-Ok-clause-answer g c = λ words check e.
-    verdict_gives _ words _ c.args.file.now c.in-Ok.image c.verdict.result _ _ _ _ check c.in-Ok.ensures.good c.in-Ok.ensures.image (c.verdict.ensures.given e)
+pub returns-in-Ok-judge-clause-tried : goal.returns-in-Ok-judge-clause-tried
+returns-in-Ok-judge-clause-tried g c = λ input.
+    let w : World = record { files = g.H.Shelf.files c.args.shelf.now; takes = g.H.Shelf.takes c.args.shelf.now; input = input } in
+    inl (accepted_answer w c.args.file.now c.in-Ok.image _ c.in-Ok.ensures.ok (subst IsAccepted c.new.ensures.code c.in-Ok-judge.ensures.accepted, refl) c.accepted.ensures)
 
-pub returns-in-Ok-clause-part : goal.returns-in-Ok-clause-part
-returns-in-Ok-clause-part g c = λ words check e.
-    verdict_gives_prefix _ words _ c.args.file.now c.in-Ok.image _ _ _ _ check c.in-Ok.ensures.good c.in-Ok.ensures.image (c.verdict.ensures.part e)
+pub returns-in-Ok-clause-tried : goal.returns-in-Ok-clause-tried
+returns-in-Ok-clause-tried g c = λ input.
+    let w : World = record { files = g.H.Shelf.files c.args.shelf.now; takes = g.H.Shelf.takes c.args.shelf.now; input = input } in
+    let place = c.in-Err-judge.broken in
+    let least = subst (λ words. IsLeastBroken words place) c.new.ensures.code c.in-Err-judge.ensures.broken in
+    inl (refused_answer w c.args.file.now c.in-Ok.image _ _ _ c.in-Ok.ensures.ok (least, ap (broken_line place) c.code_base.ensures.value) c.broken.ensures)
 
-pub returns-in-Err-clause-answer : goal.returns-in-Err-clause-answer
-returns-in-Err-clause-answer g c = λ words check e.
-    let answer = load_answer _ words _ c.args.file.now c.in-Err.status check c.in-Err.ensures.cause in
-    rw (c.report.ensures.status e) (line_gives _ words _ c.in-Err.status _ _ _ answer (c.report.ensures.line e))
-
-pub returns-in-Err-clause-part : goal.returns-in-Err-clause-part
-returns-in-Err-clause-part g c = λ words check e.
-    let answer = load_answer _ words _ c.args.file.now c.in-Err.status check c.in-Err.ensures.cause in
-    line_gives_prefix _ words _ c.in-Err.status _ _ _ answer c.report.ensures.prefix
+pub returns-clause-tried : goal.returns-clause-tried
+returns-clause-tried g c = λ input.
+    let w : World = record { files = g.H.Shelf.files c.args.shelf.now; takes = g.H.Shelf.takes c.args.shelf.now; input = input } in
+    unloaded_tried _ w c.args.file.now c.in-Err.status _ c.in-Err.ensures.refused c.said.ensures

@@ -1,44 +1,32 @@
-ghost use Rattle.std.specs.Prelude.{◌≡◌, ◌≢◌, ◌≤◌, length};
-ghost use Rattle.std.specs.Io.KnownBytes.{Appends};
-ghost use Rattle.alpha_io.specs.Faults.{Rose};
-ghost use Rattle.alpha_io.specs.Written.{WritesPrefix};
+//! The line of each status.
+
+ghost use Rattle.std.specs.Prelude.{◌≡◌, ◌≤◌, length};
+ghost use Rattle.alpha_io.specs.declared.line.TheConstants.{LINE_ROOM};
 ghost use Rattle.alpha_cmd.specs.Status.{status_line, fault_line, numbered_line, limit_line};
 
 use crate::Status;
 use alpha_image::ImageFault;
-use alpha_io::{Line, Sink, write_whole};
+use alpha_io::Line;
 
-/// Writes the line of a status, and answers the status, or that the line couldn't be written.
-pub(crate) fn report<N: Sink>(status: Status, notes: &mut N) -> Status
-    ensures status { result ≢ Status.SinkFault → result ≡ status }
-    ensures line { result ≢ Status.SinkFault → Appends (N.written notes.old) (N.written notes.new) (status_line status) }
-    ensures prefix { WritesPrefix (N.written notes.old) (N.written notes.new) (status_line status) }
-    ensures same { result ≢ Status.SinkFault → N.faults notes.new ≡ N.faults notes.old }
-    ensures later { N.faults notes.old ≤ N.faults notes.new }
-    ensures failed { status ≢ Status.SinkFault → result ≡ Status.SinkFault → Rose (N.faults notes.old) (N.faults notes.new) }
-{
-    match write_whole(notes, line_of(&status).as_bytes()) {
-        Ok(()) => status,
-        Err(_) => Status::SinkFault,
-    }
-}
-
-// The line of a status, empty where it has none.
-fn line_of(status: &Status) -> Line
+/// The line of a status, empty where it has none of its own.
+pub(crate) fn line_of(status: &Status) -> Line
     ensures { result ≡ status_line status.now }
 {
     match status {
         Status::Done(_) | Status::NotRestartable(_) | Status::SinkFault => Line::new(),
         Status::BadWords => text(b"words\n"),
         Status::BadImage(fault) => fault_line(fault),
+        Status::StepsSpent => text(b"steps\n"),
         Status::ShelfFault => text(b"shelf\n"),
+        Status::InputFault => text(b"input\n"),
         Status::TooLarge(limit) => limit_line(*limit),
         Status::NoMemory => text(b"no memory\n"),
     }
 }
 
-fn text(bytes: &[u8]) -> Line
-    requires { length bytes.now ≤ 160 }
+/// A line of these bytes.
+pub(crate) fn text(bytes: &[u8]) -> Line
+    requires { length bytes.now ≤ LINE_ROOM }
     ensures { result ≡ bytes.now }
 {
     let mut line = Line::new();

@@ -1,0 +1,93 @@
+-- Where files are told and each is of bytes, words have an answer.
+use Rattle.std.proofs.Common.{◌≡◌, ◌⊎◌, ◌<◌, ◌≤◌, ℕ, List, length, All, Option, None, Some, IsSome, IsSomeAnd, refl, sym, subst, inl, inr, ⊎_elim}
+use Rattle.std.proofs.lemmas.Bool.{cases_lt}
+use Rattle.alpha_io.specs.Files.{Files}
+use Rattle.alpha_image.specs.declared.fault.ImageFault.{ImageFault}
+use Rattle.alpha_image.specs.Parts.{Parts, IsByte, parts_of}
+use Rattle.alpha_image.specs.ImageFault.{first_fault}
+use Rattle.alpha_image.proofs.Form.{IsBytes-All, no_fault}
+use Rattle.alpha_shadow.specs.declared.broken.Broken.{Broken}
+use Rattle.alpha_shadow.specs.Broken.{IsAccepted, IsLeastBroken}
+use Rattle.alpha_shadow.specs.Report.{broken_line}
+use Rattle.alpha_shadow.proofs.Decided.{verdict}
+use Rattle.alpha_request.specs.Command.{Command, check}
+use Rattle.alpha_request.specs.Asked.{asked}
+use Rattle.alpha_cmd.specs.declared.status.Status.TheVariants.{NotRestartable, BadWords, BadImage, ShelfFault, TooLarge}
+use Rattle.alpha_cmd.specs.Status.{status_line}
+use Rattle.alpha_cmd.specs.Outcome.{Outcome, goes, stops, Then, Gives}
+use Rattle.alpha_cmd.specs.Image.{Reads, Spells, ImageOf, Judges, image_limit}
+use Rattle.alpha_cmd.specs.Answer.{World, Answer, accepted, answer_of, said, Steps, IsAnswer, HaveBytes}
+
+-- a stage has an outcome
+abbrev pub HasOutcome : {X : Type 0} → (Outcome X → Type 0) → Type 0
+HasOutcome {X = X} R = (o : Outcome X) × R o
+
+pub Then-some : {X Y : Type 0} (R : Outcome X → Type 0) (S : X → Outcome Y → Type 0) → HasOutcome R → ((x : X) → R (goes x) → HasOutcome (S x)) → HasOutcome (Then R S)
+Then-some {X = X} {Y = Y} R S first second = at first.0 first.1
+  where
+    on : (x : X) → R (goes x) → (o : Outcome Y) → S x o → HasOutcome (Then R S)
+    on x r (goes y) s = (goes y, (x, r, s))
+    on x r (stops status line) s = (stops status line, inr (x, r, s))
+
+    at : (o : Outcome X) → R o → HasOutcome (Then R S)
+    at (goes x) r = let next = second x r in on x r next.0 next.1
+    at (stops status line) r = (stops status line, inl r)
+
+file_some : (files : List ℕ → Option (List ℕ)) (name : List ℕ) (limit : ℕ) (o : Option (List ℕ)) → files name ≡ o → HasOutcome (Reads (Some files) name limit)
+file_some files name limit None e = (stops ShelfFault (status_line ShelfFault), (e, refl))
+file_some files name limit (Some file) e =
+    ⊎_elim
+    (λ (longer : limit < length file).
+    (stops (TooLarge limit) (status_line (TooLarge limit)), ((refl, subst (λ o. IsSomeAnd o (λ f. limit < length f)) (sym e) longer), refl)))
+    (λ (within : length file ≤ limit). (goes file, (subst (λ o. IsSomeAnd o (λ f. f ≡ file)) (sym e) refl, within)))
+    (cases_lt limit (length file))
+
+Reads-some : (files : List ℕ → Option (List ℕ)) (name : List ℕ) (limit : ℕ) → HasOutcome (Reads (Some files) name limit)
+Reads-some files name limit = file_some files name limit (files name) refl
+
+Spells-some : (bytes : List ℕ) → All IsByte bytes → HasOutcome (Spells bytes)
+Spells-some bytes all = by (first_fault bytes) refl
+  where
+    by : (fault : Option ImageFault) → first_fault bytes ≡ fault → HasOutcome (Spells bytes)
+    by None e = (goes (parts_of bytes), no_fault bytes (IsBytes-All bytes all) e)
+    by (Some fault) e = (stops (BadImage fault) (status_line (BadImage fault)), (e, refl))
+
+-- the bytes that were read of a told file
+read_bytes : (files : List ℕ → Option (List ℕ)) (name bytes : List ℕ) → HaveBytes (Some files) → (o : Option (List ℕ)) → files name ≡ o → IsSomeAnd o (λ file. file ≡ bytes)
+    → All IsByte bytes
+read_bytes files name bytes whole None e there = absurd there
+read_bytes files name bytes whole (Some file) e there = subst (All IsByte) there (whole name file e)
+
+ImageOf-some : (files : List ℕ → Option (List ℕ)) (name : List ℕ) → HaveBytes (Some files) → HasOutcome (ImageOf (Some files) name)
+ImageOf-some files name whole =
+    Then-some (Reads (Some files) name image_limit) Spells (Reads-some files name image_limit)
+    (λ bytes read. Spells-some bytes (read_bytes files name bytes whole (files name) refl read.0))
+
+Judges-some : (image : Parts) → HasOutcome (Judges image)
+Judges-some image =
+    ⊎_elim
+    (λ (good : IsAccepted image.words). (goes image, (good, refl)))
+    (λ (bad : (b : Broken) × IsLeastBroken image.words b). (stops (NotRestartable bad.0) (broken_line bad.0 image.code_base), (bad.1, refl)))
+    (verdict image.words)
+
+Steps-some : (command : Command) (files : List ℕ → Option (List ℕ)) (w : World) → w.files ≡ Some files → HaveBytes w.files → HasOutcome (Steps command w)
+Steps-some (check file) files w told whole =
+    Then-some (Then (ImageOf w.files file) Judges) (λ image. Gives accepted)
+    (Then-some (ImageOf w.files file) Judges
+    (subst (λ f. HasOutcome (ImageOf f file)) (sym told) (ImageOf-some files file (subst HaveBytes told whole)))
+    (λ image found. Judges-some image))
+    (λ image found. (goes accepted, refl))
+
+told_files : (files : Files) → IsSome files → (f : List ℕ → Option (List ℕ)) × (files ≡ Some f)
+told_files None told = cc
+told_files (Some f) told = (f, refl)
+
+pub IsAnswer-some : (words : List (List ℕ)) (w : World) → IsSome w.files → HaveBytes w.files → (a : Answer) × IsAnswer words w a
+IsAnswer-some words w told whole = by (asked words) refl
+  where
+    by : (command : Option Command) → asked words ≡ command → (a : Answer) × IsAnswer words w a
+    by None e = (said BadWords (status_line BadWords), inl (e, refl))
+    by (Some command) e =
+        let files = told_files w.files told in
+        let o = Steps-some command files.0 w files.1 whole in
+        (answer_of o.0, inr (command, e, (o.0, o.1, refl)))

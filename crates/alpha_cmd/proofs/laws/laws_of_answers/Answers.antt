@@ -1,0 +1,6 @@
+use Rattle.alpha_cmd.proofs.Existence.{IsAnswer-some}
+use Rattle.alpha_cmd.proofs.Uniqueness.{IsAnswer-single}
+use Rattle.alpha_cmd.proofs.laws.laws_of_answers.Goals as goal
+
+pub returns : goal.returns
+returns c = record { one_answer = IsAnswer-single; some_answer = IsAnswer-some }

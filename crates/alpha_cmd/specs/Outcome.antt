@@ -1,0 +1,18 @@
+-- A command is a row of stages. A stage goes on with what it found, or it stops with a status and its line.
+use Rattle.std.specs.Prelude.{◌≡◌, ◌⊎◌, ℕ, List}
+use Rattle.alpha_cmd.specs.declared.status.Status.{Status}
+
+pub data Outcome (X : Type 0) : Type 0 where
+  goes : X → Outcome X
+  stops : Status → List ℕ → Outcome X
+
+-- One stage and then another, on what the first goes on with. Where the first stops, both do: so the order of stages is the
+-- order of refusals.
+abbrev pub Then : {X Y : Type 0} → (Outcome X → Type 0) → (X → Outcome Y → Type 0) → Outcome Y → Type 0
+Then {X = X} R S (goes y) = (x : X) × R (goes x) × S x (goes y)
+Then {X = X} R S (stops status line) = R (stops status line) ⊎ ((x : X) × R (goes x) × S x (stops status line))
+
+-- the last stage: it goes on with this
+abbrev pub Gives : {X : Type 0} → X → Outcome X → Type 0
+Gives x (goes y) = y ≡ x
+Gives x (stops status line) = ⊥

@@ -1,0 +1,73 @@
+//! The stages that lead to a file and to its image.
+
+ghost use Rattle.std.specs.Prelude.{◌≡◌, ◌≢◌, ◌⊎◌, ◌^◌, ◌<◌, IfOk, IfErr, None};
+ghost use Rattle.alpha_io.specs.Faults.{Rose};
+ghost use Rattle.alpha_io.specs.Shelved.{shelved, OnlyReads};
+ghost use Rattle.alpha_image.specs.ImageFault.{first_fault};
+ghost use Rattle.alpha_cmd.specs.Outcome.{goes, stops};
+ghost use Rattle.alpha_cmd.specs.Status.{status_line};
+ghost use Rattle.alpha_cmd.specs.Image.{Reads, Spells, ImageOf};
+ghost use Rattle.alpha_cmd.specs.Tried.{CutBy};
+
+use crate::Status;
+use alpha_image::{Image, ImageFault, read_image};
+use alpha_io::{ReadFault, Shelf, read_whole};
+use std::alloc::Global;
+
+/// The most bytes of an image file.
+pub const IMAGE_LIMIT: u64 = 18_874_368;
+
+/// The image that the bytes of a file spell.
+///
+/// # Errors
+///
+/// `BadImage` with the first fault of the bytes. Memory runs out only where they have none.
+pub fn image_of(alloc: Global, bytes: &[u8]) -> Result<Image, Status>
+    ensures ok { IfOk result (λ image. Spells bytes.now (goes image)) }
+    ensures refused { IfErr result (λ status. Spells bytes.now (stops status (status_line status))
+        ⊎ ((status ≡ Status.NoMemory) × (first_fault bytes.now ≡ None))) }
+{
+    match read_image(alloc, bytes) {
+        Ok(image) => Ok(image),
+        Err(ImageFault::NoMemory) => Err(Status::NoMemory),
+        Err(fault) => Err(Status::BadImage(fault)),
+    }
+}
+
+/// The bytes of a file within a limit.
+pub(crate) fn read_file<H: Shelf>(
+    alloc: Global,
+    shelf: &mut H,
+    name: &str,
+    limit: u64,
+) -> Result<Vec<u8>, Status>
+    requires { limit < 2 ^ 32 }
+    ensures ok { IfOk result (λ v. Reads (H.files shelf.old) name.now limit (goes v.items)) }
+    ensures refused { IfErr result (λ status.
+        Reads (H.files shelf.old) name.now limit (stops status (status_line status))
+        ⊎ CutBy (Rose (H.faults shelf.old) (H.faults shelf.new)) status) }
+    ensures shelf { OnlyReads (shelved H.files H.takes H.faults shelf.old shelf.new)
+        (result ≢ Err Status.ShelfFault) }
+{
+    match read_whole(alloc, shelf, name, limit) {
+        Ok(bytes) => Ok(bytes),
+        Err(ReadFault::Shelf) => Err(Status::ShelfFault),
+        Err(ReadFault::TooLarge) => Err(Status::TooLarge(limit)),
+        Err(ReadFault::NoMemory) => Err(Status::NoMemory),
+    }
+}
+
+/// The image of a file.
+pub(crate) fn load<H: Shelf>(alloc: Global, shelf: &mut H, name: &str) -> Result<Image, Status>
+    ensures ok { IfOk result (λ image. ImageOf (H.files shelf.old) name.now (goes image)) }
+    ensures refused { IfErr result (λ status.
+        ImageOf (H.files shelf.old) name.now (stops status (status_line status))
+        ⊎ CutBy (Rose (H.faults shelf.old) (H.faults shelf.new)) status) }
+    ensures shelf { OnlyReads (shelved H.files H.takes H.faults shelf.old shelf.new)
+        (result ≢ Err Status.ShelfFault) }
+{
+    match read_file(alloc, shelf, name, IMAGE_LIMIT) {
+        Ok(bytes) => image_of(alloc, bytes.as_slice()),
+        Err(status) => Err(status),
+    }
+}

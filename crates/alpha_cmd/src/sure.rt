@@ -1,0 +1,40 @@
+ghost use Rattle.std.specs.Prelude.{◌≡◌, ◌≢◌, ◌⊎◌, Some};
+ghost use Rattle.alpha_io.specs.Files.{KeepsFiles};
+ghost use Rattle.alpha_io.specs.SureShelfState.{sure_file, sure_takes};
+ghost use Rattle.alpha_request.specs.Command.{Command};
+ghost use Rattle.alpha_cmd.specs.Answer.{Answer, Asks, IsAnswer};
+ghost use Rattle.alpha_cmd.specs.Tried.{HasFiles};
+
+use crate::{Status, alpha_top};
+use alpha_io::{NullSink, SureShelf, SureSource};
+use alpha_request::Words;
+use std::alloc::Global;
+
+/// Does what the words ask over devices that never fail, with nothing kept of what is written: the
+/// status is that of the words' answer, or memory ran out.
+pub fn alpha_sure(
+    alloc: Global,
+    words: &Words,
+    shelf: &mut SureShelf,
+    input: &mut SureSource,
+) -> Status
+    ensures answer { (a : Answer) → IsAnswer words.now
+        (record {
+          files = Some (sure_file shelf.old);
+          takes = sure_takes shelf.old;
+          input = Some input.old;
+        }) a → (result ≡ a.status) ⊎ (result ≡ Status.NoMemory) }
+
+    // No stream fails, and the shelf answers only for a file that it doesn't have.
+    ensures streams { (result ≢ Status.InputFault) × (result ≢ Status.SinkFault) }
+    ensures shelf { (command : Command) → Asks words.now command
+        → HasFiles command (Some (sure_file shelf.old)) → result ≢ Status.ShelfFault }
+
+    // Files and input stay.
+    ensures files { KeepsFiles (Some (sure_file shelf.old)) (Some (sure_file shelf.new)) }
+    ensures input { input.new ≡ input.old }
+{
+    let mut out = NullSink::new();
+    let mut notes = NullSink::new();
+    alpha_top(alloc, words, shelf, input, &mut out, &mut notes)
+}
