@@ -20,7 +20,7 @@ fn look_up(word: Word) -> Found {
 /// Each line has a source line, a tab, and the word in hexadecimal.
 pub fn run(rt: &impl Print, text: &str) -> anyhow::Result<()> {
     let mut same = 0u64;
-    for line in text.lines() {
+    for line in text.lines().filter(|line| !line.starts_with('#')) {
         let word = line
             .split_once('\t')
             .and_then(|(_, word)| u32::from_str_radix(word, 16).ok());

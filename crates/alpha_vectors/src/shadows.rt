@@ -10,7 +10,7 @@ use std::alloc::Global;
 /// checker and the conditions tried one after another both have to say that.
 pub fn run(rt: &impl Print, alloc: Global, text: &str) -> anyhow::Result<()> {
     let mut same = 0u64;
-    for line in text.lines() {
+    for line in text.lines().filter(|line| !line.starts_with('#')) {
         let Some((words, wanted)) = line.split_once('\t') else {
             println!(rt; "no verdict: {line}")?;
             continue;
