@@ -1,0 +1,293 @@
+-- The fault that is read is the first of all that the tokens have.
+use Rattle.std.proofs.Common.{◌≡◌, ◌⊎◌, ℕ, ◌+◌, ◌-◌, ◌≤◌, ◌<◌, List, [], ◌∷◌, ◌++◌, Bool, true, false, cond, Option, Some, None, Result, Ok, Err, length, take, drop, length-drop, length-take, min, eqb, refl, sym, ◌∙◌, ap, inl, inr, arith}
+use Prim.Native.Nat.{zero, suc}
+use Rattle.std.specs.Option.{is_some}
+use Rattle.alpha_token.specs.declared.token.TokenKind.{TokenKind}
+use Rattle.alpha_token.specs.Numeral.{number_value}
+use Rattle.alpha_token.specs.Bytes.{is_blank}
+use Rattle.alpha_token.specs.Tokens.{Lexeme, Tokens, End, Bad, Next, left_of, token_at, put_before, tokens_after, tokens}
+use Rattle.alpha_operands.specs.declared.piece.Piece.{Piece}
+use Rattle.alpha_operands.specs.declared.piece.Piece.TheVariants as pieces
+use Rattle.alpha_operands.specs.declared.number.Sign.{Sign}
+use Rattle.alpha_operands.specs.declared.operands.LineFaultKind.{LineFaultKind}
+use Rattle.alpha_operands.specs.declared.operands.LineFaultKind.TheVariants.{BadToken, UnknownName, BadOperands, OutOfRange}
+use Rattle.alpha_operands.specs.declared.walk.OperandFault.{OperandFault}
+use Rattle.alpha_operands.specs.Names.{register_of, operator_of}
+use Rattle.alpha_operands.specs.Ranges.{number_of, offset_of}
+use Rattle.alpha_operands.specs.Pieces.{kind_of}
+use Rattle.alpha_operands.specs.Shapes.{Pattern}
+use Rattle.alpha_operands.specs.Operands.{Slots, nothing, is_label, with_value, filled}
+use Rattle.alpha_operands.specs.Walk.{is_whole, piece_behind, front_after, sign_after, is_unknown, stuck_at, fault, go_on, taken, follow}
+use Rattle.alpha_operands.specs.Grammar.{IsOneOf, GoesOn, AmongTokens, HasFault, fault_at, kind_order, NoLater}
+use Rattle.alpha_operands.proofs.Grammar.{Distinct, piece_behind-is, piece_behind-only, piece_behind-none, is_whole-of}
+
+no_value : {A : Type 0} (x : Option A) (kind : LineFaultKind) (f g : A → Slots) (why : LineFaultKind) → with_value x kind f ≡ Err why → with_value x kind g ≡ Err why
+no_value None kind f g why h = h
+no_value (Some v) kind f g why h = cc
+
+no_label : (b : Bool) (o r : Slots) (why : LineFaultKind) → cond b (Ok o) (Err BadOperands) ≡ Err why → cond b (Ok r) (Err BadOperands) ≡ Err why
+no_label true o r why h = cc
+no_label false o r why h = h
+
+-- what is wrong with a value doesn't depend on the operands before it
+pub filled-err : (p : Piece) (t : Lexeme) (sign : Sign) (o r : Slots) (why : LineFaultKind) → filled p t sign o ≡ Err why → filled p t sign r ≡ Err why
+unfolding filled
+filled-err pieces.Ra t sign o r why h = no_value (register_of t.text) UnknownName _ _ why h
+filled-err pieces.Rb t sign o r why h = no_value (register_of t.text) UnknownName _ _ why h
+filled-err pieces.Rc t sign o r why h = no_value (register_of t.text) UnknownName _ _ why h
+filled-err pieces.Comma t sign o r why h = cc
+filled-err pieces.Again t sign o r why h = cc
+filled-err pieces.Open t sign o r why h = cc
+filled-err pieces.Close t sign o r why h = cc
+filled-err pieces.Minus t sign o r why h = cc
+filled-err pieces.Plus t sign o r why h = cc
+filled-err pieces.Less t sign o r why h = cc
+filled-err pieces.Dot t sign o r why h = cc
+filled-err pieces.Operator t sign o r why h = no_value (operator_of t.text) UnknownName _ _ why h
+filled-err pieces.Label t sign o r why h = no_label (is_label t.text) _ _ why h
+filled-err pieces.Offset t sign o r why h = no_value (offset_of sign (number_value t.text)) OutOfRange _ _ why h
+filled-err pieces.Text t sign o r why h = cc
+filled-err pieces.Displacement t sign o r why h = no_value (number_of pieces.Displacement sign (number_value t.text)) OutOfRange _ _ why h
+filled-err pieces.Immediate t sign o r why h = no_value (number_of pieces.Immediate sign (number_value t.text)) OutOfRange _ _ why h
+filled-err pieces.Literal t sign o r why h = no_value (number_of pieces.Literal sign (number_value t.text)) OutOfRange _ _ why h
+filled-err pieces.Hint t sign o r why h = no_value (number_of pieces.Hint sign (number_value t.text)) OutOfRange _ _ why h
+filled-err pieces.Distance t sign o r why h = no_value (number_of pieces.Distance sign (number_value t.text)) OutOfRange _ _ why h
+filled-err pieces.Whole t sign o r why h = no_value (number_of pieces.Whole sign (number_value t.text)) OutOfRange _ _ why h
+filled-err pieces.Zeroed t sign o r why h = no_value (number_of pieces.Zeroed sign (number_value t.text)) OutOfRange _ _ why h
+filled-err pieces.Align t sign o r why h = no_value (number_of pieces.Align sign (number_value t.text)) OutOfRange _ _ why h
+filled-err pieces.Level t sign o r why h = no_value (number_of pieces.Level sign (number_value t.text)) OutOfRange _ _ why h
+filled-err pieces.Pal t sign o r why h = no_value (number_of pieces.Pal sign (number_value t.text)) OutOfRange _ _ why h
+filled-err pieces.Nothing t sign o r why h = no_value (number_of pieces.Nothing sign (number_value t.text)) OutOfRange _ _ why h
+filled-err pieces.Byte t sign o r why h = no_value (number_of pieces.Byte sign (number_value t.text)) OutOfRange _ _ why h
+filled-err pieces.Word t sign o r why h = no_value (number_of pieces.Word sign (number_value t.text)) OutOfRange _ _ why h
+filled-err pieces.Long t sign o r why h = no_value (number_of pieces.Long sign (number_value t.text)) OutOfRange _ _ why h
+filled-err pieces.Quad t sign o r why h = no_value (number_of pieces.Quad sign (number_value t.text)) OutOfRange _ _ why h
+
+none_known : {A : Type 0} (x : Option A) (kind : LineFaultKind) (f : A → Slots) → cond (is_some x) false true ≡ true → with_value x kind f ≡ Err kind
+none_known None kind f h = refl
+none_known (Some v) kind f h = cc
+
+-- at the piece of a register or an operator an unknown name is wrong
+unknown_here : (p : Piece) (t : Lexeme) (sign : Sign) (o : Slots) → is_unknown (kind_of p) t.text ≡ true → filled p t sign o ≡ Err UnknownName
+unfolding filled
+unknown_here pieces.Ra t sign o h = none_known (register_of t.text) UnknownName _ h
+unknown_here pieces.Rb t sign o h = none_known (register_of t.text) UnknownName _ h
+unknown_here pieces.Rc t sign o h = none_known (register_of t.text) UnknownName _ h
+unknown_here pieces.Comma t sign o h = cc
+unknown_here pieces.Again t sign o h = cc
+unknown_here pieces.Open t sign o h = cc
+unknown_here pieces.Close t sign o h = cc
+unknown_here pieces.Minus t sign o h = cc
+unknown_here pieces.Plus t sign o h = cc
+unknown_here pieces.Less t sign o h = cc
+unknown_here pieces.Dot t sign o h = cc
+unknown_here pieces.Operator t sign o h = none_known (operator_of t.text) UnknownName _ h
+unknown_here pieces.Label t sign o h = cc
+unknown_here pieces.Offset t sign o h = cc
+unknown_here pieces.Text t sign o h = cc
+unknown_here pieces.Displacement t sign o h = cc
+unknown_here pieces.Immediate t sign o h = cc
+unknown_here pieces.Literal t sign o h = cc
+unknown_here pieces.Hint t sign o h = cc
+unknown_here pieces.Distance t sign o h = cc
+unknown_here pieces.Whole t sign o h = cc
+unknown_here pieces.Zeroed t sign o h = cc
+unknown_here pieces.Align t sign o h = cc
+unknown_here pieces.Level t sign o h = cc
+unknown_here pieces.Pal t sign o h = cc
+unknown_here pieces.Nothing t sign o h = cc
+unknown_here pieces.Byte t sign o h = cc
+unknown_here pieces.Word t sign o h = cc
+unknown_here pieces.Long t sign o h = cc
+unknown_here pieces.Quad t sign o h = cc
+
+unknown_at : (p : Piece) (t : Lexeme) (sign : Sign) (o : Slots) → kind_of p ≡ t.kind → is_unknown t.kind t.text ≡ true → filled p t sign o ≡ Err UnknownName
+unknown_at p t sign o k h = unknown_here p t sign o (ap (λ kind. is_unknown kind t.text) k ∙ h)
+
+-- the tokens stand in the order of the line, with at most n bytes left at the first
+abbrev pub Falls : ℕ → Tokens → Type 0
+Falls n (End left) = left ≤ n
+Falls n (Bad left) = left ≤ n
+Falls n (Next t ts) = (left_of t ≤ n) × (0 < length t.text) × Falls (length t.rest) ts
+
+weaker : (m n : ℕ) (ts : Tokens) → m ≤ n → Falls m ts → Falls n ts
+weaker m n (End left) h f = omega arith
+weaker m n (Bad left) h f = omega arith
+weaker m n (Next t ts) h (a, b, c) = (omega arith, b, c)
+
+falls : (skip : ℕ) (s : List ℕ) → Falls (length (drop skip s)) (tokens_after skip s)
+falls skip [] = omega arith
+falls (suc skip) (b ∷ s) = falls skip s
+falls zero (b ∷ s) =
+    let put : (found : Option (TokenKind × ℕ)) → Falls (length (b ∷ s)) (put_before (b ∷ s) found (λ more. tokens_after more s) b s) =
+    λ found. elim found as (λ x. Falls (length (b ∷ s)) (put_before (b ∷ s) x (λ more. tokens_after more s) b s)) [
+      | None ↦ omega arith
+      | Some v ↦ (omega (arith, length-take v.1 s, length-drop v.1 s), omega arith, falls v.1 s)
+    ] in
+    let comment : (c : Bool) → Falls (length (b ∷ s)) (cond c (End (length (b ∷ s))) (put_before (b ∷ s) (token_at b s) (λ more. tokens_after more s) b s)) =
+    λ c. elim c as (λ x. Falls (length (b ∷ s)) (cond x (End (length (b ∷ s))) (put_before (b ∷ s) (token_at b s) (λ more. tokens_after more s) b s))) [
+      | true ↦ omega arith
+      | false ↦ put (token_at b s)
+    ] in
+    let blank : (c : Bool) → Falls (length (b ∷ s)) (cond c (tokens_after 0 s) (cond (eqb b 35) (End (length (b ∷ s))) (put_before (b ∷ s) (token_at b s) (λ more. tokens_after more s) b s))) =
+    λ c. elim c as (λ x. Falls (length (b ∷ s)) (cond x (tokens_after 0 s) (cond (eqb b 35) (End (length (b ∷ s))) (put_before (b ∷ s) (token_at b s) (λ more. tokens_after more s) b s)))) [
+      | true ↦ weaker (length s) (length (b ∷ s)) (tokens_after 0 s) (omega arith) (falls 0 s)
+      | false ↦ comment (eqb b 35)
+    ] in
+    blank (is_blank b)
+
+pub tokens-fall : (line : List ℕ) → Falls (length line) (tokens line)
+unfolding tokens
+tokens-fall line = falls 0 line
+
+-- each fault of tokens stands within them
+pub among-left : (n : ℕ) (ts : Tokens) (g : OperandFault) → Falls n ts → AmongTokens ts g → g.left ≤ n
+among-left n (End left) g f h = absurd h
+among-left n (Bad left) g f h = rw h f
+among-left n (Next t ts) g (a, b, c) h = elim h [ inl (u, e) ↦ rw e a | inr m ↦ let k : g.left ≤ length t.rest = among-left (length t.rest) ts g c m in omega arith ]
+
+pub has-left : (n : ℕ) (all : List Pattern) (front : Pattern) (sign : Sign) (ts : Tokens) (g : OperandFault) → Falls n ts → HasFault all front sign ts g → g.left ≤ n
+has-left n all front sign (End left) g f (not_one, e) = rw e f
+has-left n all front sign (Bad left) g f h = rw h f
+has-left n all front sign (Next t ts) g (a, b, c) h =
+    elim h [
+      | inl m ↦ among-left n (Next t ts) g (a, b, c) m
+      | inr k ↦ elim k [
+        | inl (not_one, e) ↦ rw e a
+        | inr (p, goes, same, w) ↦ elim w [
+          | inl (why, bad, e) ↦ rw e a
+          | inr m ↦ let l : g.left ≤ length t.rest = has-left (length t.rest) all (front_after front p) (sign_after p) ts g c m in omega arith
+        ]
+      ]
+    ]
+
+pub among-has : (all : List Pattern) (front : Pattern) (sign : Sign) (ts : Tokens) (g : OperandFault) → AmongTokens ts g → HasFault all front sign ts g
+among-has all front sign (End left) g h = absurd h
+among-has all front sign (Bad left) g h = h
+among-has all front sign (Next t ts) g h = inl h
+
+not_whole : (b : Bool) (o : Slots) (left : ℕ) (f : OperandFault) → cond b (Ok o) (fault left BadOperands) ≡ Err f → (b ≡ false) × (f ≡ fault_at left BadOperands)
+not_whole true o left f h = cc
+not_whole false o left f h = (refl, cc)
+
+-- a fault that was read stands at this token, or behind it
+took_no : (t : Lexeme) (sign : Sign) (o : Slots) (found : Option Piece) (more : Piece → Slots → Result Slots OperandFault) (f : OperandFault) → taken t sign o found more ≡ Err f →
+    ((found ≡ None) × (f ≡ fault_at (left_of t) (stuck_at t))) ⊎ ((p : Piece) × (found ≡ Some p) × (go_on (left_of t) (filled p t sign o) (more p) ≡ Err f))
+took_no t sign o None more f h = inl (refl, cc)
+took_no t sign o (Some p) more f h = inr (p, refl, h)
+
+went_no : (left : ℕ) (x : Result Slots LineFaultKind) (more : Slots → Result Slots OperandFault) (f : OperandFault) → go_on left x more ≡ Err f →
+    ((why : LineFaultKind) × (x ≡ Err why) × (f ≡ fault_at left why)) ⊎ ((next : Slots) × (x ≡ Ok next) × (more next ≡ Err f))
+went_no left (Err why) more f h = inl (why, refl, cc)
+went_no left (Ok next) more f h = inr (next, refl, h)
+
+-- at a token with which no pattern goes on
+pub stuck : (t : Lexeme) (b : Bool) → is_unknown t.kind t.text ≡ b → ((b ≡ true) × (stuck_at t ≡ UnknownName)) ⊎ (stuck_at t ≡ BadOperands)
+stuck t true h = inl (refl, rw h refl)
+stuck t false h = inr (rw h refl)
+
+pub follow-has : (all : List Pattern) → Distinct all → (front : Pattern) (sign : Sign) (ts : Tokens) (o : Slots) (f : OperandFault) → follow all front sign ts o ≡ Err f → HasFault all front sign ts f
+follow-has all distinct front sign (End left) o f h =
+    let (e, same) = not_whole (is_whole all front) o left f h in
+    (λ m. let no : false ≡ true = sym e ∙ is_whole-of all front m in cc, same)
+follow-has all distinct front sign (Bad left) o f h = cc
+follow-has all distinct front sign (Next t ts) o f h =
+    elim (took_no t sign o (piece_behind all front t.kind) (λ p filled. follow all (front_after front p) (sign_after p) ts filled) f h) [
+      | inl (none, e) ↦ elim (stuck t (is_unknown t.kind t.text) refl) [
+        | inl (u, k) ↦ inl (inl (u, e ∙ ap (fault_at (left_of t)) k))
+        | inr k ↦ inr (inl (λ p goes same. piece_behind-none all front t.kind p none goes same, e ∙ ap (fault_at (left_of t)) k))
+      ]
+      | inr (p, found, g) ↦
+          let (goes, same) = piece_behind-is all front t.kind p found in
+          elim (went_no (left_of t) (filled p t sign o) (λ filled. follow all (front_after front p) (sign_after p) ts filled) f g) [
+            | inl (why, bad, e) ↦ inr (inr (p, goes, same, inl (why, filled-err p t sign o nothing why bad, e)))
+            | inr (next, ok, m) ↦ inr (inr (p, goes, same, inr (follow-has all distinct (front_after front p) (sign_after p) ts next f m)))
+          ]
+    ]
+
+-- two faults at one column
+pub at_one : (left : ℕ) (a b : LineFaultKind) (f g : OperandFault) → f ≡ fault_at left a → g ≡ fault_at left b → kind_order a ≤ kind_order b → NoLater f g
+at_one left a b f g e k h = rw (e, k) (inr (refl, h))
+
+-- and one further on
+pub further : (left : ℕ) (a : LineFaultKind) (f g : OperandFault) → f ≡ fault_at left a → g.left < left → NoLater f g
+further left a f g e h = rw e (inl h)
+
+unknown_least : (a : LineFaultKind) → a ≡ UnknownName → (b : LineFaultKind) → b ≡ UnknownName → kind_order a ≤ kind_order b
+unknown_least a h b k = rw (h, k) (omega arith)
+
+pub stuck_most : (t : Lexeme) → kind_order (stuck_at t) ≤ 3
+stuck_most t = elim (stuck t (is_unknown t.kind t.text) refl) [ inl (u, k) ↦ rw k (omega arith) | inr k ↦ rw k (omega arith) ]
+
+pub stuck_unknown : (t : Lexeme) → is_unknown t.kind t.text ≡ true → kind_order (stuck_at t) ≤ 2
+stuck_unknown t u = rw u (omega arith)
+
+-- at a token with which a pattern goes on: another fault at it is no smaller, and one behind it no earlier
+behind_token : (n : ℕ) (all : List Pattern) → Distinct all → (front : Pattern) (sign : Sign) (t : Lexeme) (ts : Tokens) (o : Slots) (f g : OperandFault) (p : Piece) →
+    GoesOn all front p → kind_of p ≡ t.kind → Falls (length t.rest) ts →
+    (((why : LineFaultKind) × (filled p t sign o ≡ Err why) × (f ≡ fault_at (left_of t) why)) ⊎ ((next : Slots) × (filled p t sign o ≡ Ok next) × (follow all (front_after front p) (sign_after p) ts next ≡ Err f))) →
+    ((next : Slots) → follow all (front_after front p) (sign_after p) ts next ≡ Err f → HasFault all (front_after front p) (sign_after p) ts g → NoLater f g) →
+    0 < length t.text → HasFault all front sign (Next t ts) g → NoLater f g
+behind_token n all distinct front sign t ts o f g p goes same c (inl (why, bad, e)) ih b has =
+    elim has [
+      | inl m ↦ elim m [
+        | inl (u, k) ↦ at_one (left_of t) why UnknownName f g e k (let w : Err why ≡ Err UnknownName = sym bad ∙ unknown_at p t sign o same u in let v : why ≡ UnknownName = cc in rw v (omega arith))
+        | inr d ↦ further (left_of t) why f g e (let l : g.left ≤ length t.rest = among-left (length t.rest) ts g c d in omega arith)
+      ]
+      | inr r ↦ elim r [
+        | inl (not_one, k) ↦ absurd (not_one p goes same)
+        | inr (x, also, kind, w) ↦
+            let e2 : p ≡ x = distinct.same front p x goes also (same ∙ sym kind) in
+            elim w [
+              | inl (other, wrong, k) ↦
+                  let one : filled p t sign nothing ≡ Err other = rw e2 wrong in
+                  let two : filled p t sign nothing ≡ Err why = filled-err p t sign o nothing why bad in
+                  let w2 : Err why ≡ Err other = sym two ∙ one in
+                  let v : why ≡ other = cc in
+                  at_one (left_of t) why other f g e k (rw v (omega arith))
+              | inr d ↦ further (left_of t) why f g e (let l : g.left ≤ length t.rest = has-left (length t.rest) all (front_after front x) (sign_after x) ts g c d in omega arith)
+            ]
+      ]
+    ]
+behind_token n all distinct front sign t ts o f g p goes same c (inr (next, ok, m)) ih b has =
+    elim has [
+      | inl d ↦ elim d [
+        | inl (u, k) ↦ let w : Ok next ≡ Err UnknownName = sym ok ∙ unknown_at p t sign o same u in cc
+        | inr d ↦ ih next m (among-has all (front_after front p) (sign_after p) ts g d)
+      ]
+      | inr r ↦ elim r [
+        | inl (not_one, k) ↦ absurd (not_one p goes same)
+        | inr (x, also, kind, w) ↦
+            let e2 : p ≡ x = distinct.same front p x goes also (same ∙ sym kind) in
+            elim w [
+              | inl (other, wrong, k) ↦
+                  let one : filled p t sign nothing ≡ Err other = rw e2 wrong in
+                  let two : filled p t sign o ≡ Err other = filled-err p t sign nothing o other one in
+                  let w2 : Ok next ≡ Err other = sym ok ∙ two in cc
+              | inr d ↦ ih next m (rw e2 d)
+            ]
+      ]
+    ]
+
+pub follow-first : (n : ℕ) (all : List Pattern) → Distinct all → (front : Pattern) (sign : Sign) (ts : Tokens) (o : Slots) (f g : OperandFault) → Falls n ts → follow all front sign ts o ≡ Err f → HasFault all front sign ts g → NoLater f g
+follow-first n all distinct front sign (End left) o f g f_falls h (not_one, e) =
+    let (w, same) = not_whole (is_whole all front) o left f h in at_one left BadOperands BadOperands f g same e (omega arith)
+follow-first n all distinct front sign (Bad left) o f g f_falls h e =
+    let same : f ≡ fault_at left BadToken = cc in at_one left BadToken BadToken f g same e (omega arith)
+follow-first n all distinct front sign (Next t ts) o f g (a, b, c) h has =
+    elim (took_no t sign o (piece_behind all front t.kind) (λ p filled. follow all (front_after front p) (sign_after p) ts filled) f h) [
+      | inl (none, e) ↦ elim has [
+        | inl m ↦ elim m [
+          | inl (u, k) ↦ at_one (left_of t) (stuck_at t) UnknownName f g e k (stuck_unknown t u)
+          | inr m ↦ further (left_of t) (stuck_at t) f g e (let l : g.left ≤ length t.rest = among-left (length t.rest) ts g c m in omega arith)
+        ]
+        | inr r ↦ elim r [
+          | inl (not_one, k) ↦ at_one (left_of t) (stuck_at t) BadOperands f g e k (stuck_most t)
+          | inr (p, goes, same, w) ↦ absurd (piece_behind-none all front t.kind p none goes same)
+        ]
+      ]
+      | inr (p, found, m) ↦
+          let (goes, same) = piece_behind-is all front t.kind p found in
+          behind_token n all distinct front sign t ts o f g p goes same c (went_no (left_of t) (filled p t sign o) (λ filled. follow all (front_after front p) (sign_after p) ts filled) f m)
+          (λ next k hk. follow-first (length t.rest) all distinct (front_after front p) (sign_after p) ts next f g c k hk) b has
+    ]

@@ -1,0 +1,140 @@
+-- The fronts of patterns.
+use Rattle.std.proofs.Common.{◌≡◌, ℕ, ◌+◌, List, [], ◌∷◌, ◌++◌, Bool, true, false, cond, ◌&&◌, Option, Some, None, MatchOption, Bor, take, drop, length, add-one, ◌==◌, if◌then◌else◌, refl, sym, ◌∙◌, ap}
+use Rattle.std.proofs.Common.{◌≤◌, length-append, arith}
+use Rattle.std.proofs.lemmas.Bool.Decides.{nat_tests}
+use Rattle.std.specs.Cmp.Lexicographic.{pointwise}
+use Rattle.std.specs.Option.{option_map}
+use Rattle.alpha_operands.specs.declared.piece.Piece.{Piece}
+use Rattle.alpha_operands.specs.declared.piece.Piece.TheVariants.{Ra, Rb, Rc, Comma, Again, Open, Close, Minus, Plus, Less, Dot, Operator, Label, Offset, Text, Displacement, Immediate, Literal, Hint, Distance, Whole, Zeroed, Align, Level, Pal, Nothing, Byte, Word, Long, Quad}
+use Rattle.alpha_token.specs.declared.token.TokenKind.{TokenKind}
+use Rattle.alpha_operands.specs.Pieces.{kind_of, same_kind, piece_number, same_piece}
+use Rattle.alpha_operands.specs.Shapes.{Pattern}
+use Rattle.alpha_operands.specs.Walk.{rest_of, head_of_kind, front_after}
+
+step : (x y : Bool) (r : Option Pattern) (d : Pattern) → r ≡ cond y (Some d) None → cond x r None ≡ cond (x && y) (Some d) None
+step true y r d h = h
+step false y r d h = refl
+
+pub rest_of-by : (E : Piece → Piece → Bool) → ((a b : Piece) → E a b ≡ same_piece a b) → (front q : Pattern) → rest_of front q ≡ cond (pointwise E (take (length front) q) front) (Some (drop (length front) q)) None
+rest_of-by E same [] q = refl
+rest_of-by E same (a ∷ front) [] = refl
+rest_of-by E same (a ∷ front) (b ∷ q) = rw (same b a) (step (same_piece b a) _ _ _ (rest_of-by E same front q))
+
+pub stripped : (E : Piece → Piece → Bool) → ((a b : Piece) → E a b ≡ same_piece a b) → (front q : Pattern) (r : Option (Bor Pattern)) →
+    MatchOption r (pointwise E (take (length front) q) front ≡ false) (λ x. (pointwise E (take (length front) q) front ≡ true) × (x.now ≡ drop (length front) q) × (length x.now + length front ≡ length q)) →
+    option_map (λ x. x.now) r ≡ rest_of front q
+stripped E same front q None h = rw (rest_of-by E same front q, h) refl
+stripped E same front q (Some x) h = rw (rest_of-by E same front q, h.0) (ap Some h.1)
+
+-- each piece has its own number
+piece_at : ℕ → Piece
+piece_at n =
+    if n == 0 then Ra else if n == 1 then Rb else if n == 2 then Rc else if n == 3 then Comma else if n == 4 then Again
+    else if n == 5 then Open else if n == 6 then Close else if n == 7 then Minus else if n == 8 then Plus else if n == 9 then Less
+    else if n == 10 then Dot else if n == 11 then Operator else if n == 12 then Label else if n == 13 then Offset else if n == 14 then Text
+    else if n == 15 then Displacement else if n == 16 then Immediate else if n == 17 then Literal else if n == 18 then Hint
+    else if n == 19 then Distance else if n == 20 then Whole else if n == 21 then Zeroed else if n == 22 then Align else if n == 23 then Level
+    else if n == 24 then Pal else if n == 25 then Nothing else if n == 26 then Byte else if n == 27 then Word else if n == 28 then Long else Quad
+
+piece_at-number : (p : Piece) → piece_at (piece_number p) ≡ p
+unfolding piece_at
+piece_at-number Ra = refl
+piece_at-number Rb = refl
+piece_at-number Rc = refl
+piece_at-number Comma = refl
+piece_at-number Again = refl
+piece_at-number Open = refl
+piece_at-number Close = refl
+piece_at-number Minus = refl
+piece_at-number Plus = refl
+piece_at-number Less = refl
+piece_at-number Dot = refl
+piece_at-number Operator = refl
+piece_at-number Label = refl
+piece_at-number Offset = refl
+piece_at-number Text = refl
+piece_at-number Displacement = refl
+piece_at-number Immediate = refl
+piece_at-number Literal = refl
+piece_at-number Hint = refl
+piece_at-number Distance = refl
+piece_at-number Whole = refl
+piece_at-number Zeroed = refl
+piece_at-number Align = refl
+piece_at-number Level = refl
+piece_at-number Pal = refl
+piece_at-number Nothing = refl
+piece_at-number Byte = refl
+piece_at-number Word = refl
+piece_at-number Long = refl
+piece_at-number Quad = refl
+
+pub same_piece-is : (a b : Piece) → same_piece a b ≡ true → a ≡ b
+same_piece-is a b h =
+    let e : piece_number a ≡ piece_number b = grind (arith, nat_tests) in
+    sym (piece_at-number a) ∙ ap piece_at e ∙ piece_at-number b
+
+pub rest_of-is : (front q rest : Pattern) → rest_of front q ≡ Some rest → q ≡ front ++ rest
+rest_of-is [] q rest h = cc
+rest_of-is (a ∷ front) [] rest h = cc
+rest_of-is (a ∷ front) (b ∷ q) rest h =
+    let both : (x : Bool) → same_piece b a ≡ x → cond x (rest_of front q) None ≡ Some rest → (b ∷ q) ≡ a ∷ (front ++ rest) =
+    λ x. elim x as (λ y. same_piece b a ≡ y → cond y (rest_of front q) None ≡ Some rest → (b ∷ q) ≡ a ∷ (front ++ rest)) [ true ↦ λ e k. cc (same_piece-is b a e, rest_of-is front q rest k) | false ↦ λ e k. cc ] in
+    both (same_piece b a) refl h
+
+pub head_of_kind-is : (kind : TokenKind) (r : Option Pattern) (p : Piece) → head_of_kind kind r ≡ Some p → (rest : Pattern) × (r ≡ Some (p ∷ rest))
+head_of_kind-is kind None p h = cc
+head_of_kind-is kind (Some []) p h = cc
+head_of_kind-is kind (Some (x ∷ q)) p h =
+    let both : (b : Bool) → cond b (Some x) None ≡ Some p → (rest : Pattern) × (Some (x ∷ q) ≡ Some (p ∷ rest)) =
+    λ b. elim b as (λ y. cond y (Some x) None ≡ Some p → (rest : Pattern) × (Some (x ∷ q) ≡ Some (p ∷ rest))) [ true ↦ λ k. (q, cc) | false ↦ λ k. cc ] in
+    both (same_kind (kind_of x) kind) h
+
+-- a piece of a pattern behind its front
+pub longer_of : (front q : Pattern) (kind : TokenKind) (p : Piece) → head_of_kind kind (rest_of front q) ≡ Some p → (rest : Pattern) × (q ≡ front ++ p ∷ rest)
+longer_of front q kind p h =
+    let (rest, e) = head_of_kind-is kind (rest_of front q) p h in
+    (rest, rest_of-is front q (p ∷ rest) e)
+
+pub take-front : (front : Pattern) (p : Piece) (rest q : Pattern) → q ≡ front ++ p ∷ rest → take (length front + 1) q ≡ front ++ p ∷ []
+take-front [] p rest q e = rw e refl
+take-front (a ∷ front) p rest [] e = cc
+take-front (a ∷ front) p rest (b ∷ q) e =
+    let tail : q ≡ front ++ p ∷ rest = cc in
+    let head : b ≡ a = cc in
+    rw (head, add-one) (ap (λ t. a ∷ t) (rw add-one at (take-front front p rest q tail)))
+
+pub front-fits : (front : Pattern) (p : Piece) (q : Pattern) → ((rest : Pattern) × (q ≡ front ++ p ∷ rest)) → length front + 1 ≤ length q
+front-fits front p q (rest, e) = rw (e, length-append front (p ∷ rest)) (omega arith)
+
+pub front_after-take : (front : Pattern) (p : Piece) (q : Pattern) → (p ≡ Again → ⊥) → ((rest : Pattern) × (q ≡ front ++ p ∷ rest)) → take (length front + 1) q ≡ front_after front p
+front_after-take front Ra q apart (rest, e) = take-front front Ra rest q e
+front_after-take front Rb q apart (rest, e) = take-front front Rb rest q e
+front_after-take front Rc q apart (rest, e) = take-front front Rc rest q e
+front_after-take front Comma q apart (rest, e) = take-front front Comma rest q e
+front_after-take front Again q apart (rest, e) = absurd (apart refl)
+front_after-take front Open q apart (rest, e) = take-front front Open rest q e
+front_after-take front Close q apart (rest, e) = take-front front Close rest q e
+front_after-take front Minus q apart (rest, e) = take-front front Minus rest q e
+front_after-take front Plus q apart (rest, e) = take-front front Plus rest q e
+front_after-take front Less q apart (rest, e) = take-front front Less rest q e
+front_after-take front Dot q apart (rest, e) = take-front front Dot rest q e
+front_after-take front Operator q apart (rest, e) = take-front front Operator rest q e
+front_after-take front Label q apart (rest, e) = take-front front Label rest q e
+front_after-take front Offset q apart (rest, e) = take-front front Offset rest q e
+front_after-take front Text q apart (rest, e) = take-front front Text rest q e
+front_after-take front Displacement q apart (rest, e) = take-front front Displacement rest q e
+front_after-take front Immediate q apart (rest, e) = take-front front Immediate rest q e
+front_after-take front Literal q apart (rest, e) = take-front front Literal rest q e
+front_after-take front Hint q apart (rest, e) = take-front front Hint rest q e
+front_after-take front Distance q apart (rest, e) = take-front front Distance rest q e
+front_after-take front Whole q apart (rest, e) = take-front front Whole rest q e
+front_after-take front Zeroed q apart (rest, e) = take-front front Zeroed rest q e
+front_after-take front Align q apart (rest, e) = take-front front Align rest q e
+front_after-take front Level q apart (rest, e) = take-front front Level rest q e
+front_after-take front Pal q apart (rest, e) = take-front front Pal rest q e
+front_after-take front Nothing q apart (rest, e) = take-front front Nothing rest q e
+front_after-take front Byte q apart (rest, e) = take-front front Byte rest q e
+front_after-take front Word q apart (rest, e) = take-front front Word rest q e
+front_after-take front Long q apart (rest, e) = take-front front Long rest q e
+front_after-take front Quad q apart (rest, e) = take-front front Quad rest q e

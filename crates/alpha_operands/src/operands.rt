@@ -1,0 +1,193 @@
+ghost use Rattle.std.specs.Prelude.{◌≡◌, ◌==◌, not};
+ghost use Rattle.std.specs.List.{list_all};
+ghost use Rattle.alpha_token.specs.Numeral.{number_value};
+ghost use Rattle.alpha_token.specs.Tokens.{lexeme};
+ghost use Rattle.alpha_operands.specs.Ranges.{number_of, offset_of};
+ghost use Rattle.alpha_operands.specs.Operands.{slots, is_label, between_quotes, Gives, filled};
+
+use crate::number::number_at;
+use crate::{Half, Number, Piece, Sign, operator, register};
+use alpha_token::{Token, number};
+use alpha_words::Reg;
+
+/// What is wrong with a line, in the order in which it is answered at one column.
+#[derive(Clone, Copy, Debug, PartialEq, Eq)]
+pub enum LineFaultKind {
+    /// A byte begins no token.
+    BadToken = 1,
+    /// A mnemonic, a directive, a register or an operator that isn't in the tables.
+    UnknownName,
+    /// The tokens are of no pattern, or a label has a wrong form.
+    BadOperands,
+    /// A number is outside its range.
+    OutOfRange,
+}
+
+/// The operands of a statement: each value where its piece puts it, `None` where there is none.
+#[derive(Clone, Copy, Debug)]
+pub struct Operands<'a> {
+    pub ra: Option<Reg>,
+    pub rb: Option<Reg>,
+    pub rc: Option<Reg>,
+    pub number: Option<Number>,
+    /// The half of the address of a label.
+    pub half: Option<Half>,
+    pub label: Option<&'a [u8]>,
+    /// The offset behind a label, from -(2^31 - 1) to 2^31 - 1, or 0.
+    pub offset: i64,
+    /// What stands between the quotes of a string.
+    pub text: Option<&'a [u8]>,
+    /// How many bytes of the line stand behind the last token.
+    pub left: usize,
+}
+
+/// No operands.
+pub(crate) const NOTHING: Operands<'static> = Operands {
+    ra: None,
+    rb: None,
+    rc: None,
+    number: None,
+    half: None,
+    label: None,
+    offset: 0,
+    text: None,
+    left: 0,
+};
+
+// The number at a piece, `None` exactly where it is outside the piece's range.
+fn number_of(piece: Piece, sign: Sign, text: &[u8]) -> Option<Number>
+    ensures { result ≡ number_of piece sign (number_value text.now) }
+{
+    match number(text) {
+        Some(n) => number_at(piece, sign, n),
+        None => None,
+    }
+}
+
+// A label's offset, `None` exactly where it is outside its range.
+fn offset_of(sign: Sign, text: &[u8]) -> Option<i64>
+    ensures { result ≡ offset_of sign (number_value text.now) }
+{
+    match number(text) {
+        Some(n) if n < 1 << 31 => match sign {
+            Sign::Plus => Some(n as i64),
+            Sign::Minus => Some(-(n as i64)),
+        },
+        _ => None,
+    }
+}
+
+// Whether a name has no `/`.
+fn has_no_slash(name: &[u8]) -> bool
+    ensures { result ≡ list_all (λ b. not (b == 47)) name.now }
+{
+    name.iter().all(|b| *b != b'/')
+}
+
+/// Whether a name is that of a label: it begins with a letter or `_`, and has no `/`.
+pub fn is_label(name: &[u8]) -> bool
+    ensures { result ≡ is_label name.now }
+{
+    let begins = match name.first() {
+        Some(first) => *first != b'.',
+        None => true,
+    };
+    begins && has_no_slash(name)
+}
+
+// What stands between the quotes of a string.
+fn between_quotes(text: &[u8]) -> &[u8]
+    ensures { result.now ≡ between_quotes text.now }
+{
+    match text {
+        [_, inner @ .., _] => inner,
+        _ => &[],
+    }
+}
+
+// The operands with the value of a token at its piece.
+#[tactic(auto, unfolding(crate::specs::Operands::filled))]
+pub(crate) fn filled<'a>(
+    piece: Piece,
+    token: &Token<'a>,
+    sign: Sign,
+    operands: &Operands<'a>,
+) -> Result<Operands<'a>, LineFaultKind>
+    ensures { Gives slots result (filled piece (lexeme token.now) sign (slots operands.now)) }
+{
+    let left = token.rest.len();
+    match piece {
+        Piece::Ra => match register(token.text) {
+            Some(r) => Ok(Operands {
+                ra: Some(r),
+                left,
+                ..*operands
+            }),
+            None => Err(LineFaultKind::UnknownName),
+        },
+        Piece::Rb => match register(token.text) {
+            Some(r) => Ok(Operands {
+                rb: Some(r),
+                left,
+                ..*operands
+            }),
+            None => Err(LineFaultKind::UnknownName),
+        },
+        Piece::Rc => match register(token.text) {
+            Some(r) => Ok(Operands {
+                rc: Some(r),
+                left,
+                ..*operands
+            }),
+            None => Err(LineFaultKind::UnknownName),
+        },
+        Piece::Operator => match operator(token.text) {
+            Some(half) => Ok(Operands {
+                half: Some(half),
+                left,
+                ..*operands
+            }),
+            None => Err(LineFaultKind::UnknownName),
+        },
+        Piece::Label => {
+            if is_label(token.text) {
+                Ok(Operands {
+                    label: Some(token.text),
+                    left,
+                    ..*operands
+                })
+            } else {
+                Err(LineFaultKind::BadOperands)
+            }
+        }
+        Piece::Offset => match offset_of(sign, token.text) {
+            Some(offset) => Ok(Operands {
+                offset,
+                left,
+                ..*operands
+            }),
+            None => Err(LineFaultKind::OutOfRange),
+        },
+        Piece::Text => Ok(Operands {
+            text: Some(between_quotes(token.text)),
+            left,
+            ..*operands
+        }),
+        Piece::Comma
+        | Piece::Again
+        | Piece::Open
+        | Piece::Close
+        | Piece::Minus
+        | Piece::Plus
+        | Piece::Less
+        | Piece::Dot => { Ok(Operands { left, ..*operands }) }
+        _ => match number_of(piece, sign, token.text) {
+            Some(n) => Ok(Operands {
+                number: Some(n),
+                left,
+                ..*operands
+            }),
+            None => Err(LineFaultKind::OutOfRange),
+        },
+    }
+}

@@ -1,0 +1,93 @@
+ghost use Rattle.std.specs.Prelude.{◌≡◌};
+ghost use Rattle.alpha_operands.specs.Pieces.{kind_of, same_piece, same_kind};
+
+use alpha_token::TokenKind;
+
+/// A piece of a pattern of operands: a token by its form, and where its value goes.
+#[derive(Clone, Copy, Debug, PartialEq, Eq)]
+pub enum Piece {
+    /// A register, the first one, the second and the destination.
+    Ra,
+    Rb,
+    Rc,
+    Comma,
+    /// A comma behind which the operands begin anew.
+    Again,
+    Open,
+    Close,
+    /// The sign of a number, or of a distance behind `.`.
+    Minus,
+    Plus,
+    /// The `-` between a label and its offset.
+    Less,
+    /// `.`, the address of this instruction.
+    Dot,
+    /// `%hi` or `%lo`.
+    Operator,
+    Label,
+    /// A label's offset, 0 to 2^31 - 1.
+    Offset,
+    Text,
+    /// A number from -32768 to 32767, of bytes.
+    Displacement,
+    /// A number from -32768 to 32767.
+    Immediate,
+    /// A number from 0 to 255.
+    Literal,
+    /// A number from 0 to 16383.
+    Hint,
+    /// A distance in bytes that a branch reaches.
+    Distance,
+    /// A number of 64 bits.
+    Whole,
+    /// A number from 0 to 16777216.
+    Zeroed,
+    /// A number from 0 to 13.
+    Align,
+    /// 1 or 2.
+    Level,
+    /// The function of a PALcode call of the table.
+    Pal,
+    /// 0.
+    Nothing,
+    /// A value of 1 byte, signed or unsigned, and of 2, 4 and 8.
+    Byte,
+    Word,
+    Long,
+    Quad,
+}
+
+impl Piece {
+    /// The form of the token that spells it.
+    pub(crate) fn kind(self) -> TokenKind
+        ensures { result ≡ kind_of self }
+    {
+        match self {
+            Piece::Ra | Piece::Rb | Piece::Rc => TokenKind::Register,
+            Piece::Comma | Piece::Again => TokenKind::Comma,
+            Piece::Open => TokenKind::Open,
+            Piece::Close => TokenKind::Close,
+            Piece::Minus | Piece::Less => TokenKind::Minus,
+            Piece::Plus => TokenKind::Plus,
+            Piece::Dot => TokenKind::Dot,
+            Piece::Operator => TokenKind::Operator,
+            Piece::Label => TokenKind::Name,
+            Piece::Text => TokenKind::Text,
+            _ => TokenKind::Number,
+        }
+    }
+}
+
+// Whether two pieces are the same.
+fn same_piece(a: Piece, b: Piece) -> bool
+    ensures { result ≡ same_piece a b }
+{
+    a == b
+}
+
+// Whether two kinds of tokens are the same.
+pub(crate) fn same_kind(a: TokenKind, b: TokenKind) -> bool
+    ensures { result ≡ same_kind a b }
+{
+    a == b
+}

@@ -1,0 +1,130 @@
+ghost use Rattle.std.specs.Prelude.{◌≡◌, ◌<◌, IfSome, length};
+ghost use Rattle.std.specs.Option.{option_map, option_and_then};
+ghost use Rattle.alpha_token.specs.Tokens.{tokens};
+ghost use Rattle.alpha_operands.specs.Shapes.{patterns};
+ghost use Rattle.alpha_operands.specs.Operands.{slots};
+ghost use Rattle.alpha_operands.specs.Values.{view, list_shape, front_of, ended, first_operands, value_of, first_value};
+
+use crate::operands::{NOTHING, filled};
+use crate::walk::{is_whole, piece_behind, sign_after};
+use crate::{Number, Operands, Piece, Shape, Sign};
+use alpha_token::{Step, next};
+
+/// A label with an offset, 0 where none stands behind it.
+#[derive(Clone, Copy, Debug)]
+pub struct Expr<'a> {
+    pub label: &'a [u8],
+    pub offset: i64,
+}
+
+/// A value of a list.
+#[derive(Clone, Copy, Debug)]
+pub enum ListValue<'a> {
+    /// A number modulo 2^64.
+    Number(u64),
+    Label(Expr<'a>),
+}
+
+// The operands of one value, and the list behind it.
+#[derive(Drop)]
+struct Front<'a> {
+    operands: Operands<'a>,
+    rest: &'a [u8],
+}
+
+// The operands of a value where the list is at its end.
+fn at_end<'a>(whole: bool, operands: &Operands<'a>) -> Option<Front<'a>>
+    ensures { option_map front_of result ≡ ended whole (slots operands.now) }
+{
+    if whole {
+        return Some(Front {
+            operands: Operands { ..*operands },
+            rest: &[],
+        });
+    }
+    None
+}
+
+// The operands of the first value of what is left of a list, behind a front of patterns.
+fn first_operands<'a>(
+    shape: Shape,
+    list: &'a [u8],
+    front: &'static [Piece],
+    sign: Sign,
+    operands: &Operands<'a>,
+) -> Option<Front<'a>>
+    ensures { option_map front_of result ≡ first_operands (patterns shape) front.now sign (tokens list.now) (slots operands.now) }
+{
+    let token = match next(list) {
+        Step::Token(token) => token,
+        Step::Bad(_) => return None,
+        Step::End(left) => {
+            return at_end(left == 0 && is_whole(shape.patterns(), front), operands);
+        }
+    };
+    let Some(longer) = piece_behind(shape.patterns(), front, token.kind) else {
+        return None;
+    };
+    match longer.piece {
+        Piece::Again => Some(Front {
+            operands: Operands { ..*operands },
+            rest: token.rest,
+        }),
+        piece => match filled(piece, &token, sign, operands) {
+            Ok(operands) => first_operands(
+                shape,
+                token.rest,
+                longer.front,
+                sign_after(piece),
+                &operands,
+            ),
+            Err(_) => None,
+        },
+    }
+}
+
+// The value that the operands of one are.
+fn value_of<'a>(operands: &Operands<'a>) -> Option<ListValue<'a>>
+    ensures { option_map view result ≡ value_of (slots operands.now) }
+{
+    match operands.label {
+        Some(label) => Some(ListValue::Label(Expr {
+            label,
+            offset: operands.offset,
+        })),
+        None => match operands.number {
+            Some(Number::Value(n)) => Some(ListValue::Number(n)),
+            _ => None,
+        },
+    }
+}
+
+// The shape of a list of values of a size.
+fn list_shape(bytes: u8) -> Option<Shape>
+    ensures { result ≡ list_shape bytes }
+{
+    match bytes {
+        1 => Some(Shape::Bytes),
+        2 => Some(Shape::Words),
+        4 => Some(Shape::Longs),
+        8 => Some(Shape::Quads),
+        _ => None,
+    }
+}
+
+/// The first value of a list of values of 1, 2, 4 or 8 bytes, and the list behind its comma, which
+/// is empty behind the last value. `None` exactly where the list doesn't begin with a value of
+/// that size that ends it or has a comma behind it.
+#[tactic(auto, unfolding(crate::specs::Values::first_value))]
+pub fn next_value(list: &[u8], bytes: u8) -> Option<(ListValue<'_>, &[u8])>
+    ensures value { option_map (λ v. (view v.0, v.1.now)) result ≡ option_and_then (λ shape. first_value shape list.now) (list_shape bytes) }
+{
+    let shape = list_shape(bytes)?;
+    match first_operands(shape, list, &[], Sign::Plus, &NOTHING) {
+        Some(found) => match value_of(&found.operands) {
+            Some(value) => Some((value, found.rest)),
+            None => None,
+        },
+        None => None,
+    }
+}

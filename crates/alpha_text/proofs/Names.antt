@@ -1,0 +1,201 @@
+-- The look-ups of names find each row by its name.
+use Rattle.std.proofs.Common.{◌≡◌, ◌≢◌, ℕ, List, [], ◌∷◌, Bool, true, false, cond, ◌&&◌, ◌≤◌, length, nat_le, arith, Option, Some, None, find, refl, sym, ◌∙◌, ap}
+use Rattle.std.specs.List.{list_all}
+use Rattle.std.proofs.lemmas.Bool.Decides.{nat_tests}
+use Rattle.std.specs.Str.{bytes_eq}
+use Rattle.std.specs.Option.{option_map, option_or}
+use Rattle.std.proofs.lemmas.Slice.Eq.{bytes_eq-Decides}
+use Rattle.alpha_words.specs.declared.PalCall.TheVariants as calls
+use Rattle.alpha_table.specs.declared.names.Mnemonic.{Mnemonic}
+use Rattle.alpha_table.specs.declared.names.Mnemonic.TheVariants as mnemonics
+use Rattle.alpha_table.specs.declared.op.Op.TheVariants as ops
+use Rattle.alpha_table.specs.declared.rows.MemOp.TheVariants as memories
+use Rattle.alpha_table.specs.declared.rows.BranchOp.TheVariants as branches
+use Rattle.alpha_table.specs.declared.rows.JumpKind.TheVariants as jumps
+use Rattle.alpha_table.specs.declared.rows.MiscOp.TheVariants as miscs
+use Rattle.alpha_table.specs.Names.{name_of}
+use Rattle.alpha_text.specs.declared.head.Own.{Own}
+use Rattle.alpha_text.specs.declared.head.Head.TheVariants as heads
+use Rattle.alpha_text.proofs.Spelling.{is_word}
+use Rattle.alpha_text.specs.Heads.{every_mnemonic, mnemonic_at, own_at, head_of}
+
+pub mnemonic_at-name : (m : Mnemonic) → mnemonic_at (name_of m) ≡ Some m
+unfolding every_mnemonic
+mnemonic_at-name (mnemonics.Operate ops.Addl) = refl
+mnemonic_at-name (mnemonics.Operate ops.S4addl) = refl
+mnemonic_at-name (mnemonics.Operate ops.Subl) = refl
+mnemonic_at-name (mnemonics.Operate ops.S4subl) = refl
+mnemonic_at-name (mnemonics.Operate ops.Cmpbge) = refl
+mnemonic_at-name (mnemonics.Operate ops.S8addl) = refl
+mnemonic_at-name (mnemonics.Operate ops.S8subl) = refl
+mnemonic_at-name (mnemonics.Operate ops.Cmpult) = refl
+mnemonic_at-name (mnemonics.Operate ops.Addq) = refl
+mnemonic_at-name (mnemonics.Operate ops.S4addq) = refl
+mnemonic_at-name (mnemonics.Operate ops.Subq) = refl
+mnemonic_at-name (mnemonics.Operate ops.S4subq) = refl
+mnemonic_at-name (mnemonics.Operate ops.Cmpeq) = refl
+mnemonic_at-name (mnemonics.Operate ops.S8addq) = refl
+mnemonic_at-name (mnemonics.Operate ops.S8subq) = refl
+mnemonic_at-name (mnemonics.Operate ops.Cmpule) = refl
+mnemonic_at-name (mnemonics.Operate ops.AddlV) = refl
+mnemonic_at-name (mnemonics.Operate ops.SublV) = refl
+mnemonic_at-name (mnemonics.Operate ops.Cmplt) = refl
+mnemonic_at-name (mnemonics.Operate ops.AddqV) = refl
+mnemonic_at-name (mnemonics.Operate ops.SubqV) = refl
+mnemonic_at-name (mnemonics.Operate ops.Cmple) = refl
+mnemonic_at-name (mnemonics.Operate ops.And) = refl
+mnemonic_at-name (mnemonics.Operate ops.Bic) = refl
+mnemonic_at-name (mnemonics.Operate ops.Cmovlbs) = refl
+mnemonic_at-name (mnemonics.Operate ops.Cmovlbc) = refl
+mnemonic_at-name (mnemonics.Operate ops.Bis) = refl
+mnemonic_at-name (mnemonics.Operate ops.Cmoveq) = refl
+mnemonic_at-name (mnemonics.Operate ops.Cmovne) = refl
+mnemonic_at-name (mnemonics.Operate ops.Ornot) = refl
+mnemonic_at-name (mnemonics.Operate ops.Xor) = refl
+mnemonic_at-name (mnemonics.Operate ops.Cmovlt) = refl
+mnemonic_at-name (mnemonics.Operate ops.Cmovge) = refl
+mnemonic_at-name (mnemonics.Operate ops.Eqv) = refl
+mnemonic_at-name (mnemonics.Operate ops.Amask) = refl
+mnemonic_at-name (mnemonics.Operate ops.Cmovle) = refl
+mnemonic_at-name (mnemonics.Operate ops.Cmovgt) = refl
+mnemonic_at-name (mnemonics.Operate ops.Implver) = refl
+mnemonic_at-name (mnemonics.Operate ops.Mskbl) = refl
+mnemonic_at-name (mnemonics.Operate ops.Extbl) = refl
+mnemonic_at-name (mnemonics.Operate ops.Insbl) = refl
+mnemonic_at-name (mnemonics.Operate ops.Mskwl) = refl
+mnemonic_at-name (mnemonics.Operate ops.Extwl) = refl
+mnemonic_at-name (mnemonics.Operate ops.Inswl) = refl
+mnemonic_at-name (mnemonics.Operate ops.Mskll) = refl
+mnemonic_at-name (mnemonics.Operate ops.Extll) = refl
+mnemonic_at-name (mnemonics.Operate ops.Insll) = refl
+mnemonic_at-name (mnemonics.Operate ops.Zap) = refl
+mnemonic_at-name (mnemonics.Operate ops.Zapnot) = refl
+mnemonic_at-name (mnemonics.Operate ops.Mskql) = refl
+mnemonic_at-name (mnemonics.Operate ops.Srl) = refl
+mnemonic_at-name (mnemonics.Operate ops.Extql) = refl
+mnemonic_at-name (mnemonics.Operate ops.Sll) = refl
+mnemonic_at-name (mnemonics.Operate ops.Insql) = refl
+mnemonic_at-name (mnemonics.Operate ops.Sra) = refl
+mnemonic_at-name (mnemonics.Operate ops.Mskwh) = refl
+mnemonic_at-name (mnemonics.Operate ops.Inswh) = refl
+mnemonic_at-name (mnemonics.Operate ops.Extwh) = refl
+mnemonic_at-name (mnemonics.Operate ops.Msklh) = refl
+mnemonic_at-name (mnemonics.Operate ops.Inslh) = refl
+mnemonic_at-name (mnemonics.Operate ops.Extlh) = refl
+mnemonic_at-name (mnemonics.Operate ops.Mskqh) = refl
+mnemonic_at-name (mnemonics.Operate ops.Insqh) = refl
+mnemonic_at-name (mnemonics.Operate ops.Extqh) = refl
+mnemonic_at-name (mnemonics.Operate ops.Mull) = refl
+mnemonic_at-name (mnemonics.Operate ops.Mulq) = refl
+mnemonic_at-name (mnemonics.Operate ops.Umulh) = refl
+mnemonic_at-name (mnemonics.Operate ops.MullV) = refl
+mnemonic_at-name (mnemonics.Operate ops.MulqV) = refl
+mnemonic_at-name (mnemonics.Operate ops.Sextb) = refl
+mnemonic_at-name (mnemonics.Operate ops.Sextw) = refl
+mnemonic_at-name (mnemonics.Operate ops.Ctpop) = refl
+mnemonic_at-name (mnemonics.Operate ops.Ctlz) = refl
+mnemonic_at-name (mnemonics.Operate ops.Cttz) = refl
+mnemonic_at-name (mnemonics.Mem memories.Lda) = refl
+mnemonic_at-name (mnemonics.Mem memories.Ldah) = refl
+mnemonic_at-name (mnemonics.Mem memories.Ldbu) = refl
+mnemonic_at-name (mnemonics.Mem memories.LdqU) = refl
+mnemonic_at-name (mnemonics.Mem memories.Ldwu) = refl
+mnemonic_at-name (mnemonics.Mem memories.Stw) = refl
+mnemonic_at-name (mnemonics.Mem memories.Stb) = refl
+mnemonic_at-name (mnemonics.Mem memories.StqU) = refl
+mnemonic_at-name (mnemonics.Mem memories.Ldl) = refl
+mnemonic_at-name (mnemonics.Mem memories.Ldq) = refl
+mnemonic_at-name (mnemonics.Mem memories.LdlL) = refl
+mnemonic_at-name (mnemonics.Mem memories.LdqL) = refl
+mnemonic_at-name (mnemonics.Mem memories.Stl) = refl
+mnemonic_at-name (mnemonics.Mem memories.Stq) = refl
+mnemonic_at-name (mnemonics.Mem memories.StlC) = refl
+mnemonic_at-name (mnemonics.Mem memories.StqC) = refl
+mnemonic_at-name (mnemonics.Branch branches.Br) = refl
+mnemonic_at-name (mnemonics.Branch branches.Bsr) = refl
+mnemonic_at-name (mnemonics.Branch branches.Blbc) = refl
+mnemonic_at-name (mnemonics.Branch branches.Beq) = refl
+mnemonic_at-name (mnemonics.Branch branches.Blt) = refl
+mnemonic_at-name (mnemonics.Branch branches.Ble) = refl
+mnemonic_at-name (mnemonics.Branch branches.Blbs) = refl
+mnemonic_at-name (mnemonics.Branch branches.Bne) = refl
+mnemonic_at-name (mnemonics.Branch branches.Bge) = refl
+mnemonic_at-name (mnemonics.Branch branches.Bgt) = refl
+mnemonic_at-name (mnemonics.Jump jumps.Jmp) = refl
+mnemonic_at-name (mnemonics.Jump jumps.Jsr) = refl
+mnemonic_at-name (mnemonics.Jump jumps.Ret) = refl
+mnemonic_at-name (mnemonics.Jump jumps.JsrCoroutine) = refl
+mnemonic_at-name (mnemonics.Misc miscs.Trapb) = refl
+mnemonic_at-name (mnemonics.Misc miscs.Excb) = refl
+mnemonic_at-name (mnemonics.Misc miscs.Mb) = refl
+mnemonic_at-name (mnemonics.Misc miscs.Wmb) = refl
+mnemonic_at-name (mnemonics.Fetch false) = refl
+mnemonic_at-name (mnemonics.Fetch true) = refl
+mnemonic_at-name (mnemonics.Pal calls.Bpt) = refl
+mnemonic_at-name (mnemonics.Pal calls.Bugchk) = refl
+mnemonic_at-name (mnemonics.Pal calls.Callsys) = refl
+mnemonic_at-name (mnemonics.Pal calls.Imb) = refl
+mnemonic_at-name (mnemonics.Pal calls.Rdunique) = refl
+mnemonic_at-name (mnemonics.Pal calls.Wrunique) = refl
+mnemonic_at-name (mnemonics.Pal calls.Gentrap) = refl
+
+find-is : {A : Type 0} (test : A → Bool) (xs : List A) (x : A) → find test xs ≡ Some x → test x ≡ true
+find-is test [] x h = cc
+find-is test (y ∷ xs) x h =
+    let both : (b : Bool) → test y ≡ b → cond b (Some y) (find test xs) ≡ Some x → test x ≡ true =
+    λ b. elim b as (λ v. test y ≡ v → cond v (Some y) (find test xs) ≡ Some x → test x ≡ true) [
+      | true ↦ λ e k. let same : y ≡ x = cc in ap test (sym same) ∙ e
+      | false ↦ λ e k. find-is test xs x k
+    ] in
+    both (test y) refl h
+
+pub mnemonic_at-is : (name : List ℕ) (m : Mnemonic) → mnemonic_at name ≡ Some m → name_of m ≡ name
+mnemonic_at-is name m h = (bytes_eq-Decides (name_of m) name).0 (find-is (λ n. bytes_eq (name_of n) name) every_mnemonic m h)
+
+pub mnemonic_at-none : (name : List ℕ) → ((m : Mnemonic) → name_of m ≢ name) → mnemonic_at name ≡ None
+mnemonic_at-none name apart =
+    let both : (r : Option Mnemonic) → mnemonic_at name ≡ r → r ≡ None =
+    λ r. elim r as (λ v. mnemonic_at name ≡ v → v ≡ None) [ None ↦ λ e. refl | Some m ↦ λ e. absurd (apart m (mnemonic_at-is name m e)) ] in
+    both (mnemonic_at name) refl
+
+pub head_of-insn : (name : List ℕ) (m : Mnemonic) → name_of m ≡ name → head_of name ≡ Some (heads.Insn m)
+unfolding head_of
+head_of-insn name m e =
+    let found : mnemonic_at name ≡ Some m = ap mnemonic_at (sym e) ∙ mnemonic_at-name m in
+    ap (λ r. option_or (option_map heads.Insn r) (option_map heads.Own (own_at name))) found
+
+pub head_of-own : (name : List ℕ) (o : Option Own) → ((m : Mnemonic) → name_of m ≢ name) → own_at name ≡ o → head_of name ≡ option_map heads.Own o
+unfolding head_of
+head_of-own name o apart e =
+    ap (λ r. option_or (option_map heads.Insn r) (option_map heads.Own (own_at name))) (mnemonic_at-none name apart) ∙ ap (option_map heads.Own) e
+
+each_short : list_all (λ m. nat_le (length (name_of m)) 13) every_mnemonic ≡ true
+unfolding every_mnemonic
+each_short = refl
+
+both : (a b : Bool) → (a && b) ≡ true → (a ≡ true) × (b ≡ true)
+both true b h = (refl, h)
+both false b h = cc
+
+pub found-all : {A : Type 0} (test each : A → Bool) (xs : List A) (x : A) → list_all each xs ≡ true → find test xs ≡ Some x → each x ≡ true
+found-all test each [] x h e = cc
+found-all test each (y ∷ xs) x h e =
+    let (a, b) = both (each y) (list_all each xs) h in
+    let either : (v : Bool) → cond v (Some y) (find test xs) ≡ Some x → each x ≡ true =
+    λ v. elim v as (λ w. cond w (Some y) (find test xs) ≡ Some x → each x ≡ true) [
+      | true ↦ λ k. let same : y ≡ x = cc in ap each (sym same) ∙ a
+      | false ↦ λ k. found-all test each xs x b k
+    ] in
+    either (test y) e
+
+pub name_of-short : (m : Mnemonic) → length (name_of m) ≤ 13
+name_of-short m =
+    let h : nat_le (length (name_of m)) 13 ≡ true = found-all (λ n. bytes_eq (name_of n) (name_of m)) (λ n. nat_le (length (name_of n)) 13) every_mnemonic m each_short (mnemonic_at-name m) in
+    grind (arith, nat_tests, h)
+
+each_word : list_all (λ m. is_word (name_of m)) every_mnemonic ≡ true
+unfolding every_mnemonic
+each_word = refl
+
+pub name_of-word : (m : Mnemonic) → is_word (name_of m) ≡ true
+name_of-word m = found-all (λ n. bytes_eq (name_of n) (name_of m)) (λ n. is_word (name_of n)) every_mnemonic m each_word (mnemonic_at-name m)

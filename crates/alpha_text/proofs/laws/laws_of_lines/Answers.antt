@@ -1,0 +1,16 @@
+use Rattle.alpha_text.proofs.LineFaults.{read-fault}
+use Rattle.alpha_text.proofs.Lines.{read-is}
+use Rattle.alpha_text.proofs.Round.{reads_back, different}
+use Rattle.alpha_text.proofs.laws.laws_of_lines.Goals as goal
+
+pub returns-clause-grammar : goal.returns-clause-grammar
+returns-clause-grammar c = read-is
+
+pub returns-clause-fault : goal.returns-clause-fault
+returns-clause-fault c = read-fault
+
+pub returns-clause-reads_back : goal.returns-clause-reads_back
+returns-clause-reads_back c = reads_back
+
+pub returns-clause-different : goal.returns-clause-different
+returns-clause-different c = different

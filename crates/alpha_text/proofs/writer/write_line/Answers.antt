@@ -1,0 +1,9 @@
+use Rattle.std.proofs.Common.{◌≡◌, ◌≤◌, ℕ, List, length, ap, arith}
+use Rattle.alpha_text.proofs.Names.{name_of-short}
+use Rattle.alpha_text.proofs.writer.write_line.Goals as goal
+
+pub push-requires : goal.push-requires
+push-requires c =
+    let empty : length c.new-line.result ≡ 0 = ap (λ (line : List ℕ). length line) c.new-line.ensures in
+    let short : length c.name.result.now ≤ 13 = rw c.name.ensures (name_of-short c.mnemonic.result) in
+    omega arith

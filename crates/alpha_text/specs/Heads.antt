@@ -1,0 +1,126 @@
+-- What the names of statements stand for.
+use Rattle.std.specs.Prelude.{ℕ, true, false, List, [], ◌∷◌, ◌++◌, map, find, codes, Option}
+use Rattle.std.specs.Option.{option_map, option_or}
+use Rattle.std.specs.Str.{bytes_eq}
+use Rattle.alpha_table.specs.declared.names.Mnemonic.{Mnemonic}
+use Rattle.alpha_table.specs.declared.names.Mnemonic.TheVariants as mnemonics
+use Rattle.alpha_table.specs.declared.op.OperandRule.{OperandRule}
+use Rattle.alpha_table.specs.declared.op.OperandRule.TheVariants.{Any, Unary, UnaryRegister, Version}
+use Rattle.alpha_table.specs.declared.rows.BranchOp.{BranchOp}
+use Rattle.alpha_table.specs.declared.rows.BranchOp.TheVariants.{Br, Bsr}
+use Rattle.alpha_table.specs.declared.rows.JumpKind.{JumpKind}
+use Rattle.alpha_table.specs.declared.rows.JumpKind.TheVariants.{Ret}
+use Rattle.alpha_table.specs.Op.{op_row}
+use Rattle.alpha_table.specs.Names.{name_of}
+use Rattle.alpha_table.specs.Decoded.{every_op, every_mem, every_branch, every_jump, every_misc, every_pal}
+use Rattle.alpha_operands.specs.declared.shape.Shape.{Shape}
+use Rattle.alpha_operands.specs.declared.shape.Shape.TheVariants as shapes
+use Rattle.alpha_text.specs.declared.head.Own.{Own}
+use Rattle.alpha_text.specs.declared.head.Own.TheVariants as owns
+use Rattle.alpha_text.specs.declared.head.Head.{Head}
+use Rattle.alpha_text.specs.declared.head.Head.TheVariants as heads
+
+-- the names beside the instruction table
+abbrev pub own_name : Own → List ℕ
+own_name owns.Byte = codes ".byte"
+own_name owns.Word = codes ".word"
+own_name owns.Long = codes ".long"
+own_name owns.Quad = codes ".quad"
+own_name owns.Ascii = codes ".ascii"
+own_name owns.Zero = codes ".zero"
+own_name owns.Align = codes ".align"
+own_name owns.Code = codes ".code"
+own_name owns.Data = codes ".data"
+own_name owns.Segment = codes ".segment"
+own_name owns.CodeBase = codes ".codebase"
+own_name owns.DataBase = codes ".database"
+own_name owns.Stack = codes ".stack"
+own_name owns.Entry = codes ".entry"
+own_name owns.Level = codes ".level"
+own_name owns.Mov = codes "mov"
+own_name owns.Clr = codes "clr"
+own_name owns.Nop = codes "nop"
+own_name owns.Unop = codes "unop"
+own_name owns.Not = codes "not"
+own_name owns.Negl = codes "negl"
+own_name owns.Negq = codes "negq"
+own_name owns.NeglV = codes "negl/v"
+own_name owns.NegqV = codes "negq/v"
+own_name owns.Sextl = codes "sextl"
+own_name owns.CallPal = codes "call_pal"
+
+-- the shape of what stands behind each
+abbrev pub own_shape : Own → Shape
+own_shape owns.Byte = shapes.Bytes
+own_shape owns.Word = shapes.Words
+own_shape owns.Long = shapes.Longs
+own_shape owns.Quad = shapes.Quads
+own_shape owns.Ascii = shapes.Text
+own_shape owns.Zero = shapes.Zeroed
+own_shape owns.Align = shapes.Align
+own_shape owns.Code = shapes.Alone
+own_shape owns.Data = shapes.Alone
+own_shape owns.Segment = shapes.Field
+own_shape owns.CodeBase = shapes.Field
+own_shape owns.DataBase = shapes.Field
+own_shape owns.Stack = shapes.Field
+own_shape owns.Entry = shapes.Entry
+own_shape owns.Level = shapes.Level
+own_shape owns.Mov = shapes.Move
+own_shape owns.Clr = shapes.Single
+own_shape owns.Nop = shapes.Alone
+own_shape owns.Unop = shapes.Alone
+own_shape owns.Not = shapes.Pair
+own_shape owns.Negl = shapes.Pair
+own_shape owns.Negq = shapes.Pair
+own_shape owns.NeglV = shapes.Pair
+own_shape owns.NegqV = shapes.Pair
+own_shape owns.Sextl = shapes.Pair
+own_shape owns.CallPal = shapes.CallPal
+
+unfoldable pub every_own : List Own
+every_own =
+    owns.Byte ∷ owns.Word ∷ owns.Long ∷ owns.Quad ∷ owns.Ascii ∷ owns.Zero ∷ owns.Align ∷ owns.Code ∷ owns.Data ∷ owns.Segment ∷ owns.CodeBase ∷ owns.DataBase ∷ owns.Stack ∷ owns.Entry ∷ owns.Level ∷ owns.Mov ∷ owns.Clr ∷ owns.Nop ∷ owns.Unop ∷ owns.Not ∷ owns.Negl ∷ owns.Negq ∷ owns.NeglV ∷ owns.NegqV ∷ owns.Sextl ∷ owns.CallPal ∷ []
+
+-- the one of a name
+abbrev pub own_at : List ℕ → Option Own
+own_at name = find (λ o. bytes_eq (own_name o) name) every_own
+
+-- every row of the instruction table
+unfoldable pub every_mnemonic : List Mnemonic
+every_mnemonic =
+    map mnemonics.Operate every_op ++ (map mnemonics.Mem every_mem ++ (map mnemonics.Branch every_branch ++ (map mnemonics.Jump every_jump ++ (map mnemonics.Misc every_misc ++
+    (mnemonics.Fetch false ∷ mnemonics.Fetch true ∷ map mnemonics.Pal every_pal)))))
+
+abbrev pub mnemonic_at : List ℕ → Option Mnemonic
+mnemonic_at name = find (λ m. bytes_eq (name_of m) name) every_mnemonic
+
+-- what a name stands for
+unfoldable pub head_of : List ℕ → Option Head
+head_of name = option_or (option_map heads.Insn (mnemonic_at name)) (option_map heads.Own (own_at name))
+
+abbrev pub operate_shape : OperandRule → Shape
+operate_shape Any = shapes.Operate
+operate_shape Unary = shapes.Unary
+operate_shape UnaryRegister = shapes.Pair
+operate_shape Version = shapes.Single
+
+abbrev pub branch_shape : BranchOp → Shape
+branch_shape Br = shapes.Call
+branch_shape Bsr = shapes.Call
+branch_shape _ = shapes.Branch
+
+abbrev pub jump_shape : JumpKind → Shape
+jump_shape Ret = shapes.Return
+jump_shape _ = shapes.Jump
+
+-- the shape of what stands behind a name
+abbrev pub shape_of : Head → Shape
+shape_of (heads.Insn (mnemonics.Mem op)) = shapes.Memory
+shape_of (heads.Insn (mnemonics.Branch op)) = branch_shape op
+shape_of (heads.Insn (mnemonics.Jump kind)) = jump_shape kind
+shape_of (heads.Insn (mnemonics.Operate op)) = operate_shape (op_row op).operands
+shape_of (heads.Insn (mnemonics.Misc op)) = shapes.Alone
+shape_of (heads.Insn (mnemonics.Fetch modify)) = shapes.Prefetch
+shape_of (heads.Insn (mnemonics.Pal call)) = shapes.Alone
+shape_of (heads.Own own) = own_shape own

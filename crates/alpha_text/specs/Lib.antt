@@ -1,0 +1,5 @@
+pub mod Canon
+pub mod Grammar
+pub mod Heads
+pub mod Reading
+pub mod Statements

@@ -1,0 +1,30 @@
+//! Lines of source, read and written.
+//!
+//! - [`read_line`] gives the [`Item`] of a line, a label and a [`Statement`], or its first
+//!   [`LineFault`]. [`write_line`] leaves the canonical line of an instruction in a [`LineBuf`].
+//! - [`next_value`] and [`next_byte`] read the values of a list and the bytes of a text.
+//! - [`laws_of_lines`] says that a line is read by its grammar, that the fault that is read is the
+//!   first, that the canonical line of an instruction reads back, and that different instructions
+//!   have different ones.
+//!
+//! The names of instructions are those of the instruction table; those of pseudo-operations and
+//! directives, and the shape of what stands behind each, are the rows of `head.rt` and
+//! `specs/Heads.antt`. `statement.rt` and `specs/Statements.antt` say what a name and its operands
+//! stand for; `reader.rt` and `specs/Reading.antt` read a line, `writer.rt` and `specs/Canon.antt`
+//! write one. `specs/Grammar.antt` has the line grammar and the faults apart from reading.
+#![tactic(auto)]
+
+mod head;
+mod laws;
+mod reader;
+mod statement;
+#[cfg(test)]
+mod tests;
+mod writer;
+
+pub use alpha_operands::{Expr, LineFaultKind, ListValue, next_value};
+pub use alpha_token::next_byte;
+pub use laws::laws_of_lines;
+pub use reader::{Item, LineFault, read_line};
+pub use statement::Statement;
+pub use writer::{LineBuf, write_line};

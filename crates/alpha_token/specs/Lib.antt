@@ -1,0 +1,4 @@
+pub mod Bytes
+pub mod Numeral
+pub mod Quoted
+pub mod Tokens

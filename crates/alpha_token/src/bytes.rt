@@ -1,0 +1,85 @@
+ghost use Rattle.std.specs.Prelude.{◌≡◌, ◌≤◌, ◌-◌, length, take, drop};
+ghost use Rattle.std.specs.List.{prefix_len};
+ghost use Rattle.std.specs.Char.{is_ascii_alphabetic, is_ascii_alphanumeric, is_ascii_digit, is_ascii_hexdigit};
+ghost use Rattle.alpha_token.specs.Bytes.{is_blank, begins_name, goes_on_name};
+
+fn is_blank(b: u8) -> bool
+    ensures { result ≡ is_blank b }
+{
+    b == b' ' || b == b'\t'
+}
+
+pub(crate) fn begins_name(b: u8) -> bool
+    ensures { result ≡ begins_name b }
+{
+    b.is_ascii_alphabetic() || b == b'_' || b == b'.'
+}
+
+fn goes_on_name(b: u8) -> bool
+    ensures { result ≡ goes_on_name b }
+{
+    b.is_ascii_alphanumeric() || b == b'_' || b == b'.' || b == b'/'
+}
+
+// How many blanks stand at the front.
+pub(crate) fn blanks_len(s: &[u8]) -> usize
+    ensures value { result ≡ prefix_len is_blank s.now }
+    ensures within { result ≤ length s.now }
+{
+    s.iter().take_while(|b| is_blank(**b)).count()
+}
+
+// How many bytes at the front go on a name.
+pub(crate) fn name_len(s: &[u8]) -> usize
+    ensures value { result ≡ prefix_len goes_on_name s.now }
+    ensures within { result ≤ length s.now }
+{
+    s.iter().take_while(|b| goes_on_name(**b)).count()
+}
+
+// How many letters and digits stand at the front.
+pub(crate) fn alphanumeric_len(s: &[u8]) -> usize
+    ensures value { result ≡ prefix_len is_ascii_alphanumeric s.now }
+    ensures within { result ≤ length s.now }
+{
+    s.iter().take_while(|b| b.is_ascii_alphanumeric()).count()
+}
+
+// How many letters stand at the front.
+pub(crate) fn letters_len(s: &[u8]) -> usize
+    ensures value { result ≡ prefix_len is_ascii_alphabetic s.now }
+    ensures within { result ≤ length s.now }
+{
+    s.iter().take_while(|b| b.is_ascii_alphabetic()).count()
+}
+
+// How many decimal digits stand at the front.
+pub(crate) fn digits_len(s: &[u8]) -> usize
+    ensures value { result ≡ prefix_len is_ascii_digit s.now }
+    ensures within { result ≤ length s.now }
+{
+    s.iter().take_while(|b| b.is_ascii_digit()).count()
+}
+
+// How many hexadecimal digits stand at the front.
+pub(crate) fn hex_digits_len(s: &[u8]) -> usize
+    ensures value { result ≡ prefix_len is_ascii_hexdigit s.now }
+    ensures within { result ≤ length s.now }
+{
+    s.iter().take_while(|b| b.is_ascii_hexdigit()).count()
+}
+
+// The first n bytes, or all where there are fewer.
+pub(crate) fn front(s: &[u8], n: usize) -> &[u8]
+    ensures { result.now ≡ take n s.now }
+{
+    s.get(..n).unwrap_or(s)
+}
+
+// The bytes behind the first n.
+pub(crate) fn behind(s: &[u8], n: usize) -> &[u8]
+    ensures value { result.now ≡ drop n s.now }
+    ensures size { length result.now ≡ length s.now - n }
+{
+    s.get(n..).unwrap_or(&[])
+}

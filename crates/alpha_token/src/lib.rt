@@ -1,0 +1,21 @@
+//! The tokens of a line of source.
+//!
+//! - [`next`] reads the token at the front of a line, after blanks: a [`Step`] with a [`Token`],
+//!   the line's end or comment, or a byte that begins no token. Tokens are the longest possible.
+//! - [`number`] is the value of a number's text, [`next_byte`] the first byte that the text of a
+//!   string stands for.
+//!
+//! `specs/Tokens.antt` has the tokens of a line as a list, `specs/Numeral.antt` and
+//! `specs/Quoted.antt` the spelling of numbers and strings.
+#![tactic(auto)]
+
+mod bytes;
+mod numeral;
+mod quoted;
+#[cfg(test)]
+mod tests;
+mod token;
+
+pub use numeral::number;
+pub use quoted::next_byte;
+pub use token::{Step, Token, TokenKind, next, without_blanks};

@@ -1,0 +1,159 @@
+ghost use Rattle.std.specs.Prelude.{◌≡◌, ◌≤◌, ◌<◌, IfSome, length, drop};
+ghost use Prim.Native.Nat.{suc};
+ghost use Rattle.std.specs.List.{prefix_len};
+ghost use Rattle.alpha_token.specs.Bytes.{is_blank};
+ghost use Rattle.std.specs.Option.{option_map};
+ghost use Rattle.alpha_token.specs.Quoted.{quoted_len};
+ghost use Rattle.alpha_token.specs.declared.token.TokenKind.TheVariants.{Text};
+ghost use Rattle.alpha_token.specs.Tokens.{mark, token_at, name_kind, if_any, Reads, Joins};
+
+use crate::bytes::{
+    alphanumeric_len, begins_name, behind, blanks_len, front, letters_len, name_len,
+};
+use crate::numeral::number_more;
+use crate::quoted::quoted_len;
+
+/// What a token is by its form.
+#[derive(Clone, Copy, Debug, PartialEq, Eq)]
+pub enum TokenKind {
+    /// A letter, `_` or `.`, and then letters, digits, `_`, `.` and `/`.
+    Name,
+    /// `.` alone, the address of this instruction.
+    Dot,
+    /// `$` with letters or digits.
+    Register,
+    /// Decimal digits, or `0x` and hexadecimal digits.
+    Number,
+    /// `%` and letters.
+    Operator,
+    /// A string in double quotes.
+    Text,
+    Comma,
+    Open,
+    Close,
+    Colon,
+    Plus,
+    Minus,
+}
+
+/// A token of a line.
+#[derive(Clone, Copy, Debug)]
+pub struct Token<'a> {
+    pub kind: TokenKind,
+    /// The token's bytes, a string's with its quotes.
+    pub text: &'a [u8],
+    /// The bytes behind it, to the end of the line.
+    pub rest: &'a [u8],
+}
+
+/// What stands at the front of a line.
+#[derive(Clone, Copy, Debug)]
+pub enum Step<'a> {
+    /// The line ends here, or its comment begins: so many bytes are left.
+    End(usize),
+    /// A byte stands here that begins no token: so many bytes are left.
+    Bad(usize),
+    Token(Token<'a>),
+}
+
+// The kind of a token of one byte.
+fn mark(b: u8) -> Option<TokenKind>
+    ensures { result ≡ mark b }
+{
+    match b {
+        b',' => Some(TokenKind::Comma),
+        b'(' => Some(TokenKind::Open),
+        b')' => Some(TokenKind::Close),
+        b':' => Some(TokenKind::Colon),
+        b'+' => Some(TokenKind::Plus),
+        b'-' => Some(TokenKind::Minus),
+        _ => None,
+    }
+}
+
+// The kind of a name that begins with a byte and has so many more.
+fn name_kind(first: u8, more: usize) -> TokenKind
+    ensures { result ≡ name_kind first more }
+{
+    if first == b'.' && more == 0 {
+        TokenKind::Dot
+    } else {
+        TokenKind::Name
+    }
+}
+
+// A token whose kind needs a further byte or more.
+fn if_any(kind: TokenKind, more: usize) -> Option<(TokenKind, usize)>
+    ensures { result ≡ if_any kind more }
+{
+    if more == 0 { None } else { Some((kind, more)) }
+}
+
+// A string, whose opening quote stands before `rest`.
+fn text_at(rest: &[u8]) -> Option<(TokenKind, usize)>
+    ensures value { result ≡ option_map (λ n. (Text, suc n)) (quoted_len 0 rest.now) }
+    ensures within { IfSome result (λ found. found.1 ≤ length rest.now) }
+{
+    quoted_len(rest).map(|n| (TokenKind::Text, n + 1))
+}
+
+// The kind of the longest token that a byte begins, and how many further bytes it has.
+#[tactic(auto, unfolding(crate::specs::Tokens::token_at))]
+fn token_at(first: u8, rest: &[u8]) -> Option<(TokenKind, usize)>
+    ensures value { result ≡ token_at first rest.now }
+    ensures within { IfSome result (λ found. found.1 ≤ length rest.now) }
+{
+    if begins_name(first) {
+        let more = name_len(rest);
+        Some((name_kind(first, more), more))
+    } else if first.is_ascii_digit() {
+        Some((TokenKind::Number, number_more(first, rest)))
+    } else if first == b'$' {
+        if_any(TokenKind::Register, alphanumeric_len(rest))
+    } else if first == b'%' {
+        if_any(TokenKind::Operator, letters_len(rest))
+    } else if first == b'"' {
+        text_at(rest)
+    } else {
+        mark(first).map(|kind| (kind, 0))
+    }
+}
+
+// What stands at the front of a line that begins with no blank.
+fn next_behind_blanks(line: &[u8]) -> Step<'_>
+    requires { prefix_len is_blank line.now ≡ 0 }
+    ensures reads { Reads line.now result }
+    ensures joins { Joins line.now result }
+{
+    let [first, ..] = line else {
+        return Step::End(0);
+    };
+    if *first == b'#' {
+        return Step::End(line.len());
+    }
+    let rest = behind(line, 1);
+    match token_at(*first, rest) {
+        None => Step::Bad(line.len()),
+        Some((kind, more)) => Step::Token(Token {
+            kind,
+            text: front(line, 1 + more),
+            rest: behind(rest, more),
+        }),
+    }
+}
+
+/// The line behind the blanks at its front, which are spaces and tabs.
+pub fn without_blanks(line: &[u8]) -> &[u8]
+    ensures value { result.now ≡ drop (prefix_len is_blank line.now) line.now }
+    ensures size { length result.now ≤ length line.now }
+{
+    behind(line, blanks_len(line))
+}
+
+/// What stands at the front of a line, behind blanks.
+pub fn next(line: &[u8]) -> Step<'_>
+    ensures reads { Reads line.now result }
+    ensures joins { Joins line.now result }
+{
+    next_behind_blanks(behind(line, blanks_len(line)))
+}
