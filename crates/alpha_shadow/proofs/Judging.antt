@@ -15,7 +15,8 @@ use Rattle.alpha_shadow.specs.Place.{IsLeastUpTo}
 use Rattle.alpha_shadow.proofs.Tables.{kind_within, past_end}
 use Rattle.alpha_shadow.proofs.Shadows.{no_triggers, triggers_room, first_there}
 use Rattle.alpha_shadow.proofs.Loads.{no_loads, loads_room}
-use Rattle.alpha_shadow.proofs.Places.{broken_open, open_broken, not_past}
+use Rattle.alpha_shadow.proofs.Places.{broken_open, open_broken}
+use Rattle.alpha_shadow.proofs.Long.{not_past}
 use Rattle.alpha_shadow.proofs.Steps.{number_bound}
 
 -- what was broken at no place before, nor at this one, is broken at no place before the next

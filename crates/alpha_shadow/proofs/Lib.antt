@@ -1,9 +1,11 @@
+pub mod Barriers
 pub mod Conditions
 pub mod Tables
 pub mod Shadows
 pub mod Loads
 pub mod Ends
 pub mod Places
+pub mod Long
 pub mod Steps
 pub mod Passing
 pub mod Judging

@@ -13,7 +13,7 @@ use alpha_table::InsnKind;
 use alpha_words::Reg;
 
 /// The longest shadow that is accepted: how many words may follow the trigger before a barrier.
-const LONGEST: u32 = 1024;
+const LONGEST: u64 = 1024;
 
 /// The least broken place at the next word, where nothing before it is broken: the least trigger,
 /// and then the least condition.
@@ -24,7 +24,8 @@ pub(crate) fn broken_at(window: &Window, at: u32, word: &Columns) -> Option<Brok
     let found = match word.kind {
         InsnKind::Barrier => return None,
         InsnKind::Trigger => broken_by_trigger(window, at, word),
-        InsnKind::Plain | InsnKind::Turn => broken_by_register(window, at, word),
+        InsnKind::Plain => broken_by_register(window, at, word),
+        InsnKind::Turn => broken_by_turn(window, at, word),
         InsnKind::Load | InsnKind::Store | InsnKind::Locked => broken_by_access(window, at, word),
     };
     lesser(found, at, Condition::Long, long(window, at))
@@ -52,9 +53,23 @@ fn broken_by_trigger(window: &Window, at: u32, word: &Columns) -> Option<Broken>
     lesser(found, at, Condition::SameDestination, same)
 }
 
-// The same at a word that is no trigger and makes no access.
+// The same at a plain word.
 fn broken_by_register(window: &Window, at: u32, word: &Columns) -> Option<Broken>
-    requires { (word.now.kind ≡ kinds.Plain) ⊎ (word.now.kind ≡ kinds.Turn) }
+    requires { word.now.kind ≡ kinds.Plain }
+    ensures { (code : List ℕ) → Summarizes code window.now at → IsUnbroken code at
+        → HasColumns code at word.now → IsLeastUpTo code at 8 result }
+{
+    lesser(
+        None,
+        at,
+        Condition::SourceLost,
+        source_lost(window, at, word),
+    )
+}
+
+// The same at a branch or a jump.
+fn broken_by_turn(window: &Window, at: u32, word: &Columns) -> Option<Broken>
+    requires { word.now.kind ≡ kinds.Turn }
     ensures { (code : List ℕ) → Summarizes code window.now at → IsUnbroken code at
         → HasColumns code at word.now → IsLeastUpTo code at 8 result }
 {
@@ -64,7 +79,7 @@ fn broken_by_register(window: &Window, at: u32, word: &Columns) -> Option<Broken
         Condition::SourceLost,
         source_lost(window, at, word),
     );
-    lesser(found, at, Condition::Turn, turn(window, word))
+    lesser(found, at, Condition::Turn, window.first())
 }
 
 // The same at a word that makes an access.
@@ -183,24 +198,13 @@ fn locked(window: &Window, word: &Columns) -> Option<u32>
     }
 }
 
-fn turn(window: &Window, word: &Columns) -> Option<u32>
-    ensures { (code : List ℕ) (at : ℕ) → Summarizes code window.now at → HasColumns code at word.now
-        → IsFirstBroken code at Condition.Turn result }
-{
-    if word.kind == InsnKind::Turn {
-        window.first()
-    } else {
-        None
-    }
-}
-
 fn long(window: &Window, at: u32) -> Option<u32>
     ensures { (code : List ℕ) → Summarizes code window.now at → IsUnbroken code at
         → at < length code → kind_at code at ≢ Some kinds.Barrier
         → IsFirstBroken code at Condition.Long result }
 {
     let first = window.first()?;
-    if at.saturating_sub(first) > LONGEST {
+    if u64::from(first) + LONGEST < u64::from(at) {
         Some(first)
     } else {
         None

@@ -6,7 +6,7 @@ use crate::fetch::insn_of;
 use crate::place::broken_at;
 use crate::window::Window;
 use crate::{Broken, Condition, Fetch};
-use alpha_table::kind;
+use alpha_table::{InsnKind, kind};
 
 /// Whether a trap that is reported late leaves the code restartable: `Ok` exactly where no place is
 /// broken, else the least broken place, by its place, then by its trigger, then by its condition.
@@ -24,6 +24,10 @@ pub fn judge<F: Fetch>(code: &mut F) -> Result<(), Broken>
         let insn = insn_of(code, at);
         let kind = kind(&insn);
         if window.is_quiet(kind) {
+            continue;
+        }
+        if kind == InsnKind::Barrier {
+            window.close();
             continue;
         }
         let word = Columns::of(&insn, kind);

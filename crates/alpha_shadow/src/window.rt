@@ -132,6 +132,17 @@ impl Window {
         self.triggers.is_empty() && kind != InsnKind::Trigger
     }
 
+    /// Ends every shadow.
+    pub(crate) fn close(&mut self)
+        ensures triggers { self.new.triggers.items ≡ [] }
+        ensures loads { self.new.loads.items ≡ [] }
+        ensures set { self.new.set ≡ self.old.set }
+        ensures used { self.new.used ≡ self.old.used }
+    {
+        self.triggers.clear();
+        self.loads.clear();
+    }
+
     /// Goes on behind the next word, which breaks no shadow.
     pub(crate) fn pass(&mut self, place: u32, columns: &Columns)
         requires bound { place < 2 ^ 32 - 1 }
@@ -142,10 +153,7 @@ impl Window {
     {
         self.note(place, columns);
         match columns.kind {
-            InsnKind::Barrier | InsnKind::Turn => {
-                self.triggers.clear();
-                self.loads.clear();
-            }
+            InsnKind::Barrier | InsnKind::Turn => self.close(),
             InsnKind::Trigger => self.triggers.push(Trigger {
                 place,
                 destination: columns.destination(),
@@ -158,6 +166,7 @@ impl Window {
             InsnKind::Plain | InsnKind::Store | InsnKind::Locked => {}
         }
     }
+
     // Notes what the next word uses and sets.
     fn note(&mut self, place: u32, columns: &Columns)
         requires { place < 2 ^ 32 - 1 }

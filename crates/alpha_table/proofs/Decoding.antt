@@ -365,6 +365,10 @@ only_memory w e none (Fetch modify rb) h = e.2 h.0
 only_memory w e none (Pal call) h = e.0 h.0
 
 -- what follows where there is nothing
+-- the same, by the number of the opcode
+pub only_operate_at : (w o : ℕ) → o ≡ field 31 26 w → IsOperateOpcode o → (o ≢ 0x18) → (o ≢ 0x1a) → ((op : Op) (ra : ℕ) (src : Src) (rc : ℕ) → Row w (Operate op ra src rc) → ⊥) → (i : Form) → Row w i → ⊥
+only_operate_at w o e is no_misc no_jump = subst (λ o. IsOperateOpcode o → (o ≢ 0x18) → (o ≢ 0x1a) → ((op : Op) (ra : ℕ) (src : Src) (rc : ℕ) → Row w (Operate op ra src rc) → ⊥) → (i : Form) → Row w i → ⊥) (sym e) (only_operate w) is no_misc no_jump
+
 pub none_then : {A : Type 0} {P Q : Type 0} (o : Option A) → (P → Q) → IfNone o P → IfNone o Q
 none_then None f h = f h
 none_then (Some x) f h = tt

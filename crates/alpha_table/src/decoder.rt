@@ -94,6 +94,7 @@ fn source(w: Word) -> Option<Src>
     }
 }
 
+#[inline(always)]
 fn operate(w: Word) -> Option<Form>
     ensures found { IfSome result (λ form. Row w.0 form) }
     ensures none { IfNone result ((op : _) (a : ℕ) (b : _) (c : ℕ) → Row w.0 (Operate op a b c) → ⊥) }
@@ -119,12 +120,16 @@ fn form_of(w: Word) -> Option<Form>
 {
     match w.opcode() {
         0x00 => pal(w),
-        0x10..=0x13 | 0x1c => operate(w),
+        0x10 => operate(w),
+        0x11 => operate(w),
+        0x12 => operate(w),
+        0x13 => operate(w),
         0x18 => match misc(w) {
             Some(form) => Some(form),
             None => fetch(w),
         },
         0x1a => jump(w),
+        0x1c => operate(w),
         0x30..=0x3f => branch(w),
         _ => memory(w),
     }

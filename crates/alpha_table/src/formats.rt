@@ -198,6 +198,7 @@ pub(crate) static PAL_CALLS: [Mnemonic; 7] = pal_rows!(mnemonics Mnemonic::Pal);
 
 impl MemOp {
     /// The columns of its row.
+    #[inline(always)]
     pub fn row(self) -> MemRow
         ensures { result ≡ mem_row self }
     {
@@ -212,6 +213,7 @@ impl MemOp {
     }
 
     /// The instruction with this opcode, if there is one.
+    #[inline(always)]
     pub(crate) fn at(opcode: u8) -> Option<MemOp>
         ensures found { IfSome result (λ op. (mem_row op).opcode ≡ opcode) }
         ensures none { IfNone result ((op : _) → (mem_row op).opcode ≡ opcode → ⊥) }
@@ -222,6 +224,7 @@ impl MemOp {
 
 impl BranchOp {
     /// The columns of its row.
+    #[inline(always)]
     pub fn row(self) -> BranchRow
         ensures { result ≡ branch_row self }
     {
@@ -236,6 +239,7 @@ impl BranchOp {
     }
 
     /// The branch with this opcode, if there is one.
+    #[inline(always)]
     pub(crate) fn at(opcode: u8) -> Option<BranchOp>
         ensures found { IfSome result (λ op. (branch_row op).opcode ≡ opcode) }
         ensures none { IfNone result ((op : _) → (branch_row op).opcode ≡ opcode → ⊥) }
@@ -270,6 +274,7 @@ impl JumpKind {
 
 impl MiscOp {
     /// The columns of its row.
+    #[inline(always)]
     pub(crate) fn row(self) -> MiscRow
         ensures { result ≡ misc_row self }
     {

@@ -130,6 +130,7 @@ pub(crate) static OPERATES: [Mnemonic; 74] = operate_rows!(mnemonics);
 
 impl Op {
     /// The columns of its row.
+    #[inline(always)]
     pub fn row(self) -> OpRow
         ensures value { result ≡ op_row self }
         ensures opcode { result.opcode < 64 }
@@ -139,6 +140,7 @@ impl Op {
     }
 
     /// The instruction with this opcode and function, if there is one.
+    #[inline(always)]
     pub(crate) fn at(opcode: u8, function: u8) -> Option<Op>
         ensures found { IfSome result (λ op. op_numbers op ≡ (opcode, function)) }
         ensures none { IfNone result ((op : _) → op_numbers op ≡ (opcode, function) → ⊥) }
@@ -154,6 +156,7 @@ impl Op {
     }
 
     /// The operation that traps, for a row with `/V`.
+    #[inline]
     pub fn trap(self) -> Option<TrapOp>
         ensures { result ≡ trap_of self }
     {

@@ -1,4 +1,4 @@
-use Rattle.std.proofs.Common.{◌≡◌, ◌≢◌, ◌+◌, ◌∙◌, [], length, ap, subst, sym, refl, arith}
+use Rattle.std.proofs.Common.{rules, ◌≡◌, ◌≢◌, Some, ◌+◌, ◌∙◌, [], length, ap, subst, sym, refl, arith}
 use Rattle.alpha_table.specs.declared.columns.InsnKind.TheVariants as kinds
 use Rattle.alpha_table.specs.Class.{class_of}
 use Rattle.alpha_shadow.specs.declared.broken.Condition.TheVariants.{Open}
@@ -7,6 +7,7 @@ use Rattle.alpha_shadow.specs.Window.{Summarizes, IsUnbroken, IsFirstThat}
 use Rattle.alpha_shadow.specs.Place.{IsLeastUpTo}
 use Rattle.alpha_shadow.proofs.Tables.{kind_here}
 use Rattle.alpha_shadow.proofs.Places.{window_first}
+use Rattle.alpha_shadow.proofs.Barriers.{breaks_nothing, closed}
 use Rattle.alpha_shadow.proofs.Passing.{skipped}
 use Rattle.alpha_shadow.proofs.Judging.{room, unbroken_passed, unbroken_skipped, found_least, end_accepted, end_least}
 use Rattle.alpha_shadow.proofs.verdict.judge.Goals as goal
@@ -32,6 +33,22 @@ loop-at-preserved-then-is_quiet g c =
       words = c.loop-at.invariant.words ∙ ap length (sym same);
       summary = subst (λ k. Summarizes k c.loop-at.window (at + 1)) (sym same) (skipped code at c.loop-at.window c.kind-kind.result c.loop-at.invariant.summary kind quiet.0 quiet.1);
       unbroken = subst (λ k. IsUnbroken k (at + 1)) (sym same) (unbroken_skipped code at c.loop-at.window c.kind-kind.result c.loop-at.invariant.summary kind quiet.0 quiet.1 c.loop-at.invariant.unbroken);
+      fetches = let n = c.insn_of-insn.ensures.count in let f = c.loop-at.invariant.fetches in omega arith;
+    }
+
+pub loop-at-preserved-then-eq : goal.loop-at-preserved-then-eq
+loop-at-preserved-then-eq g c =
+    let code = g.F.Fetch.code c.loop-at.code in
+    let at = c.loop-at.at in
+    let same = c.insn_of-insn.ensures.code in
+    let kind = kind_here code at (class_of c.insn_of-insn.result) c.kind-kind.result c.insn_of-insn.ensures.class c.kind-kind.ensures in
+    let is : c.kind-kind.result ≡ kinds.Barrier = search rules in
+    let barrier = kind ∙ ap Some is in
+    record {
+      same = same ∙ c.loop-at.invariant.same;
+      words = c.loop-at.invariant.words ∙ ap length (sym same);
+      summary = subst (λ k. Summarizes k c.close.new.self (at + 1)) (sym same) (closed code at c.loop-at.window c.close.new.self c.loop-at.invariant.summary barrier c.close.ensures.triggers c.close.ensures.loads c.close.ensures.set c.close.ensures.used);
+      unbroken = subst (λ k. IsUnbroken k (at + 1)) (sym same) (unbroken_passed code at c.loop-at.invariant.unbroken (breaks_nothing code at barrier));
       fetches = let n = c.insn_of-insn.ensures.count in let f = c.loop-at.invariant.fetches in omega arith;
     }
 

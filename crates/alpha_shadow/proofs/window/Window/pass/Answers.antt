@@ -1,8 +1,9 @@
-use Rattle.std.proofs.Common.{◌≡◌, ◌≢◌, [], ◌∷◌, ◌++◌, ap, sym, ◌∙◌}
+use Rattle.std.proofs.Common.{◌≡◌, ◌≢◌, [], ◌∷◌, ◌++◌, ap, sym, subst, ◌∙◌}
 use Rattle.std.specs.Option.{unwrap_or}
 use Rattle.alpha_shadow.specs.declared.window.Window.{Window}
 use Rattle.alpha_shadow.specs.Columns.{destination_of}
-use Rattle.alpha_shadow.specs.Window.{trigger_at}
+use Rattle.alpha_shadow.specs.Code.{Sets, Uses}
+use Rattle.alpha_shadow.specs.Window.{Notes, trigger_at}
 use Rattle.alpha_shadow.proofs.Passing.{passed, ended, begun, loaded, stayed}
 use Rattle.alpha_shadow.proofs.window.Window.pass.Goals as goal
 
@@ -11,9 +12,11 @@ pub returns-in-Barrier : goal.returns-in-Barrier
 returns-in-Barrier c = λ code s h shadow.
     let old = c.args.self.now in
     let word = c.args.columns.now in
-    let w : Window = record { triggers = c.clear.new.self; loads = c.clear-in-Barrier.new.self; set = c.note.new.self.set; used = c.note.new.self.used } in
+    let after = c.close.new.self in
     let next = ended word.kind word.access (trigger_at code c.args.place) old.triggers.items old.loads.items c.in-Barrier.is in
-    passed code c.args.place old w word s h (c.clear.ensures ∙ sym next.0) (c.clear-in-Barrier.ensures ∙ sym next.1) (c.note.ensures.set code h) (c.note.ensures.used code h)
+    let set = subst (λ l. Notes (Sets code c.args.place) c.args.place old.set.ends l.ends) (sym c.close.ensures.set) (c.note.ensures.set code h) in
+    let used = subst (λ l. Notes (Uses code c.args.place) c.args.place old.used.ends l.ends) (sym c.close.ensures.used) (c.note.ensures.used code h) in
+    passed code c.args.place old after word s h (c.close.ensures.triggers ∙ sym next.0) (c.close.ensures.loads ∙ sym next.1) set used
 
 pub returns-in-Trigger : goal.returns-in-Trigger
 returns-in-Trigger c = λ code s h shadow.
