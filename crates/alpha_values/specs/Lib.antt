@@ -5,3 +5,4 @@ pub mod Bits
 pub mod Bytes
 pub mod Address
 pub mod Op
+pub mod Source

@@ -1,5 +1,5 @@
 -- The instructions that trap on overflow: when they overflow, and the value that completes them.
-use Rattle.std.specs.Prelude.{ℕ, ◌^◌, ℤ, pos, neg_ℤ, ◌+ℤ◌, ◌-ℤ◌, ◌*ℤ◌, int_lt, int_le, Bool, ◌||◌, IsTrue}
+use Rattle.std.specs.Prelude.{ℕ, ◌^◌, ℤ, pos, neg_ℤ, ◌+ℤ◌, ◌-ℤ◌, ◌*ℤ◌, int_lt, int_le, Bool, true, false, ◌||◌, IsTrue}
 use Rattle.std.specs.Int.{Width, w32, w64, int_wrap, saturate_signed}
 use Rattle.alpha_words.specs.declared.Completion.{Completion}
 use Rattle.alpha_words.specs.declared.Completion.TheVariants.{Wrap, Saturate, Stop}
@@ -49,3 +49,9 @@ completion_of Stop size z = int_wrap size z
 
 unfoldable pub completed_of : TrapOp → ℕ → ℕ → Completion → ℕ
 completed_of op a b how = register_of (completion_of how (size_of op) (exact op a b))
+
+-- whether an overflow ends the program
+abbrev pub stops : Completion → Bool
+stops Wrap = false
+stops Saturate = false
+stops Stop = true
