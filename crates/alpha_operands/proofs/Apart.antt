@@ -1,14 +1,14 @@
 -- Where two patterns of a shape differ first, they differ in the form of a token.
-use Rattle.std.proofs.Common.{◌≡◌, ◌⊎◌, ℕ, List, [], ◌∷◌, ◌++◌, Bool, true, false, not, cond, ◌&&◌, if◌then◌else◌, refl, sym, ◌∙◌, ap, inl, inr}
-use Rattle.std.specs.List.{list_all}
+use Rattle.std.proofs.Common.{◌≡◌, List, [], ◌∷◌, ◌++◌, Bool, true, false, not, cond, ◌&&◌, if◌then◌else◌, refl, inl, inr}
 use Rattle.alpha_operands.specs.declared.piece.Piece.{Piece}
 use Rattle.alpha_operands.specs.declared.shape.Shape.{Shape}
 use Rattle.alpha_operands.specs.declared.shape.Shape.TheVariants as shapes
 use Rattle.alpha_operands.specs.Pieces.{kind_of, same_kind, same_piece}
 use Rattle.alpha_operands.specs.Shapes.{Pattern, patterns}
-use Rattle.alpha_operands.specs.Grammar.{IsOneOf, GoesOn}
+use Rattle.alpha_operands.specs.Grammar.{IsOneOf}
 use Rattle.alpha_operands.proofs.Fronts.{same_piece-is}
 use Rattle.alpha_operands.proofs.Grammar.{Distinct, same_kind-same, same_piece-same}
+use Rattle.alpha_token.proofs.Choices.{both}
 
 abbrev apart : Pattern → Pattern → Bool
 apart [] q = true
@@ -22,10 +22,6 @@ apart_from_each p (q ∷ qs) = apart p q && apart_from_each p qs
 abbrev each_apart : List Pattern → List Pattern → Bool
 each_apart [] qs = true
 each_apart (p ∷ ps) qs = apart_from_each p qs && each_apart ps qs
-
-both : (a b : Bool) → (a && b) ≡ true → (a ≡ true) × (b ≡ true)
-both true b h = (refl, h)
-both false b h = cc
 
 one_from_each : (p q : Pattern) (qs : List Pattern) → apart_from_each p qs ≡ true → IsOneOf q qs → apart p q ≡ true
 one_from_each p q [] h m = absurd m
@@ -55,25 +51,4 @@ distinct all h = record { same = λ front p x (r, m) (s, n) k. behind_front fron
 pub shapes-distinct : (s : Shape) → Distinct (patterns s)
 unfolding patterns
 shapes-distinct shapes.Memory = distinct _ refl
-shapes-distinct shapes.Branch = distinct _ refl
-shapes-distinct shapes.Call = distinct _ refl
-shapes-distinct shapes.Operate = distinct _ refl
-shapes-distinct shapes.Unary = distinct _ refl
-shapes-distinct shapes.Pair = distinct _ refl
-shapes-distinct shapes.Single = distinct _ refl
-shapes-distinct shapes.Jump = distinct _ refl
-shapes-distinct shapes.Return = distinct _ refl
-shapes-distinct shapes.Alone = distinct _ refl
-shapes-distinct shapes.Prefetch = distinct _ refl
-shapes-distinct shapes.CallPal = distinct _ refl
-shapes-distinct shapes.Move = distinct _ refl
-shapes-distinct shapes.Field = distinct _ refl
-shapes-distinct shapes.Entry = distinct _ refl
-shapes-distinct shapes.Level = distinct _ refl
-shapes-distinct shapes.Zeroed = distinct _ refl
-shapes-distinct shapes.Align = distinct _ refl
-shapes-distinct shapes.Bytes = distinct _ refl
-shapes-distinct shapes.Words = distinct _ refl
-shapes-distinct shapes.Longs = distinct _ refl
-shapes-distinct shapes.Quads = distinct _ refl
-shapes-distinct shapes.Text = distinct _ refl
+shapes-distinct s = distinct _ refl

@@ -1,8 +1,8 @@
 -- A number from 2^64 on is outside each range.
-use Rattle.std.proofs.Common.{◌≡◌, ℕ, ◌≤◌, ◌<◌, ◌-◌, ◌%◌, ◌^◌, Bool, true, false, None, refl, suc, eqb, leb, ltb, arith, cond, ◌&&◌, ap}
+use Rattle.std.proofs.Common.{◌≡◌, ℕ, ◌≤◌, ◌<◌, ◌-◌, ◌%◌, ◌^◌, Bool, true, false, None, refl, suc, eqb, leb, ltb, arith, ◌&&◌}
 use Rattle.std.proofs.lemmas.Bool.Decides.{nat_tests}
 use Rattle.alpha_operands.specs.declared.piece.Piece.{Piece}
-use Rattle.alpha_operands.specs.declared.piece.Piece.TheVariants.{Ra, Rb, Rc, Comma, Again, Open, Close, Minus, Plus, Less, Dot, Operator, Label, Offset, Text, Displacement, Immediate, Literal, Hint, Distance, Whole, Zeroed, Align, Level, Pal, Nothing, Byte, Word, Long, Quad}
+use Rattle.alpha_operands.specs.declared.piece.Piece.TheVariants.{Displacement, Immediate, Literal, Hint, Distance, Whole, Zeroed, Align, Level, Pal, Nothing, Byte, Word, Long, Quad}
 use Rattle.alpha_operands.specs.declared.number.Sign.{Sign}
 use Rattle.alpha_operands.specs.declared.number.Sign.TheVariants as signs
 use Rattle.alpha_operands.specs.declared.number.Number.{Number}

@@ -1,11 +1,8 @@
 -- The fault that is read is the first of all that the tokens have.
-use Rattle.std.proofs.Common.{◌≡◌, ◌⊎◌, ℕ, ◌+◌, ◌-◌, ◌≤◌, ◌<◌, List, [], ◌∷◌, ◌++◌, Bool, true, false, cond, Option, Some, None, Result, Ok, Err, length, take, drop, length-drop, length-take, min, eqb, refl, sym, ◌∙◌, ap, inl, inr, arith}
-use Prim.Native.Nat.{zero, suc}
+use Rattle.std.proofs.Common.{◌≡◌, ◌⊎◌, ℕ, ◌≤◌, ◌<◌, List, Bool, true, false, cond, Option, Some, None, Result, Ok, Err, length, refl, sym, ◌∙◌, ap, inl, inr, arith}
 use Rattle.std.specs.Option.{is_some}
-use Rattle.alpha_token.specs.declared.token.TokenKind.{TokenKind}
 use Rattle.alpha_token.specs.Numeral.{number_value}
-use Rattle.alpha_token.specs.Bytes.{is_blank}
-use Rattle.alpha_token.specs.Tokens.{Lexeme, Tokens, End, Bad, Next, left_of, token_at, put_before, tokens_after, tokens}
+use Rattle.alpha_token.specs.Tokens.{Lexeme, Tokens, End, Bad, Next, left_of}
 use Rattle.alpha_operands.specs.declared.piece.Piece.{Piece}
 use Rattle.alpha_operands.specs.declared.piece.Piece.TheVariants as pieces
 use Rattle.alpha_operands.specs.declared.number.Sign.{Sign}
@@ -18,8 +15,9 @@ use Rattle.alpha_operands.specs.Pieces.{kind_of}
 use Rattle.alpha_operands.specs.Shapes.{Pattern}
 use Rattle.alpha_operands.specs.Operands.{Slots, nothing, is_label, with_value, filled}
 use Rattle.alpha_operands.specs.Walk.{is_whole, piece_behind, front_after, sign_after, is_unknown, stuck_at, fault, go_on, taken, follow}
-use Rattle.alpha_operands.specs.Grammar.{IsOneOf, GoesOn, AmongTokens, HasFault, fault_at, kind_order, NoLater}
-use Rattle.alpha_operands.proofs.Grammar.{Distinct, piece_behind-is, piece_behind-only, piece_behind-none, is_whole-of}
+use Rattle.alpha_operands.specs.Grammar.{GoesOn, AmongTokens, HasFault, fault_at, kind_order, NoLater}
+use Rattle.alpha_token.proofs.Order.{Falls}
+use Rattle.alpha_operands.proofs.Grammar.{Distinct, piece_behind-is, piece_behind-none, is_whole-of}
 
 no_value : {A : Type 0} (x : Option A) (kind : LineFaultKind) (f g : A → Slots) (why : LineFaultKind) → with_value x kind f ≡ Err why → with_value x kind g ≡ Err why
 no_value None kind f g why h = h
@@ -47,21 +45,7 @@ filled-err pieces.Operator t sign o r why h = no_value (operator_of t.text) Unkn
 filled-err pieces.Label t sign o r why h = no_label (is_label t.text) _ _ why h
 filled-err pieces.Offset t sign o r why h = no_value (offset_of sign (number_value t.text)) OutOfRange _ _ why h
 filled-err pieces.Text t sign o r why h = cc
-filled-err pieces.Displacement t sign o r why h = no_value (number_of pieces.Displacement sign (number_value t.text)) OutOfRange _ _ why h
-filled-err pieces.Immediate t sign o r why h = no_value (number_of pieces.Immediate sign (number_value t.text)) OutOfRange _ _ why h
-filled-err pieces.Literal t sign o r why h = no_value (number_of pieces.Literal sign (number_value t.text)) OutOfRange _ _ why h
-filled-err pieces.Hint t sign o r why h = no_value (number_of pieces.Hint sign (number_value t.text)) OutOfRange _ _ why h
-filled-err pieces.Distance t sign o r why h = no_value (number_of pieces.Distance sign (number_value t.text)) OutOfRange _ _ why h
-filled-err pieces.Whole t sign o r why h = no_value (number_of pieces.Whole sign (number_value t.text)) OutOfRange _ _ why h
-filled-err pieces.Zeroed t sign o r why h = no_value (number_of pieces.Zeroed sign (number_value t.text)) OutOfRange _ _ why h
-filled-err pieces.Align t sign o r why h = no_value (number_of pieces.Align sign (number_value t.text)) OutOfRange _ _ why h
-filled-err pieces.Level t sign o r why h = no_value (number_of pieces.Level sign (number_value t.text)) OutOfRange _ _ why h
-filled-err pieces.Pal t sign o r why h = no_value (number_of pieces.Pal sign (number_value t.text)) OutOfRange _ _ why h
-filled-err pieces.Nothing t sign o r why h = no_value (number_of pieces.Nothing sign (number_value t.text)) OutOfRange _ _ why h
-filled-err pieces.Byte t sign o r why h = no_value (number_of pieces.Byte sign (number_value t.text)) OutOfRange _ _ why h
-filled-err pieces.Word t sign o r why h = no_value (number_of pieces.Word sign (number_value t.text)) OutOfRange _ _ why h
-filled-err pieces.Long t sign o r why h = no_value (number_of pieces.Long sign (number_value t.text)) OutOfRange _ _ why h
-filled-err pieces.Quad t sign o r why h = no_value (number_of pieces.Quad sign (number_value t.text)) OutOfRange _ _ why h
+filled-err p t sign o r why h = no_value (number_of p sign (number_value t.text)) OutOfRange _ _ why h
 
 none_known : {A : Type 0} (x : Option A) (kind : LineFaultKind) (f : A → Slots) → cond (is_some x) false true ≡ true → with_value x kind f ≡ Err kind
 none_known None kind f h = refl
@@ -73,72 +57,11 @@ unfolding filled
 unknown_here pieces.Ra t sign o h = none_known (register_of t.text) UnknownName _ h
 unknown_here pieces.Rb t sign o h = none_known (register_of t.text) UnknownName _ h
 unknown_here pieces.Rc t sign o h = none_known (register_of t.text) UnknownName _ h
-unknown_here pieces.Comma t sign o h = cc
-unknown_here pieces.Again t sign o h = cc
-unknown_here pieces.Open t sign o h = cc
-unknown_here pieces.Close t sign o h = cc
-unknown_here pieces.Minus t sign o h = cc
-unknown_here pieces.Plus t sign o h = cc
-unknown_here pieces.Less t sign o h = cc
-unknown_here pieces.Dot t sign o h = cc
 unknown_here pieces.Operator t sign o h = none_known (operator_of t.text) UnknownName _ h
-unknown_here pieces.Label t sign o h = cc
-unknown_here pieces.Offset t sign o h = cc
-unknown_here pieces.Text t sign o h = cc
-unknown_here pieces.Displacement t sign o h = cc
-unknown_here pieces.Immediate t sign o h = cc
-unknown_here pieces.Literal t sign o h = cc
-unknown_here pieces.Hint t sign o h = cc
-unknown_here pieces.Distance t sign o h = cc
-unknown_here pieces.Whole t sign o h = cc
-unknown_here pieces.Zeroed t sign o h = cc
-unknown_here pieces.Align t sign o h = cc
-unknown_here pieces.Level t sign o h = cc
-unknown_here pieces.Pal t sign o h = cc
-unknown_here pieces.Nothing t sign o h = cc
-unknown_here pieces.Byte t sign o h = cc
-unknown_here pieces.Word t sign o h = cc
-unknown_here pieces.Long t sign o h = cc
-unknown_here pieces.Quad t sign o h = cc
+unknown_here p t sign o h = cc
 
 unknown_at : (p : Piece) (t : Lexeme) (sign : Sign) (o : Slots) → kind_of p ≡ t.kind → is_unknown t.kind t.text ≡ true → filled p t sign o ≡ Err UnknownName
 unknown_at p t sign o k h = unknown_here p t sign o (ap (λ kind. is_unknown kind t.text) k ∙ h)
-
--- the tokens stand in the order of the line, with at most n bytes left at the first
-abbrev pub Falls : ℕ → Tokens → Type 0
-Falls n (End left) = left ≤ n
-Falls n (Bad left) = left ≤ n
-Falls n (Next t ts) = (left_of t ≤ n) × (0 < length t.text) × Falls (length t.rest) ts
-
-weaker : (m n : ℕ) (ts : Tokens) → m ≤ n → Falls m ts → Falls n ts
-weaker m n (End left) h f = omega arith
-weaker m n (Bad left) h f = omega arith
-weaker m n (Next t ts) h (a, b, c) = (omega arith, b, c)
-
-falls : (skip : ℕ) (s : List ℕ) → Falls (length (drop skip s)) (tokens_after skip s)
-falls skip [] = omega arith
-falls (suc skip) (b ∷ s) = falls skip s
-falls zero (b ∷ s) =
-    let put : (found : Option (TokenKind × ℕ)) → Falls (length (b ∷ s)) (put_before (b ∷ s) found (λ more. tokens_after more s) b s) =
-    λ found. elim found as (λ x. Falls (length (b ∷ s)) (put_before (b ∷ s) x (λ more. tokens_after more s) b s)) [
-      | None ↦ omega arith
-      | Some v ↦ (omega (arith, length-take v.1 s, length-drop v.1 s), omega arith, falls v.1 s)
-    ] in
-    let comment : (c : Bool) → Falls (length (b ∷ s)) (cond c (End (length (b ∷ s))) (put_before (b ∷ s) (token_at b s) (λ more. tokens_after more s) b s)) =
-    λ c. elim c as (λ x. Falls (length (b ∷ s)) (cond x (End (length (b ∷ s))) (put_before (b ∷ s) (token_at b s) (λ more. tokens_after more s) b s))) [
-      | true ↦ omega arith
-      | false ↦ put (token_at b s)
-    ] in
-    let blank : (c : Bool) → Falls (length (b ∷ s)) (cond c (tokens_after 0 s) (cond (eqb b 35) (End (length (b ∷ s))) (put_before (b ∷ s) (token_at b s) (λ more. tokens_after more s) b s))) =
-    λ c. elim c as (λ x. Falls (length (b ∷ s)) (cond x (tokens_after 0 s) (cond (eqb b 35) (End (length (b ∷ s))) (put_before (b ∷ s) (token_at b s) (λ more. tokens_after more s) b s)))) [
-      | true ↦ weaker (length s) (length (b ∷ s)) (tokens_after 0 s) (omega arith) (falls 0 s)
-      | false ↦ comment (eqb b 35)
-    ] in
-    blank (is_blank b)
-
-pub tokens-fall : (line : List ℕ) → Falls (length line) (tokens line)
-unfolding tokens
-tokens-fall line = falls 0 line
 
 -- each fault of tokens stands within them
 pub among-left : (n : ℕ) (ts : Tokens) (g : OperandFault) → Falls n ts → AmongTokens ts g → g.left ≤ n

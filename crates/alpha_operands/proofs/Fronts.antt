@@ -1,5 +1,5 @@
 -- The fronts of patterns.
-use Rattle.std.proofs.Common.{◌≡◌, ℕ, ◌+◌, List, [], ◌∷◌, ◌++◌, Bool, true, false, cond, ◌&&◌, Option, Some, None, MatchOption, Bor, take, drop, length, add-one, ◌==◌, if◌then◌else◌, refl, sym, ◌∙◌, ap}
+use Rattle.std.proofs.Common.{◌≡◌, ℕ, ◌+◌, [], ◌∷◌, ◌++◌, Bool, true, false, cond, ◌&&◌, Option, Some, None, MatchOption, Bor, take, drop, length, add-one, ◌==◌, if◌then◌else◌, refl, sym, ◌∙◌, ap}
 use Rattle.std.proofs.Common.{◌≤◌, length-append, arith}
 use Rattle.std.proofs.lemmas.Bool.Decides.{nat_tests}
 use Rattle.std.specs.Cmp.Lexicographic.{pointwise}
@@ -39,35 +39,7 @@ piece_at n =
 piece_at-number : (p : Piece) → piece_at (piece_number p) ≡ p
 unfolding piece_at
 piece_at-number Ra = refl
-piece_at-number Rb = refl
-piece_at-number Rc = refl
-piece_at-number Comma = refl
-piece_at-number Again = refl
-piece_at-number Open = refl
-piece_at-number Close = refl
-piece_at-number Minus = refl
-piece_at-number Plus = refl
-piece_at-number Less = refl
-piece_at-number Dot = refl
-piece_at-number Operator = refl
-piece_at-number Label = refl
-piece_at-number Offset = refl
-piece_at-number Text = refl
-piece_at-number Displacement = refl
-piece_at-number Immediate = refl
-piece_at-number Literal = refl
-piece_at-number Hint = refl
-piece_at-number Distance = refl
-piece_at-number Whole = refl
-piece_at-number Zeroed = refl
-piece_at-number Align = refl
-piece_at-number Level = refl
-piece_at-number Pal = refl
-piece_at-number Nothing = refl
-piece_at-number Byte = refl
-piece_at-number Word = refl
-piece_at-number Long = refl
-piece_at-number Quad = refl
+piece_at-number p = refl
 
 pub same_piece-is : (a b : Piece) → same_piece a b ≡ true → a ≡ b
 same_piece-is a b h =
@@ -108,33 +80,5 @@ pub front-fits : (front : Pattern) (p : Piece) (q : Pattern) → ((rest : Patter
 front-fits front p q (rest, e) = rw (e, length-append front (p ∷ rest)) (omega arith)
 
 pub front_after-take : (front : Pattern) (p : Piece) (q : Pattern) → (p ≡ Again → ⊥) → ((rest : Pattern) × (q ≡ front ++ p ∷ rest)) → take (length front + 1) q ≡ front_after front p
-front_after-take front Ra q apart (rest, e) = take-front front Ra rest q e
-front_after-take front Rb q apart (rest, e) = take-front front Rb rest q e
-front_after-take front Rc q apart (rest, e) = take-front front Rc rest q e
-front_after-take front Comma q apart (rest, e) = take-front front Comma rest q e
 front_after-take front Again q apart (rest, e) = absurd (apart refl)
-front_after-take front Open q apart (rest, e) = take-front front Open rest q e
-front_after-take front Close q apart (rest, e) = take-front front Close rest q e
-front_after-take front Minus q apart (rest, e) = take-front front Minus rest q e
-front_after-take front Plus q apart (rest, e) = take-front front Plus rest q e
-front_after-take front Less q apart (rest, e) = take-front front Less rest q e
-front_after-take front Dot q apart (rest, e) = take-front front Dot rest q e
-front_after-take front Operator q apart (rest, e) = take-front front Operator rest q e
-front_after-take front Label q apart (rest, e) = take-front front Label rest q e
-front_after-take front Offset q apart (rest, e) = take-front front Offset rest q e
-front_after-take front Text q apart (rest, e) = take-front front Text rest q e
-front_after-take front Displacement q apart (rest, e) = take-front front Displacement rest q e
-front_after-take front Immediate q apart (rest, e) = take-front front Immediate rest q e
-front_after-take front Literal q apart (rest, e) = take-front front Literal rest q e
-front_after-take front Hint q apart (rest, e) = take-front front Hint rest q e
-front_after-take front Distance q apart (rest, e) = take-front front Distance rest q e
-front_after-take front Whole q apart (rest, e) = take-front front Whole rest q e
-front_after-take front Zeroed q apart (rest, e) = take-front front Zeroed rest q e
-front_after-take front Align q apart (rest, e) = take-front front Align rest q e
-front_after-take front Level q apart (rest, e) = take-front front Level rest q e
-front_after-take front Pal q apart (rest, e) = take-front front Pal rest q e
-front_after-take front Nothing q apart (rest, e) = take-front front Nothing rest q e
-front_after-take front Byte q apart (rest, e) = take-front front Byte rest q e
-front_after-take front Word q apart (rest, e) = take-front front Word rest q e
-front_after-take front Long q apart (rest, e) = take-front front Long rest q e
-front_after-take front Quad q apart (rest, e) = take-front front Quad rest q e
+front_after-take front p q apart (rest, e) = take-front front p rest q e

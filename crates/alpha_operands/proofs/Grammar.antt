@@ -1,6 +1,5 @@
 -- Reading operands along the patterns is their grammar.
-use Rattle.std.proofs.Common.{◌≡◌, ◌⊎◌, ℕ, ◌+◌, ◌==◌, List, [], ◌∷◌, ◌++◌, Bool, true, false, not, cond, ◌&&◌, ◌||◌, eqb, Option, Some, None, Result, Ok, Err, if◌then◌else◌, refl, sym, ◌∙◌, ap, subst, inl, inr, arith}
-use Rattle.std.specs.List.{list_all}
+use Rattle.std.proofs.Common.{◌≡◌, ◌⊎◌, ℕ, ◌==◌, List, [], ◌∷◌, ◌++◌, Bool, true, false, cond, ◌||◌, eqb, Option, Some, None, Result, Ok, Err, if◌then◌else◌, refl, sym, ◌∙◌, ap, inl, inr, arith}
 use Rattle.std.specs.Option.{option_or}
 use Rattle.std.proofs.lemmas.List.{append-nil}
 use Rattle.std.proofs.lemmas.Bool.Decides.{nat_tests}
@@ -8,17 +7,16 @@ use Rattle.alpha_token.specs.declared.token.TokenKind.{TokenKind}
 use Rattle.alpha_token.specs.declared.token.TokenKind.TheVariants as kinds
 use Rattle.alpha_token.specs.Tokens.{Lexeme, Tokens, End, Bad, Next, left_of}
 use Rattle.alpha_operands.specs.declared.piece.Piece.{Piece}
-use Rattle.alpha_operands.specs.declared.piece.Piece.TheVariants as pieces
 use Rattle.alpha_operands.specs.declared.number.Sign.{Sign}
 use Rattle.alpha_operands.specs.declared.operands.LineFaultKind.{LineFaultKind}
-use Rattle.alpha_operands.specs.declared.operands.LineFaultKind.TheVariants.{BadToken, UnknownName, BadOperands, OutOfRange}
+use Rattle.alpha_operands.specs.declared.operands.LineFaultKind.TheVariants.{BadOperands}
 use Rattle.alpha_operands.specs.declared.walk.OperandFault.{OperandFault}
 use Rattle.alpha_operands.specs.Pieces.{kind_of, kind_number, same_kind, piece_number, same_piece}
 use Rattle.alpha_operands.specs.Shapes.{Pattern}
 use Rattle.alpha_operands.specs.Operands.{Slots, filled}
 use Rattle.alpha_operands.specs.Walk.{rest_of, is_empty, is_whole, head_of_kind, piece_behind, front_after, sign_after, fault, go_on, taken, follow}
-use Rattle.alpha_operands.specs.Grammar.{IsOneOf, GoesOn, Completes, Spells, fault_at}
-use Rattle.alpha_operands.proofs.Fronts.{same_piece-is, rest_of-is, head_of_kind-is, longer_of}
+use Rattle.alpha_operands.specs.Grammar.{IsOneOf, GoesOn, Completes, Spells}
+use Rattle.alpha_operands.proofs.Fronts.{rest_of-is, longer_of}
 
 -- each kind has its own number
 kind_at : ℕ → TokenKind
@@ -30,17 +28,7 @@ kind_at n =
 kind_at-number : (k : TokenKind) → kind_at (kind_number k) ≡ k
 unfolding kind_at
 kind_at-number kinds.Name = refl
-kind_at-number kinds.Dot = refl
-kind_at-number kinds.Register = refl
-kind_at-number kinds.Number = refl
-kind_at-number kinds.Operator = refl
-kind_at-number kinds.Text = refl
-kind_at-number kinds.Comma = refl
-kind_at-number kinds.Open = refl
-kind_at-number kinds.Close = refl
-kind_at-number kinds.Colon = refl
-kind_at-number kinds.Plus = refl
-kind_at-number kinds.Minus = refl
+kind_at-number k = refl
 
 eqb-is : (m n : ℕ) → eqb m n ≡ true → m ≡ n
 eqb-is m n h = grind (arith, nat_tests)
@@ -141,7 +129,7 @@ is_whole-of [] front m = absurd m
 is_whole-of (q ∷ qs) front m = elim m [ inl e ↦ rw (e, rest_of-same front) refl | inr n ↦ rw (is_whole-of qs front n) (or_true (is_empty (rest_of front q))) ]
 
 -- the tests that decide how reading goes on, each with what it gave
-at_end : (b : Bool) (o r : Slots) (left : ℕ) → cond b (Ok o) (fault left BadOperands) ≡ Ok r → (b ≡ true) × (o ≡ r)
+pub at_end : (b : Bool) (o r : Slots) (left : ℕ) → cond b (Ok o) (fault left BadOperands) ≡ Ok r → (b ≡ true) × (o ≡ r)
 at_end true o r left h = (refl, cc)
 at_end false o r left h = cc
 

@@ -1,6 +1,11 @@
 pub mod Apart
 pub mod Bounds
+pub mod Changes
 pub mod Faults
+pub mod Forms
 pub mod Fronts
 pub mod Grammar
+pub mod Lists
+pub mod Quotes
+pub mod Sizes
 pub mod Within

@@ -1,5 +1,5 @@
 -- The numbers of operands are within their ranges.
-use Rattle.std.proofs.Common.{◌≡◌, ◌⊎◌, ℕ, ℤ, pos, negsuc, neg_ℤ, ◌+ℤ◌, ◌-ℤ◌, ◌≤ℤ◌, ◌<ℤ◌, ◌+◌, ◌-◌, ◌/◌, ◌%◌, ◌^◌, ◌≤◌, ◌<◌, List, Bool, true, false, cond, ◌&&◌, ◌||◌, Option, Some, None, Result, Ok, Err, [], IfOk, IfSome, eqb, nat_lt, nat_le, refl, sym, ◌∙◌, ap, inl, inr, arith}
+use Rattle.std.proofs.Common.{◌≡◌, ℕ, ◌%◌, ◌^◌, ◌≤◌, ◌<◌, List, Bool, true, false, cond, ◌&&◌, ◌||◌, Option, Some, None, Result, Ok, Err, [], IfOk, IfSome, eqb, nat_lt, nat_le, refl, sym, inl, inr, arith}
 use Rattle.std.specs.Option.{option_map}
 use Rattle.std.proofs.lemmas.Bool.Decides.{nat_tests}
 use Rattle.std.proofs.lemmas.Int.{ints}
@@ -14,24 +14,19 @@ use Rattle.alpha_operands.specs.declared.number.Sign.{Sign}
 use Rattle.alpha_operands.specs.declared.number.Sign.TheVariants as signs
 use Rattle.alpha_operands.specs.declared.number.Number.{Number}
 use Rattle.alpha_operands.specs.declared.number.Number.TheVariants.{Call}
-use Rattle.alpha_operands.specs.declared.operands.LineFaultKind.{LineFaultKind}
-use Rattle.alpha_operands.specs.declared.operands.LineFaultKind.TheVariants.{UnknownName, BadOperands, OutOfRange}
 use Rattle.alpha_operands.specs.declared.operands.Operands.{Operands}
 use Rattle.alpha_operands.specs.declared.walk.OperandFault.{OperandFault}
-use Rattle.alpha_operands.specs.Names.{register_of, operator_of}
-use Rattle.alpha_operands.specs.Ranges.{in_range, if_in, words_of, call_of, number_of, offset_of, IsNumber}
+use Rattle.alpha_operands.specs.Ranges.{in_range, if_in, words_of, call_of, number_of, IsNumber}
 use Rattle.alpha_operands.specs.Shapes.{Pattern}
-use Rattle.alpha_operands.specs.Operands.{Slots, slots, Gives, nothing, is_label, with_value, filled}
-use Rattle.alpha_operands.specs.Walk.{is_whole, piece_behind, front_after, sign_after, fault, follow}
-use Rattle.alpha_operands.proofs.Grammar.{took, went}
+use Rattle.alpha_operands.specs.Operands.{Slots, slots, Gives, nothing, filled}
+use Rattle.alpha_operands.specs.Walk.{is_whole, piece_behind, front_after, sign_after, follow}
+use Rattle.alpha_operands.proofs.Changes.{filled-changes}
+use Rattle.alpha_operands.proofs.Grammar.{at_end, took, went}
+use Rattle.alpha_token.proofs.Choices.{both}
 
-inside : (b : Bool) (y x : Number) → if_in b y ≡ Some x → (b ≡ true) × (y ≡ x)
+pub inside : (b : Bool) (y x : Number) → if_in b y ≡ Some x → (b ≡ true) × (y ≡ x)
 inside true y x h = (refl, cc)
 inside false y x h = cc
-
-both : (a b : Bool) → (a && b) ≡ true → (a ≡ true) × (b ≡ true)
-both true b h = (refl, h)
-both false b h = cc
 
 one_or_two : (n : ℕ) → (eqb n 1 || eqb n 2) ≡ true → (1 ≤ n) × (n ≤ 2)
 one_or_two n h = grind (arith, nat_tests)
@@ -50,21 +45,6 @@ a_call n x h =
 
 pub number_of-within : (p : Piece) (sign : Sign) (n : ℕ) (x : Number) → number_of p sign n ≡ Some x → IsNumber x
 unfolding number_of
-number_of-within pieces.Ra sign n x h = cc
-number_of-within pieces.Rb sign n x h = cc
-number_of-within pieces.Rc sign n x h = cc
-number_of-within pieces.Comma sign n x h = cc
-number_of-within pieces.Again sign n x h = cc
-number_of-within pieces.Open sign n x h = cc
-number_of-within pieces.Close sign n x h = cc
-number_of-within pieces.Minus sign n x h = cc
-number_of-within pieces.Plus sign n x h = cc
-number_of-within pieces.Less sign n x h = cc
-number_of-within pieces.Dot sign n x h = cc
-number_of-within pieces.Operator sign n x h = cc
-number_of-within pieces.Label sign n x h = cc
-number_of-within pieces.Offset sign n x h = cc
-number_of-within pieces.Text sign n x h = cc
 number_of-within pieces.Displacement sign n x h = let (b, e) = inside _ _ x h in rw (← e) tt
 number_of-within pieces.Immediate sign n x h = let (b, e) = inside _ _ x h in rw (← e) tt
 number_of-within pieces.Literal sign n x h = let (b, e) = inside _ _ x h in rw (← e) tt
@@ -80,57 +60,21 @@ number_of-within pieces.Byte sign n x h = let (b, e) = inside _ _ x h in rw (←
 number_of-within pieces.Word sign n x h = let (b, e) = inside _ _ x h in rw (← e) tt
 number_of-within pieces.Long sign n x h = let (b, e) = inside _ _ x h in rw (← e) tt
 number_of-within pieces.Quad sign n x h = let (b, e) = inside _ _ x h in rw (← e) tt
+number_of-within p sign n x h = cc
 
-a_value : {A : Type 0} (x : Option A) (kind : LineFaultKind) (f : A → Slots) (r : Slots) → with_value x kind f ≡ Ok r → (v : A) × (x ≡ Some v) × (f v ≡ r)
-a_value None kind f r h = cc
-a_value (Some v) kind f r h = (v, refl, cc)
-
-a_label : (b : Bool) (o r : Slots) → cond b (Ok o) (Err BadOperands) ≡ Ok r → (b ≡ true) × (o ≡ r)
-a_label true o r h = (refl, cc)
-a_label false o r h = cc
-
-a_given : (o r : Slots) → (let x : Result Slots LineFaultKind = Ok o in x) ≡ Ok r → o ≡ r
-a_given o r h = cc
+number-within : (p : Piece) (sign : Sign) (n : ℕ) (x : Option Number) → number_of p sign n ≡ x → IfSome x IsNumber
+number-within p sign n None h = tt
+number-within p sign n (Some x) h = number_of-within p sign n x h
 
 filled-within : (p : Piece) (t : Lexeme) (sign : Sign) (o r : Slots) → IfSome o.number IsNumber → filled p t sign o ≡ Ok r → IfSome r.number IsNumber
-unfolding filled
-filled-within pieces.Ra t sign o r good h = let (v, e, k) = a_value (register_of t.text) UnknownName _ r h in rw (← k) good
-filled-within pieces.Rb t sign o r good h = let (v, e, k) = a_value (register_of t.text) UnknownName _ r h in rw (← k) good
-filled-within pieces.Rc t sign o r good h = let (v, e, k) = a_value (register_of t.text) UnknownName _ r h in rw (← k) good
-filled-within pieces.Comma t sign o r good h = rw (← a_given _ r h) good
-filled-within pieces.Again t sign o r good h = rw (← a_given _ r h) good
-filled-within pieces.Open t sign o r good h = rw (← a_given _ r h) good
-filled-within pieces.Close t sign o r good h = rw (← a_given _ r h) good
-filled-within pieces.Minus t sign o r good h = rw (← a_given _ r h) good
-filled-within pieces.Plus t sign o r good h = rw (← a_given _ r h) good
-filled-within pieces.Less t sign o r good h = rw (← a_given _ r h) good
-filled-within pieces.Dot t sign o r good h = rw (← a_given _ r h) good
-filled-within pieces.Operator t sign o r good h = let (v, e, k) = a_value (operator_of t.text) UnknownName _ r h in rw (← k) good
-filled-within pieces.Label t sign o r good h = let (e, k) = a_label (is_label t.text) _ r h in rw (← k) good
-filled-within pieces.Offset t sign o r good h = let (v, e, k) = a_value (offset_of sign (number_value t.text)) OutOfRange _ r h in rw (← k) good
-filled-within pieces.Text t sign o r good h = rw (← a_given _ r h) good
-filled-within pieces.Displacement t sign o r good h = let (v, e, k) = a_value (number_of pieces.Displacement sign (number_value t.text)) OutOfRange _ r h in rw (← k) (number_of-within pieces.Displacement sign (number_value t.text) v e)
-filled-within pieces.Immediate t sign o r good h = let (v, e, k) = a_value (number_of pieces.Immediate sign (number_value t.text)) OutOfRange _ r h in rw (← k) (number_of-within pieces.Immediate sign (number_value t.text) v e)
-filled-within pieces.Literal t sign o r good h = let (v, e, k) = a_value (number_of pieces.Literal sign (number_value t.text)) OutOfRange _ r h in rw (← k) (number_of-within pieces.Literal sign (number_value t.text) v e)
-filled-within pieces.Hint t sign o r good h = let (v, e, k) = a_value (number_of pieces.Hint sign (number_value t.text)) OutOfRange _ r h in rw (← k) (number_of-within pieces.Hint sign (number_value t.text) v e)
-filled-within pieces.Distance t sign o r good h = let (v, e, k) = a_value (number_of pieces.Distance sign (number_value t.text)) OutOfRange _ r h in rw (← k) (number_of-within pieces.Distance sign (number_value t.text) v e)
-filled-within pieces.Whole t sign o r good h = let (v, e, k) = a_value (number_of pieces.Whole sign (number_value t.text)) OutOfRange _ r h in rw (← k) (number_of-within pieces.Whole sign (number_value t.text) v e)
-filled-within pieces.Zeroed t sign o r good h = let (v, e, k) = a_value (number_of pieces.Zeroed sign (number_value t.text)) OutOfRange _ r h in rw (← k) (number_of-within pieces.Zeroed sign (number_value t.text) v e)
-filled-within pieces.Align t sign o r good h = let (v, e, k) = a_value (number_of pieces.Align sign (number_value t.text)) OutOfRange _ r h in rw (← k) (number_of-within pieces.Align sign (number_value t.text) v e)
-filled-within pieces.Level t sign o r good h = let (v, e, k) = a_value (number_of pieces.Level sign (number_value t.text)) OutOfRange _ r h in rw (← k) (number_of-within pieces.Level sign (number_value t.text) v e)
-filled-within pieces.Pal t sign o r good h = let (v, e, k) = a_value (number_of pieces.Pal sign (number_value t.text)) OutOfRange _ r h in rw (← k) (number_of-within pieces.Pal sign (number_value t.text) v e)
-filled-within pieces.Nothing t sign o r good h = let (v, e, k) = a_value (number_of pieces.Nothing sign (number_value t.text)) OutOfRange _ r h in rw (← k) (number_of-within pieces.Nothing sign (number_value t.text) v e)
-filled-within pieces.Byte t sign o r good h = let (v, e, k) = a_value (number_of pieces.Byte sign (number_value t.text)) OutOfRange _ r h in rw (← k) (number_of-within pieces.Byte sign (number_value t.text) v e)
-filled-within pieces.Word t sign o r good h = let (v, e, k) = a_value (number_of pieces.Word sign (number_value t.text)) OutOfRange _ r h in rw (← k) (number_of-within pieces.Word sign (number_value t.text) v e)
-filled-within pieces.Long t sign o r good h = let (v, e, k) = a_value (number_of pieces.Long sign (number_value t.text)) OutOfRange _ r h in rw (← k) (number_of-within pieces.Long sign (number_value t.text) v e)
-filled-within pieces.Quad t sign o r good h = let (v, e, k) = a_value (number_of pieces.Quad sign (number_value t.text)) OutOfRange _ r h in rw (← k) (number_of-within pieces.Quad sign (number_value t.text) v e)
-
-at_end : (b : Bool) (o r : Slots) (left : ℕ) → cond b (Ok o) (fault left BadOperands) ≡ Ok r → o ≡ r
-at_end true o r left h = cc
-at_end false o r left h = cc
+filled-within p t sign o r good h =
+    elim (filled-changes p t sign o r h).2 [
+      | inl e ↦ rw e good
+      | inr e ↦ number-within p sign (number_value t.text) r.number (sym e)
+    ]
 
 pub follow-within : (all : List Pattern) (front : Pattern) (sign : Sign) (ts : Tokens) (o r : Slots) → IfSome o.number IsNumber → follow all front sign ts o ≡ Ok r → IfSome r.number IsNumber
-follow-within all front sign (End left) o r good h = rw (← at_end (is_whole all front) o r left h) good
+follow-within all front sign (End left) o r good h = rw (← (at_end (is_whole all front) o r left h).1) good
 follow-within all front sign (Bad left) o r good h = cc
 follow-within all front sign (Next t ts) o r good h =
     let (p, e, g) = took t sign o (piece_behind all front t.kind) (λ p filled. follow all (front_after front p) (sign_after p) ts filled) r h in

@@ -1,6 +1,6 @@
 -- The grammar of operands and the places of their faults, apart from how they are read.
 use Rattle.std.specs.Prelude.{◌≡◌, ◌⊎◌, ℕ, ◌<◌, ◌≤◌, List, [], ◌∷◌, ◌++◌, true, Ok, Err}
-use Rattle.alpha_token.specs.Tokens.{Lexeme, Tokens, End, Bad, Next, left_of}
+use Rattle.alpha_token.specs.Tokens.{Tokens, End, Bad, Next, left_of}
 use Rattle.alpha_operands.specs.declared.piece.Piece.{Piece}
 use Rattle.alpha_operands.specs.declared.number.Sign.{Sign}
 use Rattle.alpha_operands.specs.declared.number.Sign.TheVariants as signs

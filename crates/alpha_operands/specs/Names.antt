@@ -1,6 +1,6 @@
 -- The names of registers and operators.
-use Rattle.std.specs.Prelude.{ℕ, List, [], ◌∷◌, Bool, ◌≡◌, Option, None, Some, codes, find, nat_lt, if◌then◌else◌}
-use Rattle.std.specs.Option.{option_map, option_and_then}
+use Rattle.std.specs.Prelude.{ℕ, List, [], ◌∷◌, Option, None, Some, codes, nat_lt, if◌then◌else◌}
+use Rattle.std.specs.Option.{option_and_then}
 use Rattle.std.specs.Str.{bytes_eq}
 use Rattle.alpha_operands.specs.declared.names.Half.{Half}
 use Rattle.alpha_operands.specs.declared.names.Half.TheVariants.{High, Low}

@@ -1,8 +1,7 @@
 -- The operands of a statement, filled in token by token.
-use Rattle.std.specs.Prelude.{◌≡◌, ℕ, ℤ, pos, List, [], ◌∷◌, Bool, not, ◌&&◌, ◌==◌, ◌-◌, Option, None, Some, Result, Ok, Err, length, slice_index, take, drop, if◌then◌else◌}
+use Rattle.std.specs.Prelude.{◌≡◌, ℕ, ℤ, pos, List, Bool, not, ◌&&◌, ◌==◌, ◌-◌, Option, None, Some, Result, Ok, Err, length, slice_index, take, drop, if◌then◌else◌}
 use Rattle.std.specs.List.{list_all}
 use Rattle.std.specs.Option.{option_map}
-use Rattle.alpha_token.specs.declared.token.TokenKind.{TokenKind}
 use Rattle.alpha_token.specs.Numeral.{number_value}
 use Rattle.alpha_token.specs.Tokens.{Lexeme}
 use Rattle.alpha_operands.specs.declared.names.Half.{Half}
@@ -11,7 +10,7 @@ use Rattle.alpha_operands.specs.declared.number.Sign.{Sign}
 use Rattle.alpha_operands.specs.declared.piece.Piece.{Piece}
 use Rattle.alpha_operands.specs.declared.piece.Piece.TheVariants.{Ra, Rb, Rc, Comma, Again, Open, Close, Minus, Plus, Less, Dot, Operator, Label, Offset, Text}
 use Rattle.alpha_operands.specs.declared.operands.LineFaultKind.{LineFaultKind}
-use Rattle.alpha_operands.specs.declared.operands.LineFaultKind.TheVariants.{BadToken, UnknownName, BadOperands, OutOfRange}
+use Rattle.alpha_operands.specs.declared.operands.LineFaultKind.TheVariants.{UnknownName, BadOperands, OutOfRange}
 use Rattle.alpha_operands.specs.declared.operands.Operands.{Operands}
 use Rattle.alpha_operands.specs.Names.{register_of, operator_of}
 use Rattle.alpha_operands.specs.Ranges.{number_of, offset_of}

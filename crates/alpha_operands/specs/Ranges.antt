@@ -1,6 +1,6 @@
 -- The numbers of operands and their ranges.
-use Rattle.std.specs.Prelude.{⊤, ◌<◌, ◌≤◌, ℕ, ℤ, pos, negsuc, neg_ℤ, ◌-ℤ◌, Bool, Option, None, Some, ◌==◌, ◌&&◌, ◌||◌, ◌+◌, ◌-◌, ◌/◌, ◌%◌, ◌^◌, nat_le, nat_lt, if◌then◌else◌}
-use Rattle.std.specs.Option.{option_map, option_and_then}
+use Rattle.std.specs.Prelude.{⊤, ◌<◌, ◌≤◌, ℕ, ℤ, pos, neg_ℤ, ◌-ℤ◌, Bool, Option, None, Some, ◌==◌, ◌&&◌, ◌||◌, ◌-◌, ◌/◌, ◌%◌, ◌^◌, nat_le, nat_lt, if◌then◌else◌}
+use Rattle.std.specs.Option.{option_map}
 use Rattle.alpha_words.specs.declared.PalCall.{PalCall}
 use Rattle.alpha_table.specs.declared.form.Form.{Form}
 use Rattle.alpha_table.specs.declared.form.Form.TheVariants as forms

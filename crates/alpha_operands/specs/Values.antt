@@ -1,5 +1,5 @@
--- The first value of a list.
-use Rattle.std.specs.Prelude.{◌≡◌, ℕ, ℤ, List, [], ◌∷◌, Bool, Option, None, Some, Result, Ok, Err, ◌==◌, ◌&&◌, if◌then◌else◌}
+-- The values of a list.
+use Rattle.std.specs.Prelude.{◌≡◌, ◌⊎◌, ◌≤◌, ◌<◌, ◌-◌, ◌*◌, ◌^◌, ℕ, ℤ, List, [], ◌∷◌, ◌++◌, length, Bool, Option, None, Some, Result, Ok, Err, ◌==◌, ◌&&◌, if◌then◌else◌}
 use Rattle.std.specs.Option.{option_map, option_and_then}
 use Rattle.alpha_token.specs.Tokens.{Lexeme, Tokens, End, Bad, Next, tokens}
 use Rattle.alpha_operands.specs.declared.piece.Piece.{Piece}
@@ -16,7 +16,7 @@ use Rattle.alpha_operands.specs.declared.values.ListValue.TheVariants as listed
 use Rattle.alpha_operands.specs.declared.values.Front.{Front}
 use Rattle.alpha_operands.specs.Shapes.{Pattern, patterns}
 use Rattle.alpha_operands.specs.Operands.{Slots, slots, nothing, filled}
-use Rattle.alpha_operands.specs.Walk.{is_whole, piece_behind, front_after, sign_after}
+use Rattle.alpha_operands.specs.Walk.{is_whole, piece_behind, front_after, sign_after, operands}
 
 -- a value of a list: a number modulo 2^64, or a label with its offset
 pub data Listed : Type 0 where
@@ -68,3 +68,26 @@ value_of o = value_in o.number o.offset o.label
 unfoldable pub first_value : Shape → List ℕ → Option (Listed × List ℕ)
 first_value shape list =
     option_and_then (λ found. option_map (λ v. (v, found.1)) (value_of found.0)) (first_operands (patterns shape) [] signs.Plus (tokens list) nothing)
+
+-- the first value of a list of values of so many bytes each, and the list behind its comma
+abbrev pub next_of : ℕ → List ℕ → Option (Listed × List ℕ)
+next_of bytes list = option_and_then (λ shape. first_value shape list) (list_shape bytes)
+
+-- A list that is read to its end: it gives these values one behind the other, and nothing is left.
+abbrev pub AreValuesOf : ℕ → List ℕ → List Listed → Type 0
+AreValuesOf bytes list [] = list ≡ []
+AreValuesOf bytes list (v ∷ vs) = (rest : List ℕ) × (next_of bytes list ≡ Some (v, rest)) × AreValuesOf bytes rest vs
+
+-- a whole list: it has a value, and is read to its end
+abbrev pub IsWholeList : ℕ → List ℕ → Type 0
+IsWholeList bytes list = (v : Listed) × (vs : List Listed) × AreValuesOf bytes list (v ∷ vs)
+
+-- of a line that goes on behind a list its values were read as operands, and what is left is what stands behind them
+abbrev pub IsReadAsList : ℕ → List ℕ → List ℕ → Type 0
+IsReadAsList bytes list behind =
+    (shape : Shape) × (o : Slots) × (list_shape bytes ≡ Some shape) × (operands (patterns shape) (tokens (list ++ behind)) ≡ Ok o) × (o.left ≡ length behind)
+
+-- A value that so many bytes hold: a number without a sign, or one below 0 modulo 2^64; a label where there are 8.
+abbrev pub IsOfSize : ℕ → Listed → Type 0
+IsOfSize bytes (number n) = (n < 2 ^ (8 * bytes)) ⊎ ((2 ^ 64 - 2 ^ (8 * bytes - 1) ≤ n) × (n < 2 ^ 64))
+IsOfSize bytes (label name offset) = bytes ≡ 8

@@ -5,7 +5,8 @@
 //! - [`next_value`] is the first value of a list of data.
 //! - [`register`] and [`operator`] are the tables of the names that begin with `$` and `%`.
 //! - [`laws_of_operands`] says that what is read is what a pattern of the shape spells, and that the
-//!   fault that is read is the first of all that the line has.
+//!   fault that is read is the first of all that the line has; [`laws_of_lists`] that lists and texts
+//!   are read to their ends.
 //!
 //! The patterns stand once, in `shape.rt` and, as definitions, in `specs/Shapes.antt`;
 //! `number.rt` and `specs/Ranges.antt` have the range of each number, `walk.rt` and
@@ -24,7 +25,7 @@ mod tests;
 mod values;
 mod walk;
 
-pub use laws::laws_of_operands;
+pub use laws::{laws_of_lists, laws_of_operands};
 pub use names::{Half, operator, register};
 pub use number::{Number, Sign};
 pub use operands::{LineFaultKind, Operands, is_label};

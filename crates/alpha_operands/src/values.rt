@@ -1,9 +1,9 @@
 ghost use Rattle.std.specs.Prelude.{◌≡◌, ◌<◌, IfSome, length};
-ghost use Rattle.std.specs.Option.{option_map, option_and_then};
+ghost use Rattle.std.specs.Option.{option_map};
 ghost use Rattle.alpha_token.specs.Tokens.{tokens};
 ghost use Rattle.alpha_operands.specs.Shapes.{patterns};
 ghost use Rattle.alpha_operands.specs.Operands.{slots};
-ghost use Rattle.alpha_operands.specs.Values.{view, list_shape, front_of, ended, first_operands, value_of, first_value};
+ghost use Rattle.alpha_operands.specs.Values.{view, list_shape, front_of, ended, first_operands, value_of, first_value, next_of, IsOfSize};
 
 use crate::operands::{NOTHING, filled};
 use crate::walk::{is_whole, piece_behind, sign_after};
@@ -112,19 +112,30 @@ fn list_shape(bytes: u8) -> Option<Shape>
     }
 }
 
-/// The first value of a list of values of 1, 2, 4 or 8 bytes, and the list behind its comma, which
-/// is empty behind the last value. `None` exactly where the list doesn't begin with a value of
-/// that size that ends it or has a comma behind it.
+// The first value of a list of a shape, and the list behind its comma.
 #[tactic(auto, unfolding(crate::specs::Values::first_value))]
-pub fn next_value(list: &[u8], bytes: u8) -> Option<(ListValue<'_>, &[u8])>
-    ensures value { option_map (λ v. (view v.0, v.1.now)) result ≡ option_and_then (λ shape. first_value shape list.now) (list_shape bytes) }
+fn first_value(shape: Shape, list: &[u8]) -> Option<(ListValue<'_>, &[u8])>
+    ensures { option_map (λ v. (view v.0, v.1.now)) result ≡ first_value shape list.now }
 {
-    let shape = list_shape(bytes)?;
     match first_operands(shape, list, &[], Sign::Plus, &NOTHING) {
         Some(found) => match value_of(&found.operands) {
             Some(value) => Some((value, found.rest)),
             None => None,
         },
+        None => None,
+    }
+}
+
+/// The first value of a list of values of 1, 2, 4 or 8 bytes, and the list behind its comma, which
+/// is empty behind the last value. `None` exactly where the list doesn't begin with a value of
+/// that size that ends it or has a comma behind it.
+pub fn next_value(list: &[u8], bytes: u8) -> Option<(ListValue<'_>, &[u8])>
+    ensures value { option_map (λ v. (view v.0, v.1.now)) result ≡ next_of bytes list.now }
+    ensures sized { IfSome result (λ v. IsOfSize bytes (view v.0)) }
+    ensures shorter { IfSome result (λ v. length v.1.now < length list.now) }
+{
+    match list_shape(bytes) {
+        Some(shape) => first_value(shape, list),
         None => None,
     }
 }

@@ -1,5 +1,9 @@
+pub mod Bounds
+pub mod Formats
+pub mod Items
 pub mod LineFaults
 pub mod Lines
 pub mod Names
+pub mod Registers
 pub mod Round
 pub mod Spelling

@@ -1,6 +1,5 @@
 -- The fault that is read of a line is the first of all that it has.
-use Rattle.std.proofs.Common.{◌≡◌, ◌⊎◌, ℕ, List, [], ◌∷◌, ◌+◌, ◌-◌, ◌<◌, ◌≤◌, ◌==◌, ◌&&◌, Bool, true, false, cond, eqb, Option, Some, None, Result, Ok, Err, length, length-drop, drop, get_or, refl, sym, ◌∙◌, ap, inl, inr, arith}
-use Rattle.alpha_token.specs.declared.token.TokenKind.{TokenKind}
+use Rattle.std.proofs.Common.{◌≡◌, ◌⊎◌, ℕ, List, [], ◌+◌, ◌-◌, ◌<◌, ◌≤◌, Bool, true, false, cond, Option, Some, None, Result, Ok, Err, length, length-drop, drop, refl, sym, ◌∙◌, ap, inl, inr, arith}
 use Rattle.alpha_token.specs.declared.token.TokenKind.TheVariants as kinds
 use Rattle.alpha_token.specs.Tokens.{Lexeme, Tokens, End, Bad, Next, left_of, tokens}
 use Rattle.alpha_operands.specs.declared.number.Sign.TheVariants as signs
@@ -11,16 +10,17 @@ use Rattle.alpha_operands.specs.Pieces.{same_kind}
 use Rattle.alpha_operands.specs.Shapes.{patterns}
 use Rattle.alpha_operands.specs.Operands.{Slots, nothing, is_label}
 use Rattle.alpha_operands.specs.Walk.{operands, is_unknown, stuck_at}
-use Rattle.alpha_operands.specs.Grammar.{AmongTokens, HasFault, NoLater, fault_at}
+use Rattle.alpha_operands.specs.Grammar.{HasFault, NoLater, fault_at}
 use Rattle.alpha_operands.proofs.Grammar.{same_kind-is, same_kind-same}
 use Rattle.alpha_operands.proofs.Apart.{shapes-distinct}
-use Rattle.alpha_operands.proofs.Faults.{Falls, tokens-fall, among-left, has-left, among-has, stuck, at_one, further, stuck_most, stuck_unknown, follow-has, follow-first}
+use Rattle.alpha_token.proofs.Order.{Falls, tokens-fall}
+use Rattle.alpha_operands.proofs.Faults.{among-left, has-left, among-has, stuck, at_one, further, stuck_most, stuck_unknown, follow-has, follow-first}
 use Rattle.alpha_text.specs.declared.head.Head.{Head}
 use Rattle.alpha_text.specs.declared.reader.LineFault.{LineFault}
 use Rattle.alpha_text.specs.Heads.{head_of, shape_of}
-use Rattle.alpha_text.specs.Statements.{Said, empty, said_by}
+use Rattle.alpha_text.specs.Statements.{Said}
 use Rattle.alpha_text.specs.Reading.{LineSaid, with_operands, with_head, statement_of, is_labelled, labelled, behind_label, line_of, located, read}
-use Rattle.alpha_text.specs.Grammar.{IsLabelled, StatementFault, LabelFault, LineHasFault, IsFirstFault}
+use Rattle.alpha_text.specs.Grammar.{IsLabelled, StatementFault, LineHasFault, IsFirstFault}
 use Rattle.alpha_text.proofs.Lines.{is_labelled-is, is_labelled-of}
 
 operands_failed : (head : Head) (behind : List ℕ) (r : Result Slots OperandFault) (f : OperandFault) → with_operands head behind r ≡ Err f → r ≡ Err f

@@ -1,37 +1,30 @@
 -- What is read of a line is its grammar, and the fault that is read is the first.
-use Rattle.std.proofs.Common.{◌≡◌, ◌⊎◌, ℕ, List, [], ◌∷◌, ◌+◌, ◌-◌, ◌<◌, ◌≤◌, ◌==◌, ◌&&◌, Bool, true, false, cond, eqb, Option, Some, None, Result, Ok, Err, length, drop, get_or, refl, sym, ◌∙◌, ap, inl, inr, arith}
+use Rattle.std.proofs.Common.{◌≡◌, ℕ, List, [], Bool, true, false, cond, eqb, Option, Some, None, Result, Ok, Err, length, drop, get_or, refl, sym, ◌∙◌, ap, inl, inr, arith}
 use Rattle.std.proofs.lemmas.Bool.Decides.{nat_tests}
-use Rattle.alpha_token.specs.declared.token.TokenKind.{TokenKind}
 use Rattle.alpha_token.specs.declared.token.TokenKind.TheVariants as kinds
-use Rattle.alpha_token.specs.Tokens.{Lexeme, Tokens, End, Bad, Next, left_of, tokens}
+use Rattle.alpha_token.specs.Tokens.{Lexeme, Tokens, End, Bad, Next, tokens}
 use Rattle.alpha_operands.specs.declared.number.Sign.TheVariants as signs
-use Rattle.alpha_operands.specs.declared.operands.LineFaultKind.{LineFaultKind}
-use Rattle.alpha_operands.specs.declared.operands.LineFaultKind.TheVariants.{BadToken, UnknownName, BadOperands}
 use Rattle.alpha_operands.specs.declared.walk.OperandFault.{OperandFault}
 use Rattle.alpha_operands.specs.Pieces.{same_kind}
 use Rattle.alpha_operands.specs.Shapes.{patterns}
 use Rattle.alpha_operands.specs.Operands.{Slots, nothing, is_label}
 use Rattle.alpha_operands.specs.Walk.{operands}
-use Rattle.alpha_operands.specs.Grammar.{AreOperands, HasFault, NoLater, fault_at}
+use Rattle.alpha_operands.specs.Grammar.{AreOperands}
 use Rattle.alpha_operands.proofs.Grammar.{same_kind-is, same_kind-same, follow-spells, spells-follow}
 use Rattle.alpha_operands.proofs.Apart.{shapes-distinct}
 use Rattle.alpha_text.specs.declared.head.Head.{Head}
-use Rattle.alpha_text.specs.declared.reader.LineFault.{LineFault}
 use Rattle.alpha_text.specs.Heads.{head_of, shape_of}
-use Rattle.alpha_text.specs.Statements.{Said, empty, said_by}
-use Rattle.alpha_text.specs.Reading.{LineSaid, list_in, with_operands, with_head, named, statement_of, is_labelled, labelled, behind_label, line_of, located, read}
-use Rattle.alpha_text.specs.Grammar.{IsStatement, IsLabelled, IsBehindLabel, IsLine}
-
-both : (a b : Bool) → (a && b) ≡ true → (a ≡ true) × (b ≡ true)
-both true b h = (refl, h)
-both false b h = cc
+use Rattle.alpha_text.specs.Statements.{Said, said_by}
+use Rattle.alpha_text.specs.Reading.{LineSaid, list_in, with_operands, with_head, statement_of, is_labelled, labelled, behind_label, line_of, located, read}
+use Rattle.alpha_text.specs.Grammar.{IsStatement, IsLabelled, IsLine}
+use Rattle.alpha_token.proofs.Choices.{both}
 
 -- the operands that are read are those of the grammar
 operands-are : (head : Head) (ts : Tokens) (o : Slots) → operands (patterns (shape_of head)) ts ≡ Ok o → AreOperands (patterns (shape_of head)) ts o
 unfolding operands
 operands-are head ts o h = follow-spells (patterns (shape_of head)) [] signs.Plus ts nothing o h
 
-are-operands : (head : Head) (ts : Tokens) (o : Slots) → AreOperands (patterns (shape_of head)) ts o → operands (patterns (shape_of head)) ts ≡ Ok o
+pub are-operands : (head : Head) (ts : Tokens) (o : Slots) → AreOperands (patterns (shape_of head)) ts o → operands (patterns (shape_of head)) ts ≡ Ok o
 unfolding operands
 are-operands head ts o (q, c, s) = spells-follow (patterns (shape_of head)) (shapes-distinct (shape_of head)) [] q signs.Plus ts nothing o c s
 

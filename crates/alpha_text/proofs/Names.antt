@@ -1,5 +1,5 @@
 -- The look-ups of names find each row by its name.
-use Rattle.std.proofs.Common.{◌≡◌, ◌≢◌, ℕ, List, [], ◌∷◌, Bool, true, false, cond, ◌&&◌, ◌≤◌, length, nat_le, arith, Option, Some, None, find, refl, sym, ◌∙◌, ap}
+use Rattle.std.proofs.Common.{◌≡◌, ◌≢◌, ℕ, List, [], ◌∷◌, Bool, true, false, cond, ◌≤◌, length, nat_le, arith, Option, Some, None, find, refl, sym, ◌∙◌, ap}
 use Rattle.std.specs.List.{list_all}
 use Rattle.std.proofs.lemmas.Bool.Decides.{nat_tests}
 use Rattle.std.specs.Str.{bytes_eq}
@@ -16,128 +16,27 @@ use Rattle.alpha_table.specs.declared.rows.MiscOp.TheVariants as miscs
 use Rattle.alpha_table.specs.Names.{name_of}
 use Rattle.alpha_text.specs.declared.head.Own.{Own}
 use Rattle.alpha_text.specs.declared.head.Head.TheVariants as heads
+use Rattle.alpha_token.proofs.Choices.{both}
 use Rattle.alpha_text.proofs.Spelling.{is_word}
 use Rattle.alpha_text.specs.Heads.{every_mnemonic, mnemonic_at, own_at, head_of}
 
+-- the first row of each kind is written out, so that the others are taken one by one
 pub mnemonic_at-name : (m : Mnemonic) → mnemonic_at (name_of m) ≡ Some m
 unfolding every_mnemonic
 mnemonic_at-name (mnemonics.Operate ops.Addl) = refl
-mnemonic_at-name (mnemonics.Operate ops.S4addl) = refl
-mnemonic_at-name (mnemonics.Operate ops.Subl) = refl
-mnemonic_at-name (mnemonics.Operate ops.S4subl) = refl
-mnemonic_at-name (mnemonics.Operate ops.Cmpbge) = refl
-mnemonic_at-name (mnemonics.Operate ops.S8addl) = refl
-mnemonic_at-name (mnemonics.Operate ops.S8subl) = refl
-mnemonic_at-name (mnemonics.Operate ops.Cmpult) = refl
-mnemonic_at-name (mnemonics.Operate ops.Addq) = refl
-mnemonic_at-name (mnemonics.Operate ops.S4addq) = refl
-mnemonic_at-name (mnemonics.Operate ops.Subq) = refl
-mnemonic_at-name (mnemonics.Operate ops.S4subq) = refl
-mnemonic_at-name (mnemonics.Operate ops.Cmpeq) = refl
-mnemonic_at-name (mnemonics.Operate ops.S8addq) = refl
-mnemonic_at-name (mnemonics.Operate ops.S8subq) = refl
-mnemonic_at-name (mnemonics.Operate ops.Cmpule) = refl
-mnemonic_at-name (mnemonics.Operate ops.AddlV) = refl
-mnemonic_at-name (mnemonics.Operate ops.SublV) = refl
-mnemonic_at-name (mnemonics.Operate ops.Cmplt) = refl
-mnemonic_at-name (mnemonics.Operate ops.AddqV) = refl
-mnemonic_at-name (mnemonics.Operate ops.SubqV) = refl
-mnemonic_at-name (mnemonics.Operate ops.Cmple) = refl
-mnemonic_at-name (mnemonics.Operate ops.And) = refl
-mnemonic_at-name (mnemonics.Operate ops.Bic) = refl
-mnemonic_at-name (mnemonics.Operate ops.Cmovlbs) = refl
-mnemonic_at-name (mnemonics.Operate ops.Cmovlbc) = refl
-mnemonic_at-name (mnemonics.Operate ops.Bis) = refl
-mnemonic_at-name (mnemonics.Operate ops.Cmoveq) = refl
-mnemonic_at-name (mnemonics.Operate ops.Cmovne) = refl
-mnemonic_at-name (mnemonics.Operate ops.Ornot) = refl
-mnemonic_at-name (mnemonics.Operate ops.Xor) = refl
-mnemonic_at-name (mnemonics.Operate ops.Cmovlt) = refl
-mnemonic_at-name (mnemonics.Operate ops.Cmovge) = refl
-mnemonic_at-name (mnemonics.Operate ops.Eqv) = refl
-mnemonic_at-name (mnemonics.Operate ops.Amask) = refl
-mnemonic_at-name (mnemonics.Operate ops.Cmovle) = refl
-mnemonic_at-name (mnemonics.Operate ops.Cmovgt) = refl
-mnemonic_at-name (mnemonics.Operate ops.Implver) = refl
-mnemonic_at-name (mnemonics.Operate ops.Mskbl) = refl
-mnemonic_at-name (mnemonics.Operate ops.Extbl) = refl
-mnemonic_at-name (mnemonics.Operate ops.Insbl) = refl
-mnemonic_at-name (mnemonics.Operate ops.Mskwl) = refl
-mnemonic_at-name (mnemonics.Operate ops.Extwl) = refl
-mnemonic_at-name (mnemonics.Operate ops.Inswl) = refl
-mnemonic_at-name (mnemonics.Operate ops.Mskll) = refl
-mnemonic_at-name (mnemonics.Operate ops.Extll) = refl
-mnemonic_at-name (mnemonics.Operate ops.Insll) = refl
-mnemonic_at-name (mnemonics.Operate ops.Zap) = refl
-mnemonic_at-name (mnemonics.Operate ops.Zapnot) = refl
-mnemonic_at-name (mnemonics.Operate ops.Mskql) = refl
-mnemonic_at-name (mnemonics.Operate ops.Srl) = refl
-mnemonic_at-name (mnemonics.Operate ops.Extql) = refl
-mnemonic_at-name (mnemonics.Operate ops.Sll) = refl
-mnemonic_at-name (mnemonics.Operate ops.Insql) = refl
-mnemonic_at-name (mnemonics.Operate ops.Sra) = refl
-mnemonic_at-name (mnemonics.Operate ops.Mskwh) = refl
-mnemonic_at-name (mnemonics.Operate ops.Inswh) = refl
-mnemonic_at-name (mnemonics.Operate ops.Extwh) = refl
-mnemonic_at-name (mnemonics.Operate ops.Msklh) = refl
-mnemonic_at-name (mnemonics.Operate ops.Inslh) = refl
-mnemonic_at-name (mnemonics.Operate ops.Extlh) = refl
-mnemonic_at-name (mnemonics.Operate ops.Mskqh) = refl
-mnemonic_at-name (mnemonics.Operate ops.Insqh) = refl
-mnemonic_at-name (mnemonics.Operate ops.Extqh) = refl
-mnemonic_at-name (mnemonics.Operate ops.Mull) = refl
-mnemonic_at-name (mnemonics.Operate ops.Mulq) = refl
-mnemonic_at-name (mnemonics.Operate ops.Umulh) = refl
-mnemonic_at-name (mnemonics.Operate ops.MullV) = refl
-mnemonic_at-name (mnemonics.Operate ops.MulqV) = refl
-mnemonic_at-name (mnemonics.Operate ops.Sextb) = refl
-mnemonic_at-name (mnemonics.Operate ops.Sextw) = refl
-mnemonic_at-name (mnemonics.Operate ops.Ctpop) = refl
-mnemonic_at-name (mnemonics.Operate ops.Ctlz) = refl
-mnemonic_at-name (mnemonics.Operate ops.Cttz) = refl
+mnemonic_at-name (mnemonics.Operate op) = refl
 mnemonic_at-name (mnemonics.Mem memories.Lda) = refl
-mnemonic_at-name (mnemonics.Mem memories.Ldah) = refl
-mnemonic_at-name (mnemonics.Mem memories.Ldbu) = refl
-mnemonic_at-name (mnemonics.Mem memories.LdqU) = refl
-mnemonic_at-name (mnemonics.Mem memories.Ldwu) = refl
-mnemonic_at-name (mnemonics.Mem memories.Stw) = refl
-mnemonic_at-name (mnemonics.Mem memories.Stb) = refl
-mnemonic_at-name (mnemonics.Mem memories.StqU) = refl
-mnemonic_at-name (mnemonics.Mem memories.Ldl) = refl
-mnemonic_at-name (mnemonics.Mem memories.Ldq) = refl
-mnemonic_at-name (mnemonics.Mem memories.LdlL) = refl
-mnemonic_at-name (mnemonics.Mem memories.LdqL) = refl
-mnemonic_at-name (mnemonics.Mem memories.Stl) = refl
-mnemonic_at-name (mnemonics.Mem memories.Stq) = refl
-mnemonic_at-name (mnemonics.Mem memories.StlC) = refl
-mnemonic_at-name (mnemonics.Mem memories.StqC) = refl
+mnemonic_at-name (mnemonics.Mem op) = refl
 mnemonic_at-name (mnemonics.Branch branches.Br) = refl
-mnemonic_at-name (mnemonics.Branch branches.Bsr) = refl
-mnemonic_at-name (mnemonics.Branch branches.Blbc) = refl
-mnemonic_at-name (mnemonics.Branch branches.Beq) = refl
-mnemonic_at-name (mnemonics.Branch branches.Blt) = refl
-mnemonic_at-name (mnemonics.Branch branches.Ble) = refl
-mnemonic_at-name (mnemonics.Branch branches.Blbs) = refl
-mnemonic_at-name (mnemonics.Branch branches.Bne) = refl
-mnemonic_at-name (mnemonics.Branch branches.Bge) = refl
-mnemonic_at-name (mnemonics.Branch branches.Bgt) = refl
+mnemonic_at-name (mnemonics.Branch op) = refl
 mnemonic_at-name (mnemonics.Jump jumps.Jmp) = refl
-mnemonic_at-name (mnemonics.Jump jumps.Jsr) = refl
-mnemonic_at-name (mnemonics.Jump jumps.Ret) = refl
-mnemonic_at-name (mnemonics.Jump jumps.JsrCoroutine) = refl
+mnemonic_at-name (mnemonics.Jump kind) = refl
 mnemonic_at-name (mnemonics.Misc miscs.Trapb) = refl
-mnemonic_at-name (mnemonics.Misc miscs.Excb) = refl
-mnemonic_at-name (mnemonics.Misc miscs.Mb) = refl
-mnemonic_at-name (mnemonics.Misc miscs.Wmb) = refl
+mnemonic_at-name (mnemonics.Misc op) = refl
 mnemonic_at-name (mnemonics.Fetch false) = refl
-mnemonic_at-name (mnemonics.Fetch true) = refl
+mnemonic_at-name (mnemonics.Fetch modify) = refl
 mnemonic_at-name (mnemonics.Pal calls.Bpt) = refl
-mnemonic_at-name (mnemonics.Pal calls.Bugchk) = refl
-mnemonic_at-name (mnemonics.Pal calls.Callsys) = refl
-mnemonic_at-name (mnemonics.Pal calls.Imb) = refl
-mnemonic_at-name (mnemonics.Pal calls.Rdunique) = refl
-mnemonic_at-name (mnemonics.Pal calls.Wrunique) = refl
-mnemonic_at-name (mnemonics.Pal calls.Gentrap) = refl
+mnemonic_at-name (mnemonics.Pal call) = refl
 
 find-is : {A : Type 0} (test : A → Bool) (xs : List A) (x : A) → find test xs ≡ Some x → test x ≡ true
 find-is test [] x h = cc
@@ -172,10 +71,6 @@ head_of-own name o apart e =
 each_short : list_all (λ m. nat_le (length (name_of m)) 13) every_mnemonic ≡ true
 unfolding every_mnemonic
 each_short = refl
-
-both : (a b : Bool) → (a && b) ≡ true → (a ≡ true) × (b ≡ true)
-both true b h = (refl, h)
-both false b h = cc
 
 pub found-all : {A : Type 0} (test each : A → Bool) (xs : List A) (x : A) → list_all each xs ≡ true → find test xs ≡ Some x → each x ≡ true
 found-all test each [] x h e = cc

@@ -1,6 +1,5 @@
 -- The tokens of the words of a canonical line.
-use Rattle.std.proofs.Common.{◌≡◌, ◌≢◌, ℕ, List, [], ◌∷◌, ◌++◌, ◌+◌, ◌-◌, ◌<◌, ◌≤◌, ◌^◌, ◌==◌, ◌&&◌, ◌||◌, Bool, true, false, cond, eqb, Option, Some, None, decimal, length, get_or, take, drop, refl, sym, ◌∙◌, ap, add-one, arith}
-use Prim.Native.Nat.{zero, suc}
+use Rattle.std.proofs.Common.{◌≡◌, ◌≢◌, ℕ, List, [], ◌∷◌, ◌++◌, ◌<◌, ◌^◌, ◌==◌, if◌then◌else◌, ◌&&◌, Bool, true, false, cond, eqb, Some, decimal, length, refl, sym, ◌∙◌, ap, add-one, arith}
 use Rattle.std.specs.List.{prefix_len, list_all}
 use Rattle.std.specs.Str.{all_ascii_digits}
 use Rattle.std.specs.Str.Parse.{digits_value}
@@ -14,17 +13,15 @@ use Rattle.alpha_token.specs.declared.token.TokenKind.{TokenKind}
 use Rattle.alpha_token.specs.declared.token.TokenKind.TheVariants as kinds
 use Rattle.alpha_token.specs.Bytes.{is_blank, begins_name, goes_on_name}
 use Rattle.alpha_token.specs.Numeral.{hex_len, number_more, number_value}
-use Rattle.alpha_token.specs.Tokens.{Lexeme, Tokens, End, Next, token_at, tokens, if_any, name_kind}
+use Rattle.alpha_token.specs.Tokens.{Lexeme, Tokens, End, Next, token_at, tokens, if_any}
+use Rattle.alpha_token.proofs.Choices.{both}
 use Rattle.alpha_token.proofs.Reading.{tokens-next}
+use Rattle.alpha_text.specs.Canon.{Word, reg, num, mark, spell, behind_name}
 
 -- a list doesn't begin with what passes a test
 abbrev pub Stops : (ℕ → Bool) → List ℕ → Type 0
 Stops p [] = Unit {0}
 Stops p (b ∷ s) = p b ≡ false
-
-both : (a b : Bool) → (a && b) ≡ true → (a ≡ true) × (b ≡ true)
-both true b h = (refl, h)
-both false b h = cc
 
 pub prefix_len-run : (p : ℕ → Bool) (ds s : List ℕ) → list_all p ds ≡ true → Stops p s → prefix_len p (ds ++ s) ≡ length ds
 prefix_len-run p [] [] h stop = refl
@@ -171,3 +168,36 @@ token-plus s = token-mark 43 s kinds.Plus refl (λ e. cc) refl
 pub token-dot : (b : ℕ) (s : List ℕ) → goes_on_name b ≡ false → tokens (46 ∷ b ∷ s) ≡ Next (record { kind = kinds.Dot; text = 46 ∷ []; rest = b ∷ s }) (tokens (b ∷ s))
 unfolding token_at
 token-dot b s h = token-mark 46 (b ∷ s) kinds.Dot refl (λ e. cc) (rw h refl)
+
+-- the mark of a byte
+abbrev pub mark_kind : ℕ → TokenKind
+mark_kind b =
+    if b == 44 then kinds.Comma else if b == 40 then kinds.Open else if b == 41 then kinds.Close else if b == 43 then kinds.Plus
+    else if b == 45 then kinds.Minus else kinds.Dot
+
+-- a word as a token before a text
+abbrev pub token_of : Word → List ℕ → Lexeme
+token_of (reg r) s = record { kind = kinds.Register; text = 36 ∷ decimal r; rest = s }
+token_of (num n) s = record { kind = kinds.Number; text = decimal n; rest = s }
+token_of (mark b) s = record { kind = mark_kind b; text = b ∷ []; rest = s }
+
+-- each word is a token of its own where the words stand one behind the other
+abbrev pub Apart : List Word → Type 0
+Apart [] = Unit {0}
+Apart (reg r ∷ ws) = (r < 32) × Stops is_ascii_alphanumeric (spell ws) × Apart ws
+Apart (num n ∷ ws) = (n < 2 ^ 64) × Stops is_ascii_alphanumeric (spell ws) × Apart ws
+Apart (mark b ∷ ws) = (tokens (b ∷ spell ws) ≡ Next (token_of (mark b) (spell ws)) (tokens (spell ws))) × Apart ws
+
+abbrev pub tokens_of : List Word → Tokens
+tokens_of [] = End 0
+tokens_of (w ∷ ws) = Next (token_of w (spell ws)) (tokens_of ws)
+
+spelled-tokens : (ws : List Word) → Apart ws → tokens (spell ws) ≡ tokens_of ws
+spelled-tokens [] apart = tokens-none
+spelled-tokens (reg r ∷ ws) (small, ends, apart) = token-reg r (spell ws) (omega arith) ends ∙ ap (Next (token_of (reg r) (spell ws))) (spelled-tokens ws apart)
+spelled-tokens (num n ∷ ws) (small, ends, apart) = token-num n (spell ws) small ends ∙ ap (Next (token_of (num n) (spell ws))) (spelled-tokens ws apart)
+spelled-tokens (mark b ∷ ws) (at, apart) = at ∙ ap (Next (token_of (mark b) (spell ws))) (spelled-tokens ws apart)
+
+pub behind-tokens : (ws : List Word) → Apart ws → tokens (behind_name ws) ≡ tokens_of ws
+behind-tokens [] apart = tokens-none
+behind-tokens (w ∷ ws) apart = tokens-space (spell (w ∷ ws)) ∙ spelled-tokens (w ∷ ws) apart

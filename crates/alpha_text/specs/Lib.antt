@@ -1,3 +1,4 @@
+pub mod Bounds
 pub mod Canon
 pub mod Grammar
 pub mod Heads

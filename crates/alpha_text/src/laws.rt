@@ -1,7 +1,9 @@
 ghost use Rattle.std.specs.Prelude.{◌≡◌, ◌↔◌, List, ℕ, None, Ok, Err};
 ghost use Rattle.alpha_table.specs.Row.{IsInsn};
+ghost use Rattle.alpha_token.specs.Quoted.{IsText};
 ghost use Rattle.alpha_token.specs.Tokens.{tokens};
-ghost use Rattle.alpha_text.specs.Statements.{code};
+ghost use Rattle.alpha_operands.specs.Values.{IsWholeList};
+ghost use Rattle.alpha_text.specs.Statements.{code, values, text};
 ghost use Rattle.alpha_text.specs.Canon.{canon};
 ghost use Rattle.alpha_text.specs.Grammar.{IsLine, IsFirstFault};
 ghost use Rattle.alpha_text.specs.Reading.{read};
@@ -15,4 +17,12 @@ pub fn laws_of_lines()
     ensures fault { (line : List ℕ) (f : _) → read line ≡ Err f → IsFirstFault line f }
     ensures reads_back { (i : _) → IsInsn i → read (canon i) ≡ Ok (record { label = None; statement = code i }) }
     ensures different { (i j : _) → IsInsn i → IsInsn j → canon i ≡ canon j → i ≡ j }
+{}
+
+/// The laws of an item's list and text. [`next_value`](crate::next_value) with the size of the list
+/// gives a first value of it, then the first of the rest, and so on, until the list is empty, and
+/// so does [`next_byte`](crate::next_byte) with the bytes of the text. Neither gives `None` before.
+pub fn laws_of_items()
+    ensures list { (line : List ℕ) (l : _) (n : ℕ) (list : List ℕ) → read line ≡ Ok l → l.statement ≡ values n list → IsWholeList n list }
+    ensures text { (line : List ℕ) (l : _) (t : List ℕ) → read line ≡ Ok l → l.statement ≡ text t → IsText t }
 {}

@@ -5,17 +5,21 @@
 //! - [`next_value`] and [`next_byte`] read the values of a list and the bytes of a text.
 //! - [`laws_of_lines`] says that a line is read by its grammar, that the fault that is read is the
 //!   first, that the canonical line of an instruction reads back, and that different instructions
-//!   have different ones.
+//!   have different ones; [`laws_of_items`] that an item's list and text are read to their ends.
 //!
 //! The names of instructions are those of the instruction table; those of pseudo-operations and
 //! directives, and the shape of what stands behind each, are the rows of `head.rt` and
 //! `specs/Heads.antt`. `statement.rt` and `specs/Statements.antt` say what a name and its operands
-//! stand for; `reader.rt` and `specs/Reading.antt` read a line, `writer.rt` and `specs/Canon.antt`
-//! write one. `specs/Grammar.antt` has the line grammar and the faults apart from reading.
+//! stand for, `instruction.rt`, `pseudo.rt` and `directive.rt` each for one kind of names.
+//! `reader.rt` and `specs/Reading.antt` read a line, `writer.rt` and `specs/Canon.antt` write one.
+//! `specs/Grammar.antt` has the line grammar and the faults apart from reading.
 #![tactic(auto)]
 
+mod directive;
 mod head;
+mod instruction;
 mod laws;
+mod pseudo;
 mod reader;
 mod statement;
 #[cfg(test)]
@@ -24,7 +28,7 @@ mod writer;
 
 pub use alpha_operands::{Expr, LineFaultKind, ListValue, next_value};
 pub use alpha_token::next_byte;
-pub use laws::laws_of_lines;
+pub use laws::{laws_of_items, laws_of_lines};
 pub use reader::{Item, LineFault, read_line};
 pub use statement::Statement;
 pub use writer::{LineBuf, write_line};

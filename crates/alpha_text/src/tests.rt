@@ -1,3 +1,5 @@
+mod bytes;
+
 use crate::{Item, LineBuf, LineFault, LineFaultKind, Statement, read_line, write_line};
 use LineFaultKind::{BadOperands, BadToken, OutOfRange, UnknownName};
 
@@ -21,7 +23,7 @@ fn rewrite(line: &[u8], to: &mut LineBuf) {
 /// Further spellings, each with the canonical line of its instruction.
 #[test]
 fn spellings_of_instructions(rt: HostRuntime) {
-    let lines: [(&[u8], &[u8]); 34] = [
+    let lines: [(&[u8], &[u8]); 35] = [
         (b"nop", b"bis $31,$31,$31"),
         (b"unop", b"ldq_u $31,0($30)"),
         (b"mov $1,$2", b"bis $31,$1,$2"),
@@ -42,6 +44,7 @@ fn spellings_of_instructions(rt: HostRuntime) {
         (b"bsr .-4", b"bsr $26,.-4"),
         (b"beq $t8,.-0", b"beq $22,.+0"),
         (b"beq $1,.+0x8", b"beq $1,.+8"),
+        (b"beq $1,.+08", b"beq $1,.+8"),
         (b"beq $1,.+4194304", b"beq $1,.+4194304"),
         (b"beq $1,.-4194300", b"beq $1,.-4194300"),
         (b"lda $1,5", b"lda $1,5($31)"),
@@ -67,7 +70,7 @@ fn spellings_of_instructions(rt: HostRuntime) {
 /// Lines with a fault, each with its kind and its column.
 #[test]
 fn first_faults(rt: HostRuntime) {
-    let lines: [(&[u8], LineFaultKind, u32); 43] = [
+    let lines: [(&[u8], LineFaultKind, u32); 44] = [
         (b"addq $1,256,$2", OutOfRange, 9),
         (b"addq $1,$2  # x", BadOperands, 13),
         (b"addq $1 ? $99", BadToken, 9),
@@ -75,6 +78,7 @@ fn first_faults(rt: HostRuntime) {
         (b"fetch 0", BadOperands, 8),
         (b"fetch -0($1)", BadOperands, 7),
         (b"x : nop", UnknownName, 1),
+        (b".8", UnknownName, 1),
         (b".x: nop", BadOperands, 1),
         (b"a/b: nop", BadOperands, 1),
         (b"nop $99", UnknownName, 5),
@@ -258,6 +262,15 @@ fn statements_of_directives(rt: HostRuntime) {
             item(b".ascii \"a\\n#\""),
             Ok(Item {
                 statement: Statement::Text(b"a\\n#"),
+                ..
+            })
+        )
+    );
+    assert!(rt;
+        matches!(
+            item(b".ascii \"\""),
+            Ok(Item {
+                statement: Statement::Text([]),
                 ..
             })
         )

@@ -48,8 +48,12 @@ fn push_reg(to: &mut Line, r: Reg)
     ensures value { to.new ≡ to.old ++ spelled (words.reg r) }
     ensures size { length to.new ≤ length to.old + 21 }
 {
-    to.push(b"$");
-    to.push_decimal(u64::from(r.number()));
+    let n = r.number();
+    if n < 10 {
+        to.push(&[b'$', b'0' + n]);
+    } else {
+        to.push(&[b'$', b'0' + n / 10, b'0' + n % 10]);
+    }
 }
 
 // Appends the words of a displacement in bytes.
@@ -173,8 +177,7 @@ pub fn write_line(i: &Insn, to: &mut LineBuf)
     ensures { to.new ≡ canon i.now }
 {
     let form = i.form();
-    let mut line = Line::new();
-    line.push(form.mnemonic().name());
-    push_words(&mut line, &form);
-    *to = LineBuf { line };
+    to.line = Line::new();
+    to.line.push(form.mnemonic().name());
+    push_words(&mut to.line, &form);
 }

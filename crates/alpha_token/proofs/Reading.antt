@@ -1,5 +1,5 @@
 -- The tokens of a line depend on what is left of it alone.
-use Rattle.std.proofs.Common.{◌≡◌, ℕ, List, [], ◌∷◌, ◌++◌, ◌<◌, ◌+◌, Bool, true, false, cond, eqb, ◌≢◌, None, Some, take, drop, get_or, length, length-drop, add-one, refl, sym, ◌∙◌, ap, arith}
+use Rattle.std.proofs.Common.{◌≡◌, ℕ, List, [], ◌∷◌, ◌++◌, ◌<◌, ◌+◌, Bool, true, false, cond, eqb, ◌≢◌, Option, None, Some, take, drop, get_or, length, length-drop, add-one, refl, sym, ◌∙◌, ap, subst, arith}
 use Prim.Native.Nat.{zero, suc}
 use Rattle.std.specs.List.{prefix_len}
 use Rattle.std.proofs.lemmas.List.{take-append-drop, append_assoc}
@@ -9,7 +9,8 @@ use Rattle.alpha_token.specs.declared.token.TokenKind.{TokenKind}
 use Rattle.alpha_token.specs.declared.token.Step.{Step}
 use Rattle.alpha_token.specs.declared.token.Step.TheVariants as steps
 use Rattle.alpha_token.specs.Bytes.{is_blank}
-use Rattle.alpha_token.specs.Tokens.{End, Bad, Next, token_at, tokens_after, tokens, Reads, Joins}
+use Rattle.alpha_token.proofs.Choices.{choose}
+use Rattle.alpha_token.specs.Tokens.{Lexeme, Tokens, End, Bad, Next, token_at, put_before, tokens_after, tokens, Reads, Joins}
 
 pub tokens_after-skip : (k : ℕ) (s : List ℕ) → tokens_after k s ≡ tokens_after 0 (drop k s)
 tokens_after-skip zero s = refl
@@ -81,3 +82,25 @@ pub reads-blanks : (line : List ℕ) (step : Step) → Reads (drop (prefix_len i
 reads-blanks line (steps.End left) h = tokens-blanks line ∙ h
 reads-blanks line (steps.Bad left) h = tokens-blanks line ∙ h
 reads-blanks line (steps.Token t) h = tokens-blanks line ∙ h
+
+-- behind a token stand the tokens of its rest
+abbrev IsBehind : Tokens → Type 0
+IsBehind (End left) = Unit {0}
+IsBehind (Bad left) = Unit {0}
+IsBehind (Next t ts) = ts ≡ tokens t.rest
+
+put-behind : (line : List ℕ) (found : Option (TokenKind × ℕ)) (b : ℕ) (s : List ℕ) → IsBehind (put_before line found (λ more. tokens_after more s) b s)
+unfolding tokens
+put-behind line None b s = tt
+put-behind line (Some v) b s = tokens_after-skip v.1 s
+
+after-behind : (skip : ℕ) (s : List ℕ) → IsBehind (tokens_after skip s)
+after-behind skip [] = tt
+after-behind (suc skip) (b ∷ s) = after-behind skip s
+after-behind zero (b ∷ s) =
+    choose IsBehind (is_blank b) _ _ (λ e. after-behind 0 s) (λ e.
+    choose IsBehind (eqb b 35) _ _ (λ e. tt) (λ e. put-behind (b ∷ s) (token_at b s) b s))
+
+pub tokens-behind : (line : List ℕ) (t : Lexeme) (ts : Tokens) → tokens line ≡ Next t ts → ts ≡ tokens t.rest
+unfolding tokens
+tokens-behind line t ts h = subst IsBehind h (after-behind 0 line)

@@ -1,5 +1,5 @@
 -- What stands between the quotes of a string.
-use Rattle.std.specs.Prelude.{ℕ, List, [], ◌∷◌, ◌==◌, ◌&&◌, ◌+◌, ◌*◌, Bool, false, not, Option, None, Some, nat_le, drop, if◌then◌else◌}
+use Rattle.std.specs.Prelude.{◌≡◌, ℕ, List, [], ◌∷◌, ◌++◌, ◌==◌, ◌&&◌, ◌+◌, ◌*◌, Bool, false, not, Option, None, Some, nat_le, drop, if◌then◌else◌}
 use Prim.Native.Nat.{zero, suc}
 use Rattle.std.specs.Option.{option_map, option_and_then}
 use Rattle.std.specs.Char.{is_ascii_hexdigit, digit_value}
@@ -44,3 +44,15 @@ abbrev pub quoted_len : ℕ → List ℕ → Option ℕ
 quoted_len skip [] = None
 quoted_len (suc skip) (b ∷ s) = option_map suc (quoted_len skip s)
 quoted_len zero (b ∷ s) = if b == 34 then Some 0 else option_and_then (λ v. option_map suc (quoted_len v.1 s)) (byte_at (b ∷ s))
+
+-- A text that is read to its end: it gives these bytes one behind the other, and nothing is left.
+abbrev pub IsTextOf : List ℕ → List ℕ → Type 0
+IsTextOf text [] = text ≡ []
+IsTextOf text (b ∷ bytes) = (rest : List ℕ) × (first_byte text ≡ Some (b, rest)) × IsTextOf rest bytes
+
+abbrev pub IsText : List ℕ → Type 0
+IsText text = (bytes : List ℕ) × IsTextOf text bytes
+
+-- a string: such a text between two quotes
+abbrev pub IsString : List ℕ → Type 0
+IsString string = (text : List ℕ) × (string ≡ 34 ∷ (text ++ (34 ∷ []))) × IsText text

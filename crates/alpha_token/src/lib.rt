@@ -4,18 +4,21 @@
 //!   the line's end or comment, or a byte that begins no token. Tokens are the longest possible.
 //! - [`number`] is the value of a number's text, [`next_byte`] the first byte that the text of a
 //!   string stands for.
+//! - [`laws_of_strings`] says that what stands between the quotes of a string is read to its end.
 //!
 //! `specs/Tokens.antt` has the tokens of a line as a list, `specs/Numeral.antt` and
 //! `specs/Quoted.antt` the spelling of numbers and strings.
 #![tactic(auto)]
 
 mod bytes;
+mod laws;
 mod numeral;
 mod quoted;
 #[cfg(test)]
 mod tests;
 mod token;
 
+pub use laws::laws_of_strings;
 pub use numeral::number;
 pub use quoted::next_byte;
 pub use token::{Step, Token, TokenKind, next, without_blanks};

@@ -1,4 +1,4 @@
-use Rattle.std.proofs.Common.{◌≡◌, Ok, length, []}
+use Rattle.std.proofs.Common.{length, []}
 use Rattle.alpha_token.specs.Tokens.{tokens}
 use Rattle.alpha_operands.specs.declared.number.Sign.TheVariants as signs
 use Rattle.alpha_operands.specs.Shapes.{patterns}
@@ -6,7 +6,8 @@ use Rattle.alpha_operands.specs.Operands.{nothing}
 use Rattle.alpha_operands.specs.Walk.{operands}
 use Rattle.alpha_operands.proofs.Grammar.{follow-spells, spells-follow}
 use Rattle.alpha_operands.proofs.Apart.{shapes-distinct}
-use Rattle.alpha_operands.proofs.Faults.{tokens-fall, follow-has, follow-first}
+use Rattle.alpha_token.proofs.Order.{tokens-fall}
+use Rattle.alpha_operands.proofs.Faults.{follow-has, follow-first}
 use Rattle.alpha_operands.proofs.laws.laws_of_operands.Goals as goal
 
 pub returns-clause-grammar : goal.returns-clause-grammar

@@ -1,4 +1,4 @@
-use Rattle.std.proofs.Common.{rules, ◌≡◌, Bool, sym}
+use Rattle.std.proofs.Common.{rules, ◌≡◌}
 use Rattle.alpha_operands.specs.declared.piece.Piece.{Piece}
 use Rattle.alpha_operands.specs.contracts.piece.PiecePartialEq.TheImpl.{eq-value}
 use Rattle.alpha_operands.specs.Pieces.{same_piece}

@@ -4,6 +4,6 @@ use Rattle.alpha_text.proofs.writer.write_line.Goals as goal
 
 pub push-requires : goal.push-requires
 push-requires c =
-    let empty : length c.new-line.result ≡ 0 = ap (λ (line : List ℕ). length line) c.new-line.ensures in
+    let empty : length c.new-to-inside.result ≡ 0 = ap (λ (line : List ℕ). length line) c.new-to-inside.ensures in
     let short : length c.name.result.now ≤ 13 = rw c.name.ensures (name_of-short c.mnemonic.result) in
     omega arith

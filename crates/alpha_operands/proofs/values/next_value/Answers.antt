@@ -1,0 +1,9 @@
+use Rattle.std.proofs.Common.{sym, ◌∙◌}
+use Rattle.alpha_operands.proofs.Sizes.{result-sized}
+use Rattle.alpha_operands.proofs.values.next_value.Goals as goal
+
+pub returns-in-Some-clause-sized : goal.returns-in-Some-clause-sized
+returns-in-Some-clause-sized c = (result-sized c.args.bytes c.in-Some.shape c.args.list.now c.first_value.result (sym c.list_shape.ensures ∙ c.in-Some.is) c.first_value.ensures).0
+
+pub returns-in-Some-clause-shorter : goal.returns-in-Some-clause-shorter
+returns-in-Some-clause-shorter c = (result-sized c.args.bytes c.in-Some.shape c.args.list.now c.first_value.result (sym c.list_shape.ensures ∙ c.in-Some.is) c.first_value.ensures).1

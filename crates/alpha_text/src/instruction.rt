@@ -1,0 +1,249 @@
+ghost use Rattle.std.specs.Prelude.{◌≡◌, ◌<◌, ◌^◌, IfSome};
+ghost use Rattle.std.specs.Option.{unwrap_or};
+ghost use Rattle.alpha_table.specs.Row.{IsInsn, IsSigned, IsSource};
+ghost use Rattle.alpha_table.specs.Op.{op_row};
+ghost use Rattle.alpha_operands.specs.Ranges.{IsNumber};
+ghost use Rattle.alpha_operands.specs.Operands.{slots};
+ghost use Rattle.alpha_text.specs.Statements.{said, displacement_in, words_in, hint_in, jump_hint, jump_form, half_said, source_in, memory_said, branch_said, link, operate_form, insn_said, reg};
+
+use crate::Statement;
+use alpha_operands::{Expr, Half, Number, Operands};
+use alpha_table::{BranchOp, Form, Insn, JumpKind, MemOp, Mnemonic, Op, OperandRule, Src};
+use alpha_words::Reg;
+
+// The instruction of a form whose fields are within their row.
+pub(crate) fn insn(form: Form) -> Insn
+    requires { IsInsn form }
+    ensures { result ≡ form }
+{
+    Insn::of(form).unwrap()
+}
+
+// The register of a number.
+pub(crate) fn numbered(number: u8) -> Reg
+    requires { number < 32 }
+    ensures { result ≡ number }
+{
+    Reg::new(number).unwrap()
+}
+
+// A register, or the one that stands for none.
+fn register(written: Option<Reg>, none: Reg) -> Reg
+    ensures value { result ≡ unwrap_or written none }
+    ensures bound { result < 32 }
+{
+    match written {
+        Some(r) => r,
+        None => none,
+    }
+}
+
+// A register, R31 where none is written.
+pub(crate) fn reg(written: Option<Reg>) -> Reg
+    ensures value { result ≡ reg written }
+    ensures bound { result < 32 }
+{
+    register(written, Reg::ZERO)
+}
+
+// A label with its offset.
+pub(crate) fn expr<'a>(label: &'a [u8], o: &Operands<'a>) -> Expr<'a>
+    ensures label { result.label.now ≡ label.now }
+    ensures offset { result.offset ≡ o.now.offset }
+{
+    Expr {
+        label,
+        offset: o.offset,
+    }
+}
+
+// An instruction with half of a label's address.
+fn halved(half: Option<Half>, insn: Insn, address: Expr<'_>) -> Statement<'_>
+    ensures { said result ≡ half_said half insn address.entry.label.now address.entry.offset }
+{
+    match half {
+        Some(Half::High) => Statement::High { insn, address },
+        Some(Half::Low) => Statement::Low { insn, address },
+        None => Statement::Code(insn),
+    }
+}
+
+// The displacement in bytes, 0 where none is written.
+fn displacement(number: Option<Number>) -> i16
+    ensures { result ≡ displacement_in number }
+{
+    match number {
+        Some(Number::Displacement(n)) => n,
+        _ => 0,
+    }
+}
+
+// A memory instruction.
+fn memory<'a>(op: MemOp, o: &Operands<'a>) -> Statement<'a>
+    ensures { said result ≡ memory_said op (slots o.now) (slots o.now).label }
+{
+    let ra = reg(o.ra);
+    let rb = reg(o.rb);
+    match o.label {
+        Some(label) => {
+            let insn = insn(Form::Mem {
+                op,
+                ra,
+                rb,
+                disp: 0,
+            });
+            let address = expr(label, o);
+            halved(o.half, insn, address)
+        }
+        None => {
+            let disp = displacement(o.number);
+            Statement::Code(insn(Form::Mem { op, ra, rb, disp }))
+        }
+    }
+}
+
+// The displacement in words, 0 where none is written.
+fn words(number: Option<Number>) -> i32
+    requires { IfSome number IsNumber }
+    ensures value { result ≡ words_in number }
+    ensures bound { IsSigned 20 result }
+{
+    match number {
+        Some(Number::Words(n)) => n,
+        _ => 0,
+    }
+}
+
+// The register that a branch writes where none is written: `br` alone writes none, `bsr` R26.
+fn link(op: BranchOp) -> Reg
+    ensures { result ≡ link op }
+{
+    match op {
+        BranchOp::Bsr => numbered(26),
+        _ => Reg::ZERO,
+    }
+}
+
+// A branch, to a label or over a distance.
+fn branch<'a>(op: BranchOp, o: &Operands<'a>) -> Statement<'a>
+    requires { IfSome o.now.number IsNumber }
+    ensures { said result ≡ branch_said op (slots o.now) (slots o.now).label }
+{
+    let ra = register(o.ra, link(op));
+    match o.label {
+        Some(label) => {
+            let target = expr(label, o);
+            Statement::Target {
+                insn: insn(Form::Branch { op, ra, disp: 0 }),
+                target,
+            }
+        }
+        None => {
+            let disp = words(o.number);
+            Statement::Code(insn(Form::Branch { op, ra, disp }))
+        }
+    }
+}
+
+// The hint of a jump, 0 where none is written.
+fn hint(number: Option<Number>) -> u16
+    requires { IfSome number IsNumber }
+    ensures value { result ≡ hint_in number }
+    ensures bound { result < 2 ^ 14 }
+{
+    match number {
+        Some(Number::Hint(n)) => n,
+        _ => 0,
+    }
+}
+
+// The hint of a jump, 1 of `ret` alone.
+fn jump_hint(rb: Option<Reg>, number: Option<Number>) -> u16
+    requires { IfSome number IsNumber }
+    ensures value { result ≡ jump_hint rb number }
+    ensures bound { result < 2 ^ 14 }
+{
+    match rb {
+        Some(_) => hint(number),
+        None => 1,
+    }
+}
+
+// A jump. `ret` alone is `ret $31,($26),1`.
+fn jump(kind: JumpKind, o: &Operands<'_>) -> Insn
+    requires { IfSome o.now.number IsNumber }
+    ensures { result ≡ jump_form kind (slots o.now) }
+{
+    let ra = reg(o.ra);
+    let rb = register(o.rb, numbered(26));
+    let hint = jump_hint(o.rb, o.number);
+    insn(Form::Jump { kind, ra, rb, hint })
+}
+
+// The second source of an operate instruction.
+fn source(number: Option<Number>, rb: Option<Reg>) -> Src
+    ensures value { result ≡ source_in number rb }
+    ensures good { IsSource result }
+{
+    match number {
+        Some(Number::Literal(n)) => Src::Lit(n),
+        _ => Src::Reg(reg(rb)),
+    }
+}
+
+// An operate instruction.
+fn operate(op: Op, o: &Operands<'_>) -> Insn
+    ensures { result ≡ operate_form (op_row op).operands op (slots o.now) }
+{
+    let rc = reg(o.rc);
+    match op.row().operands {
+        OperandRule::Any => {
+            let ra = reg(o.ra);
+            let src = source(o.number, o.rb);
+            insn(Form::Operate { op, ra, src, rc })
+        }
+        OperandRule::Unary => {
+            let src = source(o.number, o.rb);
+            insn(Form::Operate {
+                op,
+                ra: Reg::ZERO,
+                src,
+                rc,
+            })
+        }
+        OperandRule::UnaryRegister => {
+            let src = Src::Reg(reg(o.rb));
+            insn(Form::Operate {
+                op,
+                ra: Reg::ZERO,
+                src,
+                rc,
+            })
+        }
+        OperandRule::Version => insn(Form::Operate {
+            op,
+            ra: Reg::ZERO,
+            src: Src::Lit(1),
+            rc,
+        }),
+    }
+}
+
+// The statement of an instruction's name.
+pub(crate) fn of_insn<'a>(mnemonic: Mnemonic, o: &Operands<'a>) -> Statement<'a>
+    requires { IfSome o.now.number IsNumber }
+    ensures { said result ≡ insn_said mnemonic (slots o.now) }
+{
+    match mnemonic {
+        Mnemonic::Mem(op) => memory(op, o),
+        Mnemonic::Branch(op) => branch(op, o),
+        Mnemonic::Jump(kind) => Statement::Code(jump(kind, o)),
+        Mnemonic::Operate(op) => Statement::Code(operate(op, o)),
+        Mnemonic::Misc(op) => Statement::Code(insn(Form::Misc(op))),
+        Mnemonic::Fetch { modify } => {
+            let rb = reg(o.rb);
+            Statement::Code(insn(Form::Fetch { modify, rb }))
+        }
+        Mnemonic::Pal(call) => Statement::Code(insn(Form::Pal(call))),
+    }
+}
