@@ -1,0 +1,69 @@
+-- The step of a PAL call, by its end.
+use Rattle.std.proofs.Common.{◌≡◌, ℕ, List, [], Option, Some, refl, sym, ap, subst, ◌∙◌, append-nil}
+use Rattle.std.specs.Io.KnownBytes.{Appends}
+use Rattle.std.proofs.KnownBytes.{Appends-nil}
+use Rattle.alpha_io.specs.Sunk.{Sunk}
+use Rattle.alpha_words.specs.declared.PalCall.{PalCall}
+use Rattle.alpha_mem.specs.Block.{Block}
+use Rattle.alpha_table.specs.Class.{barrier}
+use Rattle.alpha_pal.specs.declared.pal_end.PalEnd.TheVariants as pals
+use Rattle.alpha_pal.specs.Kernel.{KernelState}
+use Rattle.alpha_pal.specs.Call.{Called, Outside, outside, exits, signals, call}
+use Rattle.alpha_pal.specs.CallEffect.{Takes, CallEffect, Seen, seen}
+use Rattle.alpha_pal.proofs.Serving.{rest_of, Takes-nothing}
+use Rattle.alpha_seq.specs.declared.end.End.{End}
+use Rattle.alpha_seq.specs.declared.end.End.TheVariants as ends
+use Rattle.alpha_seq.specs.declared.machine.Machine.{Machine}
+use Rattle.alpha_seq.specs.State.{State, Ends, stepped}
+use Rattle.alpha_seq.specs.Step.{ended, returned, step}
+use Rattle.alpha_seq.specs.Machine.{program_of, state_of, class_here}
+use Rattle.alpha_seq.specs.Devices.{Drawn}
+use Rattle.alpha_seq.specs.StepEffect.{Steps}
+
+-- the machine after a call, before the program counter moves
+abbrev pub called_machine : Machine → KernelState → List ℕ → List Block → ℕ → Machine
+called_machine m kernel regs mem unique = record m { kernel = kernel; regs = regs; memory = mem; unique = unique }
+
+-- the devices of a call
+abbrev pub drawn_by : Option (List ℕ) → Option (List ℕ) → ℕ → ℕ → Drawn
+drawn_by old new before now = record { old = old; new = new; before = before; now = now }
+
+abbrev pub sunk_by : Option (List ℕ) → Option (List ℕ) → ℕ → ℕ → Sunk
+sunk_by old new before now = record { old = old; new = new; before = before; now = now }
+
+module _ (function : PalCall) (m : Machine) (k : KernelState) (regs : List ℕ) (mem : List Block) (unique : ℕ) (left left' written written' : Option (List ℕ)) (faults faults' count count' : ℕ) (here : class_here m ≡ Some (barrier (Some function))) where
+  -- the definition's step there
+  step_here : (input output : List ℕ) → step (program_of m) (class_here m) (state_of m input output) ≡ returned function (call function m.regs m.memory (outside m.unique input output)) (state_of m input output)
+  step_here input output = ap (λ class. step (program_of m) class (state_of m input output)) here
+
+  -- a call that ends the program
+  ends_here : (end : End) (c : Called) → ((o : Outside) → call function m.regs m.memory o ≡ c) → ((s : State) → s.pc ≡ m.pc → returned function c s ≡ ended s end)
+      → seen regs mem unique left' written' ≡ seen m.regs m.memory m.unique left written
+      → faults' ≡ faults → count' ≡ count
+      → Steps (Ends end) m (called_machine m k regs mem unique) (drawn_by left left' faults faults') (sunk_by written written' count count')
+  ends_here end c does end_is e calm_input calm_sink =
+      let rest : List ℕ = rest_of left left in
+      record {
+        taken = [];
+        rest = rest;
+        bytes = [];
+        took = record { took = subst (λ (l : Option (List ℕ)). Takes left l [] rest) (sym (ap (λ (s : Seen). s.left) e)) (Takes-nothing left); same = calm_input };
+        wrote = record { written = subst (λ (l : Option (List ℕ)). Appends written l []) (sym (ap (λ (s : Seen). s.written) e)) (Appends-nil written); same = calm_sink };
+        is = λ output.
+            step_here rest output
+            ∙ (ap (λ (d : Called). returned function d (state_of m rest output)) (does (outside m.unique rest output))
+            ∙ (end_is (state_of m rest output) refl
+            ∙ (ap (λ (s : Seen). stepped (state_of (called_machine m k s.regs s.mem s.unique) rest output) (Ends end)) (sym e)
+            ∙ ap (λ l. stepped (state_of (called_machine m k regs mem unique) rest l) (Ends end)) (sym (append-nil output)))));
+      }
+
+  pub call-exits : (v : ℕ) → CallEffect function (pals.Exit v) (seen m.regs m.memory m.unique left written) (seen regs mem unique left' written')
+      → faults' ≡ faults → count' ≡ count
+      → Steps (Ends (ends.Exit v)) m (called_machine m k regs mem unique) (drawn_by left left' faults faults') (sunk_by written written' count count')
+  call-exits v h calm_input calm_sink = ends_here (ends.Exit v) (exits v) h.0 (λ s e. refl) h.1 calm_input calm_sink
+
+  pub call-signals : (code : ℕ) → CallEffect function (pals.Signal code) (seen m.regs m.memory m.unique left written) (seen regs mem unique left' written')
+      → faults' ≡ faults → count' ≡ count
+      → Steps (Ends (ends.Signal code m.pc)) m (called_machine m k regs mem unique) (drawn_by left left' faults faults') (sunk_by written written' count count')
+  call-signals code h calm_input calm_sink =
+      ends_here (ends.Signal code m.pc) (signals code) h.0 (λ s e. ap (λ pc. ended s (ends.Signal code pc)) e) h.1 calm_input calm_sink

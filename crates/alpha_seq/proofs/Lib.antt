@@ -1,0 +1,12 @@
+mod Examples
+pub mod Writing
+pub mod Stepping
+pub mod Running
+pub mod Executing
+pub mod Calls
+pub mod Looking
+pub mod Loading
+pub mod RunSteps
+pub mod RunEnds
+pub mod Growing
+pub mod Prefixes

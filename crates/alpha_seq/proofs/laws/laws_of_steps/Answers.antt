@@ -1,0 +1,11 @@
+use Rattle.alpha_seq.proofs.Stepping.{Leaves-step}
+use Rattle.alpha_seq.proofs.laws.laws_of_steps.Goals as goal
+
+pub returns-clause-registers : goal.returns-clause-registers
+returns-clause-registers c g class s = (Leaves-step g class s).registers
+
+pub returns-clause-shapes : goal.returns-clause-shapes
+returns-clause-shapes c g class s = (Leaves-step g class s).blocks
+
+pub returns-clause-ended : goal.returns-clause-ended
+returns-clause-ended c g class s = (Leaves-step g class s).all

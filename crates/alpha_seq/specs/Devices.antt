@@ -1,0 +1,50 @@
+-- What a step or a run did to its devices, which may tell nothing.
+use Rattle.std.specs.Prelude.{◌≡◌, ℕ, List, Option}
+use Rattle.alpha_io.specs.Faults.{Calm}
+use Rattle.alpha_io.specs.Sunk.{Sunk, IsCalm}
+use Rattle.alpha_pal.specs.CallEffect.{Takes}
+
+-- What a call did to a source: its bytes still to come and its count of faults, before the call and after it.
+pub record Drawn : Type 0 where
+  pub old : Option (List ℕ)
+  pub new : Option (List ℕ)
+  pub before : ℕ
+  pub now : ℕ
+
+-- by what the source tells, `Source.left`, and its count, `Source.faults`
+abbrev pub drawn : {S : Type 0} → (S → Option (List ℕ)) → (S → ℕ) → S → S → Drawn
+drawn left faults old new = record { old = left old; new = left new; before = faults old; now = faults new }
+
+-- these bytes were taken, and the rest is left, without a fault
+pub record Draws (d : Drawn) (taken rest : List ℕ) : Type 0 where
+  pub took : Takes d.old d.new taken rest
+  pub same : d.now ≡ d.before
+
+-- nothing was taken and no fault came
+pub record Rests (d : Drawn) : Type 0 where
+  pub left : d.new ≡ d.old
+  pub same : d.now ≡ d.before
+
+-- nothing was put and no fault came
+pub record Idles (s : Sunk) : Type 0 where
+  pub written : s.new ≡ s.old
+  pub same : s.now ≡ s.before
+
+-- where a device stands in between
+abbrev pub drawn_until : Drawn → Option (List ℕ) → ℕ → Drawn
+drawn_until d left faults = record d { new = left; now = faults }
+
+abbrev pub drawn_from : Drawn → Option (List ℕ) → ℕ → Drawn
+drawn_from d left faults = record d { old = left; before = faults }
+
+abbrev pub sunk_until : Sunk → Option (List ℕ) → ℕ → Sunk
+sunk_until s written faults = record s { new = written; now = faults }
+
+abbrev pub sunk_from : Sunk → Option (List ℕ) → ℕ → Sunk
+sunk_from s written faults = record s { old = written; before = faults }
+
+-- no device failed
+pub record AreCalm (input : Drawn) (out notes : Sunk) : Type 0 where
+  pub source : Calm input.before input.now
+  pub sink : IsCalm out
+  pub lines : IsCalm notes

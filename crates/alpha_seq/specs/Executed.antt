@@ -1,0 +1,73 @@
+-- What the execution of one word did, by its answer.
+use Rattle.std.specs.Prelude.{◌≡◌, ℕ, ℤ, ◌+◌, ◌%◌, ◌^◌, ◌⊎◌, Bool, true, false, List, [], Option, Some, None}
+use Rattle.std.specs.Int.{w32}
+use Rattle.alpha_words.specs.Regs.{put}
+use Rattle.alpha_table.specs.declared.rows.MemOp.{MemOp}
+use Rattle.alpha_table.specs.declared.rows.Extension.{Extension}
+use Rattle.alpha_table.specs.declared.rows.Extension.TheVariants.{Zero, Sign}
+use Rattle.alpha_table.specs.declared.columns.MemAccess.{MemAccess}
+use Rattle.alpha_table.specs.declared.form.Form.{Form}
+use Rattle.alpha_table.specs.Class.{Class, barrier}
+use Rattle.alpha_table.specs.Rows.{mem_row}
+use Rattle.alpha_values.specs.Numbers.{signed, register_of}
+use Rattle.alpha_seq.specs.declared.end.End.{End}
+use Rattle.alpha_seq.specs.declared.end.End.TheVariants as ends
+use Rattle.alpha_seq.specs.declared.end.Next.{Next}
+use Rattle.alpha_seq.specs.declared.end.Next.TheVariants as nexts
+use Rattle.alpha_seq.specs.declared.execute.Executed.{Executed}
+use Rattle.alpha_seq.specs.declared.execute.Executed.TheVariants as answers
+use Rattle.alpha_seq.specs.declared.machine.Machine.{Machine}
+use Rattle.alpha_seq.specs.State.{Event, Went, Overflowed, Ends, stepped}
+use Rattle.alpha_seq.specs.Step.{next_pc, step}
+use Rattle.alpha_seq.specs.Machine.{program_of, state_of, kernel_left}
+
+-- The step of the definition at a word of this class, at each input and output, which it leaves.
+pub record Does (event : Event) (class : Class) (old new : Machine) : Type 0 where
+  pub is : (input output : List ℕ)
+      → step (program_of old) (Some class) (state_of old input output) ≡ stepped (state_of new input output) event
+  pub program : program_of new ≡ program_of old
+  pub kernel : new.kernel ≡ kernel_left (Some class) (next_pc (state_of old [] [])) old.regs old.kernel
+
+-- what the execution of a word did, by its answer: nothing at a barrier
+abbrev pub ExecuteEffect : Executed → Class → Machine → Machine → Type 0
+ExecuteEffect answers.Went class old new = Does Went class old new
+ExecuteEffect (answers.Overflowed at) class old new = Does (Overflowed at) class old new
+ExecuteEffect (answers.Ended end) class old new = Does (Ends end) class old new
+ExecuteEffect (answers.Barrier call) class old new = (class ≡ barrier call) × (new ≡ old)
+
+-- the machine after an overflow that is completed
+abbrev pub logged_machine : Machine → ℕ → ℕ → Machine
+logged_machine m rc value = record m {
+  regs = put m.regs rc value;
+  pc = (m.pc + 4) % 2 ^ 64;
+  lock = None;
+  overflows = (m.overflows + 1) % 2 ^ 64;
+  last = m.pc;
+}
+
+-- what an overflow did whose completed value is given, by whether it ends the program
+abbrev pub overflow_answer : Bool → Machine → Executed
+overflow_answer true m = answers.Ended (ends.Overflow m.pc)
+overflow_answer false m = answers.Overflowed m.pc
+
+abbrev pub overflow_left : Bool → Machine → ℕ → ℕ → Machine
+overflow_left true m rc value = m
+overflow_left false m rc value = logged_machine m rc value
+
+-- the sizes of accesses
+abbrev pub IsSized : ℕ → Type 0
+IsSized bytes = (bytes ≡ 1) ⊎ ((bytes ≡ 2) ⊎ ((bytes ≡ 4) ⊎ (bytes ≡ 8)))
+
+-- a register that a load fills from a number
+abbrev pub filled : Extension → ℕ → ℕ
+filled Zero n = n
+filled Sign n = register_of (signed w32 n)
+
+-- what an instruction would do whose access may fault, and end the program so
+abbrev pub fault_answer : Option End → Form → Next
+fault_answer None i = nexts.Plain i
+fault_answer (Some end) i = nexts.Faults end
+
+-- the access of a memory instruction
+abbrev pub row_access : MemOp → ℕ → ℤ → MemAccess
+row_access op rb disp = record { base = rb; disp = disp; bytes = (mem_row op).bytes; clears = (mem_row op).clears }

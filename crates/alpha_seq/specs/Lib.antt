@@ -1,0 +1,13 @@
+pub mod State
+pub mod Start
+pub mod StartMemory
+pub mod Step
+pub mod Notes
+pub mod Run
+pub mod Next
+pub mod Machine
+pub mod Devices
+pub mod StepEffect
+pub mod Turn
+pub mod RunEffect
+pub mod Executed

@@ -1,0 +1,53 @@
+-- A program, the states in which it may stand, and what comes of a step.
+use Rattle.std.specs.Prelude.{◌<◌, ◌^◌, ℕ, List, All, Option, IfSome}
+use Rattle.alpha_words.specs.declared.Completion.{Completion}
+use Rattle.alpha_words.specs.Regs.{IsFile}
+use Rattle.alpha_mem.specs.Block.{Block}
+use Rattle.alpha_mem.specs.Memory.{IsMemory}
+use Rattle.alpha_pal.specs.Call.{Outside}
+use Rattle.alpha_image.specs.Parts.{Parts, IsByte}
+use Rattle.alpha_seq.specs.declared.end.End.{End}
+
+-- An image, and what an instruction that overflows leaves. No step changes either.
+pub record Program : Type 0 where
+  pub image : Parts
+  pub how : Completion
+
+-- The registers, the PC, the memory, the number in the lock flag if it is set, how many overflows were logged modulo
+-- 2 ^ 64 and the address of the last one, and what PAL calls alone change: the unique value, the input still to come and
+-- the output so far.
+pub record State : Type 0 where
+  pub regs : List ℕ
+  pub pc : ℕ
+  pub mem : List Block
+  pub lock : Option ℕ
+  pub count : ℕ
+  pub logged : ℕ
+  pub outside : Outside
+
+-- each part of a state is within its bounds
+pub record IsState (s : State) : Type 0 where
+  pub regs : IsFile s.regs
+  pub pc : s.pc < 2 ^ 64
+  pub mem : IsMemory s.mem
+  pub lock : IfSome s.lock (λ block. block < 2 ^ 60)
+  pub count : s.count < 2 ^ 64
+  pub logged : s.logged < 2 ^ 64
+  pub unique : s.outside.unique < 2 ^ 64
+  pub input : All IsByte s.outside.input
+  pub output : All IsByte s.outside.output
+
+-- An instruction was executed; a barrier was; the one at this address overflowed and was logged; or the program ended.
+pub data Event : Type 0 where
+  Went : Event
+  Barriered : Event
+  Overflowed : (at : ℕ) → Event
+  Ends : (end : End) → Event
+
+-- what a step leaves, and how it went
+pub record Stepped : Type 0 where
+  pub state : State
+  pub event : Event
+
+abbrev pub stepped : State → Event → Stepped
+stepped state event = record { state = state; event = event }

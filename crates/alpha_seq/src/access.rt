@@ -1,0 +1,177 @@
+ghost use Rattle.std.specs.Prelude.{◌≡◌, [], IfOk};
+ghost use Rattle.std.specs.Int.{w32};
+ghost use Rattle.std.specs.Result.{result_err};
+ghost use Rattle.alpha_mem.specs.Size.{size_of};
+ghost use Rattle.alpha_mem.specs.Block.{shapes};
+ghost use Rattle.alpha_mem.specs.Fault.{fault_of};
+ghost use Rattle.alpha_mem.specs.Intent.{Load};
+ghost use Rattle.alpha_table.specs.Class.{class_of, load, store, load_locked, store_conditional};
+ghost use Rattle.alpha_table.specs.declared.form.Form.TheVariants.{Mem};
+ghost use Rattle.alpha_values.specs.Numbers.{signed, register_of};
+ghost use Rattle.alpha_seq.specs.Step.{fault_end, place, loaded};
+ghost use Rattle.alpha_seq.specs.Machine.{state_of};
+ghost use Rattle.alpha_seq.specs.Executed.{ExecuteEffect, IsSized, filled, row_access};
+
+use crate::execute::Executed;
+use crate::{End, Machine};
+use alpha_mem::{MemFault, Size};
+use alpha_table::{Extension, MemAccess, MemOp, MemRole};
+use alpha_values::access_address;
+use alpha_words::Reg;
+
+// The words with a displacement, which load, store or compute an address.
+impl Machine {
+    pub(crate) fn memory_word(&mut self, op: MemOp, ra: Reg, rb: Reg, disp: i16) -> Executed
+        ensures { ExecuteEffect result (class_of (Mem op ra rb disp)) self.old self.new }
+    {
+        let at = memory_access(op, rb, disp);
+        match op.row().role {
+            MemRole::Address => self.address(op, ra, rb, disp),
+            MemRole::Load(_) if ra == Reg::ZERO => self.idle(),
+            MemRole::Load(extension) => self.load(extension, &at, ra),
+            MemRole::Store => self.store(&at, ra),
+            MemRole::LoadLocked(extension) => self.load_locked(extension, &at, ra),
+            MemRole::StoreConditional => self.store_conditional(&at, ra),
+        }
+    }
+
+    fn load(&mut self, extension: Extension, at: &MemAccess, ra: Reg) -> Executed
+        requires { IsSized at.now.bytes }
+        ensures { ExecuteEffect result (load extension at.now ra) self.old self.new }
+    {
+        let addr = self.place(at);
+        match self.read(extension, at, addr) {
+            Ok(value) => {
+                self.set(ra, value);
+                Executed::Went
+            }
+            Err(fault) => Executed::Ended(fault_end(fault, self.pc, addr)),
+        }
+    }
+
+    fn load_locked(&mut self, extension: Extension, at: &MemAccess, ra: Reg) -> Executed
+        requires { IsSized at.now.bytes }
+        ensures { ExecuteEffect result (load_locked extension at.now ra) self.old self.new }
+    {
+        let addr = self.place(at);
+        match self.read(extension, at, addr) {
+            Ok(value) => {
+                self.set(ra, value);
+                self.lock = Some(addr / 16);
+                Executed::Went
+            }
+            Err(fault) => Executed::Ended(fault_end(fault, self.pc, addr)),
+        }
+    }
+
+    fn store(&mut self, at: &MemAccess, ra: Reg) -> Executed
+        requires { IsSized at.now.bytes }
+        ensures { ExecuteEffect result (store at.now ra) self.old self.new }
+    {
+        let addr = self.place(at);
+        let value = self.regs.get(ra);
+        match self.memory.store(addr, size(at.bytes), value) {
+            Ok(()) => {
+                self.advance();
+                Executed::Went
+            }
+            Err(fault) => Executed::Ended(fault_end(fault, self.pc, addr)),
+        }
+    }
+
+    // It stores where the lock flag has the number of its sixteen bytes, and faults alike where it doesn't.
+    fn store_conditional(&mut self, at: &MemAccess, ra: Reg) -> Executed
+        requires { IsSized at.now.bytes }
+        ensures { ExecuteEffect result (store_conditional at.now ra) self.old self.new }
+    {
+        let addr = self.place(at);
+        let value = self.regs.get(ra);
+        let succeeds = self.lock == Some(addr / 16);
+        let stored = if succeeds {
+            self.memory.store(addr, size(at.bytes), value)
+        } else {
+            self.memory.writable(addr, size(at.bytes))
+        };
+        match stored {
+            Ok(()) => {
+                self.set(ra, u64::from(succeeds));
+                self.lock = None;
+                Executed::Went
+            }
+            Err(fault) => Executed::Ended(fault_end(fault, self.pc, addr)),
+        }
+    }
+
+    // The address of an access.
+    pub(crate) fn place(&self, at: &MemAccess) -> u64
+        ensures { result ≡ place at.now (state_of self.now [] []) }
+    {
+        access_address(at, self.regs.get(at.base))
+    }
+
+    // What a load from an address puts into its register.
+    fn read(&self, extension: Extension, at: &MemAccess, addr: u64) -> Result<u64, MemFault>
+        requires size { IsSized at.now.bytes }
+        requires addr { addr ≡ place at.now (state_of self.now [] []) }
+        ensures fault { result_err result ≡ fault_of (shapes self.now.memory) Load addr at.now.bytes }
+        ensures ok { IfOk result (λ v. v ≡ loaded extension at.now (state_of self.now [] [])) }
+    {
+        match self.memory.load(addr, size(at.bytes)) {
+            Ok(value) => Ok(extended(extension, value)),
+            Err(fault) => Err(fault),
+        }
+    }
+}
+
+// The access of a memory instruction.
+pub(crate) fn memory_access(op: MemOp, rb: Reg, disp: i16) -> MemAccess
+    ensures { result ≡ row_access op rb disp }
+{
+    let row = op.row();
+    MemAccess {
+        base: rb,
+        disp,
+        bytes: row.bytes,
+        clears: row.clears,
+    }
+}
+
+// The size of so many bytes.
+pub(crate) fn size(bytes: u8) -> Size
+    requires { IsSized bytes }
+    ensures { size_of result ≡ bytes }
+{
+    match bytes {
+        1 => Size::B1,
+        2 => Size::B2,
+        4 => Size::B4,
+        _ => Size::B8,
+    }
+}
+
+// The end that the fault of an access brings.
+pub(crate) fn fault_end(fault: MemFault, pc: u64, addr: u64) -> End
+    ensures { result ≡ fault_end fault pc addr }
+{
+    match fault {
+        MemFault::Align => End::Align { pc, addr },
+        MemFault::Region => End::Access { pc, addr },
+    }
+}
+
+// A number as a load fills its register with it. Longwords alone are extended with the sign.
+fn extended(extension: Extension, number: u64) -> u64
+    ensures { result ≡ filled extension number }
+{
+    match extension {
+        Extension::Zero => number,
+        Extension::Sign => sign_extended(number),
+    }
+}
+
+// The longword in the low 32 bits, extended with its sign.
+fn sign_extended(number: u64) -> u64
+    ensures { result ≡ register_of (signed w32 number) }
+{
+    i64::from(((number & 0xffff_ffff) as u32).cast_signed()).cast_unsigned()
+}

@@ -1,0 +1,65 @@
+ghost use Rattle.std.specs.Prelude.{◌≡◌, [], Some, IsTrue};
+ghost use Rattle.alpha_io.specs.Sunk.{Sunk, sunk};
+ghost use Rattle.alpha_table.specs.Class.{barrier};
+ghost use Rattle.alpha_pal.specs.CallEffect.{kernel_after};
+ghost use Rattle.alpha_mem.specs.Block.{shapes};
+ghost use Rattle.alpha_seq.specs.Step.{next_pc, lock_after};
+ghost use Rattle.alpha_seq.specs.Machine.{program_of, state_of, class_here};
+ghost use Rattle.alpha_seq.specs.Devices.{drawn, Idles};
+ghost use Rattle.alpha_seq.specs.StepEffect.{StepEffect};
+
+use crate::{End, Machine, StepEnd};
+use alpha_io::{Sink, Source};
+use alpha_pal::PalEnd;
+use alpha_words::PalCall;
+
+impl Machine {
+    // Makes the PAL call at the PC.
+    pub(crate) fn call<S: Source, K: Sink>(
+        &mut self,
+        function: PalCall,
+        input: &mut S,
+        out: &mut K,
+    ) -> StepEnd
+        requires user { IsTrue self.old.kernel.user }
+        requires class { class_here self.old ≡ Some (barrier (Some function)) }
+        ensures effect { (notes : Sunk) → Idles notes → StepEffect result self.old self.new
+            (drawn S.left S.faults input.old input.new)
+            (sunk K.written K.faults out.old out.new) notes }
+        ensures kernel { self.new.kernel ≡ kernel_after function
+            (next_pc (state_of self.old [] [])) self.old.regs self.old.kernel }
+        ensures shapes { shapes self.new.memory ≡ shapes self.old.memory }
+        ensures program { program_of self.new ≡ program_of self.old }
+    {
+        let next = self.next_pc();
+        let end = self.kernel.call(
+            function,
+            next,
+            &mut self.unique,
+            &mut self.regs,
+            &mut self.memory,
+            input,
+            out,
+        );
+        match end {
+            PalEnd::Goes => {
+                self.go_on(function, next);
+                StepEnd::Barrier
+            }
+            PalEnd::Exit(value) => StepEnd::Ended(End::Exit(value)),
+            PalEnd::Signal(code) => StepEnd::Ended(End::Signal { code, pc: self.pc }),
+            PalEnd::InputFault => StepEnd::InputFault,
+            PalEnd::SinkFault => StepEnd::SinkFault,
+        }
+    }
+
+    // Goes on after a PAL call. A return from callsys clears the lock flag.
+    fn go_on(&mut self, function: PalCall, next: u64)
+        ensures { self.new ≡ record self.old { pc = next; lock = lock_after function self.old.lock } }
+    {
+        self.pc = next;
+        if function == PalCall::Callsys {
+            self.lock = None;
+        }
+    }
+}

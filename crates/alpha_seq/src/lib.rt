@@ -1,0 +1,48 @@
+//! The sequential machine: it runs programs exactly, one word a step.
+//!
+//! - [`Machine`] is the machine, all parts of which are open. [`Machine::new`] makes it in the state at the start.
+//! - [`Machine::step`] makes one step, and [`Machine::next`] says what that step would do, as a [`Next`]. [`run`] makes
+//!   steps until the program ends or a number of them is used up.
+//! - [`StepEnd`] is how a step went, [`RunEnd`] how a run went, [`End`] how a program ends.
+//! - [`write_overflow`], [`write_barrier`], [`write_registers`] and [`write_end`] write the lines of an overflow, of a
+//!   barrier, of the registers alone and of an end.
+//! - [`laws_of_steps`]: a step leaves how many registers there are and where the blocks of memory lie, and one that ends
+//!   the program leaves all. [`laws_of_runs`]: a run that is over stays, and one that isn't has made all its steps.
+//!
+//! `specs/State.antt` says what a program and a state are and what comes of a step, `specs/Start.antt` what the state
+//! at the start is, `specs/Step.antt` what each class of words does, `specs/Run.antt` what a run is and what one sees
+//! of it, `specs/Notes.antt` what its lines are, and `specs/Next.antt` what a word would do. `specs/Machine.antt` says
+//! how the code's machine stands to programs and states, `specs/StepEffect.antt` and `specs/RunEffect.antt` what its
+//! step and its run did, and `specs/Devices.antt` what they did to devices that tell their bytes and to others.
+//! `specs/StartMemory.antt`, `specs/Executed.antt` and `specs/Turn.antt` say what the helpers of the start, of the step
+//! and of the run do.
+//!
+//! `src/step.rt` has the step. Its layers are `src/execute.rt`, which executes each word that is no barrier,
+//! `src/words.rt` and `src/access.rt` with the families of these words, the second with those that have a
+//! displacement from a base register, `src/barrier.rt` with the PAL calls, and `src/parts.rt` with what they share.
+//! `src/look.rt` says what a word would do. `src/start.rt` makes the machine, `src/runs.rt` runs it, `src/lines.rt`
+//! writes the lines, `src/laws.rt` has the laws, and `proofs/Examples.antt` has programs whose runs the definitions
+//! compute.
+#![tactic(auto)]
+
+mod access;
+mod barrier;
+mod end;
+mod execute;
+mod laws;
+mod lines;
+mod look;
+mod machine;
+mod parts;
+mod runs;
+mod start;
+mod step;
+mod words;
+
+pub use end::{End, Next, RunEnd, StepEnd};
+pub use laws::{laws_of_runs, laws_of_steps};
+pub use lines::{
+    line_of_end, line_of_overflow, write_barrier, write_end, write_overflow, write_registers,
+};
+pub use machine::Machine;
+pub use runs::run;

@@ -1,0 +1,52 @@
+ghost use Rattle.std.specs.Prelude.{◌≡◌, [], IsTrue};
+ghost use Rattle.alpha_io.specs.Sunk.{sunk};
+ghost use Rattle.alpha_mem.specs.Block.{shapes};
+ghost use Rattle.alpha_seq.specs.Step.{next_pc};
+ghost use Rattle.alpha_seq.specs.Machine.{state_of, class_here, kernel_left, Stays};
+ghost use Rattle.alpha_seq.specs.Devices.{drawn};
+ghost use Rattle.alpha_seq.specs.StepEffect.{StepEffect};
+
+use crate::execute::Executed;
+use crate::{End, Machine, StepEnd, write_overflow};
+use alpha_io::{Failed, Sink, Source};
+
+impl Machine {
+    /// Makes one step, in user mode. An overflow is logged, and then its line is written to the notes. `Ended`
+    /// leaves all as it was. `InputFault` comes only where the input failed in this step: the bytes taken so far
+    /// are in memory, and all else but the kernel's frame is as it was. `SinkFault` comes only where the output
+    /// failed in a write, which leaves all but the frame and a prefix of the bytes, or where the notes failed at
+    /// the line of an overflow, which is then made and logged.
+    pub fn step<S: Source, K: Sink, N: Sink>(
+        &mut self,
+        input: &mut S,
+        out: &mut K,
+        notes: &mut N,
+    ) -> StepEnd
+        requires { IsTrue self.old.kernel.user }
+        ensures effect { StepEffect result self.old self.new
+            (drawn S.left S.faults input.old input.new)
+            (sunk K.written K.faults out.old out.new)
+            (sunk N.written N.faults notes.old notes.new) }
+        ensures kernel { self.new.kernel ≡ kernel_left (class_here self.old)
+            (next_pc (state_of self.old [] [])) self.old.regs self.old.kernel }
+        ensures shapes { shapes self.new.memory ≡ shapes self.old.memory }
+        ensures same { Stays self.old self.new }
+    {
+        let Some(insn) = self.insn() else {
+            return StepEnd::Ended(End::Fetch { pc: self.pc });
+        };
+        match self.execute(&insn) {
+            Executed::Went => StepEnd::Went,
+            Executed::Overflowed(at) => match write_overflow(at, notes) {
+                Ok(()) => StepEnd::Overflow(at),
+                Err(Failed) => StepEnd::SinkFault,
+            },
+            Executed::Ended(end) => StepEnd::Ended(end),
+            Executed::Barrier(None) => {
+                self.advance();
+                StepEnd::Barrier
+            }
+            Executed::Barrier(Some(function)) => self.call(function, input, out),
+        }
+    }
+}

@@ -1,0 +1,112 @@
+ghost use Rattle.std.specs.Prelude.{◌≡◌, ◌+◌, ◌+ℤ◌, ◌*ℤ◌, pos};
+ghost use Rattle.alpha_table.specs.Class.{operate, trigger, address, branch, jump, idle};
+ghost use Rattle.alpha_table.specs.Rows.{branch_row};
+ghost use Rattle.alpha_values.specs.Numbers.{register_of};
+ghost use Rattle.alpha_values.specs.TrapOp.{stops};
+ghost use Rattle.alpha_seq.specs.Step.{computed};
+ghost use Rattle.alpha_seq.specs.Executed.{ExecuteEffect, overflow_answer, overflow_left};
+
+use crate::execute::Executed;
+use crate::{End, Machine};
+use alpha_table::{BranchOp, MemOp, Op, Src, TrapOp};
+use alpha_values::{completed, high_address, operate_at, overflows, taken};
+use alpha_words::{Completion, Reg};
+
+// The words that access no memory, one function a family.
+impl Machine {
+    pub(crate) fn operate(&mut self, op: Op, ra: Reg, src: &Src, rc: Reg) -> Executed
+        ensures { ExecuteEffect result (operate op ra src.now rc) self.old self.new }
+    {
+        let a = self.regs.get(ra);
+        let b = self.source(src);
+        let old = self.regs.get(rc);
+        let value = operate_at(self.image.level(), op, a, b, old);
+        self.set(rc, value);
+        Executed::Went
+    }
+
+    pub(crate) fn trigger(&mut self, op: TrapOp, ra: Reg, src: &Src, rc: Reg) -> Executed
+        ensures { ExecuteEffect result (trigger op ra src.now rc) self.old self.new }
+    {
+        let a = self.regs.get(ra);
+        let b = self.source(src);
+        let value = completed(op, a, b, self.how);
+        if overflows(op, a, b) {
+            return self.overflow(rc, value);
+        }
+        self.set(rc, value);
+        Executed::Went
+    }
+
+    // Ends the program at an overflow, or completes it by this value and logs it.
+    fn overflow(&mut self, rc: Reg, value: u64) -> Executed
+        ensures answer { result ≡ overflow_answer (stops self.old.how) self.old }
+        ensures state { self.new ≡ overflow_left (stops self.old.how) self.old rc value }
+    {
+        let at = self.pc;
+        if self.how == Completion::Stop {
+            return Executed::Ended(End::Overflow { pc: at });
+        }
+        self.set(rc, value);
+        self.lock = None;
+        self.overflows = self.overflows.wrapping_add(1);
+        self.last = at;
+        Executed::Overflowed(at)
+    }
+
+    pub(crate) fn address(&mut self, op: MemOp, ra: Reg, rb: Reg, disp: i16) -> Executed
+        ensures { ExecuteEffect result (address op ra rb disp) self.old self.new }
+    {
+        let value = computed(op, self.regs.get(rb), disp);
+        self.set(ra, value);
+        Executed::Went
+    }
+
+    pub(crate) fn branch(&mut self, op: BranchOp, ra: Reg, disp: i32) -> Executed
+        ensures { ExecuteEffect result (branch (branch_row op).condition ra disp) self.old self.new }
+    {
+        let target = branch_target(self.pc, disp);
+        match op.row().condition {
+            None => {
+                self.set(ra, self.next_pc());
+                self.pc = target;
+            }
+            Some(condition) if taken(condition, self.regs.get(ra)) => self.pc = target,
+            Some(_) => self.advance(),
+        }
+        Executed::Went
+    }
+
+    pub(crate) fn jump(&mut self, ra: Reg, rb: Reg) -> Executed
+        ensures { ExecuteEffect result (jump ra rb) self.old self.new }
+    {
+        let target = self.regs.get(rb);
+        self.set(ra, self.next_pc());
+        self.pc = target / 4 * 4;
+        Executed::Went
+    }
+
+    pub(crate) fn idle(&mut self) -> Executed
+        ensures { ExecuteEffect result idle self.old self.new }
+    {
+        self.advance();
+        Executed::Went
+    }
+}
+
+// What LDA and LDAH compute.
+fn computed(op: MemOp, base: u64, disp: i16) -> u64
+    ensures { result ≡ computed op base disp }
+{
+    match op {
+        MemOp::Ldah => high_address(base, disp),
+        _ => alpha_values::address(base, disp),
+    }
+}
+
+// The target of a branch at this address.
+fn branch_target(pc: u64, disp: i32) -> u64
+    ensures { result ≡ register_of (pos (pc + 4) +ℤ pos 4 *ℤ disp) }
+{
+    pc.wrapping_add_signed(i64::from(disp) * 4 + 4)
+}
