@@ -102,12 +102,12 @@ def best(command, runs=5):
     return min(times) * 1000
 
 
-def instructions(program, contents):
-    """How many host instructions the program takes on an image."""
+def instructions(program, contents, name="check"):
+    """How many host instructions the program takes for a command on an image."""
     with tempfile.NamedTemporaryFile() as file, tempfile.NamedTemporaryFile() as out:
         file.write(contents)
         file.flush()
-        command = ["valgrind", "--tool=callgrind", f"--callgrind-out-file={out.name}", program, "check", file.name]
+        command = ["valgrind", "--tool=callgrind", f"--callgrind-out-file={out.name}", program, name, file.name]
         text = subprocess.run(command, stdout=subprocess.DEVNULL, stderr=subprocess.PIPE, text=True).stderr
     return int(re.search(r"Collected : (\d+)", text).group(1))
 

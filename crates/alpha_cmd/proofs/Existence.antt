@@ -1,5 +1,5 @@
 -- Where files are told and each is of bytes, words have an answer.
-use Rattle.std.proofs.Common.{◌≡◌, ◌⊎◌, ◌<◌, ◌≤◌, ℕ, List, length, All, Option, None, Some, IsSome, IsSomeAnd, refl, sym, subst, inl, inr, ⊎_elim}
+use Rattle.std.proofs.Common.{◌≡◌, ◌⊎◌, ◌<◌, ◌≤◌, ℕ, List, [], length, All, Option, None, Some, IsSome, IsSomeAnd, refl, sym, subst, inl, inr, ⊎_elim}
 use Rattle.std.proofs.lemmas.Bool.{cases_lt}
 use Rattle.alpha_io.specs.Files.{Files}
 use Rattle.alpha_image.specs.declared.fault.ImageFault.{ImageFault}
@@ -10,13 +10,16 @@ use Rattle.alpha_shadow.specs.declared.broken.Broken.{Broken}
 use Rattle.alpha_shadow.specs.Broken.{IsAccepted, IsLeastBroken}
 use Rattle.alpha_shadow.specs.Report.{broken_line}
 use Rattle.alpha_shadow.proofs.Decided.{verdict}
-use Rattle.alpha_request.specs.Command.{Command, check}
+use Rattle.alpha_request.specs.Command.{Command, check, dis, run}
+use Rattle.alpha_request.specs.declared.options.RunOptions.{RunOptions}
+use Rattle.alpha_seq.specs.Run.{Shown, sequential}
 use Rattle.alpha_request.specs.Asked.{asked}
+use Rattle.alpha_dis.specs.Listing.{listing}
 use Rattle.alpha_cmd.specs.declared.status.Status.TheVariants.{NotRestartable, BadWords, BadImage, ShelfFault, TooLarge}
 use Rattle.alpha_cmd.specs.Status.{status_line}
 use Rattle.alpha_cmd.specs.Outcome.{Outcome, goes, stops, Then, Gives}
 use Rattle.alpha_cmd.specs.Image.{Reads, Spells, ImageOf, Judges, image_limit}
-use Rattle.alpha_cmd.specs.Answer.{World, Answer, accepted, answer_of, said, Steps, IsAnswer, HaveBytes}
+use Rattle.alpha_cmd.specs.Answer.{World, Answer, accepted, done_with, answer_shown, answer_of, said, Runs, Steps, IsAnswer, HaveBytes}
 
 -- a stage has an outcome
 abbrev pub HasOutcome : {X : Type 0} → (Outcome X → Type 0) → Type 0
@@ -70,13 +73,31 @@ Judges-some image =
     (λ (bad : (b : Broken) × IsLeastBroken image.words b). (stops (NotRestartable bad.0) (broken_line bad.0 image.code_base), (bad.1, refl)))
     (verdict image.words)
 
+-- what a run shows that makes no step
+nothing_shown : Shown
+nothing_shown = record { end = None; steps = 0; output = []; left = []; notes = [] }
+
+Runs-some : (options : RunOptions) (input : Option (List ℕ)) (image : Parts) → HasOutcome (Runs options input image)
+Runs-some options None image = (goes (answer_shown None nothing_shown), (nothing_shown, tt, refl))
+Runs-some options (Some input) image =
+    let s = sequential (record { image = image; how = options.complete }) input options.steps options.watch in
+    (goes (answer_shown (Some input) s), (s, refl, refl))
+
 Steps-some : (command : Command) (files : List ℕ → Option (List ℕ)) (w : World) → w.files ≡ Some files → HaveBytes w.files → HasOutcome (Steps command w)
 Steps-some (check file) files w told whole =
-    Then-some (Then (ImageOf w.files file) Judges) (λ image. Gives accepted)
+    Then-some (Then (ImageOf w.files file) Judges) (λ image. Gives (accepted w.input))
     (Then-some (ImageOf w.files file) Judges
     (subst (λ f. HasOutcome (ImageOf f file)) (sym told) (ImageOf-some files file (subst HaveBytes told whole)))
     (λ image found. Judges-some image))
-    (λ image found. (goes accepted, refl))
+    (λ image found. (goes (accepted w.input), refl))
+Steps-some (dis file) files w told whole =
+    Then-some (ImageOf w.files file) (λ image. Gives (done_with w.input (listing image)))
+    (subst (λ f. HasOutcome (ImageOf f file)) (sym told) (ImageOf-some files file (subst HaveBytes told whole)))
+    (λ image found. (goes (done_with w.input (listing image)), refl))
+Steps-some (run options file) files w told whole =
+    Then-some (ImageOf w.files file) (Runs options w.input)
+    (subst (λ f. HasOutcome (ImageOf f file)) (sym told) (ImageOf-some files file (subst HaveBytes told whole)))
+    (λ image found. Runs-some options w.input image)
 
 told_files : (files : Files) → IsSome files → (f : List ℕ → Option (List ℕ)) × (files ≡ Some f)
 told_files None told = cc
@@ -86,8 +107,8 @@ pub IsAnswer-some : (words : List (List ℕ)) (w : World) → IsSome w.files →
 IsAnswer-some words w told whole = by (asked words) refl
   where
     by : (command : Option Command) → asked words ≡ command → (a : Answer) × IsAnswer words w a
-    by None e = (said BadWords (status_line BadWords), inl (e, refl))
+    by None e = (said w.input BadWords (status_line BadWords), inl (e, refl))
     by (Some command) e =
         let files = told_files w.files told in
         let o = Steps-some command files.0 w files.1 whole in
-        (answer_of o.0, inr (command, e, (o.0, o.1, refl)))
+        (answer_of w.input o.0, inr (command, e, (o.0, o.1, refl)))

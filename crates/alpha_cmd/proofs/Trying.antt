@@ -1,45 +1,76 @@
 -- What is tried, by the stages that lead there.
-use Rattle.std.proofs.Common.{◌≡◌, ◌≢◌, ◌⊎◌, ◌∙◌, ℕ, List, IsSome, refl, sym, ap, subst, inl, inr, ⊎_elim, arith}
+use Rattle.std.proofs.Common.{◌≡◌, ◌≢◌, ◌⊎◌, ◌∙◌, ℕ, Bool, List, Option, Some, refl, sym, ap, subst, inl, inr, ⊎_elim, arith}
 use Rattle.alpha_io.specs.Files.{Files}
 use Rattle.alpha_io.specs.Faults.{Rose, Calm}
 use Rattle.alpha_io.specs.Sunk.{Sunk, Puts}
 use Rattle.alpha_io.proofs.Shelved.{Lacks-not_told}
 use Rattle.alpha_image.specs.Parts.{Parts}
-use Rattle.alpha_request.specs.Command.{Command, check}
+use Rattle.alpha_request.specs.Command.{Command, check, dis, run}
+use Rattle.alpha_request.specs.declared.options.RunOptions.{RunOptions}
+use Rattle.alpha_seq.specs.declared.end.End.{End}
+use Rattle.alpha_seq.specs.declared.end.End.TheVariants as ends
+use Rattle.alpha_seq.specs.Run.{Shown}
+use Rattle.alpha_dis.specs.Listing.{listing}
 use Rattle.alpha_cmd.specs.declared.status.Status.{Status}
-use Rattle.alpha_cmd.specs.declared.status.Status.TheVariants.{Done, NotRestartable, BadWords, BadImage, StepsSpent, ShelfFault, InputFault, SinkFault, TooLarge, NoMemory}
+use Rattle.alpha_cmd.specs.declared.status.Status.TheVariants.{Done, NotRestartable, BadWords, BadImage, Stopped, StepsSpent, ShelfFault, InputFault, SinkFault, TooLarge, NoMemory}
 use Rattle.alpha_cmd.specs.Status.{status_line}
 use Rattle.alpha_cmd.specs.Outcome.{goes, stops}
 use Rattle.alpha_cmd.specs.Image.{ImageOf, IsRefused, Judges}
-use Rattle.alpha_cmd.specs.Answer.{World, Answer, accepted, notes_of, said, Asks, AnswerOf, IsAnswer, IsAnswered}
-use Rattle.alpha_cmd.specs.Tried.{CutBy, TriedOf, TriedBy, HasFiles}
-use Rattle.alpha_cmd.proofs.Causes.{CheckStatus, done, missing, large, faulty, broken, check_status}
+use Rattle.alpha_cmd.specs.Running.{end_status, MayShow}
+use Rattle.alpha_cmd.specs.Answer.{World, Answer, accepted, done_with, answer_shown, notes_of, said, Asks, AnswerOf, IsAnswer, IsLeft, AreTold, IsAnswered}
+use Rattle.alpha_cmd.specs.Tried.{CutBy, IsCut, IsStarved, MayTake, Fails, TriedOf, TriedBy, HasFiles}
+use Rattle.alpha_cmd.proofs.Causes.{FileStatus, done, missing, large, faulty, broken, ended, spent, check_status, dis_status, run_has_status}
 use Rattle.alpha_cmd.proofs.Uniqueness.{IsAnswer-single}
 
 -- ---- the answers of `check`
 
-pub accepted_answer : (w : World) (file : List ℕ) (image : Parts) (t : Answer) → ImageOf w.files file (goes image) → Judges image (goes image) → t ≡ accepted
+pub accepted_answer : (w : World) (file : List ℕ) (image : Parts) (t : Answer) → ImageOf w.files file (goes image) → Judges image (goes image) → t ≡ accepted w.input
     → AnswerOf (check file) w t
-accepted_answer w file image t found judged is = (goes accepted, (image, (image, found, judged), refl), is)
+accepted_answer w file image t found judged is = (goes (accepted w.input), (image, (image, found, judged), refl), is)
 
 pub refused_answer : (w : World) (file : List ℕ) (image : Parts) (s : Status) (line : List ℕ) (t : Answer) → ImageOf w.files file (goes image) → IsRefused image s line
-    → t ≡ said s line → AnswerOf (check file) w t
+    → t ≡ said w.input s line → AnswerOf (check file) w t
 refused_answer w file image s line t found refused is = (stops s line, inl (inr (image, found, refused)), is)
 
--- a file that gives no image
-pub unloaded_tried : (shelf : Type 0) (w : World) (file : List ℕ) (s : Status) (t : Answer) → ImageOf w.files file (stops s (status_line s)) ⊎ CutBy shelf s
-    → t ≡ said s (status_line s) → TriedOf shelf (check file) w t
-unloaded_tried shelf w file s t (inl h) is = inl (stops s (status_line s), inl (inl h), is)
-unloaded_tried shelf w file s t (inr h) is = inr (record {
+-- ---- the answers of `dis`
+
+pub listed_answer : (w : World) (file : List ℕ) (image : Parts) → ImageOf w.files file (goes image) → AnswerOf (dis file) w (done_with w.input (listing image))
+listed_answer w file image found = (goes (done_with w.input (listing image)), (image, found, refl), refl)
+
+-- ---- the answers of `run`
+
+pub shown_answer : (w : World) (options : RunOptions) (file : List ℕ) (image : Parts) (s : Shown) → ImageOf w.files file (goes image) → MayShow options w.input image s
+    → AnswerOf (run options file) w (answer_shown w.input s)
+shown_answer w options file image s found may = (goes (answer_shown w.input s), (image, found, (s, may, refl)), refl)
+
+-- ---- a file that gives no image
+
+pub cut_short : (shelf : Type 0) (w : World) (s : Status) (t : Answer) → CutBy shelf s → t ≡ said w.input s (status_line s) → IsCut shelf w t
+cut_short shelf w s t h is = record {
   cause = subst (λ a. CutBy shelf a.status) (sym is) h;
-  is = is ∙ ap (λ a. said a.status (status_line a.status)) (sym is);
-})
+  is = is ∙ ap (λ a. said w.input a.status (status_line a.status)) (sym is);
+}
+
+pub unloaded_check : (shelf input : Type 0) (w : World) (file : List ℕ) (s : Status) (t : Answer) → ImageOf w.files file (stops s (status_line s)) ⊎ CutBy shelf s
+    → t ≡ said w.input s (status_line s) → TriedOf shelf input (check file) w t
+unloaded_check shelf input w file s t (inl h) is = inl (stops s (status_line s), inl (inl h), is)
+unloaded_check shelf input w file s t (inr h) is = inr (inl (cut_short shelf w s t h is))
+
+pub unloaded_dis : (shelf input : Type 0) (w : World) (file : List ℕ) (s : Status) (t : Answer) → ImageOf w.files file (stops s (status_line s)) ⊎ CutBy shelf s
+    → t ≡ said w.input s (status_line s) → TriedOf shelf input (dis file) w t
+unloaded_dis shelf input w file s t (inl h) is = inl (stops s (status_line s), inl h, is)
+unloaded_dis shelf input w file s t (inr h) is = inr (inl (cut_short shelf w s t h is))
+
+pub unloaded_run : (shelf input : Type 0) (w : World) (options : RunOptions) (file : List ℕ) (s : Status) (t : Answer) → ImageOf w.files file (stops s (status_line s)) ⊎ CutBy shelf s
+    → t ≡ said w.input s (status_line s) → TriedOf shelf input (run options file) w t
+unloaded_run shelf input w options file s t (inl h) is = inl (stops s (status_line s), inl h, is)
+unloaded_run shelf input w options file s t (inr h) is = inr (inl (cut_short shelf w s t h is))
 
 -- what a command tries is tried for the words that ask for it
-pub asked_tried : (shelf : Type 0) (words : List (List ℕ)) (command : Command) (w : World) (t : Answer) → Asks words command → TriedOf shelf command w t
-    → TriedBy shelf words w t
-asked_tried shelf words command w t asks (inl h) = inl (inr (command, asks, h))
-asked_tried shelf words command w t asks (inr h) = inr (inl (command, asks, h))
+pub asked_tried : (shelf input : Type 0) (words : List (List ℕ)) (command : Command) (w : World) (t : Answer) → Asks words command → TriedOf shelf input command w t
+    → TriedBy shelf input words w t
+asked_tried shelf input words command w t asks (inl h) = inl (inr (command, asks, h))
+asked_tried shelf input words command w t asks (inr h) = inr (inl (command, asks, h))
 
 -- ---- what is tried where no device fails
 
@@ -48,6 +79,7 @@ cut_calm shelf (Done n) calm h = absurd h
 cut_calm shelf (NotRestartable b) calm h = absurd h
 cut_calm shelf BadWords calm h = absurd h
 cut_calm shelf (BadImage fault) calm h = absurd h
+cut_calm shelf (Stopped end) calm h = absurd h
 cut_calm shelf StepsSpent calm h = absurd h
 cut_calm shelf ShelfFault calm h = absurd (calm h)
 cut_calm shelf InputFault calm h = absurd h
@@ -55,24 +87,29 @@ cut_calm shelf SinkFault calm h = absurd h
 cut_calm shelf (TooLarge limit) calm h = absurd h
 cut_calm shelf NoMemory calm h = refl
 
--- it is an answer to the words, or memory ran out
-pub calm_tried : (shelf : Type 0) (words : List (List ℕ)) (w : World) (t : Answer) → (shelf → ⊥) → TriedBy shelf words w t → IsAnswer words w t ⊎ (t.status ≡ NoMemory)
-calm_tried shelf words w t calm (inl h) = inl h
-calm_tried shelf words w t calm (inr (inl h)) = inr (cut_calm shelf t.status calm h.2.cause)
-calm_tried shelf words w t calm (inr (inr h)) = inr (ap (λ a. a.status) h)
+fails_calm : (shelf input : Type 0) (command : Command) (w : World) (t : Answer) → (shelf → ⊥) → (input → ⊥) → Fails shelf input command w t → t.status ≡ NoMemory
+fails_calm shelf input command w t calm quiet (inl h) = cut_calm shelf t.status calm h.cause
+fails_calm shelf input command w t calm quiet (inr h) = absurd (quiet h.cause)
 
--- over told files it is their one answer, or memory ran out
-pub exact_tried : (shelf : Type 0) (words : List (List ℕ)) (w : World) (t a : Answer) → IsSome w.files → (shelf → ⊥) → TriedBy shelf words w t → IsAnswer words w a
-    → (t ≡ a) ⊎ (t.status ≡ NoMemory)
-exact_tried shelf words w t a told calm tried is =
-    ⊎_elim (λ h. inl (IsAnswer-single words w t a told h is)) (λ (h : t.status ≡ NoMemory). inr h) (calm_tried shelf words w t calm tried)
+-- it is an answer to the words, or memory ran out
+calm_tried : (shelf input : Type 0) (words : List (List ℕ)) (w : World) (t : Answer) → (shelf → ⊥) → (input → ⊥) → TriedBy shelf input words w t
+    → IsAnswer words w t ⊎ (t.status ≡ NoMemory)
+calm_tried shelf input words w t calm quiet (inl h) = inl h
+calm_tried shelf input words w t calm quiet (inr (inl h)) = inr (fails_calm shelf input h.0 w t calm quiet h.2)
+calm_tried shelf input words w t calm quiet (inr (inr h)) = inr (ap (λ a. a.status) h)
+
+-- where what is read is told it is their one answer, or memory ran out
+pub exact_tried : (shelf input : Type 0) (words : List (List ℕ)) (w : World) (t a : Answer) → AreTold words w → (shelf → ⊥) → (input → ⊥) → TriedBy shelf input words w t
+    → IsAnswer words w a → (t ≡ a) ⊎ (t.status ≡ NoMemory)
+exact_tried shelf input words w t a told calm quiet tried is =
+    ⊎_elim (λ h. inl (IsAnswer-single words w t a told h is)) (λ (h : t.status ≡ NoMemory). inr h) (calm_tried shelf input words w t calm quiet tried)
 
 -- what was tried was written
-pub IsAnswered-tried : (t a : Answer) (status : Status) (out notes : Sunk) → status ≡ t.status → Puts out t.output → Puts notes (notes_of t) → (t ≡ a) ⊎ (t.status ≡ NoMemory)
-    → IsAnswered a status out notes ⊎ (status ≡ NoMemory)
-IsAnswered-tried t a status out notes is output line (inl same) =
-    inl (subst (λ x. IsAnswered x status out notes) same (record { status_is = is; output = output; line = line }))
-IsAnswered-tried t a status out notes is output line (inr memory) = inr (is ∙ memory)
+pub IsAnswered-tried : (t a : Answer) (status : Status) (left : Option (List ℕ)) (out notes : Sunk) → status ≡ t.status → IsLeft t left → Puts out t.output → Puts notes (notes_of t)
+    → (t ≡ a) ⊎ (t.status ≡ NoMemory) → IsAnswered a status left out notes ⊎ (status ≡ NoMemory)
+IsAnswered-tried t a status left out notes is rest output line (inl same) =
+    inl (subst (λ x. IsAnswered x status left out notes) same (record { status_is = is; left_is = rest; output = output; line = line }))
+IsAnswered-tried t a status left out notes is rest output line (inr memory) = inr (is ∙ memory)
 
 -- ---- which statuses are tried
 
@@ -81,6 +118,7 @@ is_sink (Done n) = inr (λ e. cc)
 is_sink (NotRestartable b) = inr (λ e. cc)
 is_sink BadWords = inr (λ e. cc)
 is_sink (BadImage fault) = inr (λ e. cc)
+is_sink (Stopped end) = inr (λ e. cc)
 is_sink StepsSpent = inr (λ e. cc)
 is_sink ShelfFault = inr (λ e. cc)
 is_sink InputFault = inr (λ e. cc)
@@ -101,20 +139,26 @@ cut_not : (shelf : Type 0) (f : Fault) → CutBy shelf (status_of f) → ⊥
 cut_not shelf of_input h = h
 cut_not shelf of_sink h = h
 
-check_not : (files : Files) (file : List ℕ) (s : Status) (f : Fault) → s ≡ status_of f → CheckStatus files file s → ⊥
-check_not files file s of_input e (done is) = cc
-check_not files file s of_input e (missing is lacks) = cc
-check_not files file s of_input e (large limit is) = cc
-check_not files file s of_input e (faulty fault is) = cc
-check_not files file s of_input e (broken place is) = cc
-check_not files file s of_sink e (done is) = cc
-check_not files file s of_sink e (missing is lacks) = cc
-check_not files file s of_sink e (large limit is) = cc
-check_not files file s of_sink e (faulty fault is) = cc
-check_not files file s of_sink e (broken place is) = cc
+file_not : (files : Files) (file : List ℕ) (s : Status) (f : Fault) → s ≡ status_of f → FileStatus files file s → ⊥
+file_not files file s of_input e (done is) = cc
+file_not files file s of_input e (missing is lacks) = cc
+file_not files file s of_input e (large limit is) = cc
+file_not files file s of_input e (faulty fault is) = cc
+file_not files file s of_input e (broken place is) = cc
+file_not files file s of_input e (ended end is) = cc
+file_not files file s of_input e (spent is) = cc
+file_not files file s of_sink e (done is) = cc
+file_not files file s of_sink e (missing is lacks) = cc
+file_not files file s of_sink e (large limit is) = cc
+file_not files file s of_sink e (faulty fault is) = cc
+file_not files file s of_sink e (broken place is) = cc
+file_not files file s of_sink e (ended end is) = cc
+file_not files file s of_sink e (spent is) = cc
 
 answer_not : (command : Command) (w : World) (a : Answer) (f : Fault) → a.status ≡ status_of f → AnswerOf command w a → ⊥
-answer_not (check file) w a f e h = check_not w.files file a.status f e (check_status file w a h)
+answer_not (check file) w a f e h = file_not w.files file a.status f e (check_status file w a h)
+answer_not (dis file) w a f e h = file_not w.files file a.status f e (dis_status file w a h)
+answer_not (run options file) w a f e h = file_not w.files file a.status f e (run_has_status options file w a h)
 
 words_not : (a : Answer) (f : Fault) → a.status ≡ status_of f → a.status ≡ BadWords → ⊥
 words_not a of_input e h = cc
@@ -124,41 +168,85 @@ memory_not : (a : Answer) (f : Fault) → a.status ≡ status_of f → a.status 
 memory_not a of_input e h = cc
 memory_not a of_sink e h = cc
 
-tried_not : (shelf : Type 0) (words : List (List ℕ)) (w : World) (t : Answer) (f : Fault) → TriedBy shelf words w t → t.status ≡ status_of f → ⊥
-tried_not shelf words w t f (inl (inl h)) e = words_not t f e (ap (λ a. a.status) h.1)
-tried_not shelf words w t f (inl (inr h)) e = answer_not h.0 w t f e h.2
-tried_not shelf words w t f (inr (inl h)) e = cut_not shelf f (subst (CutBy shelf) e h.2.cause)
-tried_not shelf words w t f (inr (inr h)) e = memory_not t f e (ap (λ a. a.status) h)
+-- no answer has the status of a fault of a stream, and what is tried has that of the input only where it failed
+tried_not : (shelf input : Type 0) (words : List (List ℕ)) (w : World) (t : Answer) (f : Fault)
+    → (t.status ≡ InputFault → input → t.status ≡ status_of f → ⊥) → TriedBy shelf input words w t → t.status ≡ status_of f → ⊥
+tried_not shelf input words w t f other (inl (inl h)) e = words_not t f e (ap (λ a. a.status) h.1)
+tried_not shelf input words w t f other (inl (inr h)) e = answer_not h.0 w t f e h.2
+tried_not shelf input words w t f other (inr (inl h)) e =
+    ⊎_elim
+    (λ (cut : IsCut shelf w t). cut_not shelf f (subst (CutBy shelf) e cut.cause))
+    (λ (starved : IsStarved input h.0 w t). other starved.status_is starved.cause e)
+    h.2
+tried_not shelf input words w t f other (inr (inr h)) e = memory_not t f e (ap (λ a. a.status) h)
 
-pub tried_not_sink : (shelf : Type 0) (words : List (List ℕ)) (w : World) (t : Answer) → TriedBy shelf words w t → t.status ≢ SinkFault
-tried_not_sink shelf words w t tried = tried_not shelf words w t of_sink tried
+pub tried_not_sink : (shelf input : Type 0) (words : List (List ℕ)) (w : World) (t : Answer) → TriedBy shelf input words w t → t.status ≢ SinkFault
+tried_not_sink shelf input words w t tried = tried_not shelf input words w t of_sink (λ is cause e. cc) tried
 
-pub tried_not_input : (shelf : Type 0) (words : List (List ℕ)) (w : World) (t : Answer) → TriedBy shelf words w t → t.status ≢ InputFault
-tried_not_input shelf words w t tried = tried_not shelf words w t of_input tried
+-- of an input that doesn't fail
+pub tried_not_input : (shelf input : Type 0) (words : List (List ℕ)) (w : World) (t : Answer) → (input → ⊥) → TriedBy shelf input words w t → t.status ≢ InputFault
+tried_not_input shelf input words w t quiet tried = tried_not shelf input words w t of_input (λ is cause e. quiet cause) tried
 
 -- ---- a shelf's fault, where the files are there and the shelf doesn't fail
 
-check_there : (files : Files) (file : List ℕ) (s : Status) → HasFiles (check file) files → s ≡ ShelfFault → CheckStatus files file s → ⊥
-check_there files file s there e (done is) = cc
-check_there files file s there e (missing is lacks) = Lacks-not_told files file (λ bytes. Unit {0}) lacks there
-check_there files file s there e (large limit is) = cc
-check_there files file s there e (faulty fault is) = cc
-check_there files file s there e (broken place is) = cc
+file_there : (files : Files) (file : List ℕ) (s : Status) → HasFiles (check file) files → s ≡ ShelfFault → FileStatus files file s → ⊥
+file_there files file s there e (done is) = cc
+file_there files file s there e (missing is lacks) = Lacks-not_told files file (λ bytes. Unit {0}) lacks there
+file_there files file s there e (large limit is) = cc
+file_there files file s there e (faulty fault is) = cc
+file_there files file s there e (broken place is) = cc
+file_there files file s there e (ended end is) = cc
+file_there files file s there e (spent is) = cc
 
 answer_there : (command : Command) (w : World) (a : Answer) → HasFiles command w.files → a.status ≡ ShelfFault → AnswerOf command w a → ⊥
-answer_there (check file) w a there e h = check_there w.files file a.status there e (check_status file w a h)
+answer_there (check file) w a there e h = file_there w.files file a.status there e (check_status file w a h)
+answer_there (dis file) w a there e h = file_there w.files file a.status there e (dis_status file w a h)
+answer_there (run options file) w a there e h = file_there w.files file a.status there e (run_has_status options file w a h)
 
-pub tried_there : (shelf : Type 0) (words : List (List ℕ)) (command : Command) (w : World) (t : Answer) → (shelf → ⊥) → Asks words command → HasFiles command w.files
-    → TriedBy shelf words w t → t.status ≢ ShelfFault
-tried_there shelf words command w t calm asks there (inl (inl h)) e = let x : t.status ≡ BadWords = ap (λ a. a.status) h.1 in cc
-tried_there shelf words command w t calm asks there (inl (inr h)) e =
+pub tried_there : (shelf input : Type 0) (words : List (List ℕ)) (command : Command) (w : World) (t : Answer) → (shelf → ⊥) → Asks words command → HasFiles command w.files
+    → TriedBy shelf input words w t → t.status ≢ ShelfFault
+tried_there shelf input words command w t calm asks there (inl (inl h)) e = let x : t.status ≡ BadWords = ap (λ a. a.status) h.1 in cc
+tried_there shelf input words command w t calm asks there (inl (inr h)) e =
     let x = h.1 in
     let same : h.0 ≡ command = cc in
     answer_there command w t there e (subst (λ c. AnswerOf c w t) same h.2)
-tried_there shelf words command w t calm asks there (inr (inl h)) e = calm (subst (CutBy shelf) e h.2.cause)
-tried_there shelf words command w t calm asks there (inr (inr h)) e = let x : t.status ≡ NoMemory = ap (λ a. a.status) h in cc
+tried_there shelf input words command w t calm asks there (inr (inl h)) e =
+    ⊎_elim
+    (λ (cut : IsCut shelf w t). calm (subst (CutBy shelf) e cut.cause))
+    (λ (starved : IsStarved input h.0 w t). let x : t.status ≡ InputFault = starved.status_is in cc)
+    h.2
+tried_there shelf input words command w t calm asks there (inr (inr h)) e = let x : t.status ≡ NoMemory = ap (λ a. a.status) h in cc
 
--- ---- a device whose count is always 0
+-- ---- the statuses under which input may have been taken
+
+pub MayTake-sink : (command : Command) (s : Status) → MayTake command s → MayTake command SinkFault
+MayTake-sink (check file) s h = absurd h
+MayTake-sink (dis file) s h = absurd h
+MayTake-sink (run options file) s h = tt
+
+pub end_not_shelf : (end : End) → end_status end ≢ ShelfFault
+end_not_shelf (ends.Exit v) e = cc
+end_not_shelf (ends.Signal code pc) e = cc
+end_not_shelf (ends.Fetch pc) e = cc
+end_not_shelf (ends.Access pc addr) e = cc
+end_not_shelf (ends.Align pc addr) e = cc
+end_not_shelf (ends.Overflow pc) e = cc
+
+pub MayTake-end : (options : RunOptions) (file : List ℕ) (end : End) → MayTake (run options file) (end_status end)
+MayTake-end options file (ends.Exit v) = tt
+MayTake-end options file (ends.Signal code pc) = tt
+MayTake-end options file (ends.Fetch pc) = tt
+MayTake-end options file (ends.Access pc addr) = tt
+MayTake-end options file (ends.Align pc addr) = tt
+MayTake-end options file (ends.Overflow pc) = tt
+
+-- ---- devices that tell, and whose count is always 0
+
+pub told_sure : (words : List (List ℕ)) (file : List ℕ → Option (List ℕ)) (takes : List ℕ → ℕ → Bool) (input : List ℕ)
+    → AreTold words (record { files = Some file; takes = takes; input = Some input })
+told_sure words file takes input (check name) asks = refl
+told_sure words file takes input (dis name) asks = refl
+told_sure words file takes input (run options name) asks = (refl, refl)
 
 pub Rose-none : Rose 0 0 → ⊥
 Rose-none rose = omega arith

@@ -8,13 +8,16 @@ use Rattle.alpha_shadow.specs.declared.broken.Broken.{Broken}
 use Rattle.alpha_shadow.specs.Broken.{IsLeastBroken, NoLater}
 use Rattle.alpha_shadow.specs.Report.{broken_line}
 use Rattle.alpha_shadow.proofs.Conditions.{condition_number-injective}
-use Rattle.alpha_request.specs.Command.{Command, check}
+use Rattle.alpha_request.specs.Command.{Command, check, dis, run}
+use Rattle.alpha_request.specs.declared.options.RunOptions.{RunOptions}
+use Rattle.alpha_seq.specs.Run.{Shown}
+use Rattle.alpha_dis.specs.Listing.{listing}
 use Rattle.alpha_cmd.specs.declared.status.Status.{Status}
 use Rattle.alpha_cmd.specs.declared.status.Status.TheVariants.{NotRestartable, BadImage}
 use Rattle.alpha_cmd.specs.Status.{status_line}
 use Rattle.alpha_cmd.specs.Outcome.{Outcome, goes, stops, Then, Gives}
 use Rattle.alpha_cmd.specs.Image.{Reads, Spells, ImageOf, Judges, image_limit}
-use Rattle.alpha_cmd.specs.Answer.{World, Answer, accepted, answer_of, Steps, AnswerOf, IsAnswer}
+use Rattle.alpha_cmd.specs.Answer.{World, Answer, accepted, done_with, answer_shown, answer_of, Runs, Steps, AnswerOf, IsAnswer, IsTold, AreTold}
 use Rattle.alpha_cmd.proofs.Causes.{Missed, missing, large, Unread-cause, Faulty, NoImage-cause, Refused, IsRefused-cause}
 
 -- a stage has one outcome
@@ -149,16 +152,29 @@ Judges-single image (stops s l) (stops t m) h g = same_refusal image s t l m (Is
 
 -- ---- an answer
 
-pub Steps-single : (command : Command) (w : World) → IsSome w.files → IsSingle (Steps command w)
+Runs-single : (options : RunOptions) (input : Option (List ℕ)) (image : Parts) → IsSome input → IsSingle (Runs options input image)
+Runs-single options None image told o p h g = cc
+Runs-single options (Some input) image told (goes a) (goes b) h g =
+    let same : h.0 ≡ g.0 = h.1 ∙ sym g.1 in
+    ap goes (h.2 ∙ (ap (answer_shown (Some input)) same ∙ sym g.2))
+Runs-single options (Some input) image told (goes a) (stops t m) h g = absurd g
+Runs-single options (Some input) image told (stops s l) p h g = absurd h
+
+pub Steps-single : (command : Command) (w : World) → IsTold command w → IsSingle (Steps command w)
 Steps-single (check file) w told =
-    Then-single (Then (ImageOf w.files file) Judges) (λ image. Gives accepted)
+    Then-single (Then (ImageOf w.files file) Judges) (λ image. Gives (accepted w.input))
     (Then-single (ImageOf w.files file) Judges (ImageOf-single w.files file told) Judges-single)
-    (λ image. Gives-single accepted)
+    (λ image. Gives-single (accepted w.input))
+Steps-single (dis file) w told =
+    Then-single (ImageOf w.files file) (λ image. Gives (done_with w.input (listing image))) (ImageOf-single w.files file told)
+    (λ image. Gives-single (done_with w.input (listing image)))
+Steps-single (run options file) w told =
+    Then-single (ImageOf w.files file) (Runs options w.input) (ImageOf-single w.files file told.0) (λ image. Runs-single options w.input image told.1)
 
-pub AnswerOf-single : (command : Command) (w : World) (a b : Answer) → IsSome w.files → AnswerOf command w a → AnswerOf command w b → a ≡ b
-AnswerOf-single command w a b told h g = h.2 ∙ (ap answer_of (Steps-single command w told h.0 g.0 h.1 g.1) ∙ sym g.2)
+pub AnswerOf-single : (command : Command) (w : World) (a b : Answer) → IsTold command w → AnswerOf command w a → AnswerOf command w b → a ≡ b
+AnswerOf-single command w a b told h g = h.2 ∙ (ap (answer_of w.input) (Steps-single command w told h.0 g.0 h.1 g.1) ∙ sym g.2)
 
-pub IsAnswer-single : (words : List (List ℕ)) (w : World) (a b : Answer) → IsSome w.files → IsAnswer words w a → IsAnswer words w b → a ≡ b
+pub IsAnswer-single : (words : List (List ℕ)) (w : World) (a b : Answer) → AreTold words w → IsAnswer words w a → IsAnswer words w b → a ≡ b
 IsAnswer-single words w a b told (inl h) (inl g) = h.1 ∙ sym g.1
 IsAnswer-single words w a b told (inl h) (inr g) = let x = h.0 in let y = g.1 in cc
 IsAnswer-single words w a b told (inr h) (inl g) = let x = h.1 in let y = g.0 in cc
@@ -166,4 +182,4 @@ IsAnswer-single words w a b told (inr h) (inr g) =
     let x = h.1 in
     let y = g.1 in
     let same : g.0 ≡ h.0 = cc in
-    AnswerOf-single h.0 w a b told h.2 (subst (λ c. AnswerOf c w b) same g.2)
+    AnswerOf-single h.0 w a b (told h.0 h.1) h.2 (subst (λ c. AnswerOf c w b) same g.2)

@@ -1,15 +1,19 @@
 -- What a list of words has as its answer, where no device fails and memory lasts.
-use Rattle.std.specs.Prelude.{◌≡◌, ◌⊎◌, ℕ, List, [], ◌∷◌, ◌++◌, Bool, codes, All, Option, Some, None}
+use Rattle.std.specs.Prelude.{◌≡◌, ◌⊎◌, ℕ, List, [], ◌∷◌, ◌++◌, Bool, codes, All, Option, Some, None, IfSome, IsSome, option_map}
 use Rattle.alpha_io.specs.Files.{Files}
 use Rattle.alpha_io.specs.Sunk.{Sunk, Puts}
-use Rattle.alpha_image.specs.Parts.{IsByte}
-use Rattle.alpha_request.specs.Command.{Command, check}
+use Rattle.alpha_image.specs.Parts.{Parts, IsByte}
+use Rattle.alpha_request.specs.Command.{Command, check, dis, run}
+use Rattle.alpha_request.specs.declared.options.RunOptions.{RunOptions}
 use Rattle.alpha_request.specs.Asked.{asked}
+use Rattle.alpha_dis.specs.Listing.{listing}
+use Rattle.alpha_seq.specs.Run.{Shown}
 use Rattle.alpha_cmd.specs.declared.status.Status.{Status}
 use Rattle.alpha_cmd.specs.declared.status.Status.TheVariants.{Done, BadWords}
 use Rattle.alpha_cmd.specs.Outcome.{Outcome, goes, stops, Then, Gives}
 use Rattle.alpha_cmd.specs.Status.{status_line}
 use Rattle.alpha_cmd.specs.Image.{ImageOf, Judges}
+use Rattle.alpha_cmd.specs.Running.{run_status, run_line, MayShow}
 
 -- what the devices tell: the files, which files may be kept, and the input still to come
 pub record World : Type 0 where
@@ -27,32 +31,58 @@ HaveBytes None = Unit {0}
 HaveBytes (Some files) = (name file : List ℕ) → files name ≡ Some file → All IsByte file
 
 -- A status, the bytes for the output, and those for the notes: what is written there while the command works, and the
--- line at its end.
+-- line at its end. Of an input that is told also what is left.
 pub record Answer : Type 0 where
   pub status : Status
   pub output : List ℕ
   pub trace : List ℕ
   pub line : List ℕ
+  pub left : Option (List ℕ)
 
 abbrev pub notes_of : Answer → List ℕ
 notes_of a = a.trace ++ a.line
 
--- a status that is said by its line alone
-abbrev pub said : Status → List ℕ → Answer
-said status line = record { status = status; output = []; trace = []; line = line }
+-- a status that is said by its line alone, with the input as it is
+abbrev pub said : Option (List ℕ) → Status → List ℕ → Answer
+said input status line = record { status = status; output = []; trace = []; line = line; left = input }
+
+-- what was asked is done, with these bytes for the output and the input as it is
+abbrev pub done_with : Option (List ℕ) → List ℕ → Answer
+done_with input output = record { status = Done 0; output = output; trace = []; line = []; left = input }
 
 -- `accepted` and a line feed
-abbrev pub accepted : Answer
-accepted = record { status = Done 0; output = codes "accepted" ++ 10 ∷ []; trace = []; line = [] }
+abbrev pub accepted : Option (List ℕ) → Answer
+accepted input = done_with input (codes "accepted" ++ 10 ∷ [])
 
-abbrev pub answer_of : Outcome Answer → Answer
-answer_of (goes a) = a
-answer_of (stops status line) = said status line
+-- what a run shows
+abbrev pub answer_shown : Option (List ℕ) → Shown → Answer
+answer_shown input s = record {
+  status = run_status s.end;
+  output = s.output;
+  trace = s.notes;
+  line = run_line s.end;
+  left = option_map (λ bytes. s.left) input;
+}
+
+abbrev pub answer_of : Option (List ℕ) → Outcome Answer → Answer
+answer_of input (goes a) = a
+answer_of input (stops status line) = said input status line
+
+-- what a source tells, where an answer says what is left
+abbrev pub IsLeft : Answer → Option (List ℕ) → Type 0
+IsLeft a left = IfSome a.left (λ rest. left ≡ Some rest)
 
 -- ---- the stages of each command
 
+-- the run of an image, over this input
+abbrev pub Runs : RunOptions → Option (List ℕ) → Parts → Outcome Answer → Type 0
+Runs options input image (goes a) = (s : Shown) × MayShow options input image s × (a ≡ answer_shown input s)
+Runs options input image (stops status line) = ⊥
+
 abbrev pub Steps : Command → World → Outcome Answer → Type 0
-Steps (check file) w = Then (Then (ImageOf w.files file) Judges) (λ image. Gives accepted)
+Steps (check file) w = Then (Then (ImageOf w.files file) Judges) (λ image. Gives (accepted w.input))
+Steps (dis file) w = Then (ImageOf w.files file) (λ image. Gives (done_with w.input (listing image)))
+Steps (run options file) w = Then (ImageOf w.files file) (Runs options w.input)
 
 -- ---- the answer to words
 
@@ -66,16 +96,27 @@ AsksNothing words = asked words ≡ None
 
 -- an answer of a command
 abbrev pub AnswerOf : Command → World → Answer → Type 0
-AnswerOf command w a = (o : Outcome Answer) × Steps command w o × (a ≡ answer_of o)
+AnswerOf command w a = (o : Outcome Answer) × Steps command w o × (a ≡ answer_of w.input o)
 
 -- an answer to words
 abbrev pub IsAnswer : List (List ℕ) → World → Answer → Type 0
 IsAnswer words w a =
-    (AsksNothing words × (a ≡ said BadWords (status_line BadWords)))
+    (AsksNothing words × (a ≡ said w.input BadWords (status_line BadWords)))
     ⊎ ((command : Command) × Asks words command × AnswerOf command w a)
 
--- an answer was given: its status, and all of its bytes
-pub record IsAnswered (a : Answer) (status : Status) (out notes : Sunk) : Type 0 where
+-- what a command reads is told
+abbrev pub IsTold : Command → World → Type 0
+IsTold (check file) w = IsSome w.files
+IsTold (dis file) w = IsSome w.files
+IsTold (run options file) w = IsSome w.files × IsSome w.input
+
+-- what the words' command reads is told
+abbrev pub AreTold : List (List ℕ) → World → Type 0
+AreTold words w = (command : Command) → Asks words command → IsTold command w
+
+-- an answer was given: its status, all of its bytes, and the input left
+pub record IsAnswered (a : Answer) (status : Status) (left : Option (List ℕ)) (out notes : Sunk) : Type 0 where
   pub status_is : status ≡ a.status
+  pub left_is : IsLeft a left
   pub output : Puts out a.output
   pub line : Puts notes (notes_of a)

@@ -1,7 +1,8 @@
--- The answer that a decision stands for.
-use Rattle.std.specs.Prelude.{[]}
+-- What a decision has still to be written, as an answer.
+use Rattle.std.specs.Prelude.{ℕ, List, [], Option}
 use Rattle.alpha_cmd.specs.declared.decision.Decision.{Decision}
 use Rattle.alpha_cmd.specs.Answer.{Answer}
 
-abbrev pub answer_in : Decision → Answer
-answer_in d = record { status = d.status; output = d.output; trace = []; line = d.line }
+-- with this input left
+abbrev pub answer_in : Option (List ℕ) → Decision → Answer
+answer_in left d = record { status = d.status; output = d.output; trace = []; line = d.line; left = left }

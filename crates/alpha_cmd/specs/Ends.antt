@@ -1,14 +1,19 @@
 -- How a call ends: what was tried, and what of it was written.
-use Rattle.std.specs.Prelude.{◌≡◌, ◌⊎◌}
+use Rattle.std.specs.Prelude.{◌≡◌, ◌⊎◌, ◌++◌, ℕ, List, Option, Result, Ok, Err}
+use Rattle.alpha_io.specs.declared.Failed.{Failed}
 use Rattle.alpha_io.specs.Sunk.{Sunk, Puts, Partly, HasFailed}
+use Rattle.alpha_cmd.specs.declared.decision.Decision.{Decision}
 use Rattle.alpha_cmd.specs.declared.status.Status.{Status}
-use Rattle.alpha_cmd.specs.Answer.{Answer, notes_of}
+use Rattle.alpha_cmd.specs.declared.status.Status.TheVariants.{SinkFault}
+use Rattle.alpha_cmd.specs.Answer.{Answer, notes_of, IsLeft}
+use Rattle.alpha_cmd.specs.Decision.{answer_in}
 
--- what was tried was written, all of it, and its status is the call's
-pub record Ends (P : Answer → Type 0) (status : Status) (out notes : Sunk) : Type 0 where
+-- What was tried was written, all of it, its status is the call's, and its input left is what the source tells.
+pub record Ends (P : Answer → Type 0) (status : Status) (left : Option (List ℕ)) (out notes : Sunk) : Type 0 where
   pub tried : Answer
   pub is : P tried
   pub status_is : status ≡ tried.status
+  pub left_is : IsLeft tried left
   pub output : Puts out tried.output
   pub line : Puts notes (notes_of tried)
 
@@ -19,3 +24,32 @@ pub record EndsPart (P : Answer → Type 0) (out notes : Sunk) : Type 0 where
   pub output : Partly out tried.output
   pub line : Partly notes (notes_of tried)
   pub failed : HasFailed out ⊎ HasFailed notes
+
+-- ---- a command that writes while it works
+
+-- the front of what was tried was written, and this is the rest of it
+pub record Leaves (P : Answer → Type 0) (rest : Answer) (out notes : Sunk) : Type 0 where
+  pub tried : Answer
+  pub is : P tried
+  pub status_is : rest.status ≡ tried.status
+  pub left_is : IsLeft tried rest.left
+  pub output : List ℕ
+  pub put : Puts out output
+  pub output_is : output ++ rest.output ≡ tried.output
+  pub trace : List ℕ
+  pub noted : Puts notes trace
+  pub notes_are : trace ++ notes_of rest ≡ notes_of tried
+
+-- it decides, with the rest still to be written, or a sink failed
+abbrev pub Decides : (Answer → Type 0) → Result Decision Failed → Option (List ℕ) → Sunk → Sunk → Type 0
+Decides P (Ok decision) left out notes = Leaves P (answer_in left decision) out notes
+Decides P (Err failed) left out notes = EndsPart P out notes
+
+-- the status that it answers
+abbrev pub status_in : Result Decision Failed → Status
+status_in (Ok decision) = decision.status
+status_in (Err failed) = SinkFault
+
+-- a sink that is not called, by what it tells and its count
+abbrev pub still : Option (List ℕ) → ℕ → Sunk
+still told count = record { old = told; new = told; before = count; now = count }

@@ -2,14 +2,16 @@
 use Rattle.std.specs.Prelude.{ℕ, List, [], ◌∷◌, ◌++◌, codes, decimal}
 use Rattle.alpha_image.specs.declared.fault.ImageFault.{ImageFault}
 use Rattle.alpha_image.specs.declared.fault.ImageFault.TheVariants as faults
+use Rattle.alpha_seq.specs.Notes.{end_line}
 use Rattle.alpha_cmd.specs.declared.status.Status.{Status}
-use Rattle.alpha_cmd.specs.declared.status.Status.TheVariants.{Done, NotRestartable, BadWords, BadImage, StepsSpent, ShelfFault, InputFault, SinkFault, TooLarge, NoMemory}
+use Rattle.alpha_cmd.specs.declared.status.Status.TheVariants.{Done, NotRestartable, BadWords, BadImage, Stopped, StepsSpent, ShelfFault, InputFault, SinkFault, TooLarge, NoMemory}
 
 abbrev pub status_number : Status → ℕ
 status_number (Done n) = 0
 status_number (NotRestartable b) = 1
 status_number BadWords = 2
 status_number (BadImage fault) = 4
+status_number (Stopped end) = 5
 status_number StepsSpent = 6
 status_number ShelfFault = 8
 status_number InputFault = 9
@@ -40,6 +42,7 @@ status_line (Done n) = []
 status_line (NotRestartable b) = []
 status_line BadWords = codes "words" ++ 10 ∷ []
 status_line (BadImage fault) = fault_line fault
+status_line (Stopped end) = end_line end
 status_line StepsSpent = codes "steps" ++ 10 ∷ []
 status_line ShelfFault = codes "shelf" ++ 10 ∷ []
 status_line InputFault = codes "input" ++ 10 ∷ []

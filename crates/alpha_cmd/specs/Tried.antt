@@ -1,9 +1,10 @@
 -- What a call tries to write: the answer to its words, or what a fault of a device or want of memory leaves of it.
-use Rattle.std.specs.Prelude.{◌≡◌, ◌⊎◌, ℕ, List}
+use Rattle.std.specs.Prelude.{◌≡◌, ◌⊎◌, ◌++◌, ◌≤◌, ℕ, List, Option, None}
 use Rattle.alpha_io.specs.Files.{Files, IfTold}
-use Rattle.alpha_request.specs.Command.{Command, check}
+use Rattle.alpha_request.specs.Command.{Command, check, dis, run}
+use Rattle.alpha_seq.specs.Devices.{Drawn}
 use Rattle.alpha_cmd.specs.declared.status.Status.{Status}
-use Rattle.alpha_cmd.specs.declared.status.Status.TheVariants.{ShelfFault, NoMemory}
+use Rattle.alpha_cmd.specs.declared.status.Status.TheVariants.{Done, Stopped, StepsSpent, ShelfFault, InputFault, SinkFault, NoMemory}
 use Rattle.alpha_cmd.specs.Status.{status_line}
 use Rattle.alpha_cmd.specs.Answer.{World, Answer, said, AnswerOf, Asks, IsAnswer}
 
@@ -14,19 +15,57 @@ CutBy shelf ShelfFault = shelf
 CutBy shelf _ = ⊥
 
 -- what a command that was cut short has for the sinks: the line of its status, and nothing before it
-pub record IsCut (shelf : Type 0) (t : Answer) : Type 0 where
+pub record IsCut (shelf : Type 0) (w : World) (t : Answer) : Type 0 where
   pub cause : CutBy shelf t.status
-  pub is : t ≡ said t.status (status_line t.status)
+  pub is : t ≡ said w.input t.status (status_line t.status)
+
+-- the statuses under which a command may have taken input
+abbrev pub MayTake : Command → Status → Type 0
+MayTake (run options file) (Done n) = Unit {0}
+MayTake (run options file) (Stopped end) = Unit {0}
+MayTake (run options file) StepsSpent = Unit {0}
+MayTake (run options file) InputFault = Unit {0}
+MayTake (run options file) SinkFault = Unit {0}
+MayTake _ _ = ⊥
+
+-- bytes begin with these
+abbrev pub IsFront : List ℕ → List ℕ → Type 0
+IsFront front bytes = (rest : List ℕ) × (front ++ rest ≡ bytes)
+
+-- What a command whose input failed has for the sinks: a front of its answer's output, a front of what is noted while it
+-- works, and the line of the fault. The first fact is that the input failed.
+pub record IsStarved (input : Type 0) (command : Command) (w : World) (t : Answer) : Type 0 where
+  pub cause : input
+  pub takes : MayTake command InputFault
+  pub status_is : t.status ≡ InputFault
+  pub answer : Answer
+  pub is : AnswerOf command w answer
+  pub output : IsFront t.output answer.output
+  pub trace : IsFront t.trace answer.trace
+  pub line : t.line ≡ status_line InputFault
+  pub left : t.left ≡ None
+
+-- what a command tries to write, if the shelf failed or the input did
+abbrev pub Fails : Type 0 → Type 0 → Command → World → Answer → Type 0
+Fails shelf input command w t = IsCut shelf w t ⊎ IsStarved input command w t
 
 -- what a command tries to write
-abbrev pub TriedOf : Type 0 → Command → World → Answer → Type 0
-TriedOf shelf command w t = AnswerOf command w t ⊎ IsCut shelf t
+abbrev pub TriedOf : Type 0 → Type 0 → Command → World → Answer → Type 0
+TriedOf shelf input command w t = AnswerOf command w t ⊎ Fails shelf input command w t
 
 -- What a call tries to write. Memory may run out while the words are read, whatever they are.
-abbrev pub TriedBy : Type 0 → List (List ℕ) → World → Answer → Type 0
-TriedBy shelf words w t =
-    IsAnswer words w t ⊎ (((command : Command) × Asks words command × IsCut shelf t) ⊎ (t ≡ said NoMemory (status_line NoMemory)))
+abbrev pub TriedBy : Type 0 → Type 0 → List (List ℕ) → World → Answer → Type 0
+TriedBy shelf input words w t =
+    IsAnswer words w t
+    ⊎ (((command : Command) × Asks words command × Fails shelf input command w t) ⊎ (t ≡ said w.input NoMemory (status_line NoMemory)))
+
+-- the input's count doesn't fall, and stays where the fact holds
+pub record CountStays (d : Drawn) (stays : Type 0) : Type 0 where
+  pub later : d.before ≤ d.now
+  pub calm : stays → d.now ≡ d.before
 
 -- the files that a command reads are there, where files are told
 abbrev pub HasFiles : Command → Files → Type 0
 HasFiles (check file) files = IfTold files file (λ bytes. Unit {0})
+HasFiles (dis file) files = IfTold files file (λ bytes. Unit {0})
+HasFiles (run options file) files = IfTold files file (λ bytes. Unit {0})

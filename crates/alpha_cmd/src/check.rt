@@ -1,9 +1,10 @@
 //! `check FILE`: whether the image's code can be restarted after a late overflow trap.
 
-ghost use Rattle.std.specs.Prelude.{◌≢◌, ℕ, List, Option};
+ghost use Rattle.std.specs.Prelude.{◌≢◌};
 ghost use Rattle.alpha_io.specs.Faults.{Rose};
 ghost use Rattle.alpha_io.specs.Shelved.{shelved, OnlyReads};
 ghost use Rattle.alpha_request.specs.Command as commands;
+ghost use Rattle.alpha_seq.specs.Devices.{Drawn};
 ghost use Rattle.alpha_cmd.specs.Decision.{answer_in};
 ghost use Rattle.alpha_cmd.specs.Tried.{TriedOf};
 
@@ -16,10 +17,11 @@ use std::alloc::Global;
 
 /// Reads the image of a file and judges it.
 pub(crate) fn check<H: Shelf>(alloc: Global, file: &str, shelf: &mut H) -> Decision
-    ensures tried { (input : Option (List ℕ))
-        → TriedOf (Rose (H.faults shelf.old) (H.faults shelf.new)) (commands.check file.now)
-        (record { files = H.files shelf.old; takes = H.takes shelf.old; input = input })
-        (answer_in result) }
+    ensures tried { (input : Drawn)
+        → TriedOf (Rose (H.faults shelf.old) (H.faults shelf.new))
+        (Rose input.before input.now) (commands.check file.now)
+        (record { files = H.files shelf.old; takes = H.takes shelf.old; input = input.old })
+        (answer_in input.old result) }
     ensures shelf { OnlyReads (shelved H.files H.takes H.faults shelf.old shelf.new)
         (result.status ≢ Status.ShelfFault) }
 {

@@ -1,13 +1,16 @@
-ghost use Rattle.std.specs.Prelude.{◌≡◌, ◌≢◌, ◌⊎◌, OnOk, OnErr};
+ghost use Rattle.std.specs.Prelude.{◌≡◌, ◌≢◌, ◌⊎◌, ℕ, List, [], Option, OnOk, OnErr};
 ghost use Rattle.alpha_io.specs.Sunk.{sunk, Puts, Partly, HasFailed};
 ghost use Rattle.alpha_shadow.specs.Report.{broken_line};
+ghost use Rattle.alpha_seq.specs.Notes.{end_line};
 ghost use Rattle.alpha_cmd.specs.Status.{status_line};
+ghost use Rattle.alpha_cmd.specs.Running.{end_status};
 ghost use Rattle.alpha_cmd.specs.Answer.{said, accepted};
 ghost use Rattle.alpha_cmd.specs.Decision.{answer_in};
 
 use crate::Status;
 use crate::line::{line_of, text};
 use alpha_io::{Failed, Line, Sink, write_whole};
+use alpha_seq::{End, line_of_end};
 use alpha_shadow::{Broken, line_of_broken};
 
 /// What a command has decided, and what is still to be written for it.
@@ -24,7 +27,9 @@ pub(crate) struct Decision {
 impl Decision {
     /// A status with its line.
     pub(crate) fn said(status: Status) -> Decision
-        ensures { answer_in result ≡ said status (status_line status) }
+        ensures answer { (left : Option (List ℕ)) → answer_in left result
+            ≡ said left status (status_line status) }
+        ensures status { result.status ≡ status }
     {
         let line = line_of(&status);
         Decision {
@@ -36,7 +41,7 @@ impl Decision {
 
     /// An accepted image.
     pub(crate) fn accepted() -> Decision
-        ensures { answer_in result ≡ accepted }
+        ensures { (left : Option (List ℕ)) → answer_in left result ≡ accepted left }
     {
         Decision {
             status: Status::Done(0),
@@ -47,13 +52,27 @@ impl Decision {
 
     /// A broken place, of an image with this code base.
     pub(crate) fn broken(broken: Broken, code_base: u64) -> Decision
-        ensures { answer_in result ≡ said (Status.NotRestartable broken) (broken_line broken code_base) }
+        ensures { (left : Option (List ℕ)) → answer_in left result
+            ≡ said left (Status.NotRestartable broken) (broken_line broken code_base) }
     {
         let line = line_of_broken(&broken, code_base);
         Decision {
             status: Status::NotRestartable(broken),
             output: Line::new(),
             line,
+        }
+    }
+
+    /// An end of a program that was run.
+    pub(crate) fn ended(end: &End) -> Decision
+        ensures answer { (left : Option (List ℕ)) → answer_in left result
+            ≡ said left (end_status end.now) (end_line end.now) }
+        ensures status { result.status ≡ end_status end.now }
+    {
+        Decision {
+            status: status_of(end),
+            output: Line::new(),
+            line: line_of_end(end),
         }
     }
 
@@ -78,6 +97,16 @@ impl Decision {
             },
             Err(_) => Status::SinkFault,
         }
+    }
+}
+
+// The status of an end.
+fn status_of(end: &End) -> Status
+    ensures { result ≡ end_status end.now }
+{
+    match *end {
+        End::Exit(_) => Status::Done(0),
+        other => Status::Stopped(other),
     }
 }
 

@@ -10,18 +10,21 @@
 //! - [`image_of`] makes the image of a file's bytes.
 //! - [`laws_of_answers`] says that words have one answer, and some, where files are told.
 //!
-//! A command decides, and `Decision::deliver` writes. `alpha_request` reads the words, `image.rt` has
+//! A command decides, and `Decision::deliver` writes what is then still to be written: all of it, but
+//! for a command that writes while it works, as `dis.rt`. `alpha_request` reads the words, `image.rt` has
 //! the stages that lead to an image, each command has a module, as `check.rt`, and `top.rt` matches
 //! what is asked. `line.rt` and `specs/Status.antt` have the line and the number of each status.
 //! A further command is a row in `specs/Answer.antt` (`Steps`), in `specs/Tried.antt` (`HasFiles`) and
-//! in `decide`, beside its module.
+//! in `perform`, beside its module.
 #![tactic(auto)]
 
 mod check;
 mod decision;
+mod dis;
 mod image;
 mod laws;
 mod line;
+mod run;
 mod status;
 mod sure;
 #[cfg(test)]

@@ -7,6 +7,7 @@ ghost use Rattle.alpha_cmd.specs.Status.{status_line, fault_line, numbered_line,
 use crate::Status;
 use alpha_image::ImageFault;
 use alpha_io::Line;
+use alpha_seq::line_of_end;
 
 /// The line of a status, empty where it has none of its own.
 pub(crate) fn line_of(status: &Status) -> Line
@@ -16,6 +17,7 @@ pub(crate) fn line_of(status: &Status) -> Line
         Status::Done(_) | Status::NotRestartable(_) | Status::SinkFault => Line::new(),
         Status::BadWords => text(b"words\n"),
         Status::BadImage(fault) => fault_line(fault),
+        Status::Stopped(end) => line_of_end(end),
         Status::StepsSpent => text(b"steps\n"),
         Status::ShelfFault => text(b"shelf\n"),
         Status::InputFault => text(b"input\n"),

@@ -1,6 +1,7 @@
 ghost use Rattle.std.specs.Prelude.{◌≡◌};
 
 use alpha_image::ImageFault;
+use alpha_seq::End;
 use alpha_shadow::Broken;
 
 /// How a call of the program ended. The exit status of each is its [`Status::number`].
@@ -14,6 +15,8 @@ pub enum Status {
     BadWords,
     /// The bytes of the file are no image: their first fault.
     BadImage(ImageFault),
+    /// The program ended otherwise than by the system call exit.
+    Stopped(End),
     /// The program was run for as many steps as it was given, and hasn't ended.
     StepsSpent,
     /// A file that the words name isn't there, or the file system failed.
@@ -40,6 +43,7 @@ impl Status {
             Status::NotRestartable(_) => 1,
             Status::BadWords => 2,
             Status::BadImage(_) => 4,
+            Status::Stopped(_) => 5,
             Status::StepsSpent => 6,
             Status::ShelfFault => 8,
             Status::InputFault => 9,

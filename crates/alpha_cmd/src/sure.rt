@@ -3,7 +3,7 @@ ghost use Rattle.alpha_io.specs.Files.{KeepsFiles};
 ghost use Rattle.alpha_io.specs.SureShelfState.{sure_file, sure_takes};
 ghost use Rattle.alpha_request.specs.Command.{Command};
 ghost use Rattle.alpha_cmd.specs.Answer.{Answer, Asks, IsAnswer};
-ghost use Rattle.alpha_cmd.specs.Tried.{HasFiles};
+ghost use Rattle.alpha_cmd.specs.Tried.{HasFiles, MayTake};
 
 use crate::{Status, alpha_top};
 use alpha_io::{NullSink, SureShelf, SureSource};
@@ -30,9 +30,10 @@ pub fn alpha_sure(
     ensures shelf { (command : Command) → Asks words.now command
         → HasFiles command (Some (sure_file shelf.old)) → result ≢ Status.ShelfFault }
 
-    // Files and input stay.
+    // Files stay, and so does input but for a run.
     ensures files { KeepsFiles (Some (sure_file shelf.old)) (Some (sure_file shelf.new)) }
-    ensures input { input.new ≡ input.old }
+    ensures input { (input.new ≡ input.old)
+        ⊎ ((command : Command) × Asks words.now command × MayTake command result) }
 {
     let mut out = NullSink::new();
     let mut notes = NullSink::new();

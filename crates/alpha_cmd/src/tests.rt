@@ -1,3 +1,6 @@
+mod dis;
+mod run;
+
 use crate::{Status, Words, alpha_sure, alpha_top, image_of};
 use alpha_image::{Fields, Image, ImageFault, LevelFields, Segment, image_bytes};
 use alpha_io::{MemoryShelf, MemorySink, SureShelf, SureSource};
@@ -31,7 +34,7 @@ fn outcome_of(
         shelf.add("a", bytes)?;
     }
     let mut input = SureSource::new(Vec::new(alloc));
-    let mut out = MemorySink::new(alloc, 64, failing.to_vec(alloc)?)?;
+    let mut out = MemorySink::new(alloc, 65_536, failing.to_vec(alloc)?)?;
     let mut notes = MemorySink::new(alloc, 256, Vec::new(alloc))?;
     let status = alpha_top(alloc, &given, &mut shelf, &mut input, &mut out, &mut notes);
     Ok(Outcome {
@@ -43,6 +46,11 @@ fn outcome_of(
 
 /// The image of these words with the default fields.
 fn image(alloc: Global, words: &[u32]) -> Result<Vec<u8>, Fail> {
+    zeroed_image(alloc, words, 0)
+}
+
+/// The same with so many zeroed bytes of data.
+fn zeroed_image(alloc: Global, words: &[u32], zeroed: u64) -> Result<Vec<u8>, Fail> {
     let mut code = Vec::new(alloc);
     for word in words {
         code.extend_from_slice(&word.to_le_bytes())?;
@@ -51,7 +59,7 @@ fn image(alloc: Global, words: &[u32]) -> Result<Vec<u8>, Fail> {
         code_base: 0x1_0000,
         data_base: 0x1000_0000,
         entry: 0x1_0000,
-        zeroed: 0,
+        zeroed,
         stack: 65_536,
     };
     if code.len() % 4 != 0 {

@@ -14,17 +14,29 @@ use Rattle.alpha_request.specs.declared.name.Name.TheVariants as names
 use Rattle.alpha_request.specs.declared.request.Request.{Request}
 use Rattle.alpha_request.specs.declared.request.Refusal.{Refusal}
 use Rattle.alpha_request.specs.declared.request.Refusal.TheVariants.{BadWords, NoMemory}
-use Rattle.alpha_request.specs.Command.{Command, check, command_of}
+use Rattle.alpha_request.specs.Command.{Command, check, dis, run, command_of}
+use Rattle.alpha_request.specs.Options.{options_in}
+use Rattle.clap.specs.declared.builder.action.ArgAction.TheVariants.{SetTrue}
 
 -- the command that a word names
 abbrev pub name_of : Text → Option Name
-name_of word = if bytes_eq word (codes "check") then Some names.Check else None
+name_of word =
+    if bytes_eq word (codes "check") then Some names.Check
+    else if bytes_eq word (codes "dis") then Some names.Dis
+    else if bytes_eq word (codes "run") then Some names.Run else None
 
 -- ---- clap's definition of each command
 
 -- an argument that stands for itself and is needed
 abbrev pub word : Text → Rule
 word id = record (new_rule id) { required = true }
+
+-- an option with a value, `--NAME VALUE` or `--NAME=VALUE`, and a flag `--NAME`
+abbrev pub option : Text → Rule
+option id = record (new_rule id) { long = Some id }
+
+abbrev pub flag : Text → Rule
+flag id = record (option id) { action = Some SetTrue }
 
 -- a command without arguments, and without the flags for help
 abbrev pub bare : App
@@ -33,8 +45,17 @@ bare = on_top (λ s. record s { disable_help_flag = true }) (new_app (codes "alp
 abbrev pub file_app : App
 file_app = with_rule bare (word (codes "file"))
 
+-- the options of `run` and its file
+abbrev pub run_app : App
+run_app =
+    with_rule
+    (with_rule (with_rule (with_rule bare (option (codes "complete"))) (option (codes "steps"))) (flag (codes "watch")))
+    (word (codes "file"))
+
 abbrev pub app_of_name : Name → App
 app_of_name names.Check = file_app
+app_of_name names.Dis = file_app
+app_of_name names.Run = run_app
 
 -- rows where there is no fault
 abbrev pub unless_faulty : Kinds → List Row → Option (List Row)
@@ -50,6 +71,8 @@ matches_on app words = unless_faulty (fault_of app words) (matches_of app words)
 -- the command that matches make
 abbrev pub command_in : Name → List Row → Option Command
 command_in names.Check rows = option_map check (first_of (codes "file") rows)
+command_in names.Dis rows = option_map dis (first_of (codes "file") rows)
+command_in names.Run rows = option_and_then (λ options. option_map (run options) (first_of (codes "file") rows)) (options_in rows)
 
 -- what words whose first one has this name ask for
 unfoldable pub asked_as : Name → List Text → Option Command

@@ -1,25 +1,30 @@
 //! The command line: from the words after the program's name to what they ask for.
 //!
 //! - [`Words`] are the words, in their order.
-//! - [`Request`] is what good words ask for, [`Refusal`] why there is no request.
+//! - [`Request`] is what good words ask for, [`Refusal`] why there is no request. [`RunOptions`] is
+//!   how a program is run.
 //! - [`request_of`] reads the words. The first is a command's name exactly. `clap` reads the others
 //!   by the definition that it has of a simple command, which has no subcommands, no help and no
 //!   version flag. Then the product's own rules decide. So words ask for one command at most, and
 //!   which one is a function of them (`specs/Asked.antt`, `asked`).
 //!
 //! `words.rt` has the words, `name.rt` the names of the commands, `command.rt` what `clap` is told of
-//! each, `matches.rt` what is read of its matches, and `request.rt` the requests. A further command
-//! is a row in each of `Name`, `Request`, `specs/Command.antt`, `specs/Asked.antt` and the three
-//! functions that match a name.
+//! each, `matches.rt` what is read of its matches, `options.rt` the options of `run` with their rules
+//! (`specs/Options.antt`), and `request.rt` the requests. A further command is a row in each of
+//! `Name`, `Request`, `specs/Command.antt`, `specs/Asked.antt` and the three functions that match a
+//! name. A further option of `run` is a field of `RunOptions`, an argument in `run_command` and in
+//! `run_app` of `specs/Asked.antt`, and its reading in `options_in`.
 #![tactic(auto)]
 
 mod command;
 mod matches;
 mod name;
+mod options;
 mod request;
 #[cfg(test)]
 mod tests;
 mod words;
 
+pub use options::RunOptions;
 pub use request::{Refusal, Request, request_of};
 pub use words::Words;

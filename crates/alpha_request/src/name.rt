@@ -6,6 +6,10 @@ ghost use Rattle.alpha_request.specs.Asked.{name_of};
 pub(crate) enum Name {
     /// `check`
     Check,
+    /// `dis`
+    Dis,
+    /// `run`
+    Run,
 }
 
 /// The command that a word names, letter by letter.
@@ -14,6 +18,8 @@ pub(crate) fn name_of(word: &str) -> Option<Name>
 {
     match word {
         "check" => Some(Name::Check),
+        "dis" => Some(Name::Dis),
+        "run" => Some(Name::Run),
         _ => None,
     }
 }

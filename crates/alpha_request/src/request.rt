@@ -3,9 +3,10 @@ ghost use Rattle.clap.specs.Words.{found_of, rows_of};
 ghost use Rattle.alpha_request.specs.Command.{command_of};
 ghost use Rattle.alpha_request.specs.Asked.{asked, command_in, Reads};
 
-use crate::Words;
 use crate::matches::{matches_of, text};
 use crate::name::{Name, name_of};
+use crate::options::options_in;
+use crate::{RunOptions, Words};
 use clap::ArgMatches;
 use std::alloc::Global;
 
@@ -14,6 +15,18 @@ use std::alloc::Global;
 pub enum Request<'a> {
     /// `check FILE`: whether the code of the image FILE can be restarted after a late trap.
     Check {
+        /// The name of the file.
+        file: &'a str,
+    },
+    /// `dis FILE`: the listing of the image FILE.
+    Dis {
+        /// The name of the file.
+        file: &'a str,
+    },
+    /// `run FILE`: a run of the image FILE.
+    Run {
+        /// How it is run.
+        options: RunOptions,
         /// The name of the file.
         file: &'a str,
     },
@@ -61,5 +74,24 @@ fn request_in<'a>(name: Name, matches: &ArgMatches<'a>) -> Option<Request<'a>>
             Some(file) => Some(Request::Check { file }),
             None => None,
         },
+        Name::Dis => match text(matches, "file") {
+            Some(file) => Some(Request::Dis { file }),
+            None => None,
+        },
+        Name::Run => run_request(matches),
+    }
+}
+
+// The request of a run.
+fn run_request<'a>(matches: &ArgMatches<'a>) -> Option<Request<'a>>
+    ensures { option_map command_of result
+        ≡ command_in Name.Run (rows_of (found_of matches.now)) }
+{
+    match options_in(matches) {
+        Some(options) => match text(matches, "file") {
+            Some(file) => Some(Request::Run { options, file }),
+            None => None,
+        },
+        None => None,
     }
 }

@@ -1,15 +1,18 @@
-use crate::{Refusal, Request, Words, request_of};
+use crate::{Refusal, Request, RunOptions, Words, request_of};
+use alpha_words::Completion;
 use std::alloc::Global;
 use std::test::Fail;
 
-// What the words ask for: the file of a `check`, or nothing.
-fn file_of(alloc: Global, words: &[&str]) -> Result<Option<String>, Fail> {
+// What the words ask for: a command and its file, or nothing.
+fn asked(alloc: Global, words: &[&str]) -> Result<Option<(&'static str, String)>, Fail> {
     let mut given = Words::new(alloc);
     for word in words {
         given.push(word)?;
     }
     match request_of(alloc, &given) {
-        Ok(Request::Check { file }) => Ok(Some(String::from_str(alloc, file)?)),
+        Ok(Request::Check { file }) => Ok(Some(("check", String::from_str(alloc, file)?))),
+        Ok(Request::Dis { file }) => Ok(Some(("dis", String::from_str(alloc, file)?))),
+        Ok(Request::Run { file, .. }) => Ok(Some(("run", String::from_str(alloc, file)?))),
         Err(Refusal::BadWords) => Ok(None),
         Err(Refusal::NoMemory) => Err(Fail::from("no memory")),
     }
@@ -47,12 +50,123 @@ fn a_check_has_one_file_by_the_rules_of_clap(rt: HostRuntime) -> Result<(), Fail
         (&["chec", "a"], None),
     ];
     for (words, file) in rows {
-        let found = file_of(alloc, words)?;
-        match (found, file) {
-            (Some(found), Some(file)) => assert!(rt; found.as_str() == file),
+        match (asked(alloc, words)?, file) {
+            (Some((command, found)), Some(file)) => {
+                assert!(rt; command == "check" && found.as_str() == file);
+            }
             (None, None) => {}
             _ => return Err(Fail::from("another answer")),
         }
+    }
+    Ok(())
+}
+
+#[test]
+fn a_listing_is_of_one_file(rt: HostRuntime) -> Result<(), Fail> {
+    let alloc = rt.alloc();
+    match asked(alloc, &["dis", "--", "-a"])? {
+        Some((command, file)) => assert!(rt; command == "dis" && file.as_str() == "-a"),
+        None => return Err(Fail::from("no command")),
+    }
+    let refused: [&[&str]; 4] = [&["dis"], &["dis", "a", "b"], &["dis", "-a"], &["dism", "a"]];
+    for words in refused {
+        assert!(rt; asked(alloc, words)?.is_none());
+    }
+    Ok(())
+}
+
+// The options of a run of the file `a`, if the words ask for that.
+fn options(alloc: Global, words: &[&str]) -> Result<Option<RunOptions>, Fail> {
+    let mut given = Words::new(alloc);
+    for word in words {
+        given.push(word)?;
+    }
+    match request_of(alloc, &given) {
+        Ok(Request::Run { options, file: "a" }) => Ok(Some(options)),
+        Ok(_) | Err(Refusal::BadWords) => Ok(None),
+        Err(Refusal::NoMemory) => Err(Fail::from("no memory")),
+    }
+}
+
+#[test]
+fn a_run_has_its_options_in_any_order(rt: HostRuntime) -> Result<(), Fail> {
+    let alloc = rt.alloc();
+    let wrap = Completion::Wrap;
+    let rows: [(&[&str], (Completion, u64, bool)); 11] = [
+        (&["run", "a"], (wrap, 100_000_000, false)),
+        (&["run", "--watch", "a"], (wrap, 100_000_000, true)),
+        (&["run", "a", "--watch"], (wrap, 100_000_000, true)),
+        (&["run", "--steps", "0", "a"], (wrap, 0, false)),
+        (&["run", "--steps=007", "a"], (wrap, 7, false)),
+        (
+            &["run", "a", "--steps", "18446744073709551615"],
+            (wrap, u64::MAX, false),
+        ),
+        (
+            &["run", "--steps=00000000000000000012", "a"],
+            (wrap, 12, false),
+        ),
+        (
+            &["run", "--complete", "wrap", "a"],
+            (wrap, 100_000_000, false),
+        ),
+        (
+            &["run", "--complete=saturate", "--", "a"],
+            (Completion::Saturate, 100_000_000, false),
+        ),
+        (
+            &["run", "--watch", "--complete", "stop", "a", "--steps", "9"],
+            (Completion::Stop, 9, true),
+        ),
+        (
+            &["run", "--steps", "9", "--watch", "--complete=stop", "a"],
+            (Completion::Stop, 9, true),
+        ),
+    ];
+    for (words, (complete, steps, watch)) in rows {
+        match options(alloc, words)? {
+            Some(found) => assert!(rt;
+                found.complete == complete && found.steps == steps && found.watch == watch
+            ),
+            None => return Err(Fail::from("no run")),
+        }
+    }
+    Ok(())
+}
+
+#[test]
+fn words_of_a_run_are_refused_by_the_rules(rt: HostRuntime) -> Result<(), Fail> {
+    let alloc = rt.alloc();
+    let refused: [&[&str]; 22] = [
+        &["run"],
+        &["run", "a", "b"],
+        // each option once, with its value
+        &["run", "--watch", "--watch", "a"],
+        &["run", "--steps", "1", "--steps", "1", "a"],
+        &["run", "--complete=wrap", "--complete=wrap", "a"],
+        &["run", "a", "--steps"],
+        &["run", "--steps", "--watch", "a"],
+        &["run", "--steps", "--", "a"],
+        &["run", "--watch=", "a"],
+        // a number has 1 to 20 digits, and is below 2^64
+        &["run", "--steps", "-3", "a"],
+        &["run", "--steps", "+3", "a"],
+        &["run", "--steps=", "a"],
+        &["run", "--steps", "0x3", "a"],
+        &["run", "--steps", "3 ", "a"],
+        &["run", "--steps", "18446744073709551616", "a"],
+        &["run", "--steps", "000000000000000000012", "a"],
+        // the text of a completion, letter by letter
+        &["run", "--complete", "Wrap", "a"],
+        &["run", "--complete", "", "a"],
+        // no option is shortened, and there are no others
+        &["run", "--step", "3", "a"],
+        &["run", "-w", "a"],
+        &["run", "--imprecise", "a"],
+        &["run", "--seed", "5", "a"],
+    ];
+    for words in refused {
+        assert!(rt; options(alloc, words)?.is_none());
     }
     Ok(())
 }

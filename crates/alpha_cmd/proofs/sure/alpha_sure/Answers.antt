@@ -1,23 +1,23 @@
 use Rattle.std.proofs.Common.{◌≡◌, ◌≢◌, ◌∙◌, refl, sym, inl, inr, ⊎_elim}
 use Rattle.alpha_cmd.specs.declared.status.Status.TheVariants.{SinkFault, NoMemory}
-use Rattle.alpha_cmd.proofs.Trying.{tried_not_input, tried_there, Rose-none, Calm-none}
+use Rattle.alpha_cmd.proofs.Trying.{told_sure, tried_not_input, tried_there, Rose-none, Calm-none}
 use Rattle.alpha_cmd.proofs.sure.alpha_sure.Goals as goal
 
 pub returns-clause-answer : goal.returns-clause-answer
 returns-clause-answer c = λ a is.
-    ⊎_elim (λ h. inl h.status_is) (λ (h : c.alpha_top.result ≡ NoMemory). inr h) (c.alpha_top.ensures.exact a refl Calm-none Calm-none Calm-none is)
+    ⊎_elim (λ h. inl h.status_is) (λ (h : c.alpha_top.result ≡ NoMemory). inr h) (c.alpha_top.ensures.exact a (told_sure c.args.words.now _ _ _) Calm-none Calm-none Calm-none Calm-none is)
 
 pub returns-clause-streams : goal.returns-clause-streams
 returns-clause-streams c =
     let calm : c.alpha_top.result ≢ SinkFault = λ e. ⊎_elim Rose-none Rose-none (c.alpha_top.ensures.part e).failed in
     let ends = c.alpha_top.ensures.whole calm in
-    (λ e. tried_not_input _ c.args.words.now _ ends.tried ends.is (sym ends.status_is ∙ e), calm)
+    (λ e. tried_not_input _ _ c.args.words.now _ ends.tried Rose-none ends.is (sym ends.status_is ∙ e), calm)
 
 pub returns-clause-shelf : goal.returns-clause-shelf
 returns-clause-shelf c = λ command asks there e.
     let calm : c.alpha_top.result ≢ SinkFault = λ q. ⊎_elim Rose-none Rose-none (c.alpha_top.ensures.part q).failed in
     let ends = c.alpha_top.ensures.whole calm in
-    tried_there _ c.args.words.now command _ ends.tried Rose-none asks there ends.is (sym ends.status_is ∙ e)
+    tried_there _ _ c.args.words.now command _ ends.tried Rose-none asks there ends.is (sym ends.status_is ∙ e)
 
 pub returns-clause-files : goal.returns-clause-files
 returns-clause-files c = c.alpha_top.ensures.shelf.files

@@ -1,11 +1,24 @@
-use Rattle.std.proofs.Common.{◌≡◌, ℕ, List, Bor, refl}
-use Rattle.alpha_request.specs.declared.request.Request.{Request}
-use Rattle.alpha_request.specs.declared.request.Request.TheVariants.{Check}
+use Rattle.std.proofs.Common.{refl, arith}
+use Rattle.alpha_io.specs.Faults.{Rose}
+use Rattle.alpha_request.specs.Command as commands
+use Rattle.alpha_seq.specs.Devices.{drawn}
+use Rattle.alpha_cmd.specs.Answer.{World, world}
+use Rattle.alpha_cmd.specs.Decision.{answer_in}
+use Rattle.alpha_cmd.specs.Tried.{TriedOf}
+use Rattle.alpha_cmd.proofs.Endings.{Leaves-all}
 use Rattle.alpha_cmd.proofs.top.perform.Goals as goal
 
--- there is one kind of request
-check_of : (request : Request) → (file : Bor (List ℕ)) × (request ≡ Check file)
-check_of (Check file) = (file, refl)
+pub returns-in-Check-clause-tried : goal.returns-in-Check-clause-tried
+returns-in-Check-clause-tried g c =
+    let w = world g.H.Shelf.files g.H.Shelf.takes g.S.Source.left c.args.shelf.now c.args.input.now in
+    let shelf = Rose (g.H.Shelf.faults c.args.shelf.now) (g.H.Shelf.faults c.check.new.shelf) in
+    let input = Rose (g.S.Source.faults c.args.input.now) (g.S.Source.faults c.args.input.now) in
+    rw c.in-Check.is
+    (Leaves-all (TriedOf shelf input (commands.check c.in-Check.file.now) w) (answer_in (g.S.Source.left c.args.input.now) c.check.result)
+    (g.K.Sink.written c.args.out.now) (g.N.Sink.written c.args.notes.now) (g.K.Sink.faults c.args.out.now) (g.N.Sink.faults c.args.notes.now)
+    (c.check.ensures.tried (drawn g.S.Source.left g.S.Source.faults c.args.input.now c.args.input.now)))
 
-pub returns-clause-tried : goal.returns-clause-tried
-returns-clause-tried g c = λ input. let e = (check_of c.args.request).1 in rw e (rw e at (c.check.ensures.tried input))
+pub returns-in-Dis-clause-tried : goal.returns-in-Dis-clause-tried
+returns-in-Dis-clause-tried g c =
+    rw c.in-Dis.is
+    (c.dis.ensures.tried (drawn g.S.Source.left g.S.Source.faults c.args.input.now c.args.input.now) (g.N.Sink.written c.args.notes.now) (g.N.Sink.faults c.args.notes.now))

@@ -1,0 +1,52 @@
+use Rattle.std.proofs.Common.{[], refl, sym, subst, inl, append-nil}
+use Rattle.alpha_io.specs.Faults.{Rose}
+use Rattle.alpha_io.specs.Sunk.{sunk}
+use Rattle.alpha_io.proofs.Sinks.{Puts-none, Partly-none}
+use Rattle.alpha_request.specs.Command as commands
+use Rattle.alpha_dis.specs.Listing.{listing}
+use Rattle.alpha_cmd.specs.Answer.{World, Answer, done_with}
+use Rattle.alpha_cmd.specs.Decision.{answer_in}
+use Rattle.alpha_cmd.specs.Ends.{Leaves, still}
+use Rattle.alpha_cmd.specs.Tried.{TriedOf}
+use Rattle.alpha_cmd.proofs.Endings.{IsLeft-own, Leaves-all}
+use Rattle.alpha_cmd.proofs.Trying.{listed_answer, unloaded_dis}
+use Rattle.alpha_cmd.proofs.dis.dis.Goals as goal
+
+pub returns-in-Ok-list-clause-tried : goal.returns-in-Ok-list-clause-tried
+returns-in-Ok-list-clause-tried g c = λ input told count.
+    let w : World = record { files = g.H.Shelf.files c.args.shelf.now; takes = g.H.Shelf.takes c.args.shelf.now; input = input.old } in
+    let shelf = Rose (g.H.Shelf.faults c.args.shelf.now) (g.H.Shelf.faults c.load.new.shelf) in
+    let out = sunk g.K.Sink.written g.K.Sink.faults c.args.out.now c.list.new.out in
+    let text = listing c.in-Ok.image in
+    subst (λ (rest : Answer). Leaves (TriedOf shelf (Rose input.before input.now) (commands.dis c.args.file.now) w) rest out (still told count)) (sym (c.said.ensures.answer input.old))
+    (record {
+      tried = done_with input.old text;
+      is = inl (listed_answer w c.args.file.now c.in-Ok.image c.in-Ok.ensures.ok);
+      status_is = refl;
+      left_is = IsLeft-own (done_with input.old text);
+      output = text;
+      put = c.in-Ok-list.ensures.ok;
+      output_is = append-nil text;
+      trace = [];
+      noted = Puts-none told count;
+      notes_are = refl;
+    })
+
+pub returns-in-Ok-clause-tried : goal.returns-in-Ok-clause-tried
+returns-in-Ok-clause-tried g c = λ input told count.
+    let w : World = record { files = g.H.Shelf.files c.args.shelf.now; takes = g.H.Shelf.takes c.args.shelf.now; input = input.old } in
+    record {
+      tried = done_with input.old (listing c.in-Ok.image);
+      is = inl (listed_answer w c.args.file.now c.in-Ok.image c.in-Ok.ensures.ok);
+      output = c.list.ensures.prefix;
+      line = Partly-none told count [];
+      failed = inl c.in-Err-Sink.ensures.cause;
+    }
+
+pub returns-clause-tried : goal.returns-clause-tried
+returns-clause-tried g c = λ input told count.
+    let w : World = record { files = g.H.Shelf.files c.args.shelf.now; takes = g.H.Shelf.takes c.args.shelf.now; input = input.old } in
+    let shelf = Rose (g.H.Shelf.faults c.args.shelf.now) (g.H.Shelf.faults c.load.new.shelf) in
+    Leaves-all (TriedOf shelf (Rose input.before input.now) (commands.dis c.args.file.now) w) (answer_in input.old c.said-in-Err.result)
+    (g.K.Sink.written c.args.out.now) told (g.K.Sink.faults c.args.out.now) count
+    (unloaded_dis shelf (Rose input.before input.now) w c.args.file.now c.in-Err.status (answer_in input.old c.said-in-Err.result) c.in-Err.ensures.refused (c.said-in-Err.ensures.answer input.old))

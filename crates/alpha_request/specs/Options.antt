@@ -1,0 +1,56 @@
+-- The options of `run`, by the product's own rules.
+use Rattle.std.specs.Prelude.{ℕ, ◌^◌, ◌&&◌, Bool, true, false, not, List, length, codes, nat_lt, Option, Some, None, option_map, if◌then◌else◌}
+use Rattle.std.specs.Option.{option_and_then}
+use Rattle.std.specs.List.{list_all}
+use Rattle.std.specs.Char.{is_ascii_digit}
+use Rattle.std.specs.Str.{bytes_eq}
+use Rattle.std.specs.Str.Parse.{digits_value}
+use Rattle.clap.specs.Walk.{Row, Text, first_of}
+use Rattle.alpha_words.specs.declared.Completion.{Completion}
+use Rattle.alpha_words.specs.declared.Completion.TheVariants.{Wrap, Saturate, Stop}
+use Rattle.alpha_request.specs.declared.options.RunOptions.{RunOptions}
+
+-- the completion that a text names
+abbrev pub completion_of : Text → Option Completion
+completion_of text =
+    if bytes_eq text (codes "wrap") then Some Wrap
+    else if bytes_eq text (codes "saturate") then Some Saturate
+    else if bytes_eq text (codes "stop") then Some Stop else None
+
+-- at most 20 decimal digits, and nothing else
+abbrev pub is_digits : Text → Bool
+is_digits text = not (nat_lt 20 (length text)) && list_all is_ascii_digit text
+
+-- 1 to 20 decimal digits with a value below 2 ^ 64
+abbrev pub is_number : Text → Bool
+is_number text = is_digits text && (nat_lt 0 (length text) && nat_lt (digits_value 10 text) (2 ^ 64))
+
+-- the number that a text stands for
+abbrev pub number_of : Text → Option ℕ
+number_of text = if is_number text then Some (digits_value 10 text) else None
+
+-- what an option's text stands for, and the default where it isn't given
+abbrev pub or_default : {X : Type 0} → X → (Text → Option X) → Option Text → Option X
+or_default default read None = Some default
+or_default default read (Some text) = read text
+
+-- a flag is given where its text is `true`
+abbrev pub is_given : Option Text → Bool
+is_given None = false
+is_given (Some text) = bytes_eq text (codes "true")
+
+abbrev pub complete_in : List Row → Option Completion
+complete_in rows = or_default Wrap completion_of (first_of (codes "complete") rows)
+
+abbrev pub steps_in : List Row → Option ℕ
+steps_in rows = or_default 100000000 number_of (first_of (codes "steps") rows)
+
+abbrev pub watch_in : List Row → Bool
+watch_in rows = is_given (first_of (codes "watch") rows)
+
+-- the options that matches make
+abbrev pub options_in : List Row → Option RunOptions
+options_in rows =
+    option_and_then
+    (λ complete. option_map (λ steps. record { complete = complete; steps = steps; watch = watch_in rows }) (steps_in rows))
+    (complete_in rows)
