@@ -1,0 +1,5 @@
+use Rattle.alpha_trap.proofs.Walking.{Walked}
+use Rattle.alpha_trap.proofs.scan.place_before.Given as goal
+
+abbrev pub invariant-loop-place : goal.invariant-loop-place
+invariant-loop-place l = Walked l.image.words l.fn.mask l.left l.place l.end

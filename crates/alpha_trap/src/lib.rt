@@ -1,0 +1,31 @@
+//! The handler of late traps: from the PC and the register mask of a report back to the instruction that
+//! overflowed, its result completed, and the PC to go on at (Architecture Handbook, arithmetic trap
+//! completion).
+//!
+//! - [`scan_back`] finds the instruction: the greatest place below the trap PC that has `/V`, so that each
+//!   register of the mask is the destination of it or of a `/V` word behind it, with no barrier and no turn
+//!   between. The trap PC may be one past the last word.
+//! - [`handle`] runs in the kernel after an arithmetic entry. It completes that instruction from the
+//!   user's registers, through the frame where the entry saved one, and returns to the user behind it.
+//!   Where an overflow stops the program, it changes no register and returns to the instruction.
+//! - [`Lost`] is a trap for which the scan finds nothing. It leaves everything as it was.
+//! - [`laws_of_scans`] says that the function which computes the scan is the relation that defines it,
+//!   and [`laws_of_reports`] that entry and handler together make the report of the definition.
+//!
+//! `specs/Scan.antt` says what the scan finds, as a relation and as a function; `specs/Handler.antt` says
+//! what the handler leaves. `src/scan.rt` and `src/handler.rt` have the calls, `src/trigger.rt` what both
+//! read of an instruction. `proofs/Walking.antt` follows the walk down word by word, `Scanning.antt` ties
+//! the function to the relation, `Ranges.antt` and `Columns.antt` have the tests of places and of words,
+//! `Handling.antt` the handler's frame.
+#![tactic(auto)]
+
+mod handler;
+mod laws;
+mod scan;
+#[cfg(test)]
+mod tests;
+mod trigger;
+
+pub use handler::{Lost, handle};
+pub use laws::{laws_of_reports, laws_of_scans};
+pub use scan::scan_back;
