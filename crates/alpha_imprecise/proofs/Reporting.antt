@@ -1,0 +1,129 @@
+-- What the handler finds directly after an arithmetic entry, and what a report leaves.
+use Rattle.std.proofs.Common.{◌≡◌, ◌<◌, ◌≤◌, ◌+◌, ◌-◌, ◌*◌, ◌%◌, ◌^◌, ℕ, Bool, true, false, cond, List, length, Option, None, Some, refl, sym, ap, subst, ◌∙◌, arith}
+use Rattle.std.specs.Option.{option_map}
+use Rattle.alpha_words.specs.declared.Completion.{Completion}
+use Rattle.alpha_table.specs.Code.{class_at}
+use Rattle.alpha_values.specs.TrapOp.{stops}
+use Rattle.alpha_pal.specs.Kernel.{KernelState, arith_frame, arith_regs, entered}
+use Rattle.alpha_image.specs.Parts.{Parts}
+use Rattle.alpha_seq.specs.declared.end.End.TheVariants as ends
+use Rattle.alpha_seq.specs.declared.machine.Machine.{Machine}
+use Rattle.alpha_seq.specs.State.{State, Ends}
+use Rattle.alpha_seq.specs.Machine.{program_of, state_of}
+use Rattle.alpha_trap.specs.declared.handler.Lost.{Lost}
+use Rattle.alpha_trap.specs.Scan.{scan}
+use Rattle.alpha_trap.specs.Handler.{Handled, handled, handled_at, going_on, completed_regs, reported, mask_in, trap_in, place_of_trap}
+use Rattle.alpha_trap.proofs.Handling.{mask_in-entry, handled-entry}
+use Rattle.alpha_imprecise.specs.declared.report.Landing.{Landing}
+use Rattle.alpha_imprecise.specs.declared.report.Landing.TheVariants as landings
+use Rattle.alpha_imprecise.specs.Moment.{Trap, Moment, Precisely, Reported, moment}
+use Rattle.alpha_imprecise.specs.Step.{address_at, completed, report_at}
+use Rattle.alpha_imprecise.specs.Wild.{returned_kernel}
+use Rattle.alpha_imprecise.specs.Report.{ReportEffect, landing_at, machine_at}
+
+-- the report of the definition
+pub handled-reported : (image : Parts) (how : Completion) (pc mask : ℕ) (regs live : List ℕ) (kernel : KernelState) (h : Handled)
+    → length regs ≡ 32 → mask < 2 ^ 31 → kernel ≡ entered (arith_frame pc regs) regs → live ≡ arith_regs regs mask
+    → handled image how kernel live ≡ Some h → reported image how pc mask regs ≡ Some h
+handled-reported image how pc mask regs live kernel h sized small is_kernel is_live e =
+    sym (handled-entry image how pc mask regs sized small)
+    ∙ (sym (ap (λ k. handled image how k (arith_regs regs mask)) is_kernel) ∙ (sym (ap (λ l. handled image how kernel l) is_live) ∙ e))
+
+-- a trap that is lost is one for which the scan finds nothing
+pub scan-lost : (image : Parts) (pc mask : ℕ) (regs live : List ℕ) (kernel : KernelState) (lost : Lost)
+    → length regs ≡ 32 → mask < 2 ^ 31 → kernel ≡ entered (arith_frame pc regs) regs → live ≡ arith_regs regs mask
+    → lost ≡ trap_in kernel live → place_of_trap image lost ≡ None → scan image pc mask ≡ None
+scan-lost image pc mask regs live kernel lost sized small is_kernel is_live is_lost e =
+    sym (ap (λ m. scan image pc m) (mask_in-entry regs mask sized small))
+    ∙ (sym (ap (λ (k : KernelState). scan image k.frame.pc (mask_in (arith_regs regs mask))) is_kernel)
+    ∙ (sym (ap (λ l. scan image kernel.frame.pc (mask_in l)) is_live)
+    ∙ (sym (ap (place_of_trap image) is_lost) ∙ e)))
+
+-- ---- the state that a report leaves
+
+pub record Scanned (image : Parts) (how : Completion) (pc mask : ℕ) (regs : List ℕ) (h : Handled) : Type 0 where
+  pub at : ℕ
+  pub scans : scan image pc mask ≡ Some at
+  pub is : handled_at image how regs at ≡ h
+
+scanned_by : (image : Parts) (how : Completion) (pc mask : ℕ) (regs : List ℕ) (h : Handled) (found : Option ℕ)
+    → scan image pc mask ≡ found → option_map (handled_at image how regs) found ≡ Some h → Scanned image how pc mask regs h
+scanned_by image how pc mask regs h None scans e = absurd cc
+scanned_by image how pc mask regs h (Some at) scans e = record { at = at; scans = scans; is = let same : handled_at image how regs at ≡ h = cc in same }
+
+pub scanned : (image : Parts) (how : Completion) (pc mask : ℕ) (regs : List ℕ) (h : Handled) → reported image how pc mask regs ≡ Some h → Scanned image how pc mask regs h
+scanned image how pc mask regs h e = scanned_by image how pc mask regs h (scan image pc mask) refl e
+
+stop_at : (image : Parts) (how : Completion) (regs : List ℕ) (at : ℕ) → stops how ≡ true → handled_at image how regs at ≡ going_on (image.code_base + 4 * at) regs
+stop_at image how regs at e = rw e refl
+
+goes_at : (image : Parts) (how : Completion) (regs : List ℕ) (at : ℕ) → stops how ≡ false
+    → handled_at image how regs at ≡ going_on (image.code_base + 4 * at + 4) (completed_regs how (class_at image.words at) regs)
+goes_at image how regs at e = rw e refl
+
+-- an address behind a word is no less than 4
+pub goes_far : (image : Parts) (how : Completion) (pc mask : ℕ) (regs : List ℕ) (h : Handled) → Scanned image how pc mask regs h → stops how ≡ false → 4 ≤ h.pc
+goes_far image how pc mask regs h found e =
+    let same : image.code_base + 4 * found.at + 4 ≡ h.pc = ap (λ (x : Handled). x.pc) (sym (goes_at image how regs found.at e) ∙ found.is) in
+    omega arith
+
+-- the machine after the handler
+abbrev handled_machine : Machine → Handled → Machine
+handled_machine m h = record m { regs = h.regs; kernel = returned_kernel h.pc h.regs }
+
+abbrev stopped : Machine → State → ℕ → Moment
+stopped m s at = moment (record s { pc = address_at m.image at }) None (Precisely (Ends (ends.Overflow (address_at m.image at))))
+
+landed_by : (m : Machine) (t : Trap) (h : Handled) (b : Bool) → stops m.how ≡ b → Scanned m.image m.how m.pc t.mask m.regs h
+    → ReportEffect (landing_at b h.pc) t m (machine_at b (handled_machine m h) h.pc)
+landed_by m t h true stopping found =
+    let same = sym (stop_at m.image m.how m.regs found.at stopping) ∙ found.is in
+    record {
+      is = λ input output.
+          ap (report_at (program_of m) (state_of m input output) t) found.scans
+          ∙ (ap (λ (b : Bool). cond b (stopped m (state_of m input output) found.at) (moment (completed (program_of m) (state_of m input output) found.at) None (Reported (address_at m.image found.at)))) stopping
+          ∙ ap (λ (x : Handled). moment (state_of (record m { regs = x.regs; pc = x.pc }) input output) None (Precisely (Ends (ends.Overflow x.pc)))) same);
+      program = refl;
+      memory = refl;
+      kernel = refl;
+    }
+landed_by m t h false going found =
+    let same = sym (goes_at m.image m.how m.regs found.at going) ∙ found.is in
+    let back : address_at m.image found.at + 4 - 4 ≡ address_at m.image found.at = omega arith in
+    record {
+      is = λ input output.
+          ap (report_at (program_of m) (state_of m input output) t) found.scans
+          ∙ (ap (λ (b : Bool). cond b (stopped m (state_of m input output) found.at) (moment (completed (program_of m) (state_of m input output) found.at) None (Reported (address_at m.image found.at)))) going
+          ∙ (ap (λ (n : ℕ). moment (record (completed (program_of m) (state_of m input output) found.at) { logged = n }) None (Reported n)) (sym back)
+          ∙ ap (λ (x : Handled). moment (state_of (record m { regs = x.regs; pc = x.pc; lock = None; overflows = (m.overflows + 1) % 2 ^ 64; last = x.pc - 4 }) input output) None (Reported (x.pc - 4))) same));
+      program = refl;
+      memory = refl;
+      kernel = refl;
+    }
+
+-- the report, by what the handler and the code behind it did
+pub landed-handled : (m mid new : Machine) (t : Trap) (pc : ℕ) (answer : Landing)
+    → reported m.image m.how m.pc t.mask m.regs ≡ Some (going_on pc mid.regs)
+    → mid ≡ record m { regs = mid.regs; kernel = returned_kernel pc mid.regs }
+    → answer ≡ landing_at (stops mid.how) pc → new ≡ machine_at (stops mid.how) mid pc
+    → ReportEffect answer t m new
+landed-handled m mid new t pc answer found is_mid is_answer is_new =
+    let h = going_on pc mid.regs in
+    let how_same : mid.how ≡ m.how = ap (λ (x : Machine). x.how) is_mid in
+    let by = landed_by m t h (stops m.how) refl (scanned m.image m.how m.pc t.mask m.regs h found) in
+    let answers : answer ≡ landing_at (stops m.how) pc = is_answer ∙ ap (λ how. landing_at (stops how) pc) how_same in
+    let ends_at : new ≡ machine_at (stops m.how) (handled_machine m h) pc =
+    is_new ∙ (ap (λ how. machine_at (stops how) mid pc) how_same ∙ ap (λ (x : Machine). machine_at (stops m.how) x pc) is_mid) in
+    subst (λ (a : Landing). ReportEffect a t m new) (sym answers) (subst (λ (x : Machine). ReportEffect (landing_at (stops m.how) pc) t m x) (sym ends_at) by)
+
+-- a trap that is lost
+pub lost-handled : (m new : Machine) (t : Trap) → scan m.image m.pc t.mask ≡ None
+    → new ≡ record m { kernel = returned_kernel m.pc m.regs } → ReportEffect landings.Lost t m new
+lost-handled m new t none is_new =
+    let by : ReportEffect landings.Lost t m (record m { kernel = returned_kernel m.pc m.regs }) = record {
+      is = λ input output. ap (report_at (program_of m) (state_of m input output) t) none;
+      program = refl;
+      memory = refl;
+      kernel = refl;
+    } in
+    subst (λ (x : Machine). ReportEffect landings.Lost t m x) (sym is_new) by

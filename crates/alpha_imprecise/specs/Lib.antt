@@ -1,0 +1,11 @@
+pub mod Moment
+pub mod Step
+pub mod Run
+pub mod Chosen
+pub mod Made
+pub mod Restart
+pub mod Telling
+pub mod Pcg
+pub mod Wild
+pub mod Report
+pub mod WildEffect

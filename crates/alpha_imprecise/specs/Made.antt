@@ -1,0 +1,108 @@
+-- The runs that coming words make.
+use Rattle.std.specs.Prelude.{ℕ, zero, suc, ◌+◌, Bool, ◌||◌, if◌then◌else◌, List, drop, Option, Some, None, is_none}
+use Rattle.alpha_seq.specs.declared.end.End.{End}
+use Rattle.alpha_seq.specs.State.{Program, State}
+use Rattle.alpha_seq.specs.Start.{start}
+use Rattle.alpha_seq.specs.Run.{end_of, notes_of}
+use Rattle.alpha_imprecise.specs.Moment.{Trap, Happening, Precisely, Triggered, Waited, Reported, Lost, Moment}
+use Rattle.alpha_imprecise.specs.Run.{WildRun, finished, resumed, extended_wild}
+use Rattle.alpha_imprecise.specs.Chosen.{most_waited, Draw, draw, chosen, waited_after}
+
+-- a run, how many words were executed since the trigger of its pending trap, the words still to come, and how many were
+-- drawn
+pub record Making : Type 0 where
+  pub run : WildRun
+  pub waited : ℕ
+  pub words : List ℕ
+  pub count : ℕ
+
+-- no step was made yet
+abbrev pub begun : State → Option Trap → ℕ → List ℕ → Making
+begun s pending waited words = record { run = resumed s pending; waited = waited; words = words; count = 0 }
+
+abbrev pub extended_making : Making → Draw → Moment → Making
+extended_making k d m = record {
+  run = extended_wild k.run m;
+  waited = waited_after m.happened k.waited;
+  words = drop d.count k.words;
+  count = k.count + d.count;
+}
+
+-- one step more; a run that is over stays
+abbrev pub advance_making : Program → Making → Making
+advance_making g k =
+    if finished k.run.last then k else
+    extended_making k (draw g k.run.state k.run.pending k.waited k.words)
+    (chosen g k.run.state k.run.pending k.waited k.words)
+
+-- so many steps more
+abbrev pub steps_making : Program → Making → ℕ → Making
+steps_making g k zero = k
+steps_making g k (suc n) = advance_making g (steps_making g k n)
+
+-- nothing is pending, or the run is over
+abbrev pub is_settled : Making → Bool
+is_settled k = finished k.run.last || is_none k.run.pending
+
+-- steps until nothing is pending or the run is over, so many at most
+abbrev pub settled_within : ℕ → Program → Making → Making
+settled_within zero g k = k
+settled_within (suc n) g k = if is_settled k then k else settled_within n g (advance_making g k)
+
+-- a pending trap is reported after so many words at most, and the report is one step more
+abbrev pub settled : Program → Making → Making
+settled g k = settled_within (most_waited + 1) g k
+
+-- The run that uses so many units, fewer where it is over before: a unit is a step with nothing pending, and then steps
+-- until nothing is pending again. What is pending at the beginning is reported first.
+abbrev pub made : Program → Making → ℕ → Making
+made g k zero = settled g k
+made g k (suc n) = settled g (advance_making g (made g k n))
+
+-- ---- what such a run shows
+
+-- how the program ended, if it has
+abbrev pub wild_end : Happening → Option End
+wild_end (Precisely event) = end_of event
+wild_end Triggered = None
+wild_end Waited = None
+wild_end (Reported at) = None
+wild_end (Lost pc mask) = None
+
+-- the PC and the mask of a trap that is lost
+pub record LostTrap : Type 0 where
+  pub pc : ℕ
+  pub mask : ℕ
+
+abbrev pub lost_trap : Happening → Option LostTrap
+lost_trap (Precisely event) = None
+lost_trap Triggered = None
+lost_trap Waited = None
+lost_trap (Reported at) = None
+lost_trap (Lost pc mask) = Some (record { pc = pc; mask = mask })
+
+-- What a run shows: how it ended, or a trap that was lost, or neither where all units were used; the number of units;
+-- the output, the input left and the notes; and how many words were drawn.
+pub record ShownWild : Type 0 where
+  pub end : Option End
+  pub lost : Option LostTrap
+  pub units : ℕ
+  pub output : List ℕ
+  pub left : List ℕ
+  pub notes : List ℕ
+  pub drawn : ℕ
+
+abbrev pub shown_making : Bool → Making → ShownWild
+shown_making watch k = record {
+  end = wild_end k.run.last;
+  lost = lost_trap k.run.last;
+  units = k.run.units;
+  output = k.run.state.outside.output;
+  left = k.run.state.outside.input;
+  notes = notes_of watch k.run.trace;
+  drawn = k.count;
+}
+
+-- the run of so many units from the start, over an input, by coming words
+abbrev pub imprecise : Program → List ℕ → List ℕ → ℕ → Bool → ShownWild
+imprecise g input words n watch = shown_making watch (made g (begun (start g input) None 0 words) n)

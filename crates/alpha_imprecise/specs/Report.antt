@@ -1,0 +1,35 @@
+-- What a report left, by how it went.
+use Rattle.std.specs.Prelude.{◌≡◌, ℕ, ◌+◌, ◌-◌, ◌%◌, ◌^◌, Bool, true, false, List, Option, Some, None}
+use Rattle.alpha_seq.specs.declared.end.End.TheVariants as ends
+use Rattle.alpha_seq.specs.declared.machine.Machine.{Machine}
+use Rattle.alpha_seq.specs.State.{Ends}
+use Rattle.alpha_seq.specs.Machine.{program_of, state_of}
+use Rattle.alpha_imprecise.specs.declared.report.Landing.{Landing}
+use Rattle.alpha_imprecise.specs.declared.report.Landing.TheVariants as landings
+use Rattle.alpha_imprecise.specs.Moment.{Trap, Happening, Precisely, Reported, Lost, moment}
+use Rattle.alpha_imprecise.specs.Step.{report}
+use Rattle.alpha_imprecise.specs.Wild.{returned_kernel}
+
+-- how a report went at which the handler answered a PC, by whether it stops the program
+abbrev pub landing_at : Bool → ℕ → Landing
+landing_at true pc = landings.Stopped pc
+landing_at false pc = landings.Completed (pc - 4)
+
+-- the machine that the handler left, at that PC
+abbrev pub machine_at : Bool → Machine → ℕ → Machine
+machine_at true m pc = record m { pc = pc }
+machine_at false m pc = record m { pc = pc; lock = None; overflows = (m.overflows + 1) % 2 ^ 64; last = pc - 4 }
+
+-- The report of the definition, at each input and output, which it leaves; the frame is that of the state as it is then.
+pub record Reports (happened : Happening) (left : Option Trap) (trap : Trap) (old new : Machine) : Type 0 where
+  pub is : (input output : List ℕ)
+      → report (program_of old) (state_of old input output) trap ≡ moment (state_of new input output) left happened
+  pub program : program_of new ≡ program_of old
+  pub memory : new.memory ≡ old.memory
+  pub kernel : new.kernel ≡ returned_kernel new.pc new.regs
+
+-- what a report did, by how it went
+abbrev pub ReportEffect : Landing → Trap → Machine → Machine → Type 0
+ReportEffect (landings.Completed at) trap old new = Reports (Reported at) None trap old new
+ReportEffect (landings.Stopped pc) trap old new = Reports (Precisely (Ends (ends.Overflow pc))) None trap old new
+ReportEffect landings.Lost trap old new = Reports (Lost old.pc trap.mask) (Some trap) trap old new

@@ -1,0 +1,151 @@
+-- The imprecise step: a trap may be reported late, and until then what the machine writes may be anything.
+use Rattle.std.specs.Prelude.{ℕ, ◌+◌, ◌*◌, ◌/◌, ◌%◌, ◌^◌, ℤ, Bool, true, false, not, ◌||◌, if◌then◌else◌, List, Option, Some, None, is_none, unwrap_or}
+use Rattle.alpha_words.specs.Digits.{low_bytes}
+use Rattle.alpha_words.specs.Regs.{reg, put}
+use Rattle.alpha_table.specs.declared.op.Cond.{Cond}
+use Rattle.alpha_table.specs.declared.columns.MemAccess.{MemAccess}
+use Rattle.alpha_table.specs.Class.{Class, operate, trigger, address, load, store, load_locked, store_conditional, branch, jump, barrier, idle}
+use Rattle.alpha_table.specs.Code.{class_at, trap_rc}
+use Rattle.alpha_values.specs.Source.{source_value}
+use Rattle.alpha_values.specs.TrapOp.{overflow_of, stops}
+use Rattle.alpha_mem.specs.Intent.{Intent, Load, Store}
+use Rattle.alpha_mem.specs.Block.{Block, shapes}
+use Rattle.alpha_mem.specs.Fault.{fault_of}
+use Rattle.alpha_mem.specs.Memory.{write_bytes}
+use Rattle.alpha_image.specs.Parts.{Parts, place_of}
+use Rattle.alpha_seq.specs.declared.end.End.TheVariants as ends
+use Rattle.alpha_seq.specs.State.{Program, State, Ends, Stepped}
+use Rattle.alpha_seq.specs.Step.{onward, setting, place, lock_block, matches, branch_target, branched, next_class, step}
+use Rattle.alpha_trap.specs.Scan.{scan}
+use Rattle.alpha_trap.specs.Handler.{completed_regs}
+use Rattle.alpha_imprecise.specs.Moment.{Trap, with_register, Choice, Precisely, Triggered, Waited, Reported, Lost, Moment, moment}
+
+-- ---- with nothing pending
+
+-- whether the word overflows
+abbrev pub triggers : Option Class → State → Bool
+triggers (Some (trigger op ra src rc)) s = overflow_of op (reg s.regs ra) (source_value s.regs src)
+triggers _ s = false
+
+-- the destination of a word that may trap, R31 for any other word
+abbrev pub destination : Option Class → ℕ
+destination o = unwrap_or (trap_rc o) 31
+
+-- the trap of the word at the PC
+abbrev pub new_trap : Program → Option Class → State → Trap
+new_trap g o s = record { place = unwrap_or (place_of g.image s.pc) 0; mask = with_register 0 (destination o) }
+
+-- an overflow: the destination gets any value, and the trap is pending
+abbrev pub triggered : Program → Option Class → State → Choice → Moment
+triggered g o s c = moment (setting s (destination o) c.value) (Some (new_trap g o s)) Triggered
+
+-- a precise step
+abbrev pub precisely : Stepped → Moment
+precisely t = moment t.state None (Precisely t.event)
+
+abbrev pub with_none : Program → Option Class → State → Choice → Moment
+with_none g o s c = if triggers o s then triggered g o s c else precisely (step g o s)
+
+-- ---- a report
+
+-- the address of a place
+abbrev pub address_at : Parts → ℕ → ℕ
+address_at image at = image.code_base + 4 * at
+
+-- the state after a trap of the word at a place was completed: its destination has the completed value of its sources
+-- as they are now, its address is logged, the lock flag is clear, and the program goes on behind it
+abbrev pub completed : Program → State → ℕ → State
+completed g s at = record s {
+  regs = completed_regs g.how (class_at g.image.words at) s.regs;
+  pc = address_at g.image at + 4;
+  lock = None;
+  count = (s.count + 1) % 2 ^ 64;
+  logged = address_at g.image at;
+}
+
+-- a trap of the word at a place is completed and logged, or stops the program at that word
+abbrev pub landed : Program → State → ℕ → Moment
+landed g s at =
+    if stops g.how
+    then moment (record s { pc = address_at g.image at }) None (Precisely (Ends (ends.Overflow (address_at g.image at))))
+    else moment (completed g s at) None (Reported (address_at g.image at))
+
+-- a report by the place that the scan finds; it finds none for a trap that is lost, and the state stays
+abbrev pub report_at : Program → State → Trap → Option ℕ → Moment
+report_at g s t None = moment s (Some t) (Lost s.pc t.mask)
+report_at g s t (Some at) = landed g s at
+
+abbrev pub report : Program → State → Trap → Moment
+report g s t = report_at g s t (scan g.image s.pc t.mask)
+
+-- ---- a word that is executed while a trap is pending
+
+-- whether an access at its actual address goes well
+abbrev pub goes_well : Intent → MemAccess → State → Bool
+goes_well intent at s = is_none (fault_of (shapes s.mem) intent (place at s) at.bytes)
+
+-- whether the word can be executed while a trap waits: it is no barrier, and an access doesn't fault
+abbrev pub can_wait : Option Class → State → Bool
+can_wait None s = false
+can_wait (Some (operate op ra src rc)) s = true
+can_wait (Some (trigger op ra src rc)) s = true
+can_wait (Some (address op ra rb disp)) s = true
+can_wait (Some (load extension at ra)) s = goes_well Load at s
+can_wait (Some (store at ra)) s = goes_well Store at s
+can_wait (Some (load_locked extension at ra)) s = goes_well Load at s
+can_wait (Some (store_conditional at ra)) s = goes_well Store at s
+can_wait (Some (branch condition ra disp)) s = true
+can_wait (Some (jump ra rb)) s = true
+can_wait (Some (barrier call)) s = false
+can_wait (Some idle) s = true
+
+-- the memory after a store of any bytes
+abbrev pub spoilt_memory : MemAccess → State → Choice → List Block
+spoilt_memory at s c = write_bytes s.mem (place at s) (low_bytes at.bytes c.bytes)
+
+-- a conditional store, by whether the lock flag has its number: its register gets any value, and the flag is clear
+abbrev pub spoilt_conditional : Bool → MemAccess → ℕ → State → Choice → State
+spoilt_conditional true at ra s c = record (setting s ra c.value) { mem = spoilt_memory at s c; lock = None }
+spoilt_conditional false at ra s c = record (setting s ra c.value) { lock = None }
+
+-- a branch goes by its actual register; one that leaves the next address leaves any value
+abbrev pub spoilt_branch : Option Cond → ℕ → ℤ → State → Choice → State
+spoilt_branch None ra disp s c = record s { regs = put s.regs ra c.value; pc = branch_target s disp }
+spoilt_branch (Some condition) ra disp s c = branched (Some condition) ra disp s
+
+-- the state after the word: a destination gets any value, a store puts any bytes at its actual address, and a turn and
+-- the lock flag go as in a precise step
+abbrev pub spoilt : Option Class → State → Choice → State
+spoilt None s c = s
+spoilt (Some (operate op ra src rc)) s c = setting s rc c.value
+spoilt (Some (trigger op ra src rc)) s c = setting s rc c.value
+spoilt (Some (address op ra rb disp)) s c = setting s ra c.value
+spoilt (Some (load extension at ra)) s c = setting s ra c.value
+spoilt (Some (store at ra)) s c = record (onward s) { mem = spoilt_memory at s c }
+spoilt (Some (load_locked extension at ra)) s c = record (setting s ra c.value) { lock = Some (lock_block at s) }
+spoilt (Some (store_conditional at ra)) s c = spoilt_conditional (matches s.lock (lock_block at s)) at ra s c
+spoilt (Some (branch condition ra disp)) s c = spoilt_branch condition ra disp s c
+spoilt (Some (jump ra rb)) s c = record s { regs = put s.regs ra c.value; pc = reg s.regs rb / 4 * 4 }
+spoilt (Some (barrier call)) s c = s
+spoilt (Some idle) s c = onward s
+
+-- the mask after the word: one that may trap adds its destination, if the machine chooses so
+abbrev pub mask_after : Option Class → ℕ → Bool → ℕ
+mask_after o mask adds = if adds then with_register mask (destination o) else mask
+
+abbrev pub waited : Option Class → State → Trap → Choice → Moment
+waited o s t c = moment (spoilt o s c) (Some (record t { mask = mask_after o t.mask c.adds })) Waited
+
+abbrev pub with_trap : Program → Option Class → State → Trap → Choice → Moment
+with_trap g o s t c = if c.report || not (can_wait o s) then report g s t else waited o s t c
+
+-- ---- the step
+
+-- a step at a word of this class
+abbrev pub wild_at : Program → Option Class → State → Option Trap → Choice → Moment
+wild_at g o s None c = with_none g o s c
+wild_at g o s (Some t) c = with_trap g o s t c
+
+-- the step from a state
+abbrev pub wild : Program → State → Option Trap → Choice → Moment
+wild g s pending c = wild_at g (next_class g s.pc) s pending c

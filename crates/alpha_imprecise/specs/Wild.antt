@@ -1,0 +1,61 @@
+-- How the code's machine stands to the definition.
+use Rattle.std.specs.Prelude.{◌≡◌, ℕ, ◌+◌, ◌%◌, ◌^◌, true, List, [], Option, Some}
+use Rattle.std.specs.Option.{option_map, option_map_or}
+use Rattle.alpha_words.specs.Regs.{reg, put}
+use Rattle.alpha_pal.specs.Kernel.{KernelState, arith_frame}
+use Rattle.alpha_table.specs.Class.{Class}
+use Rattle.alpha_image.specs.Parts.{place_of}
+use Rattle.alpha_seq.specs.declared.machine.Machine.{Machine}
+use Rattle.alpha_seq.specs.State.{State}
+use Rattle.alpha_seq.specs.Machine.{program_of, state_of, class_here}
+use Rattle.alpha_imprecise.specs.declared.pending.Pending.{Pending}
+use Rattle.alpha_imprecise.specs.Moment.{Trap, Choice}
+use Rattle.alpha_imprecise.specs.Step.{triggers, destination, can_wait, spoilt}
+
+-- the machine, and the trap that is pending
+pub record WildState : Type 0 where
+  pub machine : Machine
+  pub pending : Option Pending
+
+abbrev pub wild_state : Machine → Option Pending → WildState
+wild_state machine pending = record { machine = machine; pending = pending }
+
+abbrev pub trap_of : Pending → Trap
+trap_of p = record { place = p.trigger; mask = p.mask }
+
+abbrev pub trap_in : Option Pending → Option Trap
+trap_in pending = option_map trap_of pending
+
+abbrev pub waited_in : Option Pending → ℕ
+waited_in pending = option_map_or (λ p. p.waited) pending 0
+
+-- the state without what the devices hold
+abbrev pub bare : Machine → State
+bare m = state_of m [] []
+
+-- the word at the PC is at this place, and overflows into this register
+pub record OverflowsAt (m : Machine) (place rc : ℕ) : Type 0 where
+  pub at : place_of m.image m.pc ≡ Some place
+  pub overflows : triggers (class_here m) (bare m) ≡ true
+  pub into : destination (class_here m) ≡ rc
+
+-- the machine after an overflow whose destination got a value
+abbrev pub triggered_machine : Machine → ℕ → ℕ → Machine
+triggered_machine m rc value = record m { regs = put m.regs rc value; pc = (m.pc + 4) % 2 ^ 64 }
+
+-- the word at the PC is of this class, and can be executed while a trap waits
+pub record WaitsAt (m : Machine) (class : Class) : Type 0 where
+  pub here : class_here m ≡ Some class
+  pub waits : can_wait (Some class) (bare m) ≡ true
+
+-- A word of this class was executed while a trap waits, by one value for its destination and its bytes, at each input and
+-- output, which it leaves.
+pub record Spoils (class : Class) (value : ℕ) (old new : Machine) : Type 0 where
+  pub is : (input output : List ℕ) (c : Choice) → c.value ≡ value → c.bytes ≡ value
+      → spoilt (Some class) (state_of old input output) c ≡ state_of new input output
+  pub program : program_of new ≡ program_of old
+  pub kernel : new.kernel ≡ old.kernel
+
+-- the kernel after a report: in user mode, and its frame that of a trap at the PC with the registers as they are now
+abbrev pub returned_kernel : ℕ → List ℕ → KernelState
+returned_kernel pc regs = record { user = true; frame = arith_frame pc regs; user_stack = reg regs 30 }

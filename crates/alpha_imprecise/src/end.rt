@@ -1,0 +1,26 @@
+use alpha_seq::End;
+use alpha_words::RegSet;
+
+/// How a step went.
+#[derive(Clone, Copy, Debug, PartialEq, Eq)]
+pub enum WildEnd {
+    /// An instruction was executed with nothing pending.
+    Went,
+    /// A barrier was executed.
+    Barrier,
+    /// An instruction overflowed, and its trap is pending.
+    Triggered,
+    /// An instruction was executed while a trap is pending.
+    Waited,
+    /// The pending trap was reported, and the word at this address completed and logged.
+    Reported(u64),
+    /// The program ended.
+    Ended(End),
+    /// The pending trap was reported, and the handler found no word for its PC and its mask. The
+    /// state and the trap are as before.
+    Lost(u64, RegSet),
+    /// The input failed in a read.
+    InputFault,
+    /// The output failed in a write, or the notes failed at the line of a report.
+    SinkFault,
+}

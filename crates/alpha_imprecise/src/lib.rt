@@ -1,0 +1,36 @@
+//! The imprecise machine: a trap of an overflow is reported late, and until then what the program writes
+//! may be anything (Architecture Handbook, arithmetic traps; the exact form is this project's own).
+//!
+//! - [`Wild`] is the machine: a sequential machine, and a trap that may be pending, a [`Pending`].
+//!   [`Wild::step`] makes one step, and [`WildEnd`] says how it went.
+//! - A [`Chooser`] answers the words of 64 bits by which a step chooses: [`ListChooser`] has them from bytes,
+//!   [`PcgChooser`] from a seeded generator.
+//!
+//! `specs/Moment.antt` has what the machine is at a moment and what it is free to choose, `specs/Step.antt` the
+//! step, `specs/Run.antt` the runs, `specs/Chosen.antt` the choices that are made by words of 64 bits,
+//! `specs/Made.antt` the runs that coming words make, and `specs/Restart.antt` what it means that a program can be
+//! restarted after each trap. `specs/WildEffect.antt` says what the code's step did against that, for choosers and
+//! devices that may tell nothing, and `specs/Telling.antt` how a chooser goes on.
+//!
+//! `src/step.rt` has the step by what it is, `src/look.rt` what the word at the PC would do, `src/spoil.rt` the words
+//! that are executed while a trap is pending, and `src/report.rt` the report, through the kernel's frame and the
+//! handler.
+#![tactic(auto)]
+
+mod chooser;
+mod end;
+mod list;
+mod look;
+mod pcg;
+mod pending;
+mod report;
+mod spoil;
+mod step;
+mod wild;
+
+pub use chooser::Chooser;
+pub use end::WildEnd;
+pub use list::ListChooser;
+pub use pcg::PcgChooser;
+pub use pending::Pending;
+pub use wild::Wild;

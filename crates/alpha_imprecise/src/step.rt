@@ -1,0 +1,265 @@
+//! A step, by what it is: precise, a trigger, a word that is executed while a trap waits, or a report.
+
+ghost use Rattle.std.specs.Prelude.{◌≡◌, ◌<◌, ◌≤◌, ◌/◌, ◌%◌, ◌==◌, ℕ, List, [], ◌∷◌, true, false, IfSome, IfNone, IsTrue, None, Some};
+ghost use Rattle.alpha_io.specs.Sunk.{sunk};
+ghost use Rattle.alpha_table.specs.Class.{class_of};
+ghost use Rattle.alpha_seq.specs.Machine.{class_here};
+ghost use Rattle.alpha_seq.specs.Devices.{drawn};
+ghost use Rattle.alpha_imprecise.specs.Moment.{Triggered, Waited, with_register};
+ghost use Rattle.alpha_imprecise.specs.Step.{triggers, destination, mask_after};
+ghost use Rattle.alpha_imprecise.specs.Chosen.{must_report};
+ghost use Rattle.alpha_imprecise.specs.Telling.{Telling, telling};
+ghost use Rattle.alpha_imprecise.specs.Wild.{bare, wild_state, OverflowsAt, WaitsAt};
+ghost use Rattle.alpha_imprecise.specs.WildEffect.{WildEffect, AloneEffect, StepsAlone, Chooses, ChoosesReport, IsFramed, Framed};
+
+use crate::look::{Overflow, overflow_here, waits_here};
+use crate::report::{Landing, report};
+use crate::spoil::{set, spoil};
+use crate::{Chooser, Pending, WildEnd};
+use alpha_io::{Failed, Sink, Source};
+use alpha_seq::{End, Machine, StepEnd, write_overflow};
+use alpha_table::{Form, Insn};
+use alpha_words::{Reg, RegSet};
+
+// How many words are executed at most while a trap is pending.
+const MOST_WAITED: u32 = 1024;
+
+/// Makes a step of a machine in user mode, with a trap that may be pending.
+pub(crate) fn step<C: Chooser, S: Source, K: Sink, N: Sink>(
+    machine: &mut Machine,
+    pending: &mut Option<Pending>,
+    chooser: &mut C,
+    input: &mut S,
+    out: &mut K,
+    notes: &mut N,
+) -> WildEnd
+    requires user { IsTrue machine.old.kernel.user }
+    requires few { IfSome pending.old (λ p. p.waited ≤ 1024) }
+    ensures effect { WildEffect result
+        (wild_state machine.old pending.old) (wild_state machine.new pending.new)
+        (telling C.ahead C.drawn chooser.old) (telling C.ahead C.drawn chooser.new)
+        (drawn S.left S.faults input.old input.new)
+        (sunk K.written K.faults out.old out.new)
+        (sunk N.written N.faults notes.old notes.new) }
+    ensures frame { Framed pending.old result machine.new }
+    ensures user { IsTrue machine.new.kernel.user }
+    ensures bound { IfSome pending.new (λ p. p.waited ≤ 1024) }
+{
+    match *pending {
+        None => with_none(machine, pending, chooser, input, out, notes),
+        Some(trap) => with_trap(machine, pending, &trap, chooser, notes),
+    }
+}
+
+// Makes a step with nothing pending.
+fn with_none<C: Chooser, S: Source, K: Sink, N: Sink>(
+    machine: &mut Machine,
+    pending: &mut Option<Pending>,
+    chooser: &mut C,
+    input: &mut S,
+    out: &mut K,
+    notes: &mut N,
+) -> WildEnd
+    requires user { IsTrue machine.old.kernel.user }
+    requires none { pending.old ≡ None }
+    ensures effect { WildEffect result
+        (wild_state machine.old pending.old) (wild_state machine.new pending.new)
+        (telling C.ahead C.drawn chooser.old) (telling C.ahead C.drawn chooser.new)
+        (drawn S.left S.faults input.old input.new)
+        (sunk K.written K.faults out.old out.new)
+        (sunk N.written N.faults notes.old notes.new) }
+    ensures user { IsTrue machine.new.kernel.user }
+    ensures bound { IfSome pending.new (λ p. p.waited ≤ 1024) }
+{
+    match overflow_here(machine) {
+        Some(overflow) => {
+            let value = chooser.next();
+            trigger(machine, pending, &overflow, value);
+            WildEnd::Triggered
+        }
+        None => precise(machine, input, out, notes),
+    }
+}
+
+// Makes a step while a trap is pending.
+fn with_trap<C: Chooser, N: Sink>(
+    machine: &mut Machine,
+    pending: &mut Option<Pending>,
+    trap: &Pending,
+    chooser: &mut C,
+    notes: &mut N,
+) -> WildEnd
+    requires user { IsTrue machine.old.kernel.user }
+    requires trap { pending.old ≡ Some trap.now }
+    requires few { trap.now.waited ≤ 1024 }
+    ensures effect { StepsAlone result
+        (wild_state machine.old pending.old) (wild_state machine.new pending.new)
+        (telling C.ahead C.drawn chooser.old) (telling C.ahead C.drawn chooser.new)
+        (sunk N.written N.faults notes.old notes.new) }
+    ensures frame { Framed (Some trap.now) result machine.new }
+    ensures user { IsTrue machine.new.kernel.user }
+    ensures bound { IfSome pending.new (λ p. p.waited ≤ 1024) }
+{
+    match waiting_insn(machine, trap) {
+        Some(insn) => {
+            let c = chooser.next();
+            if c % 4 == 0 {
+                report_pending(machine, pending, trap, notes)
+            } else {
+                let value = chooser.next();
+                wait(machine, pending, trap, &insn, c, value);
+                WildEnd::Waited
+            }
+        }
+        None => report_pending(machine, pending, trap, notes),
+    }
+}
+
+// The word at the PC, if the trap may wait for its execution.
+fn waiting_insn(machine: &Machine, trap: &Pending) -> Option<Insn>
+    ensures found { IfSome result (λ insn. WaitsAt machine.now (class_of insn)) }
+    ensures few { IfSome result (λ insn. trap.now.waited < 1024) }
+    ensures none { IfNone result (must_report (class_here machine.now) (bare machine.now)
+        trap.now.waited ≡ true) }
+{
+    if trap.waited < MOST_WAITED {
+        waits_here(machine)
+    } else {
+        None
+    }
+}
+
+// Makes a precise step, at a word that doesn't overflow.
+fn precise<S: Source, K: Sink, N: Sink>(
+    machine: &mut Machine,
+    input: &mut S,
+    out: &mut K,
+    notes: &mut N,
+) -> WildEnd
+    requires user { IsTrue machine.old.kernel.user }
+    requires exact { triggers (class_here machine.old) (bare machine.old) ≡ false }
+    ensures effect { (chooser : Telling) → WildEffect result
+        (wild_state machine.old None) (wild_state machine.new None) chooser chooser
+        (drawn S.left S.faults input.old input.new)
+        (sunk K.written K.faults out.old out.new)
+        (sunk N.written N.faults notes.old notes.new) }
+    ensures user { IsTrue machine.new.kernel.user }
+{
+    match machine.step(input, out, notes) {
+        StepEnd::Went => WildEnd::Went,
+        StepEnd::Barrier => WildEnd::Barrier,
+        StepEnd::Overflow(_) => unreachable!(),
+        StepEnd::Ended(end) => WildEnd::Ended(end),
+        StepEnd::InputFault => WildEnd::InputFault,
+        StepEnd::SinkFault => WildEnd::SinkFault,
+    }
+}
+
+// Executes a word that overflows by this value for its destination. Its trap is pending then.
+fn trigger(machine: &mut Machine, pending: &mut Option<Pending>, overflow: &Overflow, value: u64)
+    requires none { pending.old ≡ None }
+    requires overflows { OverflowsAt machine.old overflow.now.place overflow.now.rc }
+    ensures step { Chooses Triggered
+        (wild_state machine.old pending.old) (wild_state machine.new pending.new) (value ∷ []) }
+    ensures user { machine.new.kernel ≡ machine.old.kernel }
+    ensures bound { IfSome pending.new (λ p. p.waited ≤ 1024) }
+{
+    set(machine, overflow.rc, value);
+    *pending = Some(Pending {
+        trigger: overflow.place,
+        mask: mask_with(RegSet::empty(), overflow.rc),
+        waited: 0,
+    });
+}
+
+// Executes a word while a trap waits, by its two words.
+fn wait(
+    machine: &mut Machine,
+    pending: &mut Option<Pending>,
+    trap: &Pending,
+    insn: &Insn,
+    c: u64,
+    value: u64,
+)
+    requires trap { pending.old ≡ Some trap.now }
+    requires few { trap.now.waited < 1024 }
+    requires waits { WaitsAt machine.old (class_of insn.now) }
+    requires executes { (c % 4 == 0) ≡ false }
+    ensures step { Chooses Waited
+        (wild_state machine.old pending.old) (wild_state machine.new pending.new) (c ∷ value ∷ []) }
+    ensures user { machine.new.kernel ≡ machine.old.kernel }
+    ensures bound { IfSome pending.new (λ p. p.waited ≤ 1024) }
+{
+    spoil(machine, insn, value);
+    *pending = Some(Pending {
+        trigger: trap.trigger,
+        mask: mask_after(insn, trap.mask, c / 4 % 2 == 1),
+        waited: trap.waited + 1,
+    });
+}
+
+// The mask after an instruction, which adds its destination to it where that is asked for.
+fn mask_after(insn: &Insn, mask: RegSet, adds: bool) -> RegSet
+    ensures { result ≡ mask_after (Some (class_of insn.now)) mask adds }
+{
+    if adds {
+        mask_with(mask, destination(insn))
+    } else {
+        mask
+    }
+}
+
+// The destination of an instruction that may trap, R31 for every other one.
+fn destination(insn: &Insn) -> Reg
+    ensures { result ≡ destination (Some (class_of insn.now)) }
+{
+    match insn.form() {
+        Form::Operate { op, rc, .. } => match op.trap() {
+            Some(_) => rc,
+            None => Reg::ZERO,
+        },
+        _ => Reg::ZERO,
+    }
+}
+
+// The mask and one register more, if it isn't R31.
+fn mask_with(mask: RegSet, r: Reg) -> RegSet
+    ensures { result ≡ with_register mask r }
+{
+    mask.with(r)
+}
+
+// Reports the pending trap, and writes the line of what is logged.
+fn report_pending<N: Sink>(
+    machine: &mut Machine,
+    pending: &mut Option<Pending>,
+    trap: &Pending,
+    notes: &mut N,
+) -> WildEnd
+    requires user { IsTrue machine.old.kernel.user }
+    requires trap { pending.old ≡ Some trap.now }
+    requires few { trap.now.waited ≤ 1024 }
+    ensures effect { (words : List ℕ)
+        → ChoosesReport (wild_state machine.old pending.old) words
+        → AloneEffect result (wild_state machine.old pending.old)
+        (wild_state machine.new pending.new) words (sunk N.written N.faults notes.old notes.new) }
+    ensures frame { IsFramed machine.new }
+    ensures user { IsTrue machine.new.kernel.user }
+    ensures bound { IfSome pending.new (λ p. p.waited ≤ 1024) }
+{
+    let pc = machine.pc;
+    match report(machine, trap.mask) {
+        Landing::Completed(at) => {
+            *pending = None;
+            match write_overflow(at, notes) {
+                Ok(()) => WildEnd::Reported(at),
+                Err(Failed) => WildEnd::SinkFault,
+            }
+        }
+        Landing::Stopped(pc) => {
+            *pending = None;
+            WildEnd::Ended(End::Overflow { pc })
+        }
+        Landing::Lost => WildEnd::Lost(pc, trap.mask),
+    }
+}

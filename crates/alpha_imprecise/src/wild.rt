@@ -1,0 +1,93 @@
+ghost use Rattle.std.specs.Prelude.{◌≡◌, ◌≤◌, None, IfSome, IsTrue};
+
+use crate::step::step;
+use crate::{Chooser, Pending, WildEnd};
+use alpha_io::{Sink, Source};
+use alpha_seq::Machine;
+use std::marker::Model;
+
+/// The imprecise machine: a sequential machine, and a trap that may be pending.
+#[derive(Debug, Drop)]
+pub struct Wild {
+    machine: Machine,
+    pending: Option<Pending>,
+}
+
+impl Model for Wild {
+    ghost use Rattle.std.specs.Prelude.{◌≡◌, ◌≤◌, true, IfSome};
+    ghost use Rattle.alpha_imprecise.specs.Wild.{WildState};
+
+    ghost Value = { WildState };
+
+    ghost view = { λ w. record { machine = w.machine; pending = w.pending } };
+
+    ghost invariant = { λ w. (w.machine.kernel.user ≡ true) × IfSome w.pending (λ p. p.waited ≤ 1024) };
+}
+
+impl Wild {
+    ghost use Rattle.alpha_io.specs.Sunk.{sunk};
+    ghost use Rattle.alpha_seq.specs.Devices.{drawn};
+    ghost use Rattle.alpha_imprecise.specs.Telling.{telling};
+    ghost use Rattle.alpha_imprecise.specs.WildEffect.{Framed, WildEffect};
+
+    /// The imprecise machine with nothing pending, over a machine in user mode.
+    pub fn new(machine: Machine) -> Wild
+        requires { IsTrue machine.kernel.user }
+        ensures machine { result.machine ≡ machine }
+        ensures pending { result.pending ≡ None }
+    {
+        Wild {
+            machine,
+            pending: None,
+        }
+    }
+
+    /// The machine.
+    pub fn machine(&self) -> &Machine
+        ensures { result.now ≡ self.now.machine }
+    {
+        &self.machine
+    }
+
+    /// The trap that is pending.
+    pub fn pending(&self) -> Option<Pending>
+        ensures value { result ≡ self.now.pending }
+        ensures bound { IfSome result (λ p. p.waited ≤ 1024) }
+    {
+        self.pending
+    }
+
+    /// Makes one step by the chooser's words. With nothing pending it is a precise step, or draws a
+    /// word for the destination of an instruction that overflows. While a trap is pending it reports
+    /// without a word where the instruction is a barrier, faults or isn't there, and after 1,024
+    /// words; else it draws a word and reports where that is a multiple of 4; else it draws a second
+    /// word and executes, by that word for the destination and the bytes that are stored, and adds
+    /// the destination of an instruction with `/V` to the mask where bit 2 of the first is 1.
+    ///
+    /// A report that logs writes its line after the handler has returned. `InputFault` comes only
+    /// where the input failed in this step, and `SinkFault` where the output did, or the notes at the
+    /// line of a report, which is then made and logged.
+    pub fn step<C: Chooser, S: Source, K: Sink, N: Sink>(
+        &mut self,
+        chooser: &mut C,
+        input: &mut S,
+        out: &mut K,
+        notes: &mut N,
+    ) -> WildEnd
+        ensures effect { WildEffect result self.old self.new
+            (telling C.ahead C.drawn chooser.old) (telling C.ahead C.drawn chooser.new)
+            (drawn S.left S.faults input.old input.new)
+            (sunk K.written K.faults out.old out.new)
+            (sunk N.written N.faults notes.old notes.new) }
+        ensures frame { Framed self.old.pending result self.new.machine }
+    {
+        step(
+            &mut self.machine,
+            &mut self.pending,
+            chooser,
+            input,
+            out,
+            notes,
+        )
+    }
+}
