@@ -1,0 +1,154 @@
+-- A test of whether some place of code is broken under a condition. Where it finds none, there is none.
+use Rattle.std.proofs.Common.{◌≡◌, ◌≢◌, ◌<◌, ◌≤◌, ◌+◌, ◌-◌, ◌&&◌, ◌==◌, not, ℕ, Bool, true, false, eqb, ltb, List, length, Option, Some, None, is_some, refl, sym, ap, ◌∙◌, ⊎_elim, arith}
+use Rattle.std.specs.List.{list_all, list_any, range_with_len}
+use Rattle.std.specs.Option.{option_map_or}
+use Rattle.std.proofs.lemmas.Bool.{cases_lt, eq-eqb, lt-ltb, eqb-true}
+use Rattle.alpha_table.specs.declared.columns.InsnKind.{InsnKind}
+use Rattle.alpha_table.specs.declared.columns.InsnKind.TheVariants as kinds
+use Rattle.alpha_table.specs.declared.columns.MemAccess.{MemAccess}
+use Rattle.alpha_table.specs.Class.{Class}
+use Rattle.alpha_table.specs.Code.{class_at, kind, sets, uses, access, trap_rc}
+use Rattle.alpha_shadow.specs.declared.broken.Condition.{Condition}
+use Rattle.alpha_shadow.specs.declared.broken.Condition.TheVariants.{ZeroDestination, SourceLost, SameDestination, WildBase, LoadThenStore, Locked, Turn, Open, Long}
+use Rattle.alpha_shadow.specs.Broken.{Holds, IsBroken}
+use Rattle.alpha_trap.specs.Scan.{is_straight, spoils}
+use Rattle.alpha_trap.proofs.Columns.{trigger_has_rc, rc_spoils, on_straight}
+use Rattle.alpha_trap.proofs.Ranges.{and_true, within_any, within_all, all_within}
+use Rattle.alpha_restart.proofs.Words.{class_within, class_past}
+
+-- ---- tests of one word
+
+abbrev names : Option ℕ → ℕ → Bool
+names o r = option_map_or (λ x. x == r) o false
+
+abbrev loads : InsnKind → Bool
+loads kinds.Load = true
+loads _ = false
+
+abbrev stores : InsnKind → Bool
+stores kinds.Store = true
+stores _ = false
+
+abbrev locks : InsnKind → Bool
+locks kinds.Locked = true
+locks _ = false
+
+abbrev turns : InsnKind → Bool
+turns kinds.Turn = true
+turns _ = false
+
+abbrev of_kind : (InsnKind → Bool) → Option Class → Bool
+of_kind test c = option_map_or test (kind c) false
+
+named : (o : Option ℕ) (r : ℕ) → o ≡ Some r → names o r ≡ true
+named o r e = ap (λ x. names x r) e ∙ eq-eqb r r refl
+
+unnamed : (o : Option ℕ) (r : ℕ) → o ≢ Some r → not (names o r) ≡ true
+unnamed None r n = refl
+unnamed (Some x) r n = by (eqb x r) refl
+  where
+    by : (b : Bool) → eqb x r ≡ b → not b ≡ true
+    by true e = absurd (n (ap Some (eqb-true x r e)))
+    by false e = refl
+
+kind_is : (test : InsnKind → Bool) (c : Option Class) (k : InsnKind) → kind c ≡ Some k → test k ≡ true → of_kind test c ≡ true
+kind_is test c k e t = ap (λ o. option_map_or test o false) e ∙ t
+
+-- ---- tests of a place
+
+-- the word uses the register, and no word from the trigger up to it sets it
+abbrev exposes : List ℕ → ℕ → ℕ → ℕ → Bool
+exposes code t r j = uses (class_at code j) r && list_all (λ k. not (names (sets (class_at code k)) r)) (range_with_len t (j - t))
+
+abbrev may_hold : List ℕ → ℕ → ℕ → Condition → Bool
+may_hold code t i ZeroDestination = (i == t) && spoils (class_at code t) 31
+may_hold code t i SourceLost = option_map_or (λ r. list_any (exposes code t r) (range_with_len t (i + 1 - t))) (sets (class_at code i)) false
+may_hold code t i SameDestination = ltb t i && is_some (trap_rc (class_at code i))
+may_hold code t i WildBase =
+    ltb t i && option_map_or (λ a. list_any (λ k. names (sets (class_at code k)) a.base) (range_with_len t (i - t))) (access (class_at code i)) false
+may_hold code t i LoadThenStore = of_kind stores (class_at code i) && list_any (λ k. of_kind loads (class_at code k)) (range_with_len (t + 1) (i - (t + 1)))
+may_hold code t i Locked = of_kind locks (class_at code i)
+may_hold code t i Turn = of_kind turns (class_at code i)
+may_hold code t i Open = i == length code
+may_hold code t i Long = (i == t + 1025) && ltb i (length code)
+
+holds_may : (code : List ℕ) (t i : ℕ) (c : Condition) → t ≤ i → Holds code t i c → may_hold code t i c ≡ true
+holds_may code t i ZeroDestination order h = and_true (i == t) _ (eq-eqb i t h.0) (rc_spoils (class_at code t) 31 h.1)
+holds_may code t i SourceLost order h =
+    let r = h.register in
+    let j = h.source.place in
+    let low = h.source.above in
+    let high = h.source.below in
+    ap (λ o. option_map_or (λ x. list_any (exposes code t x) (range_with_len t (i + 1 - t))) o false) h.sets
+    ∙ within_any (exposes code t r) t (i + 1 - t) j low (omega arith)
+    (and_true (uses (class_at code j) r) _ h.source.uses
+    (within_all (λ k. not (names (sets (class_at code k)) r)) t (j - t)
+    (λ k above below. unnamed (sets (class_at code k)) r (λ e. h.source.unset (record { place = k; above = above; below = omega arith; sets = e })))))
+holds_may code t i SameDestination order h = and_true (ltb t i) _ (lt-ltb t i h.0) (trigger_has_rc (class_at code i) h.1)
+holds_may code t i WildBase order h =
+    let w = h.1 in
+    let low = w.base.above in
+    let high = w.base.below in
+    and_true (ltb t i) _ (lt-ltb t i h.0)
+    (ap (λ o. option_map_or (λ (a : MemAccess). list_any (λ k. names (sets (class_at code k)) a.base) (range_with_len t (i - t))) o false) w.accesses
+    ∙ within_any (λ k. names (sets (class_at code k)) w.access.base) t (i - t) w.base.place low (omega arith)
+    (named (sets (class_at code w.base.place)) w.access.base w.base.sets))
+holds_may code t i LoadThenStore order h =
+    let low = h.load.above in
+    let high = h.load.below in
+    and_true (of_kind stores (class_at code i)) _ (kind_is stores (class_at code i) kinds.Store h.store refl)
+    (within_any (λ k. of_kind loads (class_at code k)) (t + 1) (i - (t + 1)) h.load.place low (omega arith)
+    (kind_is loads (class_at code h.load.place) kinds.Load h.load.load refl))
+holds_may code t i Locked order h = kind_is locks (class_at code i) kinds.Locked h refl
+holds_may code t i Turn order h = kind_is turns (class_at code i) kinds.Turn h refl
+holds_may code t i Open order h = eq-eqb i (length code) h
+holds_may code t i Long order h = and_true (i == t + 1025) _ (eq-eqb i (t + 1025) h.0) (lt-ltb i (length code) h.1)
+
+-- ---- the test of code
+
+abbrev may_break : List ℕ → Condition → ℕ → ℕ → Bool
+may_break code c t i =
+    is_some (trap_rc (class_at code t)) && (list_all (λ k. is_straight (class_at code k)) (range_with_len t (i - t)) && may_hold code t i c)
+
+-- no place of the code, or right behind it, is broken under the condition
+abbrev pub fine : List ℕ → Condition → Bool
+fine code c = list_all (λ t. list_all (λ i. not (may_break code c t i)) (range_with_len t (length code + 1 - t))) (range_with_len 0 (length code))
+
+-- a trigger stands in the code
+trigger_within : (code : List ℕ) (t : ℕ) → kind (class_at code t) ≡ Some kinds.Trigger → t < length code
+trigger_within code t e = by (class_at code t) refl e
+  where
+    by : (o : Option Class) → class_at code t ≡ o → kind o ≡ Some kinds.Trigger → t < length code
+    by None f k = cc
+    by (Some class) f k = class_within code t class f
+
+-- a broken place stands in the code, or right behind it
+holds_within : (code : List ℕ) (t i : ℕ) (c : Condition) → t < length code → Holds code t i c → i ≤ length code
+holds_within code t i c low h = ⊎_elim (λ (far : length code < i). absurd (by c h far (class_past code i (omega arith)))) (λ (near : i ≤ length code). near) (cases_lt (length code) i)
+  where
+    by : (c : Condition) → Holds code t i c → length code < i → class_at code i ≡ None → ⊥
+    by ZeroDestination h far none = let same = h.0 in omega arith
+    by SourceLost h far none = let e : None ≡ Some h.register = sym (ap sets none) ∙ h.sets in cc
+    by SameDestination h far none = let e : None ≡ Some kinds.Trigger = sym (ap kind none) ∙ h.1 in cc
+    by WildBase h far none = let e : None ≡ Some h.1.access = sym (ap access none) ∙ h.1.accesses in cc
+    by LoadThenStore h far none = let e : None ≡ Some kinds.Store = sym (ap kind none) ∙ h.store in cc
+    by Locked h far none = let e : None ≡ Some kinds.Locked = sym (ap kind none) ∙ h in cc
+    by Turn h far none = let e : None ≡ Some kinds.Turn = sym (ap kind none) ∙ h in cc
+    by Open h far none = omega arith
+    by Long h far none = let near = h.1 in omega arith
+
+pub unbroken : (code : List ℕ) (c : Condition) → fine code c ≡ true → (t i : ℕ) → IsBroken code t i c → ⊥
+unbroken code c e t i h =
+    let low = trigger_within code t h.trigger_kind in
+    let order = h.order in
+    let near = holds_within code t i c low h.holds in
+    let here = all_within (λ s. list_all (λ k. not (may_break code c s k)) (range_with_len s (length code + 1 - s))) 0 (length code) t e (omega arith) (omega arith) in
+    let never = all_within (λ k. not (may_break code c t k)) t (length code + 1 - t) i here order (omega arith) in
+    let found : may_break code c t i ≡ true =
+    and_true (is_some (trap_rc (class_at code t))) _ (trigger_has_rc (class_at code t) h.trigger_kind)
+    (and_true (list_all (λ k. is_straight (class_at code k)) (range_with_len t (i - t))) _
+    (within_all (λ k. is_straight (class_at code k)) t (i - t)
+    (λ k above below. let s = h.straight k above (omega arith) in on_straight (class_at code k) s.0 s.1))
+    (holds_may code t i c order h.holds)) in
+    let f : not true ≡ true = sym (ap not found) ∙ never in
+    cc

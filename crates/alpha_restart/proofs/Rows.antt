@@ -1,0 +1,190 @@
+-- Each row of the imprecise step's table is a choice, and each choice is a row.
+use Rattle.std.proofs.Common.{◌≡◌, ◌<◌, ◌≤◌, ◌^◌, ◌⊎◌, not, ℕ, ℤ, Bool, true, false, cond, List, [], ◌∷◌, length, option_and_then, Option, Some, None, refl, sym, ap, subst, ◌∙◌, inl, inr, arith}
+use Rattle.std.specs.Prelude.{All}
+use Rattle.std.proofs.lemmas.List.{take_all}
+use Rattle.std.proofs.lemmas.List.Elements.{All-nil, All-cons, All-head, All-tail}
+use Rattle.std.proofs.Math.Nat.{pow-suc}
+use Rattle.alpha_words.specs.Digits.{digits, number, low_bytes, little}
+use Rattle.alpha_words.proofs.DigitLemmas.{AllBelow, digits-AllBelow, length-digits, digits-number}
+use Rattle.alpha_table.specs.declared.op.Cond.{Cond}
+use Rattle.alpha_table.specs.declared.columns.MemAccess.{MemAccess}
+use Rattle.alpha_table.specs.Class.{Class, operate, trigger, address, load, store, load_locked, store_conditional, branch, jump, barrier, idle}
+use Rattle.alpha_table.specs.Code.{class_at, access}
+use Rattle.alpha_image.specs.Parts.{IsByte, place_of}
+use Rattle.alpha_seq.specs.State.{Program, State}
+use Rattle.alpha_seq.specs.Step.{onward, setting, lock_block, matches, next_class, step}
+use Rattle.alpha_imprecise.specs.Moment.{Trap, with_register, Choice, IsChoice, Waited, Moment, moment}
+use Rattle.alpha_imprecise.specs.Step.{triggers, triggered, destination, precisely, report, can_wait, spoilt, spoilt_conditional, waited, wild}
+use Rattle.alpha_restart.specs.Table.{SetsAny, AreBytes, StoresAny, storing, StoresIf, Branches, Executed, Steps, Overflows, Reports, Waits, Row, steps, overflows, reports, waits}
+use Rattle.alpha_restart.proofs.Words.{IsNarrow, narrow}
+
+-- ---- bytes and their number
+
+all_below : (xs : List ℕ) → All IsByte xs → AllBelow 256 xs
+all_below [] h = tt
+all_below (x ∷ xs) h = (All-head IsByte x xs h, all_below xs (All-tail IsByte x xs h))
+
+below_all : (xs : List ℕ) → AllBelow 256 xs → All IsByte xs
+below_all [] h = All-nil IsByte
+below_all (x ∷ xs) h = All-cons IsByte x xs h.0 (below_all xs h.1)
+
+number_below : (xs : List ℕ) → AllBelow 256 xs → little xs < 256 ^ length xs
+unfolding number
+number_below [] h = omega arith
+number_below (x ∷ xs) h =
+    let low = h.0 in
+    let rest = number_below xs h.1 in
+    let more = pow-suc 256 (length xs) in
+    omega arith
+
+-- bytes are those of their number
+bytes_back : (n : ℕ) (xs : List ℕ) → length xs ≡ n → All IsByte xs → low_bytes n (little xs) ≡ xs
+bytes_back n xs size h =
+    let few : n ≤ length xs = omega arith in
+    digits-number 8 n xs (all_below xs h) few ∙ take_all n xs (omega arith)
+
+bytes_bound : (c : MemAccess) (xs : List ℕ) → IsNarrow c → length xs ≡ c.bytes → All IsByte xs → little xs < 2 ^ 64
+bytes_bound c xs h size bytes =
+    let low = number_below xs (all_below xs bytes) in
+    let fit = h.small in
+    let same = ap (λ n. 256 ^ n) size in
+    omega arith
+
+pub low_bytes_are : (n v : ℕ) → AreBytes n (low_bytes n v)
+low_bytes_are n v = (length-digits 256 n v, below_all (digits 256 n v) (digits-AllBelow 8 n v))
+
+-- ---- a word that is executed
+
+-- the access of a word of the code
+pub next_narrow : (g : Program) (pc : ℕ) (o : Option Class) → next_class g pc ≡ o → (c : MemAccess) → access o ≡ Some c → IsNarrow c
+next_narrow g pc o is c e = by (place_of g.image pc) refl
+  where
+    by : (p : Option ℕ) → place_of g.image pc ≡ p → IsNarrow c
+    by None f = let none : None ≡ o = sym (ap (option_and_then (class_at g.image.words)) f) ∙ is in let a : None ≡ Some c = ap access none ∙ e in cc
+    by (Some k) f =
+        let there : class_at g.image.words k ≡ o = sym (ap (option_and_then (class_at g.image.words)) f) ∙ is in
+        narrow g.image.words k c (ap access there ∙ e)
+
+abbrev waiting : ℕ → ℕ → Bool → Choice
+waiting value bytes adds = record { report = false; value = value; bytes = bytes; adds = adds }
+
+-- the value and the bytes of a choice by which the word is executed so
+record Chooses (o : Option Class) (s b : State) : Type 0 where
+  value : ℕ
+  bytes : ℕ
+  small : value < 2 ^ 64
+  small_too : bytes < 2 ^ 64
+  can : can_wait o s ≡ true
+  is : (adds : Bool) → spoilt o s (waiting value bytes adds) ≡ b
+
+-- a word that sets a register
+sets_any : (o : Option Class) (s b : State) (after : ℕ → State) → can_wait o s ≡ true → ((v : ℕ) (adds : Bool) → spoilt o s (waiting v 0 adds) ≡ after v)
+    → SetsAny after b → Chooses o s b
+sets_any o s b after can is h = record {
+  value = h.0;
+  bytes = 0;
+  small = h.1;
+  small_too = omega arith;
+  can = can;
+  is = λ adds. is h.0 adds ∙ sym h.2;
+}
+
+-- a word that stores
+stores_any : (o : Option Class) (at : MemAccess) (s b : State) (v : ℕ) (after : List ℕ → State) → IsNarrow at → v < 2 ^ 64 → can_wait o s ≡ true
+    → ((n : ℕ) (adds : Bool) → spoilt o s (waiting v n adds) ≡ after (low_bytes at.bytes n)) → StoresAny at s after b → Chooses o s b
+stores_any o at s b v after fit small can is h = record {
+  value = v;
+  bytes = little h.0;
+  small = small;
+  small_too = bytes_bound at h.0 fit h.1.0 h.1.1;
+  can = can;
+  is = λ adds. is (little h.0) adds ∙ (ap after (bytes_back at.bytes h.0 h.1.0 h.1.1) ∙ sym h.2);
+}
+
+stores_if : (at : MemAccess) (ra : ℕ) (s b : State) (flag : Bool) → IsNarrow at → can_wait (Some (store_conditional at ra)) s ≡ true → matches s.lock (lock_block at s) ≡ flag
+    → StoresIf flag at ra s b → Chooses (Some (store_conditional at ra)) s b
+stores_if at ra s b true fit can is h =
+    stores_any (Some (store_conditional at ra)) at s b h.0 (storing at s (record (setting s ra h.0) { lock = None })) fit h.1 can
+    (λ n adds. ap (λ f. spoilt_conditional f at ra s (waiting h.0 n adds)) is) h.2
+stores_if at ra s b false fit can is h =
+    sets_any (Some (store_conditional at ra)) s b (λ value. record (setting s ra value) { lock = None }) can
+    (λ v adds. ap (λ f. spoilt_conditional f at ra s (waiting v 0 adds)) is) h
+
+same_any : (o : Option Class) (s b : State) → can_wait o s ≡ true → ((adds : Bool) → spoilt o s (waiting 0 0 adds) ≡ b) → Chooses o s b
+same_any o s b can is = record { value = 0; bytes = 0; small = omega arith; small_too = omega arith; can = can; is = is }
+
+branches : (condition : Option Cond) (ra : ℕ) (disp : ℤ) (s b : State) → Branches condition ra disp s b → Chooses (Some (branch condition ra disp)) s b
+branches None ra disp s b h = sets_any _ s b _ refl (λ v adds. refl) h
+branches (Some c) ra disp s b h = same_any _ s b refl (λ adds. sym h)
+
+chooses : (o : Option Class) (s b : State) → ((c : MemAccess) → access o ≡ Some c → IsNarrow c) → Executed o s b → Chooses o s b
+chooses None s b fit h = absurd h
+chooses (Some (operate op ra src rc)) s b fit h = sets_any _ s b _ refl (λ v adds. refl) h
+chooses (Some (trigger op ra src rc)) s b fit h = sets_any _ s b _ refl (λ v adds. refl) h
+chooses (Some (address op ra rb disp)) s b fit h = sets_any _ s b _ refl (λ v adds. refl) h
+chooses (Some (load extension at ra)) s b fit h = sets_any _ s b _ h.0 (λ v adds. refl) h.1
+chooses (Some (store at ra)) s b fit h = stores_any _ at s b 0 (storing at s (onward s)) (fit at refl) (omega arith) h.0 (λ n adds. refl) h.1
+chooses (Some (load_locked extension at ra)) s b fit h = sets_any _ s b _ h.0 (λ v adds. refl) h.1
+chooses (Some (store_conditional at ra)) s b fit h = stores_if at ra s b (matches s.lock (lock_block at s)) (fit at refl) h.0 refl h.1
+chooses (Some (branch condition ra disp)) s b fit h = branches condition ra disp s b h
+chooses (Some (jump ra rb)) s b fit h = sets_any _ s b _ refl (λ v adds. refl) h
+chooses (Some (barrier call)) s b fit h = absurd h
+chooses (Some idle) s b fit h = same_any _ s b refl (λ adds. sym h)
+
+-- ---- rows and choices
+
+-- a choice that makes a step
+abbrev pub Chosen : Program → State → Option Trap → Moment → Type 0
+Chosen g s pending m = (c : Choice) × IsChoice c × (wild g s pending c ≡ m)
+
+small_choice : (v n : ℕ) (adds : Bool) → v < 2 ^ 64 → n < 2 ^ 64 → IsChoice (waiting v n adds)
+small_choice v n adds p q = record { value = p; bytes = q }
+
+by_test : {X : Type 0} (b flag : Bool) (x y : X) → b ≡ flag → cond b x y ≡ cond flag x y
+by_test b flag x y e = ap (λ f. cond f x y) e
+
+row_steps : (g : Program) (s : State) (pending : Option Trap) (m : Moment) → Steps g s pending m → Chosen g s pending m
+row_steps g s pending m h =
+    subst (λ (p : Option Trap). Chosen g s p m) (sym h.none) (
+      waiting 0 0 false,
+      small_choice 0 0 false (omega arith) (omega arith),
+      by_test (triggers (next_class g s.pc) s) false (triggered g (next_class g s.pc) s (waiting 0 0 false)) (precisely (step g (next_class g s.pc) s)) h.calm ∙ sym h.is,
+    )
+
+row_overflows : (g : Program) (s : State) (pending : Option Trap) (m : Moment) → Overflows g s pending m → Chosen g s pending m
+row_overflows g s pending m h =
+    subst (λ (p : Option Trap). Chosen g s p m) (sym h.none) (
+      waiting h.value 0 false,
+      small_choice h.value 0 false h.small (omega arith),
+      by_test (triggers (next_class g s.pc) s) true (triggered g (next_class g s.pc) s (waiting h.value 0 false)) (precisely (step g (next_class g s.pc) s)) h.over ∙ sym h.is,
+    )
+
+row_reports : (g : Program) (s : State) (pending : Option Trap) (m : Moment) → Reports g s pending m → Chosen g s pending m
+row_reports g s pending m h =
+    subst (λ (p : Option Trap). Chosen g s p m) (sym h.some)
+    (record { report = true; value = 0; bytes = 0; adds = false }, record { value = omega arith; bytes = omega arith }, sym h.is)
+
+-- the mask stays, or gets a destination
+added : (mask d new : ℕ) → (new ≡ mask) ⊎ (new ≡ with_register mask d) → (adds : Bool) × (cond adds (with_register mask d) mask ≡ new)
+added mask d new (inl e) = (false, sym e)
+added mask d new (inr e) = (true, sym e)
+
+row_waits : (g : Program) (s : State) (pending : Option Trap) (m : Moment) → Waits g s pending m → Chosen g s pending m
+row_waits g s pending m h =
+    let o = next_class g s.pc in
+    let w = chooses o s h.after (next_narrow g s.pc o refl) h.executed in
+    let a = added h.t.mask (destination o) h.mask h.adds in
+    let c = waiting w.value w.bytes a.0 in
+    subst (λ (p : Option Trap). Chosen g s p m) (sym h.some) (
+      c,
+      small_choice w.value w.bytes a.0 w.small w.small_too,
+      by_test (not (can_wait o s)) false (report g s h.t) (waited o s h.t c) (ap not w.can)
+          ∙ (ap (λ (b : State). moment b (Some (record { place = h.t.place; mask = cond a.0 (with_register h.t.mask (destination o)) h.t.mask })) Waited) (w.is a.0)
+          ∙ (ap (λ n. moment h.after (Some (record { place = h.t.place; mask = n })) Waited) a.1 ∙ sym h.is)),
+    )
+
+pub row_chosen : (g : Program) (s : State) (pending : Option Trap) (m : Moment) → Row g s pending m → Chosen g s pending m
+row_chosen g s pending m (steps h) = row_steps g s pending m h
+row_chosen g s pending m (overflows h) = row_overflows g s pending m h
+row_chosen g s pending m (reports h) = row_reports g s pending m h
+row_chosen g s pending m (waits h) = row_waits g s pending m h

@@ -1,0 +1,138 @@
+-- Runs that coming words make use all their units, or are over before, and nothing is pending at their end.
+use Rattle.std.proofs.Common.{◌≡◌, ◌<◌, ◌≤◌, ◌+◌, ◌||◌, ℕ, zero, suc, Bool, true, false, cond, Option, Some, None, is_none, refl, sym, ap, subst, ◌∙◌, ⊎_elim, arith, add-one}
+use Rattle.std.proofs.lemmas.Bool.{cases_Bool}
+use Rattle.alpha_seq.specs.State.{Program}
+use Rattle.alpha_seq.specs.Step.{next_class, step}
+use Rattle.alpha_imprecise.specs.Moment.{Trap, Happening}
+use Rattle.alpha_imprecise.specs.Step.{triggers, triggered, precisely}
+use Rattle.alpha_imprecise.specs.Run.{finished, unit_of}
+use Rattle.alpha_imprecise.specs.Chosen.{most_waited, draw, chosen, waited_after}
+use Rattle.alpha_imprecise.specs.Made.{Making, extended_making, advance_making, is_settled, settled_within, settled, made}
+use Rattle.alpha_restart.specs.Shown.{HasUsed}
+use Rattle.alpha_restart.proofs.Making.{Settles, none, over, longer, chosen_settles}
+
+-- one step more of a run that isn't over
+abbrev stepped_making : Program → Making → Making
+stepped_making g k =
+    extended_making k (draw g k.run.state k.run.pending k.waited k.words) (chosen g k.run.state k.run.pending k.waited k.words)
+
+advance-going : (g : Program) (k : Making) → finished k.run.last ≡ false → advance_making g k ≡ stepped_making g k
+advance-going g k e = ap (λ b. cond b k (stepped_making g k)) e
+
+advance-over : (g : Program) (k : Making) → finished k.run.last ≡ true → advance_making g k ≡ k
+advance-over g k e = ap (λ b. cond b k (stepped_making g k)) e
+
+-- what is settled stays
+stays_settled : (fuel : ℕ) (g : Program) (k : Making) → is_settled k ≡ true → settled_within fuel g k ≡ k
+stays_settled zero g k e = refl
+stays_settled (suc fuel) g k e = ap (λ b. cond b k (settled_within fuel g (advance_making g k))) e
+
+-- settled, with as many units as before
+record SettledAt (n : ℕ) (k : Making) : Type 0 where
+  done : is_settled k ≡ true
+  units : k.run.units ≡ n
+
+none_settled : (k : Making) → k.run.pending ≡ None → is_settled k ≡ true
+none_settled k e = by (finished k.run.last) (ap is_none e)
+  where
+    by : (b : Bool) → is_none k.run.pending ≡ true → (b || is_none k.run.pending) ≡ true
+    by true f = refl
+    by false f = f
+
+over_settled : (k : Making) → finished k.run.last ≡ true → is_settled k ≡ true
+over_settled k e = ap (λ b. b || is_none k.run.pending) e
+
+-- what isn't settled has a trap pending, and goes on
+pub record Open (k : Making) : Type 0 where
+  pub t : Trap
+  pub pending : k.run.pending ≡ Some t
+  pub going : finished k.run.last ≡ false
+
+opened : (k : Making) → is_settled k ≡ false → Open k
+opened k e = by (finished k.run.last) (k.run.pending) refl refl e
+  where
+    by : (b : Bool) (p : Option Trap) → finished k.run.last ≡ b → k.run.pending ≡ p → (b || is_none p) ≡ false → Open k
+    by true p f q e = cc
+    by false None f q e = cc
+    by false (Some t) f q e = record { t = t; pending = q; going = f }
+
+pub none_of : (o : Option Trap) → is_none o ≡ true → o ≡ None
+none_of None e = refl
+none_of (Some t) e = cc
+
+module _ (g : Program) where
+  -- what a step with a trap pending leaves is settled, or one word more has waited
+  stepped_units : (k : Making) → Open k → (stepped_making g k).run.units ≡ k.run.units
+  stepped_units k h = ap (λ (p : Option Trap). k.run.units + unit_of p) h.pending ∙ (let same : k.run.units + 0 ≡ k.run.units = omega arith in same)
+
+  stepped_settles : (k : Making) → Open k → Settles k.waited (chosen g k.run.state k.run.pending k.waited k.words)
+  stepped_settles k h =
+      subst (λ (p : Option Trap). Settles k.waited (chosen g k.run.state p k.waited k.words)) (sym h.pending) (chosen_settles g k.run.state h.t k.waited k.words)
+
+  already : (fuel n : ℕ) (k : Making) → is_settled k ≡ true → k.run.units ≡ n → SettledAt n (settled_within fuel g k)
+  already fuel n k e units = subst (λ (l : Making). SettledAt n l) (sym (stays_settled fuel g k e)) (record { done = e; units = units })
+
+  one_more : (fuel : ℕ) (k : Making) → Open k → most_waited < k.waited + suc fuel
+      → ((stepped_making g k).waited ≤ most_waited → most_waited < (stepped_making g k).waited + fuel → SettledAt (stepped_making g k).run.units (settled_within fuel g (stepped_making g k)))
+      → SettledAt k.run.units (settled_within fuel g (stepped_making g k))
+  one_more fuel k h more rest = by (stepped_settles k h)
+    where
+      by : Settles k.waited (chosen g k.run.state k.run.pending k.waited k.words) → SettledAt k.run.units (settled_within fuel g (stepped_making g k))
+      by (none e) = already fuel k.run.units (stepped_making g k) (none_settled (stepped_making g k) e) (stepped_units k h)
+      by (over e) = already fuel k.run.units (stepped_making g k) (over_settled (stepped_making g k) e) (stepped_units k h)
+      by (longer e low) =
+          let count : (stepped_making g k).waited ≡ k.waited + 1 = ap (λ (x : Happening). waited_after x k.waited) e in
+          subst (λ n. SettledAt n (settled_within fuel g (stepped_making g k))) (stepped_units k h) (rest (omega arith) (omega arith))
+
+  -- so much fuel is enough
+  enough : (fuel : ℕ) (k : Making) → k.waited ≤ most_waited → most_waited < k.waited + fuel → SettledAt k.run.units (settled_within fuel g k)
+  enough zero k low more = absurd (omega arith)
+  enough (suc fuel) k low more =
+      ⊎_elim
+      (λ (e : is_settled k ≡ true). already (suc fuel) k.run.units k e refl)
+      (λ (e : is_settled k ≡ false).
+      let h = opened k e in
+      let step = advance-going g k h.going in
+      subst (λ (l : Making). SettledAt k.run.units l) (sym (ap (λ b. cond b k (settled_within fuel g (advance_making g k))) e))
+      (subst (λ (l : Making). SettledAt k.run.units (settled_within fuel g l)) (sym step)
+      (one_more fuel k h more
+      (subst (λ (l : Making). l.waited ≤ most_waited → most_waited < l.waited + fuel → SettledAt l.run.units (settled_within fuel g l)) step (enough fuel (advance_making g k))))))
+      (cases_Bool (is_settled k))
+
+  -- ---- runs of so many units
+
+  -- a step with nothing pending begins to count
+  fresh : (k : Making) → k.run.pending ≡ None → (stepped_making g k).waited ≡ 0
+  fresh k e =
+      ap (λ (p : Option Trap). waited_after (chosen g k.run.state p k.waited k.words).happened k.waited) e
+      ∙ by (triggers (next_class g k.run.state.pc) k.run.state)
+    where
+      by : (b : Bool) → waited_after (cond b (triggered g (next_class g k.run.state.pc) k.run.state (draw g k.run.state None k.waited k.words).choice) (precisely (step g (next_class g k.run.state.pc) k.run.state))).happened k.waited ≡ 0
+      by true = refl
+      by false = refl
+
+  made_start : (k : Making) → k.run.pending ≡ None → k.run.units ≡ 0 → HasUsed 0 (made g k 0).run
+  made_start k e units =
+      let a = already (most_waited + 1) 0 k (none_settled k e) units in
+      record { settled = a.done; most = (let n = a.units in omega arith); full = λ going. a.units }
+
+  made_more : (n : ℕ) (k : Making) → HasUsed n k.run → HasUsed (suc n) (settled g (advance_making g k)).run
+  made_more n k h = by (finished k.run.last) refl
+    where
+      by : (b : Bool) → finished k.run.last ≡ b → HasUsed (suc n) (settled g (advance_making g k)).run
+      by true e =
+          subst (λ (l : Making). HasUsed (suc n) (settled g l).run) (sym (advance-over g k e))
+          (subst (λ (l : Making). HasUsed (suc n) l.run) (sym (stays_settled (most_waited + 1) g k h.settled))
+          (record { settled = h.settled; most = (let m = h.most in omega arith); full = λ going. let f = sym going ∙ e in cc }))
+      by false e =
+          let pending : k.run.pending ≡ None = none_of k.run.pending (ap (λ b. b || is_none k.run.pending) (sym e) ∙ h.settled) in
+          let new = fresh k pending in
+          let units : (stepped_making g k).run.units ≡ suc n =
+          ap (λ (p : Option Trap). k.run.units + unit_of p) pending ∙ (add-one k.run.units ∙ ap (λ m. suc m) (h.full e)) in
+          let a = enough (most_waited + 1) (stepped_making g k) (omega arith) (omega arith) in
+          subst (λ (l : Making). HasUsed (suc n) (settled g l).run) (sym (advance-going g k e))
+          (record { settled = a.done; most = (let m = a.units in omega arith); full = λ going. a.units ∙ units })
+
+  pub made_is : (k : Making) (n : ℕ) → k.run.pending ≡ None → k.run.units ≡ 0 → HasUsed n (made g k n).run
+  made_is k zero e units = made_start k e units
+  made_is k (suc n) e units = made_more n (made g k n) (made_is k n e units)

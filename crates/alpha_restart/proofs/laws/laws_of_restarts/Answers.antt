@@ -1,0 +1,6 @@
+use Rattle.alpha_restart.proofs.Safety.{safe}
+use Rattle.alpha_restart.proofs.Agreeing.{accepted_restarts}
+use Rattle.alpha_restart.proofs.laws.laws_of_restarts.Goals as goal
+
+pub returns : goal.returns
+returns c = record { accepted = accepted_restarts; safe = λ image accepted. safe image.words accepted }

@@ -1,0 +1,8 @@
+pub mod Safe
+pub mod Match
+pub mod Trigger
+pub mod Shadow
+pub mod Invariant
+pub mod Table
+pub mod Shown
+pub mod Needed

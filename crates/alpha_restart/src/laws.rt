@@ -1,0 +1,66 @@
+//! What holds of images that the checker accepts. The functions do nothing.
+
+ghost use Rattle.std.specs.Prelude.{◌≡◌, ◌≤◌, Option};
+ghost use Rattle.alpha_image.specs.Parts.{Parts, IsImage};
+ghost use Rattle.alpha_shadow.specs.declared.broken.Condition.{Condition};
+ghost use Rattle.alpha_shadow.specs.Broken.{IsAccepted, condition_number};
+ghost use Rattle.alpha_seq.specs.State.{Program, State};
+ghost use Rattle.alpha_imprecise.specs.Moment.{Trap, Choice, IsChoice, Moment};
+ghost use Rattle.alpha_imprecise.specs.Step.{wild};
+ghost use Rattle.alpha_imprecise.specs.Restart.{IsRestartable};
+ghost use Rattle.alpha_restart.specs.Safe.{IsSafe};
+ghost use Rattle.alpha_restart.specs.Table.{Row, WalksAgree};
+ghost use Rattle.alpha_restart.specs.Shown.{ChoicesAlike, RunsAlike};
+ghost use Rattle.alpha_restart.specs.Needed.{Needs, StopsApart};
+
+/// The law of restarts: an accepted image can be restarted after each late trap.
+///
+/// That is said of every completion, every input and every row of steps of the imprecise machine from
+/// the start, whatever is chosen at each of them. As many precise steps as the row used units leave a
+/// precise run, and the two agree:
+///
+/// 1. No trap is lost: a report finds the trigger of the pending trap.
+/// 2. Directly after a barrier all registers, the PC, memory, the lock flag, the count and the address
+///    of the logged overflows, the input left, the output and all that was noted are the precise run's,
+///    which has just passed the same barrier.
+/// 3. Where the program ends, the precise run ends at exactly that step: in the same way, with the same
+///    PC, input left, output and notes, and in the same state, unless an overflow stops the program,
+///    where registers and bytes may differ.
+/// 4. Where it has not ended and nothing is pending, the precise run has not ended either, and has the
+///    same input left, output and notes.
+pub fn laws_of_restarts()
+    ensures accepted { (image : Parts) → IsImage image → IsAccepted image.words
+        → IsRestartable image }
+    ensures safe { (image : Parts) → IsAccepted image.words → IsSafe image.words }
+{}
+
+/// The laws of restarted runs, of an image that can be restarted: every row of steps that the table of
+/// the imprecise step allows agrees with the precise run. A run that has used so many units, or is over
+/// before, is the precise run of as many steps, whatever was chosen: in its end, number of steps, input
+/// left, output and notes; and it loses no trap. So a run by coming words shows what the sequential run
+/// shows.
+pub fn laws_of_restarted_runs()
+    ensures walks { (image : Parts) → IsRestartable image → WalksAgree image }
+    ensures choices { (image : Parts) → IsRestartable image → ChoicesAlike image }
+    ensures words { (image : Parts) → IsRestartable image → RunsAlike image }
+{}
+
+/// The laws of the imprecise step: each row of its table is a choice, and each choice is a row. So to
+/// speak of every choice is to speak of every row: with nothing pending the precise step, or where the
+/// word overflows any value in its destination; with a trap pending the report at any place, or a word
+/// of each class executed, with any value and any bytes.
+pub fn laws_of_imprecise_steps()
+    ensures row { (g : Program) (s : State) (pending : Option Trap) (m : Moment)
+        → Row g s pending m → (c : Choice) × IsChoice c × (wild g s pending c ≡ m) }
+    ensures choice { (g : Program) (s : State) (pending : Option Trap) (c : Choice) → IsChoice c
+        → Row g s pending (wild g s pending c) }
+{}
+
+/// The law of restarts says as much as it can. None of the conditions C1 to C7 could be left out: for
+/// each there is an image that it alone refuses, and that can't be restarted. And where an overflow
+/// stops the program, registers do differ: by an accepted image and some choices.
+pub fn limits_of_restarts()
+    ensures needed { (condition : Condition) → condition_number condition ≤ 7
+        → Needs condition }
+    ensures apart { StopsApart }
+{}
