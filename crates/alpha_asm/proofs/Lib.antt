@@ -1,0 +1,10 @@
+pub mod Cutting
+pub mod Pushing
+pub mod Growing
+pub mod Refusing
+pub mod Underway
+pub mod Putting
+pub mod Whole
+pub mod Encoding
+pub mod Sound
+pub mod Making

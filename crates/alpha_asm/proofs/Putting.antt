@@ -1,0 +1,98 @@
+-- Addresses are put in one after the other.
+use Rattle.std.proofs.Common.{◌≡◌, ℕ, ◌+◌, ◌-◌, ◌/◌, ◌%◌, ◌<◌, ◌≤◌, List, [], ◌∷◌, ◌++◌, length, map, take, drop, set, get_or, Bool, true, false, cond, nat_le, Option, None, Some, is_some, refl, sym, ◌∙◌, ap, append_assoc, drop-cons, add-one, arith}
+use Rattle.std.specs.Option.{option_or}
+use Rattle.std.proofs.lemmas.Bool.Decides.{nat_tests}
+use Rattle.std.proofs.lemmas.List.{drop-set-lt, length-set, take-append-drop}
+use Rattle.std.proofs.lemmas.Grind.{take-set_at}
+use Rattle.std.proofs.Math.ListN.{drop_of_length-le}
+use Rattle.alpha_words.specs.Digits.{digits, low_bytes}
+use Rattle.alpha_table.specs.declared.form.Form.{Form}
+use Rattle.alpha_asm.specs.declared.patch.Patch.{Patch}
+use Rattle.alpha_asm.specs.Layout.{first}
+use Rattle.alpha_asm.specs.Program.{Known, undefined_line, unmet_line, is_met, address_of}
+use Rattle.alpha_asm.specs.Patches.{fix_of, reference_of, need_of, offset_of, names_of, overlaid, code_with, bytes_with, code_after, bytes_after}
+use Rattle.alpha_asm.proofs.Pushing.{low_bytes-step}
+use Rattle.alpha_asm.proofs.Growing.{option_or-none}
+
+-- so many bytes of a number are written, and the rest makes up for it
+pub record Written (at n k rest : ℕ) (old now : List ℕ) : Type 0 where
+  pub size : length now ≡ length old
+  pub all : take (at + k) now ++ (low_bytes (8 - k) rest ++ drop (at + 8) now) ≡ take at old ++ (low_bytes 8 n ++ drop (at + 8) old)
+
+pub begins : (at n : ℕ) (old : List ℕ) → Written at n 0 n old old
+begins at n old = let z : at + 0 ≡ at = omega arith in record { size = refl; all = rw z refl }
+
+pub writes : (at n k rest : ℕ) (old now : List ℕ) → k < 8 → at + 8 ≤ length old → Written at n k rest old now → Written at n (k + 1) (rest / 256) old (set now (at + k) (rest % 256))
+writes at n k rest old now h room w =
+    let within : at + k < length now = omega (arith, w.size) in
+    record {
+      size = length-set now (at + k) (rest % 256) ∙ w.size;
+      all = rw (take-set_at now (at + k) (at + (k + 1)) (rest % 256) (omega arith) within, drop-set-lt (at + 8) now (at + k) (rest % 256) (omega arith))
+          (append_assoc (take (at + k) now) (rest % 256 ∷ []) (low_bytes (8 - (k + 1)) (rest / 256) ++ drop (at + 8) now)
+          ∙ (ap (λ x. take (at + k) now ++ (x ++ drop (at + 8) now)) (sym (low_bytes-step k 8 rest h)) ∙ w.all));
+    }
+
+pub written : (at n k rest : ℕ) (old now : List ℕ) → 8 ≤ k → k ≤ 8 → at + 8 ≤ length old → Written at n k rest old now → now ≡ overlaid at n old
+unfolding digits
+written at n k rest old now h g room w =
+    let e : k ≡ 8 = omega arith in
+    let whole : take (at + 8) now ++ drop (at + 8) now ≡ take at old ++ (low_bytes 8 n ++ drop (at + 8) old) = rw e at w.all in
+    let t : nat_le (at + 8) (length old) ≡ true = grind (arith, nat_tests) in
+    rw t (sym (take-append-drop (at + 8) now) ∙ whole)
+
+pub unwritten : (at n : ℕ) (old : List ℕ) → length old < at + 8 → old ≡ overlaid at n old
+unwritten at n old h = let t : nat_le (at + 8) (length old) ≡ false = grind (arith, nat_tests) in rw t refl
+
+-- so many addresses are put in, and the rest makes up for all
+pub record Put (k : Known) (patches : List Patch) (i : ℕ) (code0 code : List Form) (bytes0 bytes : List ℕ) (unmet : Option ℕ) : Type 0 where
+  pub undefined : first (undefined_line k) (names_of (drop i patches)) ≡ first (undefined_line k) (names_of patches)
+  pub unmet_so : option_or unmet (first (unmet_line k) (names_of (drop i patches))) ≡ first (unmet_line k) (names_of patches)
+  pub code_so : code_after k (map fix_of (drop i patches)) code ≡ code_after k (map fix_of patches) code0
+  pub bytes_so : bytes_after k (map fix_of (drop i patches)) bytes ≡ bytes_after k (map fix_of patches) bytes0
+
+pub starts : (k : Known) (patches : List Patch) (code : List Form) (bytes : List ℕ) → Put k patches 0 code code bytes bytes None
+starts k patches code bytes = record { undefined = refl; unmet_so = refl; code_so = refl; bytes_so = refl }
+
+option_or-assoc : {A : Type 0} (o p q : Option A) → option_or (option_or o p) q ≡ option_or o (option_or p q)
+option_or-assoc None p q = refl
+option_or-assoc (Some x) p q = refl
+
+pub puts : (k : Known) (patches : List Patch) (i : ℕ) (p : Patch) (code0 code code1 : List Form) (bytes0 bytes bytes1 : List ℕ) (unmet : Option ℕ) (fits : Bool)
+    → drop i patches ≡ p ∷ drop (i + 1) patches → is_some (k.spots p.to.label.now) ≡ true
+    → fits ≡ is_met k (address_of k (reference_of p.to)) (need_of p.need)
+    → code1 ≡ code_with k (address_of k (reference_of p.to)) (need_of p.need) code
+    → bytes1 ≡ bytes_with k (offset_of p.need) (address_of k (reference_of p.to)) (need_of p.need) bytes
+    → Put k patches i code0 code bytes0 bytes unmet → Put k patches (i + 1) code0 code1 bytes0 bytes1 (option_or unmet (cond fits None (Some p.line)))
+puts k patches i p code0 code code1 bytes0 bytes bytes1 unmet fits e defined f c b u =
+    let none : undefined_line k (fix_of p).name ≡ None = rw defined refl in
+    record {
+      undefined = sym (ap (λ ps. first (undefined_line k) (names_of ps)) e ∙ ap (λ o. option_or o (first (undefined_line k) (names_of (drop (i + 1) patches)))) none) ∙ u.undefined;
+      unmet_so = option_or-assoc unmet (cond fits None (Some p.line)) (first (unmet_line k) (names_of (drop (i + 1) patches)))
+          ∙ (ap (λ t. option_or unmet (option_or (cond t None (Some p.line)) (first (unmet_line k) (names_of (drop (i + 1) patches))))) f
+          ∙ (sym (ap (λ ps. option_or unmet (first (unmet_line k) (names_of ps))) e) ∙ u.unmet_so));
+      code_so = ap (code_after k (map fix_of (drop (i + 1) patches))) c ∙ (sym (ap (λ ps. code_after k (map fix_of ps) code) e) ∙ u.code_so);
+      bytes_so = ap (bytes_after k (map fix_of (drop (i + 1) patches))) b ∙ (sym (ap (λ ps. bytes_after k (map fix_of ps) bytes) e) ∙ u.bytes_so);
+    }
+
+-- a label without a definition
+pub misses : (k : Known) (patches : List Patch) (i : ℕ) (p : Patch) (code0 code : List Form) (bytes0 bytes : List ℕ) (unmet : Option ℕ)
+    → drop i patches ≡ p ∷ drop (i + 1) patches → is_some (k.spots p.to.label.now) ≡ false → Put k patches i code0 code bytes0 bytes unmet → first (undefined_line k) (names_of patches) ≡ Some p.line
+misses k patches i p code0 code bytes0 bytes unmet e missing u =
+    let some : undefined_line k (fix_of p).name ≡ Some p.line = rw missing refl in
+    sym u.undefined ∙ (ap (λ ps. first (undefined_line k) (names_of ps)) e ∙ ap (λ o. option_or o (first (undefined_line k) (names_of (drop (i + 1) patches)))) some)
+
+empty_behind : {A : Type 0} (xs : List A) (i : ℕ) → length xs ≤ i → drop i xs ≡ []
+empty_behind xs i h = drop_of_length-le xs h
+
+pub ends : (k : Known) (patches : List Patch) (i : ℕ) (code0 code : List Form) (bytes0 bytes : List ℕ) (unmet : Option ℕ) → length patches ≤ i → Put k patches i code0 code bytes0 bytes unmet
+    → (None ≡ first (undefined_line k) (names_of patches)) × (unmet ≡ first (unmet_line k) (names_of patches)) × (code ≡ code_after k (map fix_of patches) code0) × (bytes ≡ bytes_after k (map fix_of patches) bytes0)
+ends k patches i code0 code bytes0 bytes unmet h u =
+    let e : drop i patches ≡ [] = empty_behind patches i h in (
+      sym (ap (λ ps. first (undefined_line k) (names_of ps)) e) ∙ u.undefined,
+      sym (ap (λ ps. option_or unmet (first (unmet_line k) (names_of ps))) e ∙ option_or-none unmet) ∙ u.unmet_so,
+      sym (ap (λ ps. code_after k (map fix_of ps) code) e) ∙ u.code_so,
+      sym (ap (λ ps. bytes_after k (map fix_of ps) bytes) e) ∙ u.bytes_so,
+    )
+
+pub next_patch : (patches : List Patch) (i : ℕ) (d : Patch) → i < length patches → drop i patches ≡ get_or patches i d ∷ drop (i + 1) patches
+next_patch patches i d h = rw add-one (drop-cons patches i d h)

@@ -1,0 +1,54 @@
+-- The pass underway: the lines behind it and those before it are those of the source.
+use Rattle.std.proofs.Common.{◌≡◌, ℕ, ◌+◌, ◌<◌, ◌≤◌, List, [], ◌∷◌, ◌++◌, length, map, None, Some, refl, sym, ◌∙◌, ap, append_assoc, arith}
+use Rattle.std.specs.Option.{option_or}
+use Rattle.std.specs.Str.Lines.{lines}
+use Rattle.std.proofs.lemmas.List.{append-nil}
+use Rattle.alpha_text.specs.Reading.{LineSaid}
+use Rattle.alpha_asm.specs.declared.fault.AsmFault.{AsmFault}
+use Rattle.alpha_asm.specs.declared.pass.Pass.{Pass}
+use Rattle.alpha_asm.specs.Assembled.{item_at, refused, first_refused}
+use Rattle.alpha_asm.specs.Pass.{IsBounded, Stands}
+
+pub record Underway (source rest : List ℕ) (p : Pass) : Type 0 where
+  -- those of the lines so far
+  pub items : List LineSaid
+  pub stands : Stands items p
+  pub refusals : first_refused items (lines rest) ≡ first_refused [] (lines source)
+  pub all : items ++ map item_at (lines rest) ≡ map item_at (lines source)
+  pub bounded : IsBounded p
+  pub count : p.line + length rest ≤ length source
+
+pub begins : (source : List ℕ) (p : Pass) → Stands [] p → IsBounded p → p.line ≡ 0 → Underway source source p
+begins source p s b e = record { items = []; stands = s; refusals = refl; all = refl; bounded = b; count = omega arith }
+
+pub goes_on : (source rest line more : List ℕ) (old new : Pass) → Underway source rest old → lines rest ≡ line ∷ lines more → length more < length rest
+    → ((is : List LineSaid) → Stands is old → refused is line ≡ None) → ((is : List LineSaid) → Stands is old → Stands (is ++ item_at line ∷ []) new)
+    → IsBounded new → new.line ≡ old.line + 1 → Underway source more new
+goes_on source rest line more old new u e l taken stands bounded count =
+    let c : old.line + length rest ≤ length source = u.count in
+    record {
+      items = u.items ++ item_at line ∷ [];
+      stands = stands u.items u.stands;
+      refusals = sym (ap (first_refused u.items) e ∙ ap (λ o. option_or o (first_refused (u.items ++ item_at line ∷ []) (lines more))) (taken u.items u.stands)) ∙ u.refusals;
+      all = append_assoc u.items (item_at line ∷ []) (map item_at (lines more)) ∙ (ap (λ ls. u.items ++ map item_at ls) (sym e) ∙ u.all);
+      bounded = bounded;
+      count = omega arith;
+    }
+
+pub stops : (source rest line more : List ℕ) (old : Pass) (fault : AsmFault) → Underway source rest old → lines rest ≡ line ∷ lines more
+    → ((is : List LineSaid) → Stands is old → refused is line ≡ Some fault) → first_refused [] (lines source) ≡ Some fault
+stops source rest line more old fault u e why =
+    sym u.refusals ∙ (ap (first_refused u.items) e ∙ ap (λ o. option_or o (first_refused (u.items ++ item_at line ∷ []) (lines more))) (why u.items u.stands))
+
+empty_list : {A : Type 0} (xs : List A) → length xs ≡ 0 → xs ≡ []
+empty_list [] h = refl
+empty_list (x ∷ xs) h = absurd (omega arith)
+
+pub ends_stands : (source rest : List ℕ) (p : Pass) → Underway source rest p → length rest ≡ 0 → Stands (map item_at (lines source)) p
+ends_stands source rest p u h =
+    let e : rest ≡ [] = empty_list rest h in
+    let all : u.items ≡ map item_at (lines source) = sym (append-nil u.items) ∙ (ap (λ r. u.items ++ map item_at (lines r)) (sym e) ∙ u.all) in
+    rw (← all) u.stands
+
+pub ends_taken : (source rest : List ℕ) (p : Pass) → Underway source rest p → length rest ≡ 0 → first_refused [] (lines source) ≡ None
+ends_taken source rest p u h = let e : rest ≡ [] = empty_list rest h in sym u.refusals ∙ ap (λ r. first_refused u.items (lines r)) e

@@ -1,0 +1,10 @@
+pub mod Statement
+pub mod Layout
+pub mod Program
+pub mod Assembled
+pub mod Patches
+pub mod Place
+pub mod Pass
+pub mod Bases
+pub mod Words
+pub mod Finished

@@ -1,0 +1,93 @@
+-- What the state of the pass is behind some lines.
+use Rattle.std.specs.Prelude.{◌≡◌, ℕ, ◌+◌, ◌*◌, ◌^◌, ◌≤◌, ◌||◌, false, List, [], ◌∷◌, ◌++◌, length, map, Option, None, Some, if◌then◌else◌}
+use Rattle.std.specs.Ordering.{nat_cmp}
+use Rattle.std.specs.Option.{option_map}
+use Rattle.std.specs.List.{flat_map}
+use Rattle.std.specs.Str.{bytes_eq}
+use Rattle.std.specs.BTreeMap.{get_by}
+use Rattle.std.specs.Cmp.Lexicographic.{slice_cmp}
+use Rattle.alpha_text.specs.Reading.{LineSaid}
+use Rattle.alpha_asm.specs.declared.fault.AsmFault.{AsmFault}
+use Rattle.alpha_asm.specs.declared.fault.AsmFault.TheVariants as faults
+use Rattle.alpha_image.specs.declared.segment.Segment.{Segment}
+use Rattle.alpha_image.specs.Layout.{filled_size}
+use Rattle.alpha_asm.specs.declared.place.Section.{Section}
+use Rattle.alpha_asm.specs.declared.place.Section.TheVariants as sections
+use Rattle.alpha_asm.specs.declared.place.Spot.{Spot}
+use Rattle.alpha_asm.specs.declared.fields.FieldsRead.{FieldsRead}
+use Rattle.alpha_asm.specs.declared.pass.Pass.{Pass}
+use Rattle.alpha_asm.specs.Layout.{Place, Placed, Fields, fields, layout, end, spot, spot_of, behind, with_fields, is_misplaced, repeats_field, repeats_label}
+use Rattle.alpha_asm.specs.Patches.{entry_view, fix_of, raw_insns, raw_bytes, fixes, fixes_in}
+use Rattle.alpha_asm.specs.Place.{seen}
+
+abbrev pub fields_read : FieldsRead → Fields
+fields_read f = record {
+  code_base = f.code_base;
+  data_base = f.data_base;
+  stack = f.stack;
+  entry = option_map entry_view f.entry;
+}
+
+abbrev pub place_of : Pass → Place
+place_of p = seen (length p.output.code.items) p.place
+
+-- where a label is defined
+abbrev pub spot_at : Pass → List ℕ → Option Spot
+spot_at p name = get_by (λ k. slice_cmp nat_cmp name k.now) p.labels
+
+-- and where with a further label, if there is one
+abbrev pub with_label : (List ℕ → Option Spot) → Option (List ℕ) → Spot → List ℕ → Option Spot
+with_label spots None here name = spots name
+with_label spots (Some label) here name = if bytes_eq label name then Some here else spots name
+
+-- the sizes are small
+pub record IsBounded (p : Pass) : Type 0 where
+  pub filled : p.place.last.filled ≤ length p.output.bytes.items
+  pub zeroed : p.place.last.zeroed ≤ 2 ^ 25 * p.line
+
+-- the item as it stands here
+abbrev pub here : Pass → LineSaid → Placed
+here p i = record { place = place_of p; line = p.line + 1; item = i }
+
+-- why an item is refused here
+abbrev pub refused_here : Pass → LineSaid → Option AsmFault
+refused_here p i =
+    if is_misplaced (place_of p) i.statement then Some (faults.Section (p.line + 1))
+    else if repeats_field (fields_read p.fields) i.statement || repeats_label (spot_at p) i.label then Some (faults.Duplicate (p.line + 1))
+    else None
+
+-- a statement was added
+pub record AddsStatement (i : LineSaid) (old new : Pass) : Type 0 where
+  pub line : new.line ≡ old.line + 1
+  pub place : place_of new ≡ behind (place_of old) i.statement
+  pub code : new.output.code.items ≡ old.output.code.items ++ raw_insns i.statement
+  pub bytes : new.output.bytes.items ≡ old.output.bytes.items ++ raw_bytes (here old i)
+  pub patches : map fix_of new.output.patches.items ≡ map fix_of old.output.patches.items ++ fixes_in (length old.output.bytes.items) (here old i)
+  pub fields : fields_read new.fields ≡ with_fields (fields_read old.fields) i.statement
+
+-- an item was added
+pub record AddsItem (i : LineSaid) (old new : Pass) : Type 0 where
+  pub labels : (name : List ℕ) → spot_at new name ≡ with_label (spot_at old) i.label (spot (place_of old)) name
+  pub statement : AddsStatement i old new
+
+-- Where the data bytes are: in the one segment of the first version, or in the segments that `.segment` began.
+abbrev pub Filled : Option ℕ → Section → List Segment → Segment → ℕ → Type 0
+Filled None section earlier last size = (earlier ≡ []) × (last.filled ≡ size)
+Filled (Some n) section [] last size = (section ≡ sections.Code) × (last.filled ≡ 0) × (size ≡ 0)
+Filled (Some n) section (e ∷ es) last size = filled_size (es ++ last ∷ []) ≡ size
+
+-- a place behind so many data bytes can come about
+pub record Sound (p : Place) (size : ℕ) : Type 0 where
+  pub filled : Filled p.level p.section p.earlier p.last size
+  pub fresh : p.begun ≡ false → (p.level ≡ None) × (p.section ≡ sections.Code) × (size ≡ 0)
+
+-- the state is that behind the lines with these items
+pub record Stands (is : List LineSaid) (p : Pass) : Type 0 where
+  pub line : p.line ≡ length is
+  pub place : place_of p ≡ end is
+  pub code : p.output.code.items ≡ flat_map (λ x. raw_insns x.item.statement) (layout is)
+  pub bytes : p.output.bytes.items ≡ flat_map raw_bytes (layout is)
+  pub patches : map fix_of p.output.patches.items ≡ fixes 0 (layout is)
+  pub labels : (name : List ℕ) → spot_at p name ≡ spot_of (layout is) name
+  pub fields : fields_read p.fields ≡ fields (layout is)
+  pub sound : Sound (place_of p) (length p.output.bytes.items)

@@ -1,0 +1,47 @@
+ghost use Rattle.std.specs.Prelude.{◌≡◌, ◌≢◌, ◌<◌, ◌^◌, [], length, map, Some, None, Ok, Err, OnOk, IfOk, IfErr};
+ghost use Rattle.std.specs.Str.Lines.{lines};
+ghost use Rattle.alpha_asm.specs.Program.{program_of};
+ghost use Rattle.alpha_asm.specs.Assembled.{item_at, first_refused, assembled};
+ghost use Rattle.alpha_asm.specs.Pass.{Stands};
+ghost use Rattle.alpha_asm.specs.declared.fault.AsmFault.TheVariants as faults;
+
+use crate::AsmFault;
+use crate::lines::first_line;
+use crate::pass::Pass;
+use crate::program::made;
+use alpha_image::Image;
+use std::alloc::Global;
+
+/// The image that a source defines.
+///
+/// # Errors
+///
+/// The first refusal, in the order of [`AsmFault`]. `NoMemory` may come in place of any answer.
+#[tactic(auto, unfolding(crate::specs::Assembled::assembled))]
+pub fn assemble(alloc: Global, source: &[u8]) -> Result<Image, AsmFault>
+    requires { length source.now < 2 ^ 32 }
+    ensures ok { IfOk result (λ image. assembled source.now ≡ Ok (program_of image)) }
+    ensures refused { IfErr result (λ fault. fault ≢ faults.NoMemory → assembled source.now ≡ Err fault) }
+{
+    match read_lines(alloc, source) {
+        Ok(pass) => made(alloc, pass),
+        Err(fault) => Err(fault),
+    }
+}
+
+// Goes over all lines.
+fn read_lines(alloc: Global, source: &[u8]) -> Result<Pass<'_>, AsmFault>
+    requires { length source.now < 2 ^ 32 }
+    ensures stands { IfOk result (Stands (map item_at (lines source.now))) }
+    ensures taken { OnOk result (first_refused [] (lines source.now) ≡ None) }
+    ensures refused { IfErr result (λ fault. fault ≢ faults.NoMemory → first_refused [] (lines source.now) ≡ Some fault) }
+{
+    let mut pass = Pass::new(alloc);
+    let mut rest = source;
+    while !rest.is_empty() {
+        let (line, more) = first_line(rest);
+        pass.take_line(line)?;
+        rest = more;
+    }
+    Ok(pass)
+}

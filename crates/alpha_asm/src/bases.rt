@@ -1,0 +1,220 @@
+ghost use Rattle.std.specs.Prelude.{◌≡◌, ◌+◌, ◌≤◌, ◌^◌, ◌*◌, length, map, slice_get, if◌then◌else◌, Some, None, OnOk, IfOk, IfErr, IfSome, OnSome, is_some};
+ghost use Rattle.std.specs.Option.{option_map, option_map_or, option_or};
+ghost use Rattle.alpha_asm.specs.Layout.{first};
+ghost use Rattle.alpha_asm.specs.Program.{spot_address, address_of, quadword_of, undefined_line, unmet_line, is_met, entry_number, reached};
+ghost use Rattle.alpha_asm.specs.Patches.{reference_of, entry_view, fix_of, need_of, offset_of, names_of, IsField, IsNear, overlaid, code_at, code_with, bytes_with, code_after, bytes_after};
+ghost use Rattle.alpha_asm.specs.Bases.{known_of};
+ghost use Rattle.alpha_asm.specs.declared.fault.AsmFault.TheVariants as faults;
+
+use crate::AsmFault;
+use crate::fields::Entry;
+use crate::patch::{Displacement, Need, Patch, displaced, quadword_of};
+use crate::place::Spot;
+use crate::statement::Use;
+use alpha_image::Segment;
+use alpha_table::Insn;
+use alpha_text::Expr;
+use std::collections::BTreeMap;
+
+/// What the addresses of labels depend on, behind the last line.
+#[derive(Clone, Copy)]
+pub(crate) struct Bases<'k, 'a> {
+    pub code_base: u64,
+    pub segments: &'k [Segment],
+    pub labels: &'k BTreeMap<&'a [u8], Spot>,
+}
+
+impl Bases<'_, '_> {
+    // The base of a segment.
+    fn base(&self, segment: usize) -> u64
+        ensures { result ≡ option_map_or (λ s. s.base) (slice_get self.now.segments.now segment) 0 }
+    {
+        match self.segments.get(segment) {
+            Some(segment) => segment.base,
+            None => 0,
+        }
+    }
+
+    // The address of a place in the code or in a segment.
+    fn spot_address(&self, spot: Spot) -> u128
+        ensures value { result ≡ spot_address (known_of self.now) spot }
+        ensures bound { result ≤ 2 ^ 69 }
+    {
+        match spot {
+            Spot::Code(words) => u128::from(self.code_base) + 4 * u128::from(words),
+            Spot::Data(segment, offset) => u128::from(self.base(segment)) + u128::from(offset),
+        }
+    }
+
+    // The address that a statement names, `None` exactly where the label has no definition.
+    fn address(&self, to: &Expr<'_>) -> Option<i128>
+        ensures found { is_some result ≡ is_some ((known_of self.now).spots to.now.label.now) }
+        ensures value { IfSome result (λ a. a ≡ address_of (known_of self.now) (reference_of to.now)) }
+        ensures near { IfSome result IsNear }
+    {
+        match self.labels.get(to.label) {
+            Some(spot) => Some(self.spot_address(*spot) as i128 + i128::from(to.offset)),
+            None => None,
+        }
+    }
+
+    /// The address of the entry, the last number of 64 bits where it is outside them.
+    pub(crate) fn entry(&self, entry: &Entry<'_>) -> u64
+        ensures { result ≡ entry_number (known_of self.now) (entry_view entry.now) }
+    {
+        match entry {
+            Entry::At(n) => *n,
+            Entry::Of(to) => match self.address(to) {
+                Some(address) => quadword_of(address).unwrap_or(u64::MAX),
+                // The label is refused; until then it counts as 0.
+                None => quadword_of(i128::from(to.offset)).unwrap_or(u64::MAX),
+            },
+        }
+    }
+}
+
+// Gives the instruction at a place another displacement, if there is one.
+fn displace(code: &mut Vec<Insn>, place: usize, displacement: Displacement)
+    requires { IsField displacement }
+    ensures { code.new.items ≡ code_at (Some displacement) place code.old.items }
+{
+    match code.get(place) {
+        Some(insn) => {
+            let new = displaced(insn, displacement);
+            code[place] = new;
+        }
+        None => {}
+    }
+}
+
+// Lets an instruction reach an address. Whether it does.
+fn put_insn(
+    bases: &Bases<'_, '_>,
+    by: Use,
+    place: usize,
+    address: i128,
+    code: &mut Vec<Insn>,
+) -> bool
+    requires { IsNear address }
+    ensures fits { result ≡ is_some (reached by (bases.now.code_base + 4 * place) address) }
+    ensures code { code.new.items ≡ code_at (reached by (bases.now.code_base + 4 * place) address) place code.old.items }
+{
+    let pc = u128::from(bases.code_base) + 4 * place as u128;
+    match by.displacement(pc, address) {
+        Some(displacement) => {
+            displace(code, place, displacement);
+            true
+        }
+        None => false,
+    }
+}
+
+// Writes the eight bytes of a number, the lowest first, behind so many bytes, if they are there.
+fn put_quadword(bytes: &mut Vec<u8>, at: usize, n: u64)
+    ensures { bytes.new.items ≡ overlaid at n bytes.old.items }
+{
+    if bytes.len() < 8 || at > bytes.len() - 8 {
+        return;
+    }
+    let mut rest = n;
+    for k in 0..8usize {
+        bytes[at + k] = (rest % 256) as u8;
+        rest /= 256;
+    }
+}
+
+// Makes an address a quadword. Whether it is one.
+fn put_quad(address: i128, at: usize, bytes: &mut Vec<u8>) -> bool
+    ensures fits { result ≡ is_some (quadword_of address) }
+    ensures bytes { bytes.new.items ≡ option_map_or (λ n. overlaid at n bytes.old.items) (quadword_of address) bytes.old.items }
+{
+    match quadword_of(address) {
+        Some(n) => {
+            put_quadword(bytes, at, n);
+            true
+        }
+        None => false,
+    }
+}
+
+// Puts an address in. Whether it fits.
+fn put(
+    bases: &Bases<'_, '_>,
+    need: Need,
+    address: i128,
+    code: &mut Vec<Insn>,
+    bytes: &mut Vec<u8>,
+) -> bool
+    requires { IsNear address }
+    ensures fits { result ≡ is_met (known_of bases.now) address (need_of need) }
+    ensures code { code.new.items ≡ code_with (known_of bases.now) address (need_of need) code.old.items }
+    ensures bytes { bytes.new.items ≡ bytes_with (known_of bases.now) (offset_of need) address (need_of need) bytes.old.items }
+{
+    match need {
+        Need::Insn { by, place } => put_insn(bases, by, place, address, code),
+        Need::Quad { at } => put_quad(address, at, bytes),
+        Need::Entry => true,
+    }
+}
+
+// Puts in the address that a patch names. Whether it fits, `None` exactly where its label has no
+// definition.
+fn put_patch(
+    bases: &Bases<'_, '_>,
+    patch: &Patch<'_>,
+    code: &mut Vec<Insn>,
+    bytes: &mut Vec<u8>,
+) -> Option<bool>
+    ensures found { is_some result ≡ is_some ((known_of bases.now).spots patch.now.to.label.now) }
+    ensures fits { IfSome result (λ fits. fits
+        ≡ is_met (known_of bases.now) (address_of (known_of bases.now) (reference_of patch.now.to)) (need_of patch.now.need)) }
+    ensures code { OnSome result (code.new.items
+        ≡ code_with (known_of bases.now) (address_of (known_of bases.now) (reference_of patch.now.to)) (need_of patch.now.need) code.old.items) }
+    ensures bytes { OnSome result (bytes.new.items
+        ≡ bytes_with (known_of bases.now) (offset_of patch.now.need) (address_of (known_of bases.now) (reference_of patch.now.to)) (need_of patch.now.need) bytes.old.items) }
+{
+    match bases.address(&patch.to) {
+        Some(address) => Some(put(bases, patch.need, address, code, bytes)),
+        None => None,
+    }
+}
+
+// The first line that is known, of one known so far and one that doesn't fit.
+fn first_unmet(unmet: Option<u32>, fits: bool, line: u32) -> Option<u32>
+    ensures { result ≡ option_or unmet (if fits then None else Some line) }
+{
+    match unmet {
+        Some(first) => Some(first),
+        None => { if fits { None } else { Some(line) } }
+    }
+}
+
+/// Puts all addresses in. Gives the line of the first one that doesn't fit.
+///
+/// # Errors
+///
+/// `Undefined` with the line of the first one whose label has no definition.
+pub(crate) fn put_all(
+    bases: &Bases<'_, '_>,
+    patches: &[Patch<'_>],
+    code: &mut Vec<Insn>,
+    bytes: &mut Vec<u8>,
+) -> Result<Option<u32>, AsmFault>
+    ensures undefined { IfErr result (λ fault.
+        option_map faults.Undefined (first (undefined_line (known_of bases.now)) (names_of patches.now)) ≡ Some fault) }
+    ensures defined { OnOk result (first (undefined_line (known_of bases.now)) (names_of patches.now) ≡ None) }
+    ensures unmet { IfOk result (λ line. line ≡ first (unmet_line (known_of bases.now)) (names_of patches.now)) }
+    ensures code { OnOk result (code.new.items ≡ code_after (known_of bases.now) (map fix_of patches.now) code.old.items) }
+    ensures bytes { OnOk result (bytes.new.items ≡ bytes_after (known_of bases.now) (map fix_of patches.now) bytes.old.items) }
+{
+    let mut unmet = None;
+    for patch in patches {
+        match put_patch(bases, patch, code, bytes) {
+            Some(fits) => {
+                unmet = first_unmet(unmet, fits, patch.line);
+            }
+            None => return Err(AsmFault::Undefined(patch.line)),
+        }
+    }
+    Ok(unmet)
+}

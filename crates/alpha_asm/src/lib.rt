@@ -1,0 +1,37 @@
+//! The assembler: from a source to the image that it defines.
+//!
+//! - [`assemble`] gives the image of a source, or the first refusal, an [`AsmFault`].
+//!
+//! It goes over the lines once. What it knows of the lines so far is a [`Pass`](pass::Pass): where the
+//! next item stands, the instructions and data bytes, the labels, the field statements, and a patch for
+//! each address of a label that a statement names. When the last line is read, the patches are applied
+//! (`bases.rt`), and the image is built (`program.rt`).
+//!
+//! `lines.rt` cuts a source into lines; `statement.rt` says what a statement asks, apart from where it
+//! stands; `place.rt` is the place that a line stands at, `fields.rt` the field statements, `output.rt`
+//! the instructions and data bytes, `patch.rt` the addresses that are put in later, and `pass.rt` the
+//! state with the steps that each line takes.
+//!
+//! `specs/Statement.antt` has what a statement asks, `specs/Layout.antt` where each item stands,
+//! `specs/Program.antt` the program that the items make, and `specs/Assembled.antt` the image of a
+//! source or its first refusal. None of them knows of a pass or a patch; `specs/Patches.antt` and
+//! `specs/Pass.antt` say what the state of the pass is, and `specs/Finished.antt` what it comes to.
+#![tactic(auto)]
+
+mod assembler;
+mod bases;
+mod bytes;
+mod fault;
+mod fields;
+mod lines;
+mod output;
+mod pass;
+mod patch;
+mod place;
+mod program;
+mod statement;
+#[cfg(test)]
+mod tests;
+
+pub use assembler::assemble;
+pub use fault::AsmFault;

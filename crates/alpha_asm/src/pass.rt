@@ -1,0 +1,158 @@
+ghost use Rattle.std.specs.Prelude.{◌≡◌, ◌≢◌, ◌+◌, ◌^◌, ◌<◌, ◌++◌, ◌∷◌, ℕ, List, [], length, map, Some, None, OnOk, IfOk, IfErr};
+ghost use Rattle.std.specs.Option.{option_map};
+ghost use Rattle.alpha_text.specs.Statements.{said};
+ghost use Rattle.alpha_text.specs.Bounds.{IsWithin};
+ghost use Rattle.alpha_text.specs.Reading.{item_said};
+ghost use Rattle.alpha_asm.specs.Statement.{cells};
+ghost use Rattle.alpha_asm.specs.Layout.{spot, repeats_label};
+ghost use Rattle.alpha_asm.specs.Assembled.{item_at, refused};
+ghost use Rattle.alpha_asm.specs.Patches.{AddsCells};
+ghost use Rattle.alpha_asm.specs.Pass.{place_of, spot_at, with_label, refused_here, IsBounded, AddsStatement, AddsItem, Stands};
+ghost use Rattle.alpha_asm.specs.declared.fault.AsmFault.TheVariants as faults;
+
+use crate::AsmFault;
+use crate::bytes::push_zeros;
+use crate::fields::FieldsRead;
+use crate::output::{Output, push_entry};
+use crate::place::{Place, Spot};
+use alpha_text::{Item, Statement, read_line};
+use std::alloc::{AllocError, Global};
+use std::collections::BTreeMap;
+
+/// The most bytes of a line without its end.
+const LONGEST_LINE: usize = 1024;
+
+/// What is known of a source behind some of its lines.
+#[derive(Drop)]
+pub(crate) struct Pass<'a> {
+    /// How many lines.
+    pub line: u32,
+    pub place: Place,
+    pub output: Output<'a>,
+    pub labels: BTreeMap<&'a [u8], Spot>,
+    pub fields: FieldsRead<'a>,
+}
+
+impl<'a> Pass<'a> {
+    /// Before the first line.
+    pub(crate) fn new(alloc: Global) -> Pass<'a>
+        ensures stands { Stands [] result }
+        ensures bounded { IsBounded result }
+        ensures line { result.line ≡ 0 }
+    {
+        Pass {
+            line: 0,
+            place: Place::start(alloc),
+            output: Output::new(alloc),
+            labels: BTreeMap::new(alloc),
+            fields: FieldsRead::NONE,
+        }
+    }
+
+    /// Goes over the next line.
+    ///
+    /// # Errors
+    ///
+    /// `LongLine`, `Line`, `Section` or `Duplicate`, the first in this order.
+    pub(crate) fn take_line(&mut self, line: &'a [u8]) -> Result<(), AsmFault>
+        requires bounded { IsBounded self.old }
+        requires lines { self.old.line + 1 < 2 ^ 32 }
+        ensures ok { OnOk result ((is : _) → Stands is self.old → Stands (is ++ item_at line.entry.now ∷ []) self.new) }
+        ensures taken { OnOk result ((is : _) → Stands is self.old → refused is line.entry.now ≡ None) }
+        ensures refused { IfErr result (λ fault. fault ≢ faults.NoMemory →
+            (is : _) → Stands is self.old → refused is line.entry.now ≡ Some fault) }
+        ensures bounded { OnOk result (IsBounded self.new) }
+        ensures line { OnOk result (self.new.line ≡ self.old.line + 1) }
+    {
+        if line.len() > LONGEST_LINE {
+            return Err(AsmFault::LongLine(self.line + 1));
+        }
+        match read_line(line) {
+            Ok(item) => self.take_item(&item),
+            Err(fault) => Err(AsmFault::Line(self.line + 1, fault)),
+        }
+    }
+
+    // Goes over the item of the next line.
+    fn take_item(&mut self, item: &Item<'a>) -> Result<(), AsmFault>
+        requires bounded { IsBounded self.old }
+        requires lines { self.old.line + 1 < 2 ^ 32 }
+        requires within { IsWithin (said item.now.statement) }
+        ensures ok { OnOk result (AddsItem (item_said item.now) self.old self.new) }
+        ensures taken { OnOk result (refused_here self.old (item_said item.now) ≡ None) }
+        ensures refused { IfErr result (λ fault. fault ≢ faults.NoMemory →
+            refused_here self.old (item_said item.now) ≡ Some fault) }
+        ensures bounded { OnOk result (IsBounded self.new) }
+    {
+        if self.place.is_misplaced(&item.statement) {
+            return Err(AsmFault::Section(self.line + 1));
+        }
+        if self.fields.repeats(&item.statement) {
+            return Err(AsmFault::Duplicate(self.line + 1));
+        }
+        if self.define(item.label)? {
+            return Err(AsmFault::Duplicate(self.line + 1));
+        }
+        self.add(item)?;
+        Ok(())
+    }
+
+    // Defines a label here. Whether it was defined before.
+    fn define(&mut self, label: Option<&'a [u8]>) -> Result<bool, AllocError>
+        requires bounded { IsBounded self.old }
+        requires lines { self.old.line + 1 < 2 ^ 32 }
+        ensures value { IfOk result (λ again.
+            again ≡ repeats_label (spot_at self.old) (option_map (λ l. l.now) label.entry)) }
+        ensures labels { OnOk result ((name : List ℕ) →
+            spot_at self.new name ≡ with_label (spot_at self.old) (option_map (λ l. l.now) label.entry) (spot (place_of self.old)) name) }
+        ensures same { self.new ≡ record self.old { labels = self.new.labels } }
+    {
+        match label {
+            Some(label) => {
+                let spot = self.place.spot(self.output.code.len());
+                let old = self.labels.insert(label, spot)?;
+                Ok(old.is_some())
+            }
+            None => Ok(false),
+        }
+    }
+
+    // Adds the statement of an item.
+    fn add(&mut self, item: &Item<'a>) -> Result<(), AllocError>
+        requires bounded { IsBounded self.old }
+        requires lines { self.old.line + 1 < 2 ^ 32 }
+        requires within { IsWithin (said item.now.statement) }
+        ensures ok { OnOk result (AddsStatement (item_said item.now) self.old self.new) }
+        ensures labels { self.new.labels ≡ self.old.labels }
+        ensures bounded { OnOk result (IsBounded self.new) }
+    {
+        let line = self.line + 1;
+        let statement = &item.statement;
+        let filled = self.output.bytes.len();
+        self.output.push_insn(line, statement)?;
+        push_data(&mut self.output, line, statement)?;
+        push_zeros(&mut self.output.bytes, self.place.filled_pad(statement))?;
+        push_entry(&mut self.output.patches, line, statement)?;
+        let added = self.output.bytes.len() - filled;
+        self.place.go_on(statement, added as u64)?;
+        self.fields = self.fields.with(statement);
+        self.line = line;
+        Ok(())
+    }
+}
+
+// Adds the values of data of a statement.
+#[tactic(auto, unfolding(crate::specs::Statement::cells))]
+fn push_data<'a>(
+    output: &mut Output<'a>,
+    line: u32,
+    statement: &Statement<'a>,
+) -> Result<(), AllocError>
+    ensures { OnOk result (AddsCells line (cells (said statement.now)) output.old output.new) }
+{
+    match *statement {
+        Statement::Values { bytes, list } => output.push_values(line, bytes, list),
+        Statement::Text(text) => output.push_text(line, text),
+        _ => Ok(()),
+    }
+}

@@ -1,0 +1,141 @@
+ghost use Rattle.std.specs.Prelude.{◌≡◌, ◌<◌, ◌≤◌, ◌-ℤ◌, ◌^◌, ◌*◌, pos, nat_le, IfSome, if◌then◌else◌, Some, None};
+ghost use Rattle.alpha_asm.specs.Program.{words_over, halved, high_half, low_half, reached, displaced, quadword_of};
+ghost use Rattle.alpha_asm.specs.Patches.{IsField, IsNear};
+ghost use Rattle.alpha_table.specs.Row.{IsSigned};
+ghost use Rattle.alpha_asm.specs.declared.patch.Displacement.TheVariants.{Words, Bytes};
+
+use crate::statement::Use;
+use alpha_table::{Form, Insn};
+use alpha_text::Expr;
+
+/// The displacement of an instruction.
+#[derive(Clone, Copy, Debug, PartialEq, Eq)]
+pub(crate) enum Displacement {
+    /// In words, of a branch: 21 bits with the sign.
+    Words(i32),
+    /// In bytes, or in units of 65,536 bytes.
+    Bytes(i16),
+}
+
+/// What an address that a statement names is for.
+#[derive(Clone, Copy, Debug, PartialEq, Eq)]
+pub(crate) enum Need {
+    /// An instruction, behind so many others.
+    Insn { by: Use, place: usize },
+    /// A quadword, behind so many data bytes.
+    Quad { at: usize },
+    /// The entry.
+    Entry,
+}
+
+/// An address that a statement names, to be put in when all labels are known.
+#[derive(Clone, Copy, Debug)]
+pub(crate) struct Patch<'a> {
+    pub line: u32,
+    pub to: Expr<'a>,
+    pub need: Need,
+}
+
+// The displacement in words of a branch over a distance in bytes.
+fn words_over(distance: i128) -> Option<Displacement>
+    ensures value { result ≡ words_over distance }
+    ensures field { IfSome result IsField }
+{
+    if distance < 0 {
+        let back = distance.unsigned_abs();
+        if back % 4 == 0 && back <= 1 << 22 {
+            return Some(Displacement::Words(-((back / 4) as i32)));
+        }
+    } else {
+        let ahead = distance.unsigned_abs();
+        if ahead % 4 == 0 && ahead < 1 << 22 {
+            return Some(Displacement::Words((ahead / 4) as i32));
+        }
+    }
+    None
+}
+
+// An address that has halves: from 0 to 2^30.
+fn within_halves(address: i128) -> Option<u32>
+    ensures value { result ≡ halved address }
+    ensures bound { IfSome result (λ n. n ≤ 2 ^ 30) }
+{
+    if address < 0 || address > 1 << 30 {
+        return None;
+    }
+    Some(address as u32)
+}
+
+fn high_half(address: u32) -> i16
+    requires { address ≤ 2 ^ 30 }
+    ensures { result ≡ pos (high_half address) }
+{
+    ((address + 32_768) / 65_536) as i16
+}
+
+fn low_half(address: u32) -> i16
+    requires { address ≤ 2 ^ 30 }
+    ensures { result ≡ low_half address }
+{
+    let high = i32::from(high_half(address));
+    (address as i32 - 65_536 * high) as i16
+}
+
+impl Use {
+    /// The displacement by which an instruction at `pc` reaches an address, `None` exactly where it
+    /// doesn't.
+    pub(crate) fn displacement(self, pc: u128, address: i128) -> Option<Displacement>
+        requires pc { pc ≤ 2 ^ 70 }
+        requires near { IsNear address }
+        ensures value { result ≡ reached self pc address }
+        ensures field { IfSome result IsField }
+    {
+        match self {
+            Use::Branch => words_over(address - (pc as i128 + 4)),
+            Use::High => Some(Displacement::Bytes(high_half(within_halves(address)?))),
+            Use::Low => Some(Displacement::Bytes(low_half(within_halves(address)?))),
+        }
+    }
+}
+
+// A branch with another displacement.
+fn with_words(insn: &Insn, disp: i32) -> Insn
+    requires { IsSigned 20 disp }
+    ensures { result ≡ displaced insn.now (Words disp) }
+{
+    match insn.form() {
+        Form::Branch { op, ra, .. } => Insn::of(Form::Branch { op, ra, disp }).unwrap(),
+        _ => *insn,
+    }
+}
+
+// A memory instruction with another displacement.
+fn with_bytes(insn: &Insn, disp: i16) -> Insn
+    ensures { result ≡ displaced insn.now (Bytes disp) }
+{
+    match insn.form() {
+        Form::Mem { op, ra, rb, .. } => Insn::of(Form::Mem { op, ra, rb, disp }).unwrap(),
+        _ => *insn,
+    }
+}
+
+/// An instruction with another displacement, where it has one of that kind.
+pub(crate) fn displaced(insn: &Insn, displacement: Displacement) -> Insn
+    requires { IsField displacement }
+    ensures { result ≡ displaced insn.now displacement }
+{
+    match displacement {
+        Displacement::Words(disp) => with_words(insn, disp),
+        Displacement::Bytes(disp) => with_bytes(insn, disp),
+    }
+}
+
+/// The quadword of an address, `None` exactly where it has none.
+pub(crate) fn quadword_of(address: i128) -> Option<u64>
+    ensures { result ≡ quadword_of address }
+{
+    if address < 0 || address > 0xffff_ffff_ffff_ffff {
+        return None;
+    }
+    Some(address as u64)
+}
