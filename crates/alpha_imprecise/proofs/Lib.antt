@@ -5,3 +5,8 @@ pub mod Masks
 pub mod Choosing
 pub mod Joining
 pub mod Words
+pub mod Making
+pub mod Settling
+pub mod RunSteps
+pub mod RunGoes
+pub mod RunEnds

@@ -9,3 +9,5 @@ pub mod Pcg
 pub mod Wild
 pub mod Report
 pub mod WildEffect
+pub mod WildTurn
+pub mod WildRunEffect

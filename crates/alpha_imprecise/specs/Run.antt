@@ -1,5 +1,5 @@
 -- A run of the imprecise machine is a row of steps, one a choice, which ends where the program does or a trap is lost.
-use Rattle.std.specs.Prelude.{ℕ, ◌+◌, Bool, true, false, if◌then◌else◌, List, [], ◌∷◌, ◌++◌, Option, Some, None}
+use Rattle.std.specs.Prelude.{◌≡◌, ◌≤◌, ◌||◌, ℕ, ◌+◌, Bool, true, false, is_none, if◌then◌else◌, List, [], ◌∷◌, ◌++◌, Option, Some, None}
 use Rattle.alpha_seq.specs.State.{Program, State, Went}
 use Rattle.alpha_seq.specs.Run.{Mark, Over, marks_of, is_over}
 use Rattle.alpha_imprecise.specs.Moment.{Trap, Choice, Happening, Precisely, Triggered, Waited, Reported, Lost, Moment}
@@ -60,3 +60,9 @@ advance_wild g w c = if finished w.last then w else extended_wild w (wild g w.st
 abbrev pub run_wild : Program → List Choice → WildRun → WildRun
 run_wild g [] w = w
 run_wild g (c ∷ cs) w = run_wild g cs (advance_wild g w c)
+
+-- A run has used so many units with nothing pending, or it is over before.
+pub record HasUsed (n : ℕ) (w : WildRun) : Type 0 where
+  pub settled : (finished w.last || is_none w.pending) ≡ true
+  pub most : w.units ≤ n
+  pub full : finished w.last ≡ false → w.units ≡ n

@@ -2,7 +2,8 @@
 //! may be anything (Architecture Handbook, arithmetic traps; the exact form is this project's own).
 //!
 //! - [`Wild`] is the machine: a sequential machine, and a trap that may be pending, a [`Pending`].
-//!   [`Wild::step`] makes one step, and [`WildEnd`] says how it went.
+//!   [`Wild::step`] makes one step, and [`WildEnd`] says how it went. [`run`] makes steps until the program ends, a
+//!   trap is lost or a number of units is used up.
 //! - A [`Chooser`] answers the words of 64 bits by which a step chooses: [`ListChooser`] has them from bytes,
 //!   [`PcgChooser`] from a seeded generator.
 //!
@@ -10,11 +11,12 @@
 //! step, `specs/Run.antt` the runs, `specs/Chosen.antt` the choices that are made by words of 64 bits,
 //! `specs/Made.antt` the runs that coming words make, and `specs/Restart.antt` what it means that a program can be
 //! restarted after each trap. `specs/WildEffect.antt` says what the code's step did against that, for choosers and
-//! devices that may tell nothing, and `specs/Telling.antt` how a chooser goes on.
+//! devices that may tell nothing, `specs/WildRunEffect.antt` what its run did, and `specs/Telling.antt` how a chooser
+//! goes on. `specs/WildTurn.antt` says what a step does together with the lines of a barrier.
 //!
 //! `src/step.rt` has the step by what it is, `src/look.rt` what the word at the PC would do, `src/spoil.rt` the words
-//! that are executed while a trap is pending, and `src/report.rt` the report, through the kernel's frame and the
-//! handler.
+//! that are executed while a trap is pending, `src/report.rt` the report, through the kernel's frame and the
+//! handler, and `src/runs.rt` the run.
 #![tactic(auto)]
 
 mod chooser;
@@ -24,6 +26,7 @@ mod look;
 mod pcg;
 mod pending;
 mod report;
+mod runs;
 mod spoil;
 mod step;
 mod wild;
@@ -33,4 +36,5 @@ pub use end::WildEnd;
 pub use list::ListChooser;
 pub use pcg::PcgChooser;
 pub use pending::Pending;
+pub use runs::run;
 pub use wild::Wild;

@@ -20,8 +20,6 @@ pub mod Starting
 pub mod Agreeing
 pub mod Rows
 pub mod Walks
-pub mod Making
-pub mod Settling
 pub mod Showing
 pub mod Fine
 pub mod Needed

@@ -1,21 +1,15 @@
 -- When an imprecise run shows what the precise run shows.
-use Rattle.std.specs.Prelude.{◌≡◌, ◌≤◌, ◌||◌, ℕ, Bool, true, false, List, None, is_none}
+use Rattle.std.specs.Prelude.{◌≡◌, ℕ, Bool, List, None}
 use Rattle.alpha_words.specs.declared.Completion.{Completion}
 use Rattle.alpha_image.specs.Parts.{Parts}
 use Rattle.alpha_seq.specs.State.{Program}
 use Rattle.alpha_seq.specs.Start.{start}
 use Rattle.alpha_seq.specs.Run.{Run, Shown, end_of, after, sequential}
 use Rattle.alpha_imprecise.specs.Moment.{Choice}
-use Rattle.alpha_imprecise.specs.Run.{WildRun, finished, started_wild, run_wild}
+use Rattle.alpha_imprecise.specs.Run.{WildRun, HasUsed, started_wild, run_wild}
 use Rattle.alpha_imprecise.specs.Made.{ShownWild, wild_end, lost_trap, imprecise}
 
 -- ---- whatever is chosen
-
--- A run has used so many units with nothing pending, or it is over before.
-pub record HasUsed (n : ℕ) (w : WildRun) : Type 0 where
-  pub settled : (finished w.last || is_none w.pending) ≡ true
-  pub most : w.units ≤ n
-  pub full : finished w.last ≡ false → w.units ≡ n
 
 -- Both runs have the same end, if any, number of steps, output, input left and trace, and no trap was lost.
 pub record SameRun (r : Run) (w : WildRun) : Type 0 where

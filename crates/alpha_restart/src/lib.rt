@@ -23,9 +23,8 @@
 //! `Shadows.antt`, `Spoiling.antt` and `Trails.antt` (registers, bytes and the mask while a trap is
 //! pending), `Precise.antt`, `Together.antt`, `Syncing.antt`, `Waiting.antt` and `Reporting.antt` (each
 //! kind of step keeps the invariant), `Keeping.antt` (so does every run), `Starting.antt` (the start)
-//! and `Agreeing.antt` (the law). `Rows.antt` and `Walks.antt` have the table, `Making.antt`,
-//! `Settling.antt` and `Showing.antt` the runs by coming words, `Fine.antt` a test for broken places and
-//! `Needed.antt` an image for each condition.
+//! and `Agreeing.antt` (the law). `Rows.antt` and `Walks.antt` have the table, `Showing.antt` the runs by
+//! coming words, `Fine.antt` a test for broken places and `Needed.antt` an image for each condition.
 #![tactic(auto)]
 
 mod laws;

@@ -5,11 +5,10 @@ use Rattle.alpha_seq.specs.State.{Program}
 use Rattle.alpha_seq.specs.Step.{next_class, step}
 use Rattle.alpha_imprecise.specs.Moment.{Trap, Happening}
 use Rattle.alpha_imprecise.specs.Step.{triggers, triggered, precisely}
-use Rattle.alpha_imprecise.specs.Run.{finished, unit_of}
+use Rattle.alpha_imprecise.specs.Run.{HasUsed, finished, unit_of}
 use Rattle.alpha_imprecise.specs.Chosen.{most_waited, draw, chosen, waited_after}
 use Rattle.alpha_imprecise.specs.Made.{Making, extended_making, advance_making, is_settled, settled_within, settled, made}
-use Rattle.alpha_restart.specs.Shown.{HasUsed}
-use Rattle.alpha_restart.proofs.Making.{Settles, none, over, longer, chosen_settles}
+use Rattle.alpha_imprecise.proofs.Making.{Settles, none, over, longer, chosen_settles}
 
 -- one step more of a run that isn't over
 abbrev stepped_making : Program → Making → Making
@@ -19,11 +18,11 @@ stepped_making g k =
 advance-going : (g : Program) (k : Making) → finished k.run.last ≡ false → advance_making g k ≡ stepped_making g k
 advance-going g k e = ap (λ b. cond b k (stepped_making g k)) e
 
-advance-over : (g : Program) (k : Making) → finished k.run.last ≡ true → advance_making g k ≡ k
+pub advance-over : (g : Program) (k : Making) → finished k.run.last ≡ true → advance_making g k ≡ k
 advance-over g k e = ap (λ b. cond b k (stepped_making g k)) e
 
 -- what is settled stays
-stays_settled : (fuel : ℕ) (g : Program) (k : Making) → is_settled k ≡ true → settled_within fuel g k ≡ k
+pub stays_settled : (fuel : ℕ) (g : Program) (k : Making) → is_settled k ≡ true → settled_within fuel g k ≡ k
 stays_settled zero g k e = refl
 stays_settled (suc fuel) g k e = ap (λ b. cond b k (settled_within fuel g (advance_making g k))) e
 
@@ -32,14 +31,14 @@ record SettledAt (n : ℕ) (k : Making) : Type 0 where
   done : is_settled k ≡ true
   units : k.run.units ≡ n
 
-none_settled : (k : Making) → k.run.pending ≡ None → is_settled k ≡ true
+pub none_settled : (k : Making) → k.run.pending ≡ None → is_settled k ≡ true
 none_settled k e = by (finished k.run.last) (ap is_none e)
   where
     by : (b : Bool) → is_none k.run.pending ≡ true → (b || is_none k.run.pending) ≡ true
     by true f = refl
     by false f = f
 
-over_settled : (k : Making) → finished k.run.last ≡ true → is_settled k ≡ true
+pub over_settled : (k : Making) → finished k.run.last ≡ true → is_settled k ≡ true
 over_settled k e = ap (λ b. b || is_none k.run.pending) e
 
 -- what isn't settled has a trap pending, and goes on

@@ -1,0 +1,214 @@
+-- A run of the machine and one step more.
+use Rattle.std.specs.Prelude.{slice_index}
+use Rattle.std.proofs.Common.{◌≡◌, ◌<◌, ◌≤◌, ◌+◌, ◌-◌, ◌^◌, ℕ, false, cond, List, ◌++◌, length, drop, Option, Some, None, refl, sym, ap, subst, ◌∙◌, ⊎_elim, append_assoc, arith}
+use Rattle.std.proofs.lemmas.Bool.{cases_lt}
+use Rattle.std.proofs.Math.Seq.{drop-append_seam}
+use Rattle.std.proofs.lemmas.List.{length-append, get_or_append_left, get_or-append_right}
+use Rattle.std.proofs.lemmas.List.Elements.{All-append}
+use Rattle.alpha_io.specs.Sunk.{Sunk}
+use Rattle.alpha_io.proofs.Sinks.{Puts-then}
+use Rattle.alpha_seq.specs.declared.machine.Machine.{Machine}
+use Rattle.alpha_seq.specs.State.{Program, State, Event, Went, Barriered, Overflowed, Ends}
+use Rattle.alpha_seq.specs.Run.{Mark, marks_of}
+use Rattle.alpha_seq.specs.Machine.{program_of, state_of}
+use Rattle.alpha_seq.specs.Devices.{Drawn, Draws}
+use Rattle.alpha_seq.proofs.RunSteps.{Times, drawn_before, drawn_after, drawn_over, sunk_before, sunk_after, sunk_over}
+use Rattle.alpha_imprecise.specs.Moment.{Happening, Precisely, Triggered, Waited, Reported, Lost, Moment, moment}
+use Rattle.alpha_imprecise.specs.Run.{WildRun, wild_marks, finished, unit_of, extended_wild}
+use Rattle.alpha_imprecise.specs.Chosen.{Draw, draw, chosen, waited_after}
+use Rattle.alpha_imprecise.specs.Made.{Making, extended_making, advance_making}
+use Rattle.alpha_imprecise.specs.Telling.{Telling, Goes, Counts, Moves}
+use Rattle.alpha_imprecise.specs.Wild.{WildState, bare, trap_in, waited_in}
+use Rattle.alpha_imprecise.specs.WildEffect.{IsChosen, WildSteps}
+use Rattle.alpha_imprecise.specs.WildRunEffect.{begun_at, making_at, Leads}
+
+-- ---- the words
+
+goes_then : (a b d : Option (ℕ → ℕ)) (xs ys : List ℕ) → Goes a b xs → Goes b d ys → Goes a d (xs ++ ys)
+goes_then None b d xs ys first second = tt
+goes_then (Some f) None d xs ys first second = absurd first
+goes_then (Some f) (Some h) None xs ys first second = absurd second
+goes_then (Some f) (Some h) (Some k) xs ys first second = (firsts, rests)
+  where
+    later : (n : ℕ) → length xs ≤ n → n < length (xs ++ ys) → f n ≡ slice_index (xs ++ ys) n
+    later n above below =
+        let size = length-append xs ys in
+        let back : n ≡ length xs + (n - length xs) = omega arith in
+        ap f back
+        ∙ (sym (first.1 (n - length xs)) ∙ (second.0 (n - length xs) (omega arith) ∙ sym (get_or-append_right xs ys (length xs) n 0 refl above)))
+
+    firsts : (n : ℕ) → n < length (xs ++ ys) → f n ≡ slice_index (xs ++ ys) n
+    firsts n below =
+        ⊎_elim
+        (λ (early : n < length xs). first.0 n early ∙ sym (get_or_append_left xs ys 0 n early))
+        (λ (late : length xs ≤ n). later n late below)
+        (cases_lt n (length xs))
+
+    rests : (n : ℕ) → k n ≡ f (length (xs ++ ys) + n)
+    rests n =
+        let size = length-append xs ys in
+        let place : length xs + (length ys + n) ≡ length (xs ++ ys) + n = omega arith in
+        second.1 n ∙ (first.1 (length ys + n) ∙ ap f place)
+
+counts_then : (a b d : Option ℕ) (n m k : ℕ) → k ≡ n + m → Counts a b n → Counts b d m → Counts a d k
+counts_then None b d n m k e first second = tt
+counts_then (Some i) None d n m k e first second = absurd first
+counts_then (Some i) (Some j) None n m k e first second = absurd second
+counts_then (Some i) (Some j) (Some l) n m k e first second = omega arith
+
+pub Moves-then : (a b d : Telling) (xs ys : List ℕ) → Moves a b xs → Moves b d ys → Moves a d (xs ++ ys)
+Moves-then a b d xs ys first second = record {
+  fit = All-append (λ (word : ℕ). word < 2 ^ 64) xs ys first.fit second.fit;
+  went = goes_then a.ahead b.ahead d.ahead xs ys first.went second.went;
+  counted = counts_then a.count b.count d.count (length xs) (length ys) (length (xs ++ ys)) (length-append xs ys) first.counted second.counted;
+}
+
+-- ---- the input
+
+record Joined (input : Times) (taken rest taken' rest' : List ℕ) : Type 0 where
+  same : rest ≡ taken' ++ rest'
+  took : Draws (drawn_over input) (taken ++ taken') rest'
+
+joined_at : (xs : List ℕ) (mid last : Option (List ℕ)) (a b c : ℕ) (taken rest taken' rest' : List ℕ)
+    → Draws (record { old = Some xs; new = mid; before = a; now = b }) taken rest
+    → Draws (record { old = mid; new = last; before = b; now = c }) taken' rest'
+    → Joined (record { first = Some xs; mid = mid; last = last; faults_first = a; faults_mid = b; faults_last = c }) taken rest taken' rest'
+joined_at xs None last a b c taken rest taken' rest' one two = absurd (let e = one.took.1 in cc)
+joined_at xs (Some ys) last a b c taken rest taken' rest' one two =
+    let told : ys ≡ rest = (let e = one.took.1 in cc) in
+    let same : rest ≡ taken' ++ rest' = sym told ∙ two.took.0 in
+    record {
+      same = same;
+      took = record {
+        took = (one.took.0 ∙ ap (λ l. taken ++ l) same ∙ sym (append_assoc taken taken' rest'), two.took.1);
+        same = two.same ∙ one.same;
+      };
+    }
+
+joined : (xs : List ℕ) (input : Times) (taken rest taken' rest' : List ℕ) → input.first ≡ Some xs
+    → Draws (drawn_before input) taken rest → Draws (drawn_after input) taken' rest' → Joined input taken rest taken' rest'
+joined xs input taken rest taken' rest' told one two =
+    let P : Option (List ℕ) → Type 0 = λ first.
+    Draws (record { old = first; new = input.mid; before = input.faults_first; now = input.faults_mid }) taken rest
+    → Joined (record input { first = first }) taken rest taken' rest' in
+    subst P (sym told) (λ first. joined_at xs input.mid input.last input.faults_first input.faults_mid input.faults_last taken rest taken' rest' first two) one
+
+-- ---- one step more of the definition
+
+-- what is noted of a step shows the PC and the registers alone
+precise-marks : (event : Event) (m : Machine) (input output : List ℕ) → marks_of event (state_of m input output) ≡ marks_of event (bare m)
+precise-marks Went m input output = refl
+precise-marks Barriered m input output = refl
+precise-marks (Overflowed at) m input output = refl
+precise-marks (Ends end) m input output = refl
+
+marks-same : (h : Happening) (m : Machine) (input output : List ℕ) → wild_marks h (state_of m input output) ≡ wild_marks h (bare m)
+marks-same (Precisely event) m input output = precise-marks event m input output
+marks-same Triggered m input output = refl
+marks-same Waited m input output = refl
+marks-same (Reported at) m input output = refl
+marks-same (Lost pc mask) m input output = refl
+
+-- a run that a step of this machine extends
+abbrev pub onto : WildRun → Happening → WildState → WildState → WildRun
+onto run h mid new = record {
+  units = run.units + unit_of (trap_in mid.pending);
+  state = bare new.machine;
+  pending = trap_in new.pending;
+  trace = run.trace ++ wild_marks h (bare new.machine);
+  last = h;
+}
+
+abbrev stepped_making : Program → Making → Making
+stepped_making g k =
+    extended_making k (draw g k.run.state k.run.pending k.waited k.words) (chosen g k.run.state k.run.pending k.waited k.words)
+
+advance-going : (g : Program) (k : Making) → finished k.run.last ≡ false → advance_making g k ≡ stepped_making g k
+advance-going g k e = ap (λ b. cond b k (stepped_making g k)) e
+
+-- a run that draws these words and comes to this moment
+extended_at : (run : WildRun) (mid new : WildState) (from : State) (h : Happening) (input output words coming : List ℕ) (count : ℕ) (d : Draw) (m : Moment)
+    → d.count ≡ length words → m ≡ moment (state_of new.machine input output) (trap_in new.pending) h
+    → waited_in new.pending ≡ waited_after h (waited_in mid.pending)
+    → extended_making (record { run = record run { state = from; pending = trap_in mid.pending }; waited = waited_in mid.pending; words = words ++ coming; count = count }) d m
+    ≡ making_at (onto run h mid new) new input output coming (count + length words)
+extended_at run mid new from h input output words coming count d m drew step waits =
+    let at : WildRun = record run { state = from; pending = trap_in mid.pending } in
+    let k : Making = record { run = at; waited = waited_in mid.pending; words = words ++ coming; count = count } in
+    let to : Moment = moment (state_of new.machine input output) (trap_in new.pending) h in
+    let over : WildRun = extended_wild at to in
+    ap (λ (x : Moment). extended_making k d x) step
+    ∙ (ap (λ (n : ℕ). record { run = over; waited = waited_after h (waited_in mid.pending); words = drop n (words ++ coming); count = count + n }) drew
+    ∙ (ap (λ (l : List ℕ). record { run = over; waited = waited_after h (waited_in mid.pending); words = l; count = count + length words }) (drop-append_seam words coming)
+    ∙ (ap (λ (n : ℕ). record { run = over; waited = n; words = coming; count = count + length words }) (sym waits)
+    ∙ ap (λ (marks : List Mark). record { run = record over { trace = run.trace ++ marks }; waited = waited_in new.pending; words = coming; count = count + length words }) (marks-same h new.machine input output))))
+
+advanced_at : (g : Program) (run : WildRun) (mid new : WildState) (h : Happening) (input output input' output' words coming : List ℕ) (count : ℕ)
+    → finished run.last ≡ false → program_of mid.machine ≡ g
+    → IsChosen h mid new (state_of mid.machine input output) (state_of new.machine input' output') words coming
+    → waited_in new.pending ≡ waited_after h (waited_in mid.pending)
+    → advance_making g (making_at run mid input output (words ++ coming) count) ≡ making_at (onto run h mid new) new input' output' coming (count + length words)
+advanced_at g run mid new h input output input' output' words coming count going program is waits =
+    let k = making_at run mid input output (words ++ coming) count in
+    let from = state_of mid.machine input output in
+    advance-going g k going
+    ∙ extended_at run mid new from h input' output' words coming count
+    (draw g from (trap_in mid.pending) (waited_in mid.pending) (words ++ coming))
+    (chosen g from (trap_in mid.pending) (waited_in mid.pending) (words ++ coming))
+    (ap (λ (p : Program). (draw p from (trap_in mid.pending) (waited_in mid.pending) (words ++ coming)).count) (sym program) ∙ is.count)
+    (ap (λ (p : Program). chosen p from (trap_in mid.pending) (waited_in mid.pending) (words ++ coming)) (sym program) ∙ is.step)
+    waits
+
+-- ---- one step more of the machine
+
+pub Leads-more : (P Q : Making → Making → Type 0) (xs : List ℕ) (run : WildRun) (h : Happening) (old mid new : WildState) (before told after : Telling) (input out : Times)
+    → ((from k : Making) → k.run.pending ≡ trap_in mid.pending → finished k.run.last ≡ false → P from k → Q from (advance_making (program_of old.machine) k))
+    → input.first ≡ Some xs → finished run.last ≡ false
+    → Leads P run old mid before told (drawn_before input) (sunk_before out)
+    → WildSteps h mid new told after (drawn_after input) (sunk_after out)
+    → Leads Q (onto run h mid new) old new before after (drawn_over input) (sunk_over out)
+Leads-more P Q xs run h old mid new before told after input out lift tells going one two =
+    let j = joined xs input one.taken one.rest two.taken two.rest tells one.took two.took in
+    let g = program_of old.machine in
+    record {
+      words = one.words ++ two.words;
+      taken = one.taken ++ two.taken;
+      rest = two.rest;
+      bytes = one.bytes ++ two.bytes;
+      drew = Moves-then before told after one.words two.words one.drew two.drew;
+      took = j.took;
+      wrote = Puts-then out.first out.mid out.last out.faults_first out.faults_mid out.faults_last one.bytes two.bytes one.wrote two.wrote;
+      is = λ coming output.
+          let k = making_at run mid one.rest (output ++ one.bytes) (two.words ++ coming) (length one.words) in
+          let begin : begun_at old (one.taken ++ one.rest) output (one.words ++ (two.words ++ coming))
+          ≡ begun_at old ((one.taken ++ two.taken) ++ two.rest) output ((one.words ++ two.words) ++ coming) =
+          ap (λ (l : List ℕ). begun_at old (one.taken ++ l) output (one.words ++ (two.words ++ coming))) j.same
+          ∙ (ap (λ (l : List ℕ). begun_at old l output (one.words ++ (two.words ++ coming))) (sym (append_assoc one.taken two.taken two.rest))
+          ∙ ap (λ (l : List ℕ). begun_at old ((one.taken ++ two.taken) ++ two.rest) output l) (sym (append_assoc one.words two.words coming))) in
+          let end : advance_making g k ≡ making_at (onto run h mid new) new two.rest (output ++ (one.bytes ++ two.bytes)) coming (length (one.words ++ two.words)) =
+          ap (λ (l : List ℕ). advance_making g (making_at run mid l (output ++ one.bytes) (two.words ++ coming) (length one.words))) j.same
+          ∙ (advanced_at g run mid new h (two.taken ++ two.rest) (output ++ one.bytes) two.rest ((output ++ one.bytes) ++ two.bytes) two.words coming (length one.words) going one.program (two.is coming (output ++ one.bytes)) two.waited
+          ∙ (ap (λ (l : List ℕ). making_at (onto run h mid new) new two.rest l coming (length one.words + length two.words)) (append_assoc output one.bytes two.bytes)
+          ∙ ap (λ (n : ℕ). making_at (onto run h mid new) new two.rest (output ++ (one.bytes ++ two.bytes)) coming n) (sym (length-append one.words two.words)))) in
+          subst (λ (from : Making). Q from (making_at (onto run h mid new) new two.rest (output ++ (one.bytes ++ two.bytes)) coming (length (one.words ++ two.words)))) begin
+          (subst (λ (to : Making). Q (begun_at old (one.taken ++ one.rest) output (one.words ++ (two.words ++ coming))) to) end
+          (lift (begun_at old (one.taken ++ one.rest) output (one.words ++ (two.words ++ coming))) k refl going (one.is (two.words ++ coming) output)));
+      program = two.program ∙ one.program;
+    }
+
+-- the same run, in another sense
+pub Leads-as : (P Q : Making → Making → Type 0) (run : WildRun) (old new : WildState) (before after : Telling) (input : Drawn) (out : Sunk)
+    → ((from k : Making) → k.run.pending ≡ trap_in new.pending → k.run.last ≡ run.last → P from k → Q from k)
+    → Leads P run old new before after input out → Leads Q run old new before after input out
+Leads-as P Q run old new before after input out turn one = record {
+  words = one.words;
+  taken = one.taken;
+  rest = one.rest;
+  bytes = one.bytes;
+  drew = one.drew;
+  took = one.took;
+  wrote = one.wrote;
+  is = λ coming output.
+      turn (begun_at old (one.taken ++ one.rest) output (one.words ++ coming)) (making_at run new one.rest (output ++ one.bytes) coming (length one.words)) refl refl (one.is coming output);
+  program = one.program;
+}

@@ -1,0 +1,142 @@
+use Rattle.std.proofs.Common.{◌≡◌, ◌+◌, ◌-◌, ◌*◌, ◌≤◌, ◌<◌, refl, sym, subst, ◌∙◌, arith}
+use Rattle.alpha_io.specs.Sunk.{sunk}
+use Rattle.alpha_seq.specs.declared.end.RunEnd.TheVariants as runs
+use Rattle.alpha_seq.specs.Devices.{drawn}
+use Rattle.alpha_seq.proofs.RunSteps.{times, drawn_over, sunk_over, drawn_after, sunk_after}
+use Rattle.alpha_seq.proofs.RunEnds.{HasGrown-none}
+use Rattle.alpha_imprecise.specs.Telling.{telling}
+use Rattle.alpha_imprecise.specs.Run.{unit_of}
+use Rattle.alpha_imprecise.specs.Wild.{trap_in}
+use Rattle.alpha_imprecise.specs.WildRunEffect.{IsMade}
+use Rattle.alpha_imprecise.proofs.RunGoes.{Goes, Goes-none, goes_calm, turn_goes_on, turn_stops, turn_shortens, wait_left, all_used, room, room_less, none_left, fewer_left}
+use Rattle.alpha_imprecise.proofs.RunEnds.{counts_go_on, counts_stop, grown_more, run_shows}
+use Rattle.alpha_imprecise.proofs.runs.run.Goals as goal
+
+pub steps-init : goal.steps-init
+steps-init g c = record {
+  most = omega arith;
+  made = λ bytes told.
+      let none : 0 ≡ c.args.units - c.args.units = omega arith in
+      let started = Goes-none c.args.watch c.args.wild.now (telling g.C.Chooser.ahead g.C.Chooser.drawn c.args.chooser.now) (g.S.Source.left c.args.input.now) (g.K.Sink.written c.args.out.now) (g.N.Sink.written c.args.notes.now) bytes (g.S.Source.faults c.args.input.now) (g.K.Sink.faults c.args.out.now) (g.N.Sink.faults c.args.notes.now) told in
+      subst (λ n. Goes n c.args.watch c.args.wild.now c.args.wild.now
+      (telling g.C.Chooser.ahead g.C.Chooser.drawn c.args.chooser.now) (telling g.C.Chooser.ahead g.C.Chooser.drawn c.args.chooser.now)
+      (drawn g.S.Source.left g.S.Source.faults c.args.input.now c.args.input.now)
+      (sunk g.K.Sink.written g.K.Sink.faults c.args.out.now c.args.out.now)
+      (sunk g.N.Sink.written g.N.Sink.faults c.args.notes.now c.args.notes.now)) none started;
+  calm = record { source = refl; sink = refl; lines = refl };
+  grown = (HasGrown-none (g.K.Sink.written c.args.out.now) (g.K.Sink.faults c.args.out.now), HasGrown-none (g.N.Sink.written c.args.notes.now) (g.N.Sink.faults c.args.notes.now));
+}
+
+pub returns-in-Some-clause-effect : goal.returns-in-Some-clause-effect
+returns-in-Some-clause-effect g c =
+    let before = telling g.C.Chooser.ahead g.C.Chooser.drawn c.args.chooser.now in
+    let mid = telling g.C.Chooser.ahead g.C.Chooser.drawn c.steps.chooser in
+    let after = telling g.C.Chooser.ahead g.C.Chooser.drawn c.turn-step.new.chooser in
+    let input = times g.S.Source.left g.S.Source.faults c.args.input.now c.steps.input c.turn-step.new.input in
+    let out = times g.K.Sink.written g.K.Sink.faults c.args.out.now c.steps.out c.turn-step.new.out in
+    let notes = times g.N.Sink.written g.N.Sink.faults c.args.notes.now c.steps.notes c.turn-step.new.notes in
+    let stops = sym c.run_ended_by.ensures ∙ c.in-Some.is in
+    let most = room c.args.units c.steps.left c.unit.result (unit_of (trap_in c.steps.wild.pending)) c.unit.ensures.value c.steps-test.true c.steps.invariant.most in
+    λ bytes told. turn_stops bytes (c.args.units - c.steps.left) c.args.units c.args.watch c.turn-step.result c.in-Some.end c.args.wild.now c.steps.wild c.turn-step.new.wild before mid after input out notes told c.unit.ensures.bound most stops (c.steps.invariant.made bytes told) c.turn-step.ensures.effect
+
+pub returns-in-Some-clause-shown : goal.returns-in-Some-clause-shown
+returns-in-Some-clause-shown g c =
+    let before = telling g.C.Chooser.ahead g.C.Chooser.drawn c.args.chooser.now in
+    let mid = telling g.C.Chooser.ahead g.C.Chooser.drawn c.steps.chooser in
+    let after = telling g.C.Chooser.ahead g.C.Chooser.drawn c.turn-step.new.chooser in
+    let input = times g.S.Source.left g.S.Source.faults c.args.input.now c.steps.input c.turn-step.new.input in
+    let out = times g.K.Sink.written g.K.Sink.faults c.args.out.now c.steps.out c.turn-step.new.out in
+    let notes = times g.N.Sink.written g.N.Sink.faults c.args.notes.now c.steps.notes c.turn-step.new.notes in
+    let stops = sym c.run_ended_by.ensures ∙ c.in-Some.is in
+    let most = room c.args.units c.steps.left c.unit.result (unit_of (trap_in c.steps.wild.pending)) c.unit.ensures.value c.steps-test.true c.steps.invariant.most in
+    let cause = counts_stop c.args.watch c.turn-step.result c.in-Some.end c.steps.wild c.turn-step.new.wild mid after input out notes stops c.steps.invariant.calm c.turn-step.ensures.effect in
+    λ bytes told calm.
+    let did = turn_stops bytes (c.args.units - c.steps.left) c.args.units c.args.watch c.turn-step.result c.in-Some.end c.args.wild.now c.steps.wild c.turn-step.new.wild before mid after input out notes told c.unit.ensures.bound most stops (c.steps.invariant.made bytes told) c.turn-step.ensures.effect in
+    run_shows c.args.units c.args.watch c.in-Some.end c.args.wild.now c.turn-step.new.wild before after (drawn_over input) (sunk_over out) (sunk_over notes) bytes told did cause calm
+
+pub returns-in-Some-clause-cause : goal.returns-in-Some-clause-cause
+returns-in-Some-clause-cause g c =
+    let mid = telling g.C.Chooser.ahead g.C.Chooser.drawn c.steps.chooser in
+    let after = telling g.C.Chooser.ahead g.C.Chooser.drawn c.turn-step.new.chooser in
+    let input = times g.S.Source.left g.S.Source.faults c.args.input.now c.steps.input c.turn-step.new.input in
+    let out = times g.K.Sink.written g.K.Sink.faults c.args.out.now c.steps.out c.turn-step.new.out in
+    let notes = times g.N.Sink.written g.N.Sink.faults c.args.notes.now c.steps.notes c.turn-step.new.notes in
+    let stops = sym c.run_ended_by.ensures ∙ c.in-Some.is in
+    counts_stop c.args.watch c.turn-step.result c.in-Some.end c.steps.wild c.turn-step.new.wild mid after input out notes stops c.steps.invariant.calm c.turn-step.ensures.effect
+
+pub returns-in-Some-clause-output : goal.returns-in-Some-clause-output
+returns-in-Some-clause-output g c =
+    let mid = telling g.C.Chooser.ahead g.C.Chooser.drawn c.steps.chooser in
+    let after = telling g.C.Chooser.ahead g.C.Chooser.drawn c.turn-step.new.chooser in
+    let input = times g.S.Source.left g.S.Source.faults c.args.input.now c.steps.input c.turn-step.new.input in
+    let out = times g.K.Sink.written g.K.Sink.faults c.args.out.now c.steps.out c.turn-step.new.out in
+    let notes = times g.N.Sink.written g.N.Sink.faults c.args.notes.now c.steps.notes c.turn-step.new.notes in
+    (grown_more c.args.watch c.turn-step.result c.steps.wild c.turn-step.new.wild mid after input out notes c.steps.invariant.grown c.turn-step.ensures.effect).0
+
+pub returns-in-Some-clause-notes : goal.returns-in-Some-clause-notes
+returns-in-Some-clause-notes g c =
+    let mid = telling g.C.Chooser.ahead g.C.Chooser.drawn c.steps.chooser in
+    let after = telling g.C.Chooser.ahead g.C.Chooser.drawn c.turn-step.new.chooser in
+    let input = times g.S.Source.left g.S.Source.faults c.args.input.now c.steps.input c.turn-step.new.input in
+    let out = times g.K.Sink.written g.K.Sink.faults c.args.out.now c.steps.out c.turn-step.new.out in
+    let notes = times g.N.Sink.written g.N.Sink.faults c.args.notes.now c.steps.notes c.turn-step.new.notes in
+    (grown_more c.args.watch c.turn-step.result c.steps.wild c.turn-step.new.wild mid after input out notes c.steps.invariant.grown c.turn-step.ensures.effect).1
+
+pub steps-smaller : goal.steps-smaller
+steps-smaller g c =
+    let mid = telling g.C.Chooser.ahead g.C.Chooser.drawn c.steps.chooser in
+    let after = telling g.C.Chooser.ahead g.C.Chooser.drawn c.turn-step.new.chooser in
+    let input = times g.S.Source.left g.S.Source.faults c.args.input.now c.steps.input c.turn-step.new.input in
+    let out = times g.K.Sink.written g.K.Sink.faults c.args.out.now c.steps.out c.turn-step.new.out in
+    let notes = times g.N.Sink.written g.N.Sink.faults c.args.notes.now c.steps.notes c.turn-step.new.notes in
+    let goes = sym c.run_ended_by.ensures ∙ c.in_default.is in
+    let some = subst (λ n. n ≤ c.steps.left) c.unit.ensures.value c.steps-test.true in
+    subst (λ n. (c.steps.left - n) * 1026 + wait_left c.turn-step.new.wild.pending < c.steps.left * 1026 + wait_left c.steps.wild.pending) (sym c.unit-left.ensures.value)
+    (turn_shortens c.steps.left c.args.watch c.turn-step.result c.steps.wild c.turn-step.new.wild mid after (drawn_after input) (sunk_after out) (sunk_after notes) some goes c.turn-step.ensures.effect)
+
+pub steps-preserved : goal.steps-preserved
+steps-preserved g c =
+    let before = telling g.C.Chooser.ahead g.C.Chooser.drawn c.args.chooser.now in
+    let mid = telling g.C.Chooser.ahead g.C.Chooser.drawn c.steps.chooser in
+    let after = telling g.C.Chooser.ahead g.C.Chooser.drawn c.turn-step.new.chooser in
+    let input = times g.S.Source.left g.S.Source.faults c.args.input.now c.steps.input c.turn-step.new.input in
+    let out = times g.K.Sink.written g.K.Sink.faults c.args.out.now c.steps.out c.turn-step.new.out in
+    let notes = times g.N.Sink.written g.N.Sink.faults c.args.notes.now c.steps.notes c.turn-step.new.notes in
+    let goes = sym c.run_ended_by.ensures ∙ c.in_default.is in
+    let same = c.unit-left.ensures.value ∙ sym c.unit.ensures.value in
+    let some = subst (λ n. n ≤ c.steps.left) (sym same) c.steps-test.true in
+    let units = room_less c.args.units c.steps.left c.unit-left.result (unit_of (trap_in c.steps.wild.pending)) c.unit-left.ensures.value some c.steps.invariant.most in
+    let invariant = c.steps.invariant in
+    record {
+      most = fewer_left c.args.units c.steps.left c.unit-left.result invariant.most;
+      made = λ bytes told.
+          subst (λ n. Goes n c.args.watch c.args.wild.now c.turn-step.new.wild before after (drawn_over input) (sunk_over out) (sunk_over notes)) units
+          (turn_goes_on bytes (c.args.units - c.steps.left) c.args.watch c.turn-step.result c.args.wild.now c.steps.wild c.turn-step.new.wild before mid after input out notes told c.unit.ensures.bound goes (invariant.made bytes told) c.turn-step.ensures.effect);
+      calm = counts_go_on c.args.watch c.turn-step.result c.steps.wild c.turn-step.new.wild mid after input out notes goes invariant.calm c.turn-step.ensures.effect;
+      grown = grown_more c.args.watch c.turn-step.result c.steps.wild c.turn-step.new.wild mid after input out notes c.steps.invariant.grown c.turn-step.ensures.effect;
+    }
+
+pub returns-clause-effect : goal.returns-clause-effect
+returns-clause-effect g c =
+    let before = telling g.C.Chooser.ahead g.C.Chooser.drawn c.args.chooser.now in
+    let after = telling g.C.Chooser.ahead g.C.Chooser.drawn c.steps.chooser in
+    let input = drawn g.S.Source.left g.S.Source.faults c.args.input.now c.steps.input in
+    let out = sunk g.K.Sink.written g.K.Sink.faults c.args.out.now c.steps.out in
+    let notes = sunk g.N.Sink.written g.N.Sink.faults c.args.notes.now c.steps.notes in
+    let none = all_used c.steps.left c.steps.wild.pending (subst (λ n. c.steps.left < n) c.unit.ensures.value c.steps-test.false) in
+    λ bytes told.
+    subst (λ n. IsMade n c.args.watch runs.Spent c.args.wild.now c.steps.wild before after input out notes) (none_left c.args.units c.steps.left none.1)
+    (goes_calm (c.args.units - c.steps.left) c.args.watch c.args.wild.now c.steps.wild before after input out notes none.0 (c.steps.invariant.made bytes told))
+
+pub returns-clause-shown : goal.returns-clause-shown
+returns-clause-shown g c =
+    let before = telling g.C.Chooser.ahead g.C.Chooser.drawn c.args.chooser.now in
+    let after = telling g.C.Chooser.ahead g.C.Chooser.drawn c.steps.chooser in
+    let input = drawn g.S.Source.left g.S.Source.faults c.args.input.now c.steps.input in
+    let out = sunk g.K.Sink.written g.K.Sink.faults c.args.out.now c.steps.out in
+    let notes = sunk g.N.Sink.written g.N.Sink.faults c.args.notes.now c.steps.notes in
+    let none = all_used c.steps.left c.steps.wild.pending (subst (λ n. c.steps.left < n) c.unit.ensures.value c.steps-test.false) in
+    λ bytes told calm.
+    let did = subst (λ n. IsMade n c.args.watch runs.Spent c.args.wild.now c.steps.wild before after input out notes) (none_left c.args.units c.steps.left none.1)
+    (goes_calm (c.args.units - c.steps.left) c.args.watch c.args.wild.now c.steps.wild before after input out notes none.0 (c.steps.invariant.made bytes told)) in
+    run_shows c.args.units c.args.watch runs.Spent c.args.wild.now c.steps.wild before after input out notes bytes told did c.steps.invariant.calm calm

@@ -1,0 +1,28 @@
+use Rattle.std.proofs.Common.{◌≡◌, ◌≤◌, ◌+◌, ◌-◌, ◌*◌, ℕ, List, Some}
+use Rattle.alpha_io.specs.Sunk.{sunk}
+use Rattle.alpha_seq.specs.Devices.{drawn}
+use Rattle.alpha_seq.specs.RunEffect.{HasNoFault, HasGrown}
+use Rattle.alpha_imprecise.specs.Telling.{telling}
+use Rattle.alpha_imprecise.proofs.RunGoes.{Goes, wait_left}
+use Rattle.alpha_imprecise.proofs.runs.run.Given as goal
+
+abbrev pub invariant-steps : goal.invariant-steps
+invariant-steps g l = record {
+  most : l.left ≤ l.units;
+  made : (bytes : List ℕ) → g.S.Source.left l.initial.input ≡ Some bytes
+      → Goes (l.units - l.left) l.watch l.initial.wild l.wild
+      (telling g.C.Chooser.ahead g.C.Chooser.drawn l.initial.chooser)
+      (telling g.C.Chooser.ahead g.C.Chooser.drawn l.chooser)
+      (drawn g.S.Source.left g.S.Source.faults l.initial.input l.input)
+      (sunk g.K.Sink.written g.K.Sink.faults l.initial.out l.out)
+      (sunk g.N.Sink.written g.N.Sink.faults l.initial.notes l.notes);
+  calm : HasNoFault
+      (drawn g.S.Source.left g.S.Source.faults l.initial.input l.input)
+      (sunk g.K.Sink.written g.K.Sink.faults l.initial.out l.out)
+      (sunk g.N.Sink.written g.N.Sink.faults l.initial.notes l.notes);
+  grown : HasGrown (sunk g.K.Sink.written g.K.Sink.faults l.initial.out l.out)
+      × HasGrown (sunk g.N.Sink.written g.N.Sink.faults l.initial.notes l.notes);
+}
+
+abbrev pub decreases-steps : goal.decreases-steps
+decreases-steps g l = l.left * 1026 + wait_left l.wild.pending

@@ -1,0 +1,114 @@
+//! Runs: steps until the program ends, a trap is lost, or all units are used with nothing pending.
+
+ghost use Rattle.std.specs.Prelude.{◌≡◌, ◌≤◌, ℕ, List, Some, IfSome};
+ghost use Rattle.alpha_io.specs.Sunk.{sunk};
+ghost use Rattle.alpha_seq.specs.Devices.{drawn, AreCalm};
+ghost use Rattle.alpha_seq.specs.RunEffect.{HasGrown};
+ghost use Rattle.alpha_imprecise.specs.Run.{unit_of};
+ghost use Rattle.alpha_imprecise.specs.Telling.{telling};
+ghost use Rattle.alpha_imprecise.specs.Wild.{trap_in};
+ghost use Rattle.alpha_imprecise.specs.WildTurn.{WildTurnEffect, run_ended_by};
+ghost use Rattle.alpha_imprecise.specs.WildRunEffect.{WildRunEffect, WildRunCause, ShowsMade};
+
+use crate::{Chooser, Wild, WildEnd};
+use alpha_io::{Sink, Source};
+use alpha_seq::{RunEnd, write_barrier};
+
+/// Makes steps by the chooser's words until the program ends, a trap is lost, or `units` units are
+/// used and nothing is pending. A unit is a step with nothing pending; a trap that is pending at the
+/// beginning is reported first. The line of each report that logs and, where `watch` is set, the
+/// lines of each barrier that doesn't end the program are written to the notes. `InputFault` and
+/// `SinkFault` come only where that device failed in this call.
+pub fn run<C: Chooser, S: Source, K: Sink, N: Sink>(
+    wild: &mut Wild,
+    chooser: &mut C,
+    input: &mut S,
+    out: &mut K,
+    notes: &mut N,
+    units: u64,
+    watch: bool,
+) -> RunEnd
+    ensures effect { (bytes : List ℕ) → S.left input.old ≡ Some bytes
+        → WildRunEffect result units watch wild.old wild.new
+        (telling C.ahead C.drawn chooser.old) (telling C.ahead C.drawn chooser.new)
+        (drawn S.left S.faults input.old input.new)
+        (sunk K.written K.faults out.old out.new)
+        (sunk N.written N.faults notes.old notes.new) }
+    ensures shown { let from = drawn S.left S.faults input.old input.new in
+        let to = sunk K.written K.faults out.old out.new in
+        let lines = sunk N.written N.faults notes.old notes.new in
+        (bytes : List ℕ) → S.left input.old ≡ Some bytes → AreCalm from to lines
+        → ShowsMade units watch bytes result wild.old
+        (telling C.ahead C.drawn chooser.old) (telling C.ahead C.drawn chooser.new) from to lines }
+    ensures cause { WildRunCause result
+        (drawn S.left S.faults input.old input.new)
+        (sunk K.written K.faults out.old out.new)
+        (sunk N.written N.faults notes.old notes.new) }
+    ensures output { HasGrown (sunk K.written K.faults out.old out.new) }
+    ensures notes { HasGrown (sunk N.written N.faults notes.old notes.new) }
+{
+    let mut left = units;
+    'steps: while unit(wild) <= left {
+        left -= unit(wild);
+        let step = turn(wild, chooser, input, out, notes, watch);
+        if let Some(end) = run_ended_by(step) {
+            return end;
+        }
+    }
+    RunEnd::Spent
+}
+
+// The units that the next step uses: one with nothing pending, else none.
+fn unit(wild: &Wild) -> u64
+    ensures value { result ≡ unit_of (trap_in wild.now.pending) }
+    ensures bound { IfSome wild.now.pending (λ p. p.waited ≤ 1024) }
+{
+    match wild.pending() {
+        None => 1,
+        Some(_) => 0,
+    }
+}
+
+// Makes one step and, where it is a barrier that is watched, writes its lines.
+fn turn<C: Chooser, S: Source, K: Sink, N: Sink>(
+    wild: &mut Wild,
+    chooser: &mut C,
+    input: &mut S,
+    out: &mut K,
+    notes: &mut N,
+    watch: bool,
+) -> WildEnd
+    ensures effect { WildTurnEffect watch result wild.old wild.new
+        (telling C.ahead C.drawn chooser.old) (telling C.ahead C.drawn chooser.new)
+        (drawn S.left S.faults input.old input.new)
+        (sunk K.written K.faults out.old out.new)
+        (sunk N.written N.faults notes.old notes.new) }
+{
+    match wild.step(chooser, input, out, notes) {
+        WildEnd::Barrier if watch => {
+            let machine = wild.machine();
+            match write_barrier(machine.pc, &machine.regs, notes) {
+                Ok(()) => WildEnd::Barrier,
+                Err(_) => WildEnd::SinkFault,
+            }
+        }
+        end => end,
+    }
+}
+
+// How the run ends, if this step ends it.
+fn run_ended_by(step: WildEnd) -> Option<RunEnd>
+    ensures { result ≡ run_ended_by step }
+{
+    match step {
+        WildEnd::Went
+        | WildEnd::Barrier
+        | WildEnd::Triggered
+        | WildEnd::Waited
+        | WildEnd::Reported(_) => None,
+        WildEnd::Ended(end) => Some(RunEnd::Ended(end)),
+        WildEnd::Lost(pc, mask) => Some(RunEnd::Lost(pc, mask)),
+        WildEnd::InputFault => Some(RunEnd::InputFault),
+        WildEnd::SinkFault => Some(RunEnd::SinkFault),
+    }
+}
