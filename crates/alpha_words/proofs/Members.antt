@@ -1,7 +1,7 @@
 -- The members of the sets that bit operations make.
 use Rattle.std.proofs.Common.{◌≡◌, ◌≢◌, ℕ, ◌-◌, ◌*◌, ◌%◌, ◌^◌, ◌<◌, ◌≤◌, ◌⊎◌, ◌↔◌, ◌∙◌, ap, inl, inr, arith, bit_or, bit_and, ⊎_elim}
 use Rattle.std.specs.Int.{bit_at, w32, trailing_zeros}
-use Rattle.std.proofs.lemmas.Nat.Bits.{bit_at_or, bit_at_and, bit_at_not, bit_at-lt, bit_at_above, bit_at-pow_same, bit_at-pow_other, bit_at-trailing_zeros, bit_at-zero, same_from_bits}
+use Rattle.std.proofs.lemmas.Nat.Bits.{bit_at_or, bit_at_and, bit_at_not, bit_at-lt, bit_at_above, bit_at-pow_same, bit_at-pow_other, bit_at-trailing_zeros, bit_at_mask_inside, bit_at-zero, same_from_bits}
 use Rattle.std.proofs.lemmas.Bool.{cases_eq, cases_lt}
 use Rattle.std.proofs.lemmas.Nat.{pow_below, and_le_l}
 use Rattle.std.proofs.Math.Nat.{mod-eq_of_lt}
@@ -44,20 +44,18 @@ Has-and_not a b k small other =
           both.1 (h.0, omega arith),
     )
 
--- the bit of one register below 31
-pub Has-single : (r k : ℕ) → r < 31 → Has (1 * 2 ^ r % 4294967296) k ↔ ((k ≡ r) × (k < 31))
-Has-single r k small =
-    let less = pow_below r 31 small in
-    let fits : 1 * 2 ^ r % 4294967296 ≡ 2 ^ r = omega (arith, mod-eq_of_lt {n = 1 * 2 ^ r} {m = 4294967296} (omega arith)) in (
-      λ h. ⊎_elim (λ (p : k ≡ r). (p, omega arith)) (λ (p : k ≡ r → ⊥). absurd (omega (arith, bit_at-pow_other r k p, ap (λ n. bit_at n k) fits))) (cases_eq k r),
-      λ h. ap (λ n. bit_at n k) fits ∙ (ap (λ n. bit_at (2 ^ r) n) h.0 ∙ bit_at-pow_same r),
-    )
-
-pub single_bound : (r : ℕ) → r < 31 → 1 * 2 ^ r % 4294967296 < 2147483648
-single_bound r small =
-    let less = pow_below r 31 small in
+-- the bit of one register, R31's masked off
+pub Has-masked : (r k : ℕ) → r < 32 → Has (bit_and (1 * 2 ^ r % 4294967296) 2147483647) k ↔ ((k ≡ r) × (k < 31))
+Has-masked r k small =
+    let less = pow_below r 32 small in
     let fits : 1 * 2 ^ r % 4294967296 ≡ 2 ^ r = omega (arith, mod-eq_of_lt {n = 1 * 2 ^ r} {m = 4294967296} (omega arith)) in
-    omega arith
+    let both = Has-and (1 * 2 ^ r % 4294967296) 2147483647 k in (
+      λ h. let f = both.0 h in (
+        ⊎_elim (λ (p : k ≡ r). p) (λ (p : k ≡ r → ⊥). absurd (omega (arith, f.0, bit_at-pow_other r k p, ap (λ n. bit_at n k) fits))) (cases_eq k r),
+        Has-below 2147483647 k (omega arith) f.1,
+      ),
+      λ h. both.1 (ap (λ n. bit_at n k) fits ∙ (ap (λ n. bit_at (2 ^ r) n) h.0 ∙ bit_at-pow_same r), bit_at_mask_inside 0 31 k (omega arith) h.1),
+    )
 
 -- a set that a bit operation leaves as it is has all its members among the other's
 pub covers-members : (a b : ℕ) → (bit_and a b ≡ b) ↔ ((k : ℕ) → Has b k → Has a k)

@@ -110,6 +110,6 @@ impl RegSet {
         ensures members { (k : ℕ) → Has result k ↔ ((k ≡ r) × (k < 31)) }
         ensures bound { result < 2 ^ 31 }
     {
-        if r.number() < 31 { 1 << r.number() } else { 0 }
+        1 << r.number() & 0x7fff_ffff
     }
 }

@@ -1,12 +1,6 @@
-use Rattle.std.proofs.Common.{◌≡◌, arith}
-use Rattle.alpha_words.proofs.Members.{Has-single, single_bound}
+use Rattle.std.proofs.Common.{arith}
+use Rattle.alpha_words.proofs.Members.{Has-masked}
 use Rattle.alpha_words.proofs.set.RegSet.bit.Goals as goal
 
-pub returns-then-number-lt31-clause-members : goal.returns-then-number-lt31-clause-members
-returns-then-number-lt31-clause-members c = λ k.
-    let e : c.number-then-number-lt31.result ≡ c.args.r = cc in
-    let one = Has-single c.args.r k (omega arith) in
-    rw e one
-
-pub returns-then-number-lt31-clause-bound : goal.returns-then-number-lt31-clause-bound
-returns-then-number-lt31-clause-bound c = single_bound _ (omega arith)
+pub returns-clause-members : goal.returns-clause-members
+returns-clause-members c = λ k. rw c.number.ensures.value (Has-masked c.args.r k (omega arith))
