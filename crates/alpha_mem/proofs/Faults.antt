@@ -38,6 +38,12 @@ size_of-le B2 = omega arith
 size_of-le B4 = omega arith
 size_of-le B8 = omega arith
 
+pub size_of-pos : (size : Size) → 0 < size_of size
+size_of-pos B1 = omega arith
+size_of-pos B2 = omega arith
+size_of-pos B4 = omega arith
+size_of-pos B8 = omega arith
+
 divisor-pos : (n : ℕ) → 16 % n ≡ 0 → 0 < n
 divisor-pos zero divides = absurd (omega (arith, mod-zero 16))
 divisor-pos (suc n) divides = omega arith

@@ -3,5 +3,6 @@ mod Blocks
 mod Faults
 mod Bytes
 mod Places
+mod Writable
 mod Kept
 pub mod LawLemmas

@@ -1,9 +1,10 @@
 -- Numbers and their little-endian bytes.
-use Rattle.std.proofs.Common.{◌≡◌, ℕ, zero, suc, ◌+◌, ◌-◌, ◌*◌, ◌/◌, ◌%◌, ◌^◌, ◌<◌, ◌≤◌, List, [], ◌∷◌, ◌++◌, length, get_or, take, drop, replicate, refl, sym, ap, ◌∙◌, arith}
-use Rattle.std.specs.Int.{w64, from_le_bytes, to_le_bytes, bytes_low_first}
+use Rattle.std.proofs.Common.{◌≡◌, ℕ, zero, suc, ◌+◌, ◌-◌, ◌*◌, ◌/◌, ◌%◌, ◌^◌, ◌<◌, ◌≤◌, List, [], ◌∷◌, ◌++◌, length, get_or, take, drop, replicate, ap, ◌∙◌, arith}
+use Rattle.std.specs.Int.{w64, from_le_bytes, to_le_bytes}
 use Rattle.std.proofs.lemmas.List.{drop-replicate, length-append, length-replicate}
 use Rattle.std.proofs.Math.Arith.{mod-mul}
-use Rattle.std.proofs.Math.Nat.{pow-suc, one-le-pow, div-div-eq-div-mul}
+use Rattle.std.proofs.Math.Nat.{pow-suc, one-le-pow}
+use Rattle.std.proofs.lemmas.Nat.{mod_below}
 use Rattle.alpha_mem.specs.declared.access.Size.{Size}
 use Rattle.alpha_mem.specs.declared.access.Size.TheVariants.{B1, B2, B4, B8}
 use Rattle.alpha_mem.specs.Size.{size_of}
@@ -52,3 +53,31 @@ low_bytes-taken B1 v = bytes_low_first-digits 1 v
 low_bytes-taken B2 v = bytes_low_first-digits 2 v
 low_bytes-taken B4 v = bytes_low_first-digits 4 v
 low_bytes-taken B8 v = bytes_low_first-digits 8 v
+
+-- digits in base 256 are bytes
+pub low_bytes-byte : (count n k : ℕ) → get_or (low_bytes count n) k 0 < 256
+unfolding digits
+low_bytes-byte zero n k = omega arith
+low_bytes-byte (suc count) n zero = mod_below n 256 (omega arith)
+low_bytes-byte (suc count) n (suc k) = low_bytes-byte count (n / 256) k
+
+-- the numbers of one, two, four and eight bytes
+pub little-one : (bs : List ℕ) → length bs ≡ 1 → little bs ≡ get_or bs 0 0
+unfolding number
+little-one (b0 ∷ []) e = omega arith
+little-one _ e = absurd (omega arith)
+
+pub little-two : (bs : List ℕ) → length bs ≡ 2 → little bs ≡ get_or bs 0 0 + get_or bs 1 0 * 256
+unfolding number
+little-two (b0 ∷ b1 ∷ []) e = omega arith
+little-two _ e = absurd (omega arith)
+
+pub little-four : (bs : List ℕ) → length bs ≡ 4 → little bs ≡ get_or bs 0 0 + get_or bs 1 0 * 256 + get_or bs 2 0 * 65536 + get_or bs 3 0 * 16777216
+unfolding number
+little-four (b0 ∷ b1 ∷ b2 ∷ b3 ∷ []) e = omega arith
+little-four _ e = absurd (omega arith)
+
+pub little-eight : (bs : List ℕ) → length bs ≡ 8 → little bs ≡ get_or bs 0 0 + get_or bs 1 0 * 256 + get_or bs 2 0 * 65536 + get_or bs 3 0 * 16777216 + get_or bs 4 0 * 4294967296 + get_or bs 5 0 * 1099511627776 + get_or bs 6 0 * 281474976710656 + get_or bs 7 0 * 72057594037927936
+unfolding number
+little-eight (b0 ∷ b1 ∷ b2 ∷ b3 ∷ b4 ∷ b5 ∷ b6 ∷ b7 ∷ []) e = omega arith
+little-eight _ e = absurd (omega arith)

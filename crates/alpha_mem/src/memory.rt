@@ -98,10 +98,19 @@ impl Memory {
         ensures shapes { shapes self.new ≡ shapes self.old }
         ensures good { IsMemory self.new }
     {
-        self.writable(addr, size)?;
-        let low = value.to_le_bytes();
-        self.write(addr, &low[..size.bytes() as usize]);
-        Ok(())
+        let len = size.bytes();
+        let place = place_to_write(self.regions.as_slice(), addr, len);
+        if addr % len != 0 {
+            return Err(MemFault::Align);
+        }
+        match place {
+            Some(i) => {
+                let region = &mut self.regions[i];
+                region.put_number(addr, size, value);
+                Ok(())
+            }
+            None => Err(MemFault::Region),
+        }
     }
 
     /// What a store there would answer: `Align`, `Region` or neither.
@@ -162,6 +171,15 @@ fn index_of(regions: &[Region], addr: u64, len: u64) -> Option<usize>
     ensures { result ≡ position (λ b. holds (shape_of b) addr len) regions.now }
 {
     regions.iter().position(|r| r.holds(addr, len))
+}
+
+// The place in the list of the first region that is writable and that the range lies within.
+fn place_to_write(regions: &[Region], addr: u64, len: u64) -> Option<usize>
+    ensures { result ≡ position (λ b. b.writable && holds (shape_of b) addr len) regions.now }
+{
+    regions
+        .iter()
+        .position(|r| r.writable() && r.holds(addr, len))
 }
 
 // Whether the range lies within a region that is writable.

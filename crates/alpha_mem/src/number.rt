@@ -6,6 +6,20 @@ pub fn number_of(bytes: &[u8]) -> u64
     requires { length bytes.now ≤ 8 }
     ensures { result ≡ little bytes.now }
 {
+    match *bytes {
+        [a] => u64::from(a),
+        [a, b] => u64::from(u16::from_le_bytes([a, b])),
+        [a, b, c, d] => u64::from(u32::from_le_bytes([a, b, c, d])),
+        [a, b, c, d, e, f, g, h] => u64::from_le_bytes([a, b, c, d, e, f, g, h]),
+        _ => padded(bytes),
+    }
+}
+
+// The number of bytes that no integer type has.
+fn padded(bytes: &[u8]) -> u64
+    requires { length bytes.now ≤ 8 }
+    ensures { result ≡ little bytes.now }
+{
     let mut whole = [0; 8];
     whole[..bytes.len()].copy_from_slice(bytes);
     u64::from_le_bytes(whole)

@@ -1,6 +1,9 @@
 ghost use Rattle.std.specs.Prelude.{◌≡◌, ◌+◌, ◌-◌, ◌^◌, ◌<◌, ◌≤◌, IsTrue, IfOk, length};
+ghost use Rattle.alpha_words.specs.Digits.{low_bytes};
+ghost use Rattle.alpha_mem.specs.Size.{size_of};
 ghost use Rattle.alpha_mem.specs.Block.{shape_of, holds, part, overwritten, block};
 
+use crate::Size;
 use alpha_words::NoMemory;
 use std::alloc::Global;
 use std::marker::Model;
@@ -75,5 +78,14 @@ impl Region {
     {
         let at = (addr - self.first) as usize;
         self.bytes[at..at + bytes.len()].copy_from_slice(bytes);
+    }
+
+    /// Writes the number's low bytes, as many as the size says, the lowest first.
+    pub fn put_number(&mut self, addr: u64, size: Size, value: u64)
+        requires { IsTrue (holds (shape_of self.old) addr (size_of size)) }
+        ensures { self.new ≡ overwritten self.old addr (low_bytes (size_of size) value) }
+    {
+        let low = value.to_le_bytes();
+        self.put(addr, &low[..size.bytes() as usize]);
     }
 }

@@ -1,10 +1,15 @@
-use Rattle.std.proofs.Common.{◌≡◌, ◌++◌, ◌∙◌, ap, length, drop, replicate}
-use Rattle.std.specs.Int.{w64, from_le_bytes}
-use Rattle.alpha_mem.proofs.Numbers.{from_le_bytes-padded}
+use Rattle.std.proofs.Common.{arith}
+use Rattle.alpha_mem.proofs.Numbers.{little-one, little-two, little-four, little-eight}
 use Rattle.alpha_mem.proofs.number.number_of.Goals as goal
 
-pub returns : goal.returns
-returns c =
-    let bs = c.args.bytes.now in
-    let read : c.from_le_bytes.result ≡ from_le_bytes w64 (c.copy_from_slice.new.self ++ drop (length bs) (replicate 8 0)) = c.from_le_bytes.ensures in
-    read ∙ (ap (λ t. from_le_bytes w64 (t ++ drop (length bs) (replicate 8 0))) c.copy_from_slice.ensures.after ∙ from_le_bytes-padded bs c.requires)
+pub returns-in-len1 : goal.returns-in-len1
+returns-in-len1 c = omega (arith, c.from.ensures, little-one c.args.bytes.now (omega arith))
+
+pub returns-in-len2 : goal.returns-in-len2
+returns-in-len2 c = omega (arith, c.from-in-len2.ensures, c.from_le_bytes.ensures, little-two c.args.bytes.now (omega arith))
+
+pub returns-in-len4 : goal.returns-in-len4
+returns-in-len4 c = omega (arith, c.from-in-len4.ensures, c.from_le_bytes-in-len4.ensures, little-four c.args.bytes.now (omega arith))
+
+pub returns-in-len8 : goal.returns-in-len8
+returns-in-len8 c = omega (arith, c.from_le_bytes-in-len8.ensures, little-eight c.args.bytes.now (omega arith))
