@@ -180,8 +180,8 @@ fn load_then_store(window: &Window, word: &Columns) -> Option<u32>
         → IsFirstBroken code at Condition.LoadThenStore result }
 {
     let store = word.access?;
-    if word.kind == InsnKind::Store && window.has_load_that_may_meet(&Reach::of(&store)) {
-        window.first()
+    if word.kind == InsnKind::Store {
+        window.first_with_load_that_may_meet(&Reach::of(&store))
     } else {
         None
     }

@@ -1,4 +1,4 @@
-ghost use Rattle.std.specs.Prelude.{◌≡◌, ◌≢◌, ◌<◌, ◌+◌, ◌-◌, ◌^◌, ◌↔◌, ◌⊎◌, ◌==◌, ℕ, List, [], IsTrue, find, slice_get};
+ghost use Rattle.std.specs.Prelude.{◌≡◌, ◌≢◌, ◌<◌, ◌+◌, ◌-◌, ◌^◌, ◌↔◌, ◌⊎◌, ◌==◌, ℕ, List, [], IsTrue, None, find, slice_get};
 ghost use Rattle.std.specs.Option.{option_map};
 ghost use Rattle.std.specs.List.{Any};
 ghost use Rattle.alpha_table.specs.declared.columns.InsnKind.TheVariants as kinds;
@@ -118,11 +118,21 @@ impl Window {
             .map(|t| t.place)
     }
 
-    /// Whether a load after the first open trigger may touch a byte of a store.
-    pub(crate) fn has_load_that_may_meet(&self, store: &Reach) -> bool
-        ensures { IsTrue result ↔ Any (λ load. MayTouch load store.now) self.now.loads.items }
+    /// The first open trigger, where a load after it may touch a byte of a store. It stays a function of its
+    /// own, so that the walk over the loads has registers enough.
+    #[inline(never)]
+    pub(crate) fn first_with_load_that_may_meet(&self, store: &Reach) -> Option<u32>
+        ensures { (Any (λ load. MayTouch load store.now) self.now.loads.items
+            × (result ≡ option_map place_of (slice_get self.now.triggers.items 0)))
+            ⊎ (¬ Any (λ load. MayTouch load store.now) self.now.loads.items
+            × (result ≡ None)) }
     {
-        self.loads.iter().any(|load| load.may_meet(store))
+        let store = *store;
+        if self.loads.iter().any(|load| load.may_meet(&store)) {
+            self.first()
+        } else {
+            None
+        }
     }
 
     /// Whether no shadow has a word of this kind: none reaches its place, and it begins none.

@@ -125,6 +125,7 @@ pub fn sets(i: &Insn) -> Option<Reg>
 }
 
 /// What the instruction is to a trap shadow. A load into R31 is plain, but for the locked ones.
+#[inline(always)]
 pub fn kind(i: &Insn) -> InsnKind
     ensures { result ≡ kind_of i.now }
 {
