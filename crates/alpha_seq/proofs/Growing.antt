@@ -24,10 +24,10 @@ pub record Grows {X : Type 0} (old new : List X) : Type 0 where
 pub Grows-same : {X : Type 0} (xs : List X) → Grows xs xs
 Grows-same xs = record { tail = []; is = sym (append-nil xs) }
 
-Grows-by : {X : Type 0} (xs ys : List X) → Grows xs (xs ++ ys)
+pub Grows-by : {X : Type 0} (xs ys : List X) → Grows xs (xs ++ ys)
 Grows-by xs ys = record { tail = ys; is = refl }
 
-Grows-trans : {X : Type 0} (a b c : List X) → Grows a b → Grows b c → Grows a c
+pub Grows-trans : {X : Type 0} (a b c : List X) → Grows a b → Grows b c → Grows a c
 Grows-trans a b c p q = record {
   tail = p.tail ++ q.tail;
   is = q.is ∙ ap (λ l. l ++ q.tail) p.is ∙ append_assoc a p.tail q.tail;
@@ -109,7 +109,7 @@ returned-steps function s =
     let c = call function s.regs s.mem s.outside in
     subst (λ l. Grows s.outside.output l) (sym (returned-output function c s)) (call-more function s.regs s.mem s.outside)
 
-step-grows : (g : Program) (class : Option Class) (s : State) → Steps-more s (step g class s)
+pub step-grows : (g : Program) (class : Option Class) (s : State) → Steps-more s (step g class s)
 step-grows g None s = quiet s
 step-grows g (Some (operate op ra src rc)) s = quiet s
 step-grows g (Some (trigger op ra src rc)) s = cond-steps s _ _ _ (overflowed-steps g.how s rc _) (quiet s)

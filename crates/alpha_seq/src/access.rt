@@ -102,8 +102,8 @@ impl Machine {
         }
     }
 
-    // The address of an access.
-    pub(crate) fn place(&self, at: &MemAccess) -> u64
+    /// The address of an access.
+    pub fn place(&self, at: &MemAccess) -> u64
         ensures { result ≡ place at.now (state_of self.now [] []) }
     {
         access_address(at, self.regs.get(at.base))
@@ -123,8 +123,8 @@ impl Machine {
     }
 }
 
-// The access of a memory instruction.
-pub(crate) fn memory_access(op: MemOp, rb: Reg, disp: i16) -> MemAccess
+/// The access of a memory instruction.
+pub fn memory_access(op: MemOp, rb: Reg, disp: i16) -> MemAccess
     ensures { result ≡ row_access op rb disp }
 {
     let row = op.row();
@@ -136,8 +136,8 @@ pub(crate) fn memory_access(op: MemOp, rb: Reg, disp: i16) -> MemAccess
     }
 }
 
-// The size of so many bytes.
-pub(crate) fn size(bytes: u8) -> Size
+/// The size of so many bytes: 1, 2, 4 or 8.
+pub fn size(bytes: u8) -> Size
     requires { IsSized bytes }
     ensures { size_of result ≡ bytes }
 {

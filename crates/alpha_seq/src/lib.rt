@@ -1,9 +1,12 @@
 //! The sequential machine: it runs programs exactly, one word a step.
 //!
 //! - [`Machine`] is the machine, all parts of which are open. [`Machine::new`] makes it in the state at the start.
-//! - [`Machine::step`] makes one step, and [`Machine::next`] says what that step would do, as a [`Next`]. [`run`] makes
+//! - [`Machine::step`] makes one step, [`Machine::step_by`] the same for a caller that has looked at the instruction,
+//!   and [`Machine::next`] says what that step would do, as a [`Next`]. [`run`] makes
 //!   steps until the program ends or a number of them is used up.
 //! - [`StepEnd`] is how a step went, [`RunEnd`] how a run went, [`End`] how a program ends.
+//! - [`Machine::insn`], [`Machine::source`], [`Machine::place`], [`Machine::set`] and [`Machine::advance`] are the parts of a step that other
+//!   machines share, with [`memory_access`], [`size`] and [`branch_target`].
 //! - [`write_overflow`], [`write_barrier`], [`write_registers`] and [`write_end`] write the lines of an overflow, of a
 //!   barrier, of the registers alone and of an end.
 //! - [`laws_of_steps`]: a step leaves how many registers there are and where the blocks of memory lie, and one that ends
@@ -39,6 +42,7 @@ mod start;
 mod step;
 mod words;
 
+pub use access::{memory_access, size};
 pub use end::{End, Next, RunEnd, StepEnd};
 pub use laws::{laws_of_runs, laws_of_steps};
 pub use lines::{
@@ -46,3 +50,4 @@ pub use lines::{
 };
 pub use machine::Machine;
 pub use runs::run;
+pub use words::branch_target;

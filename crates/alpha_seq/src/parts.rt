@@ -10,8 +10,8 @@ use alpha_table::{Insn, Src, decode};
 use alpha_words::Reg;
 
 impl Machine {
-    // The instruction at the PC, `None` where the PC is no address of a code word.
-    pub(crate) fn insn(&self) -> Option<Insn>
+    /// The instruction at the PC, `None` where the PC is no address of a code word.
+    pub fn insn(&self) -> Option<Insn>
         ensures { result ≡ next_insn (program_of self.now) self.now.pc }
     {
         let place = self.image.place_of(self.pc)?;
@@ -26,15 +26,15 @@ impl Machine {
         self.pc.wrapping_add(4)
     }
 
-    // Goes on to the next word.
-    pub(crate) fn advance(&mut self)
+    /// Goes on to the next word.
+    pub fn advance(&mut self)
         ensures { self.new ≡ record self.old { pc = (self.old.pc + 4) % 2 ^ 64 } }
     {
         self.pc = self.next_pc();
     }
 
-    // Writes a register, and goes on to the next word.
-    pub(crate) fn set(&mut self, r: Reg, value: u64)
+    /// Writes a register, and goes on to the next word.
+    pub fn set(&mut self, r: Reg, value: u64)
         ensures { self.new ≡ record self.old {
           regs = put self.old.regs r value;
           pc = (self.old.pc + 4) % 2 ^ 64;
@@ -44,8 +44,8 @@ impl Machine {
         self.advance();
     }
 
-    // The value of a second source.
-    pub(crate) fn source(&self, src: &Src) -> u64
+    /// The value of a second source.
+    pub fn source(&self, src: &Src) -> u64
         ensures { result ≡ source_value self.now.regs src.now }
     {
         match *src {

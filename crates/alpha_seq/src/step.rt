@@ -2,13 +2,15 @@ ghost use Rattle.std.specs.Prelude.{◌≡◌, [], IsTrue};
 ghost use Rattle.alpha_io.specs.Sunk.{sunk};
 ghost use Rattle.alpha_mem.specs.Block.{shapes};
 ghost use Rattle.alpha_seq.specs.Step.{next_pc};
-ghost use Rattle.alpha_seq.specs.Machine.{state_of, class_here, kernel_left, Stays};
+ghost use Rattle.alpha_seq.specs.Machine.{program_of, state_of, class_here, kernel_left, Stays};
+ghost use Rattle.alpha_seq.specs.Next.{next_insn};
 ghost use Rattle.alpha_seq.specs.Devices.{drawn};
 ghost use Rattle.alpha_seq.specs.StepEffect.{StepEffect};
 
 use crate::execute::Executed;
 use crate::{End, Machine, StepEnd, write_overflow};
 use alpha_io::{Failed, Sink, Source};
+use alpha_table::Insn;
 
 impl Machine {
     /// Makes one step, in user mode. An overflow is logged, and then its line is written to the notes. `Ended`
@@ -32,7 +34,30 @@ impl Machine {
         ensures shapes { shapes self.new.memory ≡ shapes self.old.memory }
         ensures same { Stays self.old self.new }
     {
-        let Some(insn) = self.insn() else {
+        let insn = self.insn();
+        self.step_by(insn, input, out, notes)
+    }
+
+    /// The same, by the instruction at the PC, if there is one, for a caller that has looked at it.
+    pub fn step_by<S: Source, K: Sink, N: Sink>(
+        &mut self,
+        insn: Option<Insn>,
+        input: &mut S,
+        out: &mut K,
+        notes: &mut N,
+    ) -> StepEnd
+        requires here { insn ≡ next_insn (program_of self.old) self.old.pc }
+        requires user { IsTrue self.old.kernel.user }
+        ensures effect { StepEffect result self.old self.new
+            (drawn S.left S.faults input.old input.new)
+            (sunk K.written K.faults out.old out.new)
+            (sunk N.written N.faults notes.old notes.new) }
+        ensures kernel { self.new.kernel ≡ kernel_left (class_here self.old)
+            (next_pc (state_of self.old [] [])) self.old.regs self.old.kernel }
+        ensures shapes { shapes self.new.memory ≡ shapes self.old.memory }
+        ensures same { Stays self.old self.new }
+    {
+        let Some(insn) = insn else {
             return StepEnd::Ended(End::Fetch { pc: self.pc });
         };
         match self.execute(&insn) {

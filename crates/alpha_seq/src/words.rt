@@ -104,8 +104,8 @@ fn computed(op: MemOp, base: u64, disp: i16) -> u64
     }
 }
 
-// The target of a branch at this address.
-fn branch_target(pc: u64, disp: i32) -> u64
+/// The target of a branch at this address.
+pub fn branch_target(pc: u64, disp: i32) -> u64
     ensures { result ≡ register_of (pos (pc + 4) +ℤ pos 4 *ℤ disp) }
 {
     pc.wrapping_add_signed(i64::from(disp) * 4 + 4)
