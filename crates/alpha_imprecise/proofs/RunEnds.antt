@@ -173,7 +173,7 @@ grown_more watch answer old new before after input out notes one two =
 
 -- ---- what a run shows
 
-shows_made : (units : ℕ) (watch : Bool) (answer : RunEnd) (old new : WildState) (before after : Telling) (input : Drawn) (out notes : Sunk) (bytes : List ℕ)
+pub shows_made : (units : ℕ) (watch : Bool) (answer : RunEnd) (old new : WildState) (before after : Telling) (input : Drawn) (out notes : Sunk) (bytes : List ℕ)
     → input.old ≡ Some bytes → IsMade units watch answer old new before after input out notes
     → ShowsMade units watch bytes answer old before after input out notes
 shows_made units watch answer old new before after input out notes bytes told one =

@@ -1,6 +1,6 @@
 -- A run of the machine and one step more.
 use Rattle.std.specs.Prelude.{slice_index}
-use Rattle.std.proofs.Common.{◌≡◌, ◌<◌, ◌≤◌, ◌+◌, ◌-◌, ◌^◌, ℕ, false, cond, List, ◌++◌, length, drop, Option, Some, None, refl, sym, ap, subst, ◌∙◌, ⊎_elim, append_assoc, arith}
+use Rattle.std.proofs.Common.{◌≡◌, ◌<◌, ◌≤◌, ◌+◌, ◌-◌, ◌^◌, ℕ, false, List, ◌++◌, length, drop, Option, Some, None, refl, sym, ap, subst, ◌∙◌, ⊎_elim, append_assoc, arith}
 use Rattle.std.proofs.lemmas.Bool.{cases_lt}
 use Rattle.std.proofs.Math.Seq.{drop-append_seam}
 use Rattle.std.proofs.lemmas.List.{length-append, get_or_append_left, get_or-append_right}
@@ -21,6 +21,7 @@ use Rattle.alpha_imprecise.specs.Telling.{Telling, Goes, Counts, Moves}
 use Rattle.alpha_imprecise.specs.Wild.{WildState, bare, trap_in, waited_in}
 use Rattle.alpha_imprecise.specs.WildEffect.{IsChosen, WildSteps}
 use Rattle.alpha_imprecise.specs.WildRunEffect.{begun_at, making_at, Leads}
+use Rattle.alpha_imprecise.proofs.Settling.{advance-going}
 
 -- ---- the words
 
@@ -118,13 +119,6 @@ onto run h mid new = record {
   trace = run.trace ++ wild_marks h (bare new.machine);
   last = h;
 }
-
-abbrev stepped_making : Program → Making → Making
-stepped_making g k =
-    extended_making k (draw g k.run.state k.run.pending k.waited k.words) (chosen g k.run.state k.run.pending k.waited k.words)
-
-advance-going : (g : Program) (k : Making) → finished k.run.last ≡ false → advance_making g k ≡ stepped_making g k
-advance-going g k e = ap (λ b. cond b k (stepped_making g k)) e
 
 -- a run that draws these words and comes to this moment
 extended_at : (run : WildRun) (mid new : WildState) (from : State) (h : Happening) (input output words coming : List ℕ) (count : ℕ) (d : Draw) (m : Moment)

@@ -11,11 +11,11 @@ use Rattle.alpha_imprecise.specs.Made.{Making, extended_making, advance_making, 
 use Rattle.alpha_imprecise.proofs.Making.{Settles, none, over, longer, chosen_settles}
 
 -- one step more of a run that isn't over
-abbrev stepped_making : Program → Making → Making
+abbrev pub stepped_making : Program → Making → Making
 stepped_making g k =
     extended_making k (draw g k.run.state k.run.pending k.waited k.words) (chosen g k.run.state k.run.pending k.waited k.words)
 
-advance-going : (g : Program) (k : Making) → finished k.run.last ≡ false → advance_making g k ≡ stepped_making g k
+pub advance-going : (g : Program) (k : Making) → finished k.run.last ≡ false → advance_making g k ≡ stepped_making g k
 advance-going g k e = ap (λ b. cond b k (stepped_making g k)) e
 
 pub advance-over : (g : Program) (k : Making) → finished k.run.last ≡ true → advance_making g k ≡ k
@@ -47,7 +47,7 @@ pub record Open (k : Making) : Type 0 where
   pub pending : k.run.pending ≡ Some t
   pub going : finished k.run.last ≡ false
 
-opened : (k : Making) → is_settled k ≡ false → Open k
+pub opened : (k : Making) → is_settled k ≡ false → Open k
 opened k e = by (finished k.run.last) (k.run.pending) refl refl e
   where
     by : (b : Bool) (p : Option Trap) → finished k.run.last ≡ b → k.run.pending ≡ p → (b || is_none p) ≡ false → Open k
@@ -101,7 +101,7 @@ module _ (g : Program) where
   -- ---- runs of so many units
 
   -- a step with nothing pending begins to count
-  fresh : (k : Making) → k.run.pending ≡ None → (stepped_making g k).waited ≡ 0
+  pub fresh : (k : Making) → k.run.pending ≡ None → (stepped_making g k).waited ≡ 0
   fresh k e =
       ap (λ (p : Option Trap). waited_after (chosen g k.run.state p k.waited k.words).happened k.waited) e
       ∙ by (triggers (next_class g k.run.state.pc) k.run.state)

@@ -4,6 +4,7 @@ pub mod Run
 pub mod Chosen
 pub mod Made
 pub mod Restart
+pub mod Shown
 pub mod Telling
 pub mod Pcg
 pub mod Wild

@@ -1,5 +1,5 @@
 -- The runs that coming words make.
-use Rattle.std.specs.Prelude.{ℕ, zero, suc, ◌+◌, Bool, ◌||◌, if◌then◌else◌, List, drop, Option, Some, None, is_none}
+use Rattle.std.specs.Prelude.{ℕ, zero, suc, ◌+◌, ◌*◌, Bool, ◌||◌, if◌then◌else◌, List, [], ◌∷◌, drop, Option, Some, None, is_none}
 use Rattle.alpha_seq.specs.declared.end.End.{End}
 use Rattle.alpha_seq.specs.State.{Program, State}
 use Rattle.alpha_seq.specs.Start.{start}
@@ -106,3 +106,19 @@ shown_making watch k = record {
 -- the run of so many units from the start, over an input, by coming words
 abbrev pub imprecise : Program → List ℕ → List ℕ → ℕ → Bool → ShownWild
 imprecise g input words n watch = shown_making watch (made g (begun (start g input) None 0 words) n)
+
+-- ---- where the coming words are told
+
+-- the first of them
+unfoldable pub first_words : ℕ → (ℕ → ℕ) → List ℕ
+first_words zero ahead = []
+first_words (suc n) ahead = ahead 0 ∷ first_words n (λ k. ahead (suc k))
+
+-- The most words that so many units draw with nothing pending at the beginning. A unit draws one word for a trigger, and
+-- then two for each word that is executed while its trap is pending.
+abbrev pub most_words : ℕ → ℕ
+most_words n = 2049 * n
+
+-- the run of so many units from the start, over an input, by words that are told
+abbrev pub imprecise_by : Program → List ℕ → (ℕ → ℕ) → ℕ → Bool → ShownWild
+imprecise_by g input ahead n watch = imprecise g input (first_words (most_words n) ahead) n watch

@@ -1,5 +1,5 @@
 -- How the code's machine stands to the definition.
-use Rattle.std.specs.Prelude.{◌≡◌, ℕ, ◌+◌, ◌%◌, ◌^◌, true, List, [], Option, Some}
+use Rattle.std.specs.Prelude.{◌≡◌, ℕ, ◌+◌, ◌%◌, ◌^◌, true, List, [], Option, None, Some}
 use Rattle.std.specs.Option.{option_map, option_map_or}
 use Rattle.alpha_words.specs.Regs.{reg, put}
 use Rattle.alpha_pal.specs.Kernel.{KernelState, arith_frame}
@@ -7,6 +7,7 @@ use Rattle.alpha_table.specs.Class.{Class}
 use Rattle.alpha_image.specs.Parts.{place_of}
 use Rattle.alpha_seq.specs.declared.machine.Machine.{Machine}
 use Rattle.alpha_seq.specs.State.{State}
+use Rattle.alpha_seq.specs.Start.{start}
 use Rattle.alpha_seq.specs.Machine.{program_of, state_of, class_here}
 use Rattle.alpha_imprecise.specs.declared.pending.Pending.{Pending}
 use Rattle.alpha_imprecise.specs.Moment.{Trap, Choice}
@@ -28,6 +29,11 @@ trap_in pending = option_map trap_of pending
 
 abbrev pub waited_in : Option Pending → ℕ
 waited_in pending = option_map_or (λ p. p.waited) pending 0
+
+-- nothing is pending, and the machine is in the state at the start
+pub record IsFresh (w : WildState) : Type 0 where
+  pub calm : w.pending ≡ None
+  pub start : (input : List ℕ) → state_of w.machine input [] ≡ start (program_of w.machine) input
 
 -- the state without what the devices hold
 abbrev pub bare : Machine → State

@@ -7,6 +7,7 @@ use Rattle.alpha_seq.specs.Notes.{overflow_line}
 use Rattle.alpha_seq.specs.Machine.{program_of, state_of}
 use Rattle.alpha_seq.specs.Devices.{Drawn, Draws, Idles}
 use Rattle.alpha_seq.specs.StepEffect.{InputFails, OutputFails}
+use Rattle.alpha_seq.specs.RunEffect.{HasNoFault, HasInputFault, HasOutputFault, HasNotesFault}
 use Rattle.alpha_imprecise.specs.declared.end.WildEnd.{WildEnd}
 use Rattle.alpha_imprecise.specs.declared.end.WildEnd.TheVariants as ends
 use Rattle.alpha_imprecise.specs.Moment.{Happening, Precisely, Triggered, Waited, Reported, Lost, moment}
@@ -110,6 +111,18 @@ WildEffect ends.InputFault old new before after input out notes =
 WildEffect ends.SinkFault old new before after input out notes =
     (CallFails (OutputFails old.machine new.machine input out) old new before after × Idles notes)
     ⊎ ReportFails old new before after input out notes
+
+-- which count of faults rose, by the answer of a step
+abbrev pub WildCause : WildEnd → Drawn → Sunk → Sunk → Type 0
+WildCause ends.Went input out notes = HasNoFault input out notes
+WildCause ends.Barrier input out notes = HasNoFault input out notes
+WildCause ends.Triggered input out notes = HasNoFault input out notes
+WildCause ends.Waited input out notes = HasNoFault input out notes
+WildCause (ends.Reported at) input out notes = HasNoFault input out notes
+WildCause (ends.Ended end) input out notes = HasNoFault input out notes
+WildCause (ends.Lost pc mask) input out notes = HasNoFault input out notes
+WildCause ends.InputFault input out notes = HasInputFault input out notes
+WildCause ends.SinkFault input out notes = HasOutputFault input out notes ⊎ HasNotesFault input out notes
 
 -- the kernel's frame is that of a trap at the PC with the registers as they are
 abbrev pub IsFramed : Machine → Type 0

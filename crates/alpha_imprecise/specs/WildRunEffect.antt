@@ -1,19 +1,20 @@
 -- What the machine's run did, by its answer.
-use Rattle.std.specs.Prelude.{◌≡◌, ◌⊎◌, ℕ, ◌<◌, ◌≤◌, Bool, List, [], ◌++◌, length, Option, Some, None}
+use Rattle.std.specs.Prelude.{◌≡◌, ◌≢◌, ◌⊎◌, ⊤, ℕ, ◌<◌, ◌≤◌, Bool, List, [], ◌++◌, length, Option, Some, None}
 use Rattle.alpha_io.specs.Sunk.{Sunk, Puts, Partly, HasFailed}
+use Rattle.alpha_io.specs.Written.{WritesPrefix}
 use Rattle.alpha_seq.specs.declared.end.End.{End}
 use Rattle.alpha_seq.specs.declared.end.RunEnd.{RunEnd}
 use Rattle.alpha_seq.specs.declared.end.RunEnd.TheVariants as runs
 use Rattle.alpha_seq.specs.declared.machine.Machine.{Machine}
-use Rattle.alpha_seq.specs.Run.{notes_of}
+use Rattle.alpha_seq.specs.Run.{notes_of, sequential}
 use Rattle.alpha_seq.specs.Machine.{program_of, state_of}
 use Rattle.alpha_seq.specs.Devices.{Drawn, Draws, drawn_until, drawn_from, sunk_until, sunk_from}
 use Rattle.alpha_seq.specs.StepEffect.{InputFails, OutputFails}
-use Rattle.alpha_seq.specs.RunEffect.{HasNoFault, HasInputFault, HasOutputFault, HasNotesFault}
+use Rattle.alpha_seq.specs.RunEffect.{HasNoFault, HasInputFault, HasOutputFault, HasNotesFault, Shows, ShowsPart}
 use Rattle.alpha_imprecise.specs.Moment.{Happening}
 use Rattle.alpha_imprecise.specs.Run.{WildRun}
-use Rattle.alpha_imprecise.specs.Made.{Making, begun, made, wild_end, LostTrap, lost_trap, ShownWild, shown_making}
-use Rattle.alpha_imprecise.specs.Telling.{Telling, Moves}
+use Rattle.alpha_imprecise.specs.Made.{Making, begun, made, wild_end, LostTrap, lost_trap, ShownWild, shown_making, imprecise_by}
+use Rattle.alpha_imprecise.specs.Telling.{Telling, Counts, Moves}
 use Rattle.alpha_imprecise.specs.Wild.{WildState, trap_in, waited_in}
 use Rattle.alpha_imprecise.specs.WildEffect.{CallFails}
 
@@ -134,3 +135,48 @@ pub record ShowsMade (n : ℕ) (watch : Bool) (bytes : List ℕ) (answer : RunEn
       answer input out notes
   pub count : (coming : List ℕ)
       → (made (program_of old.machine) (begun_at old bytes [] (words ++ coming)) n).count ≡ length words
+
+-- prefixes of the bytes and of the lines that a run shows were written
+pub record ShowsWildPart (s : ShownWild) (out notes : Sunk) : Type 0 where
+  pub bytes : WritesPrefix out.old out.new s.output
+  pub lines : WritesPrefix notes.old notes.new s.notes
+
+-- A prefix of what the definition's run of n units from here shows, whatever words come behind those that the chooser
+-- went on by; these are all that a run of so many units draws, and of no more than n.
+pub record ShowsMadePart (n : ℕ) (watch : Bool) (bytes : List ℕ) (old : WildState) (before after : Telling)
+    (out notes : Sunk) : Type 0 where
+  pub words : List ℕ
+  pub drew : Moves before after words
+  pub used : ℕ
+  pub most : used ≤ n
+  pub count : (coming : List ℕ)
+      → (made (program_of old.machine) (begun_at old bytes [] (words ++ coming)) used).count ≡ length words
+  pub part : (coming : List ℕ)
+      → ShowsWildPart (shown_making watch (made (program_of old.machine) (begun_at old bytes [] (words ++ coming)) n))
+      out notes
+
+-- ---- from a fresh machine
+
+-- the run was not cut short by a device that failed
+abbrev pub IsWhole : RunEnd → Type 0
+IsWhole (runs.Ended end) = ⊤
+IsWhole runs.Spent = ⊤
+IsWhole (runs.Lost pc mask) = ⊤
+IsWhole runs.InputFault = ⊥
+IsWhole runs.SinkFault = ⊥
+
+-- What the definition's run of n units from the start shows, over this input, by the words that the chooser tells, and how
+-- many of them it draws; where it was cut short a prefix of that.
+pub record ShowsTold (n : ℕ) (watch : Bool) (bytes : List ℕ) (ahead : ℕ → ℕ) (answer : RunEnd) (m : Machine)
+    (before after : Telling) (input : Drawn) (out notes : Sunk) : Type 0 where
+  pub shows : IsWhole answer → ShowsWild (imprecise_by (program_of m) bytes ahead n watch) answer input out notes
+  pub drew : IsWhole answer → Counts before.count after.count (imprecise_by (program_of m) bytes ahead n watch).drawn
+  pub part : ShowsWildPart (imprecise_by (program_of m) bytes ahead n watch) out notes
+
+-- What the sequential run of n steps from the start shows, over this input, and no trap is lost; where it was cut short a
+-- prefix of that.
+pub record ShowsSequential (n : ℕ) (watch : Bool) (bytes : List ℕ) (answer : RunEnd) (m : Machine)
+    (input : Drawn) (out notes : Sunk) : Type 0 where
+  pub found : (pc mask : ℕ) → answer ≢ runs.Lost pc mask
+  pub shows : IsWhole answer → Shows (sequential (program_of m) bytes n watch) answer input out notes
+  pub part : ShowsPart (sequential (program_of m) bytes n watch) out notes

@@ -5,12 +5,12 @@
 //!   [`Wild::step`] makes one step, and [`WildEnd`] says how it went. [`run`] makes steps until the program ends, a
 //!   trap is lost or a number of units is used up.
 //! - A [`Chooser`] answers the words of 64 bits by which a step chooses: [`ListChooser`] has them from bytes,
-//!   [`PcgChooser`] from a seeded generator.
+//!   [`PcgChooser`] from a seeded generator. A [`CountingChooser`] counts the words of another one.
 //!
 //! `specs/Moment.antt` has what the machine is at a moment and what it is free to choose, `specs/Step.antt` the
 //! step, `specs/Run.antt` the runs, `specs/Chosen.antt` the choices that are made by words of 64 bits,
-//! `specs/Made.antt` the runs that coming words make, and `specs/Restart.antt` what it means that a program can be
-//! restarted after each trap. `specs/WildEffect.antt` says what the code's step did against that, for choosers and
+//! `specs/Made.antt` the runs that coming words make, `specs/Restart.antt` what it means that a program can be
+//! restarted after each trap, and `specs/Shown.antt` what such a program's runs show. `specs/WildEffect.antt` says what the code's step did against that, for choosers and
 //! devices that may tell nothing, `specs/WildRunEffect.antt` what its run did, and `specs/Telling.antt` how a chooser
 //! goes on. `specs/WildTurn.antt` says what a step does together with the lines of a barrier.
 //!
@@ -20,6 +20,7 @@
 #![tactic(auto)]
 
 mod chooser;
+mod counting;
 mod end;
 mod list;
 mod look;
@@ -32,6 +33,7 @@ mod step;
 mod wild;
 
 pub use chooser::Chooser;
+pub use counting::CountingChooser;
 pub use end::WildEnd;
 pub use list::ListChooser;
 pub use pcg::PcgChooser;

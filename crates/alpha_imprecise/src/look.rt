@@ -1,18 +1,16 @@
 //! What the word at the PC would do.
 
 ghost use Rattle.std.specs.Prelude.{◌≡◌, true, false, [], IfSome, IfNone, Some};
-ghost use Rattle.alpha_values.specs.Source.{source_value};
 ghost use Rattle.alpha_table.specs.Class.{class_of};
 ghost use Rattle.alpha_seq.specs.Next.{next_insn};
 ghost use Rattle.alpha_seq.specs.Machine.{program_of, class_here};
 ghost use Rattle.alpha_imprecise.specs.Step.{triggers, destination, can_wait};
 ghost use Rattle.alpha_imprecise.specs.Wild.{bare, OverflowsAt, WaitsAt};
 
-use alpha_image::code_word;
 use alpha_seq::{Machine, Next};
-use alpha_table::{Form, Insn, Src, decode};
+use alpha_table::{Form, Insn};
 use alpha_values::overflows;
-use alpha_words::{Reg, RegFile};
+use alpha_words::Reg;
 
 /// A word that overflows.
 #[derive(Clone, Copy)]
@@ -23,28 +21,15 @@ pub(crate) struct Overflow {
     pub rc: Reg,
 }
 
-/// The word at the PC, if it overflows.
-pub(crate) fn overflow_here(machine: &Machine) -> Option<Overflow>
+/// The word at the PC, by its instruction, if it overflows.
+pub(crate) fn overflow_of(machine: &Machine, insn: &Insn) -> Option<Overflow>
+    requires { Some insn.now ≡ next_insn (program_of machine.now) machine.now.pc }
     ensures found { IfSome result (λ o. OverflowsAt machine.now o.place o.rc) }
     ensures none { IfNone result (triggers (class_here machine.now) (bare machine.now) ≡ false) }
 {
-    match insn_here(machine) {
-        Some(insn) => {
-            let place = machine.image.place_of(machine.pc)?;
-            let rc = overflowing(machine, &insn)?;
-            Some(Overflow { place, rc })
-        }
-        None => None,
-    }
-}
-
-// The instruction at the PC, `None` where the PC is no address of a code word.
-fn insn_here(machine: &Machine) -> Option<Insn>
-    ensures { result ≡ next_insn (program_of machine.now) machine.now.pc }
-{
+    let rc = overflowing(machine, insn)?;
     let place = machine.image.place_of(machine.pc)?;
-    let word = code_word(&machine.image, place)?;
-    decode(word)
+    Some(Overflow { place, rc })
 }
 
 // The destination of an instruction that overflows.
@@ -57,21 +42,11 @@ fn overflowing(machine: &Machine, insn: &Insn) -> Option<Reg>
         return None;
     };
     let op = op.trap()?;
-    let b = source_value(&src, &machine.regs);
+    let b = machine.source(&src);
     if overflows(op, machine.regs.get(ra), b) {
         Some(rc)
     } else {
         None
-    }
-}
-
-// The value of a second source.
-fn source_value(src: &Src, regs: &RegFile) -> u64
-    ensures { result ≡ source_value regs.now src.now }
-{
-    match *src {
-        Src::Reg(rb) => regs.get(rb),
-        Src::Lit(n) => u64::from(n),
     }
 }
 

@@ -3,12 +3,14 @@
 ghost use Rattle.std.specs.Prelude.{◌≡◌, ◌≤◌, ℕ, List, Some, IfSome};
 ghost use Rattle.alpha_io.specs.Sunk.{sunk};
 ghost use Rattle.alpha_seq.specs.Devices.{drawn, AreCalm};
+ghost use Rattle.alpha_seq.specs.Machine.{Stays};
 ghost use Rattle.alpha_seq.specs.RunEffect.{HasGrown};
+ghost use Rattle.alpha_imprecise.specs.Restart.{IsRestartable};
 ghost use Rattle.alpha_imprecise.specs.Run.{unit_of};
 ghost use Rattle.alpha_imprecise.specs.Telling.{telling};
-ghost use Rattle.alpha_imprecise.specs.Wild.{trap_in};
+ghost use Rattle.alpha_imprecise.specs.Wild.{trap_in, IsFresh};
 ghost use Rattle.alpha_imprecise.specs.WildTurn.{WildTurnEffect, run_ended_by};
-ghost use Rattle.alpha_imprecise.specs.WildRunEffect.{WildRunEffect, WildRunCause, ShowsMade};
+ghost use Rattle.alpha_imprecise.specs.WildRunEffect.{WildRunEffect, WildRunCause, ShowsMade, ShowsMadePart, ShowsTold, ShowsSequential};
 
 use crate::{Chooser, Wild, WildEnd};
 use alpha_io::{Sink, Source};
@@ -18,7 +20,12 @@ use alpha_seq::{RunEnd, write_barrier};
 /// used and nothing is pending. A unit is a step with nothing pending; a trap that is pending at the
 /// beginning is reported first. The line of each report that logs and, where `watch` is set, the
 /// lines of each barrier that doesn't end the program are written to the notes. `InputFault` and
-/// `SinkFault` come only where that device failed in this call.
+/// `SinkFault` come only where that device failed in this call: the output got a prefix of what the
+/// program puts, and the notes a prefix of the lines.
+///
+/// From a machine at the start and with nothing pending it is the run that the chooser's words make,
+/// where they are told. If the image can be restarted, it is the sequential run whatever the chooser
+/// answers, and `Lost` never comes.
 pub fn run<C: Chooser, S: Source, K: Sink, N: Sink>(
     wild: &mut Wild,
     chooser: &mut C,
@@ -40,12 +47,31 @@ pub fn run<C: Chooser, S: Source, K: Sink, N: Sink>(
         (bytes : List ℕ) → S.left input.old ≡ Some bytes → AreCalm from to lines
         → ShowsMade units watch bytes result wild.old
         (telling C.ahead C.drawn chooser.old) (telling C.ahead C.drawn chooser.new) from to lines }
+    ensures prefix { (bytes : List ℕ) → S.left input.old ≡ Some bytes
+        → ShowsMadePart units watch bytes wild.old
+        (telling C.ahead C.drawn chooser.old) (telling C.ahead C.drawn chooser.new)
+        (sunk K.written K.faults out.old out.new)
+        (sunk N.written N.faults notes.old notes.new) }
+    ensures told { (bytes : List ℕ) (ahead : ℕ → ℕ) → S.left input.old ≡ Some bytes
+        → C.ahead chooser.old ≡ Some ahead → IsFresh wild.old
+        → ShowsTold units watch bytes ahead result wild.old.machine
+        (telling C.ahead C.drawn chooser.old) (telling C.ahead C.drawn chooser.new)
+        (drawn S.left S.faults input.old input.new)
+        (sunk K.written K.faults out.old out.new)
+        (sunk N.written N.faults notes.old notes.new) }
+    ensures restarted { (bytes : List ℕ) → S.left input.old ≡ Some bytes
+        → IsFresh wild.old → IsRestartable wild.old.machine.image
+        → ShowsSequential units watch bytes result wild.old.machine
+        (drawn S.left S.faults input.old input.new)
+        (sunk K.written K.faults out.old out.new)
+        (sunk N.written N.faults notes.old notes.new) }
     ensures cause { WildRunCause result
         (drawn S.left S.faults input.old input.new)
         (sunk K.written K.faults out.old out.new)
         (sunk N.written N.faults notes.old notes.new) }
     ensures output { HasGrown (sunk K.written K.faults out.old out.new) }
     ensures notes { HasGrown (sunk N.written N.faults notes.old notes.new) }
+    ensures same { Stays wild.old.machine wild.new.machine }
 {
     let mut left = units;
     'steps: while unit(wild) <= left {
@@ -83,6 +109,7 @@ fn turn<C: Chooser, S: Source, K: Sink, N: Sink>(
         (drawn S.left S.faults input.old input.new)
         (sunk K.written K.faults out.old out.new)
         (sunk N.written N.faults notes.old notes.new) }
+    ensures same { Stays wild.old.machine wild.new.machine }
 {
     match wild.step(chooser, input, out, notes) {
         WildEnd::Barrier if watch => {

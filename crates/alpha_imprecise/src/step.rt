@@ -3,7 +3,8 @@
 ghost use Rattle.std.specs.Prelude.{◌≡◌, ◌<◌, ◌≤◌, ◌/◌, ◌%◌, ◌==◌, ℕ, List, [], ◌∷◌, true, false, IfSome, IfNone, IsTrue, None, Some};
 ghost use Rattle.alpha_io.specs.Sunk.{sunk};
 ghost use Rattle.alpha_table.specs.Class.{class_of};
-ghost use Rattle.alpha_seq.specs.Machine.{class_here};
+ghost use Rattle.alpha_seq.specs.Next.{next_insn};
+ghost use Rattle.alpha_seq.specs.Machine.{class_here, program_of};
 ghost use Rattle.alpha_seq.specs.Devices.{drawn};
 ghost use Rattle.alpha_imprecise.specs.Moment.{Triggered, Waited, with_register};
 ghost use Rattle.alpha_imprecise.specs.Step.{triggers, destination, mask_after};
@@ -12,9 +13,9 @@ ghost use Rattle.alpha_imprecise.specs.Telling.{Telling, telling};
 ghost use Rattle.alpha_imprecise.specs.Wild.{bare, wild_state, OverflowsAt, WaitsAt};
 ghost use Rattle.alpha_imprecise.specs.WildEffect.{WildEffect, AloneEffect, StepsAlone, Chooses, ChoosesReport, IsFramed, Framed};
 
-use crate::look::{Overflow, overflow_here, waits_here};
+use crate::look::{Overflow, overflow_of, waits_here};
 use crate::report::{Landing, report};
-use crate::spoil::{set, spoil};
+use crate::spoil::spoil;
 use crate::{Chooser, Pending, WildEnd};
 use alpha_io::{Failed, Sink, Source};
 use alpha_seq::{End, Machine, StepEnd, write_overflow};
@@ -71,13 +72,16 @@ fn with_none<C: Chooser, S: Source, K: Sink, N: Sink>(
     ensures user { IsTrue machine.new.kernel.user }
     ensures bound { IfSome pending.new (λ p. p.waited ≤ 1024) }
 {
-    match overflow_here(machine) {
+    let Some(insn) = machine.insn() else {
+        return precise(machine, None, input, out, notes);
+    };
+    match overflow_of(machine, &insn) {
         Some(overflow) => {
             let value = chooser.next();
             trigger(machine, pending, &overflow, value);
             WildEnd::Triggered
         }
-        None => precise(machine, input, out, notes),
+        None => precise(machine, Some(insn), input, out, notes),
     }
 }
 
@@ -132,11 +136,13 @@ fn waiting_insn(machine: &Machine, trap: &Pending) -> Option<Insn>
 // Makes a precise step, at a word that doesn't overflow.
 fn precise<S: Source, K: Sink, N: Sink>(
     machine: &mut Machine,
+    insn: Option<Insn>,
     input: &mut S,
     out: &mut K,
     notes: &mut N,
 ) -> WildEnd
     requires user { IsTrue machine.old.kernel.user }
+    requires here { insn ≡ next_insn (program_of machine.old) machine.old.pc }
     requires exact { triggers (class_here machine.old) (bare machine.old) ≡ false }
     ensures effect { (chooser : Telling) → WildEffect result
         (wild_state machine.old None) (wild_state machine.new None) chooser chooser
@@ -145,7 +151,7 @@ fn precise<S: Source, K: Sink, N: Sink>(
         (sunk N.written N.faults notes.old notes.new) }
     ensures user { IsTrue machine.new.kernel.user }
 {
-    match machine.step(input, out, notes) {
+    match machine.step_by(insn, input, out, notes) {
         StepEnd::Went => WildEnd::Went,
         StepEnd::Barrier => WildEnd::Barrier,
         StepEnd::Overflow(_) => unreachable!(),
@@ -164,7 +170,7 @@ fn trigger(machine: &mut Machine, pending: &mut Option<Pending>, overflow: &Over
     ensures user { machine.new.kernel ≡ machine.old.kernel }
     ensures bound { IfSome pending.new (λ p. p.waited ≤ 1024) }
 {
-    set(machine, overflow.rc, value);
+    machine.set(overflow.rc, value);
     *pending = Some(Pending {
         trigger: overflow.place,
         mask: mask_with(RegSet::empty(), overflow.rc),

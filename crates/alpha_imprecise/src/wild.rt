@@ -27,8 +27,9 @@ impl Model for Wild {
 impl Wild {
     ghost use Rattle.alpha_io.specs.Sunk.{sunk};
     ghost use Rattle.alpha_seq.specs.Devices.{drawn};
+    ghost use Rattle.alpha_seq.specs.Machine.{Stays};
     ghost use Rattle.alpha_imprecise.specs.Telling.{telling};
-    ghost use Rattle.alpha_imprecise.specs.WildEffect.{Framed, WildEffect};
+    ghost use Rattle.alpha_imprecise.specs.WildEffect.{Framed, WildCause, WildEffect};
 
     /// The imprecise machine with nothing pending, over a machine in user mode.
     pub fn new(machine: Machine) -> Wild
@@ -80,6 +81,11 @@ impl Wild {
             (sunk K.written K.faults out.old out.new)
             (sunk N.written N.faults notes.old notes.new) }
         ensures frame { Framed self.old.pending result self.new.machine }
+        ensures cause { WildCause result
+            (drawn S.left S.faults input.old input.new)
+            (sunk K.written K.faults out.old out.new)
+            (sunk N.written N.faults notes.old notes.new) }
+        ensures same { Stays self.old.machine self.new.machine }
     {
         step(
             &mut self.machine,

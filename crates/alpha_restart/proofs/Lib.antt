@@ -20,6 +20,5 @@ pub mod Starting
 pub mod Agreeing
 pub mod Rows
 pub mod Walks
-pub mod Showing
 pub mod Fine
 pub mod Needed

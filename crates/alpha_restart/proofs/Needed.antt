@@ -44,7 +44,7 @@ use Rattle.alpha_imprecise.specs.Made.{LostTrap, imprecise}
 use Rattle.alpha_imprecise.specs.Restart.{IsRestartable}
 use Rattle.alpha_restart.specs.Needed.{Needs, StopsApart}
 use Rattle.alpha_restart.proofs.Fine.{fine, unbroken}
-use Rattle.alpha_restart.proofs.Showing.{runs_alike}
+use Rattle.alpha_imprecise.proofs.Showing.{runs_alike}
 
 -- ---- images
 

@@ -4,5 +4,4 @@ pub mod Trigger
 pub mod Shadow
 pub mod Invariant
 pub mod Table
-pub mod Shown
 pub mod Needed

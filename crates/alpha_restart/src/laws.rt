@@ -10,7 +10,7 @@ ghost use Rattle.alpha_imprecise.specs.Step.{wild};
 ghost use Rattle.alpha_imprecise.specs.Restart.{IsRestartable};
 ghost use Rattle.alpha_restart.specs.Safe.{IsSafe};
 ghost use Rattle.alpha_restart.specs.Table.{Row, WalksAgree};
-ghost use Rattle.alpha_restart.specs.Shown.{ChoicesAlike, RunsAlike};
+ghost use Rattle.alpha_imprecise.specs.Shown.{ChoicesAlike, RunsAlike};
 ghost use Rattle.alpha_restart.specs.Needed.{Needs, StopsApart};
 
 /// The law of restarts: an accepted image can be restarted after each late trap.

@@ -8,11 +8,11 @@
 //! - [`limits_of_restarts`] says that no condition from C1 to C7 could be left out, and that no more
 //!   could be said of a stop.
 //!
-//! What can be restarted is defined in `alpha_imprecise` (`specs/Restart.antt`), what is accepted in
-//! `alpha_shadow` (`specs/Broken.antt`). `docs/restart.md` explains why the law holds.
+//! What can be restarted is defined in `alpha_imprecise` (`specs/Restart.antt`), and what its runs show
+//! (`specs/Shown.antt`); what is accepted in `alpha_shadow` (`specs/Broken.antt`). `docs/restart.md`
+//! explains why the law holds.
 //!
-//! `specs/Table.antt` has the table, `specs/Shown.antt` what two runs show, `specs/Needed.antt` what it
-//! means that a condition is needed. The others have the invariant of the proof: `Safe.antt` what
+//! `specs/Table.antt` has the table, `specs/Needed.antt` what it means that a condition is needed. The others have the invariant of the proof: `Safe.antt` what
 //! acceptance gives, `Match.antt` where registers and bytes of the two machines may differ,
 //! `Trigger.antt` and `Shadow.antt` the registers while a trap is pending, `Invariant.antt` how two runs
 //! stand to each other after each step.
@@ -23,8 +23,9 @@
 //! `Shadows.antt`, `Spoiling.antt` and `Trails.antt` (registers, bytes and the mask while a trap is
 //! pending), `Precise.antt`, `Together.antt`, `Syncing.antt`, `Waiting.antt` and `Reporting.antt` (each
 //! kind of step keeps the invariant), `Keeping.antt` (so does every run), `Starting.antt` (the start)
-//! and `Agreeing.antt` (the law). `Rows.antt` and `Walks.antt` have the table, `Showing.antt` the runs by
-//! coming words, `Fine.antt` a test for broken places and `Needed.antt` an image for each condition.
+//! and `Agreeing.antt` (the law). `Rows.antt` and `Walks.antt` have the table, `Fine.antt` a test for
+//! broken places and `Needed.antt` an image for each condition. What follows for runs is proved in
+//! `alpha_imprecise` (`proofs/Showing.antt`).
 #![tactic(auto)]
 
 mod laws;

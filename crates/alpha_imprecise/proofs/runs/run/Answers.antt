@@ -8,8 +8,11 @@ use Rattle.alpha_imprecise.specs.Telling.{telling}
 use Rattle.alpha_imprecise.specs.Run.{unit_of}
 use Rattle.alpha_imprecise.specs.Wild.{trap_in}
 use Rattle.alpha_imprecise.specs.WildRunEffect.{IsMade}
+use Rattle.alpha_imprecise.proofs.Causes.{stays_then}
 use Rattle.alpha_imprecise.proofs.RunGoes.{Goes, Goes-none, goes_calm, turn_goes_on, turn_stops, turn_shortens, wait_left, all_used, room, room_less, none_left, fewer_left}
 use Rattle.alpha_imprecise.proofs.RunEnds.{counts_go_on, counts_stop, grown_more, run_shows}
+use Rattle.alpha_imprecise.proofs.Prefixes.{run_shows_part}
+use Rattle.alpha_imprecise.proofs.Fresh.{run_told, run_sequential}
 use Rattle.alpha_imprecise.proofs.runs.run.Goals as goal
 
 pub steps-init : goal.steps-init
@@ -25,6 +28,7 @@ steps-init g c = record {
       (sunk g.N.Sink.written g.N.Sink.faults c.args.notes.now c.args.notes.now)) none started;
   calm = record { source = refl; sink = refl; lines = refl };
   grown = (HasGrown-none (g.K.Sink.written c.args.out.now) (g.K.Sink.faults c.args.out.now), HasGrown-none (g.N.Sink.written c.args.notes.now) (g.N.Sink.faults c.args.notes.now));
+  same = record { program = refl; mode = refl };
 }
 
 pub returns-in-Some-clause-effect : goal.returns-in-Some-clause-effect
@@ -39,21 +43,6 @@ returns-in-Some-clause-effect g c =
     let most = room c.args.units c.steps.left c.unit.result (unit_of (trap_in c.steps.wild.pending)) c.unit.ensures.value c.steps-test.true c.steps.invariant.most in
     λ bytes told. turn_stops bytes (c.args.units - c.steps.left) c.args.units c.args.watch c.turn-step.result c.in-Some.end c.args.wild.now c.steps.wild c.turn-step.new.wild before mid after input out notes told c.unit.ensures.bound most stops (c.steps.invariant.made bytes told) c.turn-step.ensures.effect
 
-pub returns-in-Some-clause-shown : goal.returns-in-Some-clause-shown
-returns-in-Some-clause-shown g c =
-    let before = telling g.C.Chooser.ahead g.C.Chooser.drawn c.args.chooser.now in
-    let mid = telling g.C.Chooser.ahead g.C.Chooser.drawn c.steps.chooser in
-    let after = telling g.C.Chooser.ahead g.C.Chooser.drawn c.turn-step.new.chooser in
-    let input = times g.S.Source.left g.S.Source.faults c.args.input.now c.steps.input c.turn-step.new.input in
-    let out = times g.K.Sink.written g.K.Sink.faults c.args.out.now c.steps.out c.turn-step.new.out in
-    let notes = times g.N.Sink.written g.N.Sink.faults c.args.notes.now c.steps.notes c.turn-step.new.notes in
-    let stops = sym c.run_ended_by.ensures ∙ c.in-Some.is in
-    let most = room c.args.units c.steps.left c.unit.result (unit_of (trap_in c.steps.wild.pending)) c.unit.ensures.value c.steps-test.true c.steps.invariant.most in
-    let cause = counts_stop c.args.watch c.turn-step.result c.in-Some.end c.steps.wild c.turn-step.new.wild mid after input out notes stops c.steps.invariant.calm c.turn-step.ensures.effect in
-    λ bytes told calm.
-    let did = turn_stops bytes (c.args.units - c.steps.left) c.args.units c.args.watch c.turn-step.result c.in-Some.end c.args.wild.now c.steps.wild c.turn-step.new.wild before mid after input out notes told c.unit.ensures.bound most stops (c.steps.invariant.made bytes told) c.turn-step.ensures.effect in
-    run_shows c.args.units c.args.watch c.in-Some.end c.args.wild.now c.turn-step.new.wild before after (drawn_over input) (sunk_over out) (sunk_over notes) bytes told did cause calm
-
 pub returns-in-Some-clause-cause : goal.returns-in-Some-clause-cause
 returns-in-Some-clause-cause g c =
     let mid = telling g.C.Chooser.ahead g.C.Chooser.drawn c.steps.chooser in
@@ -63,6 +52,53 @@ returns-in-Some-clause-cause g c =
     let notes = times g.N.Sink.written g.N.Sink.faults c.args.notes.now c.steps.notes c.turn-step.new.notes in
     let stops = sym c.run_ended_by.ensures ∙ c.in-Some.is in
     counts_stop c.args.watch c.turn-step.result c.in-Some.end c.steps.wild c.turn-step.new.wild mid after input out notes stops c.steps.invariant.calm c.turn-step.ensures.effect
+
+pub returns-in-Some-clause-shown : goal.returns-in-Some-clause-shown
+returns-in-Some-clause-shown g c =
+    let before = telling g.C.Chooser.ahead g.C.Chooser.drawn c.args.chooser.now in
+    let after = telling g.C.Chooser.ahead g.C.Chooser.drawn c.turn-step.new.chooser in
+    let input = times g.S.Source.left g.S.Source.faults c.args.input.now c.steps.input c.turn-step.new.input in
+    let out = times g.K.Sink.written g.K.Sink.faults c.args.out.now c.steps.out c.turn-step.new.out in
+    let notes = times g.N.Sink.written g.N.Sink.faults c.args.notes.now c.steps.notes c.turn-step.new.notes in
+    λ bytes told calm.
+    run_shows c.args.units c.args.watch c.in-Some.end c.args.wild.now c.turn-step.new.wild before after (drawn_over input) (sunk_over out) (sunk_over notes) bytes told
+    (returns-in-Some-clause-effect g c bytes told) (returns-in-Some-clause-cause g c) calm
+
+pub returns-in-Some-clause-prefix : goal.returns-in-Some-clause-prefix
+returns-in-Some-clause-prefix g c =
+    let before = telling g.C.Chooser.ahead g.C.Chooser.drawn c.args.chooser.now in
+    let after = telling g.C.Chooser.ahead g.C.Chooser.drawn c.turn-step.new.chooser in
+    let input = times g.S.Source.left g.S.Source.faults c.args.input.now c.steps.input c.turn-step.new.input in
+    let out = times g.K.Sink.written g.K.Sink.faults c.args.out.now c.steps.out c.turn-step.new.out in
+    let notes = times g.N.Sink.written g.N.Sink.faults c.args.notes.now c.steps.notes c.turn-step.new.notes in
+    λ bytes told.
+    run_shows_part c.args.units c.args.watch c.in-Some.end c.args.wild.now c.turn-step.new.wild before after (drawn_over input) (sunk_over out) (sunk_over notes) bytes told
+    (returns-in-Some-clause-effect g c bytes told)
+
+pub returns-in-Some-clause-told : goal.returns-in-Some-clause-told
+returns-in-Some-clause-told g c =
+    let before = telling g.C.Chooser.ahead g.C.Chooser.drawn c.args.chooser.now in
+    let after = telling g.C.Chooser.ahead g.C.Chooser.drawn c.turn-step.new.chooser in
+    let input = times g.S.Source.left g.S.Source.faults c.args.input.now c.steps.input c.turn-step.new.input in
+    let out = times g.K.Sink.written g.K.Sink.faults c.args.out.now c.steps.out c.turn-step.new.out in
+    let notes = times g.N.Sink.written g.N.Sink.faults c.args.notes.now c.steps.notes c.turn-step.new.notes in
+    λ bytes ahead told words fresh.
+    run_told c.args.units c.args.watch c.in-Some.end c.args.wild.now c.turn-step.new.wild before after (drawn_over input) (sunk_over out) (sunk_over notes) bytes told fresh
+    (returns-in-Some-clause-effect g c bytes told) ahead words
+
+pub returns-in-Some-clause-restarted : goal.returns-in-Some-clause-restarted
+returns-in-Some-clause-restarted g c =
+    let before = telling g.C.Chooser.ahead g.C.Chooser.drawn c.args.chooser.now in
+    let after = telling g.C.Chooser.ahead g.C.Chooser.drawn c.turn-step.new.chooser in
+    let input = times g.S.Source.left g.S.Source.faults c.args.input.now c.steps.input c.turn-step.new.input in
+    let out = times g.K.Sink.written g.K.Sink.faults c.args.out.now c.steps.out c.turn-step.new.out in
+    let notes = times g.N.Sink.written g.N.Sink.faults c.args.notes.now c.steps.notes c.turn-step.new.notes in
+    λ bytes told fresh restartable.
+    run_sequential c.args.units c.args.watch c.in-Some.end c.args.wild.now c.turn-step.new.wild before after (drawn_over input) (sunk_over out) (sunk_over notes) bytes told fresh
+    (returns-in-Some-clause-effect g c bytes told) restartable
+
+pub returns-in-Some-clause-same : goal.returns-in-Some-clause-same
+returns-in-Some-clause-same g c = stays_then c.steps.invariant.same c.turn-step.ensures.same
 
 pub returns-in-Some-clause-output : goal.returns-in-Some-clause-output
 returns-in-Some-clause-output g c =
@@ -114,6 +150,7 @@ steps-preserved g c =
           (turn_goes_on bytes (c.args.units - c.steps.left) c.args.watch c.turn-step.result c.args.wild.now c.steps.wild c.turn-step.new.wild before mid after input out notes told c.unit.ensures.bound goes (invariant.made bytes told) c.turn-step.ensures.effect);
       calm = counts_go_on c.args.watch c.turn-step.result c.steps.wild c.turn-step.new.wild mid after input out notes goes invariant.calm c.turn-step.ensures.effect;
       grown = grown_more c.args.watch c.turn-step.result c.steps.wild c.turn-step.new.wild mid after input out notes c.steps.invariant.grown c.turn-step.ensures.effect;
+      same = stays_then invariant.same c.turn-step.ensures.same;
     }
 
 pub returns-clause-effect : goal.returns-clause-effect
@@ -135,8 +172,35 @@ returns-clause-shown g c =
     let input = drawn g.S.Source.left g.S.Source.faults c.args.input.now c.steps.input in
     let out = sunk g.K.Sink.written g.K.Sink.faults c.args.out.now c.steps.out in
     let notes = sunk g.N.Sink.written g.N.Sink.faults c.args.notes.now c.steps.notes in
-    let none = all_used c.steps.left c.steps.wild.pending (subst (λ n. c.steps.left < n) c.unit.ensures.value c.steps-test.false) in
     λ bytes told calm.
-    let did = subst (λ n. IsMade n c.args.watch runs.Spent c.args.wild.now c.steps.wild before after input out notes) (none_left c.args.units c.steps.left none.1)
-    (goes_calm (c.args.units - c.steps.left) c.args.watch c.args.wild.now c.steps.wild before after input out notes none.0 (c.steps.invariant.made bytes told)) in
-    run_shows c.args.units c.args.watch runs.Spent c.args.wild.now c.steps.wild before after input out notes bytes told did c.steps.invariant.calm calm
+    run_shows c.args.units c.args.watch runs.Spent c.args.wild.now c.steps.wild before after input out notes bytes told (returns-clause-effect g c bytes told) c.steps.invariant.calm calm
+
+pub returns-clause-prefix : goal.returns-clause-prefix
+returns-clause-prefix g c =
+    let before = telling g.C.Chooser.ahead g.C.Chooser.drawn c.args.chooser.now in
+    let after = telling g.C.Chooser.ahead g.C.Chooser.drawn c.steps.chooser in
+    let input = drawn g.S.Source.left g.S.Source.faults c.args.input.now c.steps.input in
+    let out = sunk g.K.Sink.written g.K.Sink.faults c.args.out.now c.steps.out in
+    let notes = sunk g.N.Sink.written g.N.Sink.faults c.args.notes.now c.steps.notes in
+    λ bytes told.
+    run_shows_part c.args.units c.args.watch runs.Spent c.args.wild.now c.steps.wild before after input out notes bytes told (returns-clause-effect g c bytes told)
+
+pub returns-clause-told : goal.returns-clause-told
+returns-clause-told g c =
+    let before = telling g.C.Chooser.ahead g.C.Chooser.drawn c.args.chooser.now in
+    let after = telling g.C.Chooser.ahead g.C.Chooser.drawn c.steps.chooser in
+    let input = drawn g.S.Source.left g.S.Source.faults c.args.input.now c.steps.input in
+    let out = sunk g.K.Sink.written g.K.Sink.faults c.args.out.now c.steps.out in
+    let notes = sunk g.N.Sink.written g.N.Sink.faults c.args.notes.now c.steps.notes in
+    λ bytes ahead told words fresh.
+    run_told c.args.units c.args.watch runs.Spent c.args.wild.now c.steps.wild before after input out notes bytes told fresh (returns-clause-effect g c bytes told) ahead words
+
+pub returns-clause-restarted : goal.returns-clause-restarted
+returns-clause-restarted g c =
+    let before = telling g.C.Chooser.ahead g.C.Chooser.drawn c.args.chooser.now in
+    let after = telling g.C.Chooser.ahead g.C.Chooser.drawn c.steps.chooser in
+    let input = drawn g.S.Source.left g.S.Source.faults c.args.input.now c.steps.input in
+    let out = sunk g.K.Sink.written g.K.Sink.faults c.args.out.now c.steps.out in
+    let notes = sunk g.N.Sink.written g.N.Sink.faults c.args.notes.now c.steps.notes in
+    λ bytes told fresh restartable.
+    run_sequential c.args.units c.args.watch runs.Spent c.args.wild.now c.steps.wild before after input out notes bytes told fresh (returns-clause-effect g c bytes told) restartable

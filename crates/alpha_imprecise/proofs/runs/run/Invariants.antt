@@ -1,6 +1,7 @@
 use Rattle.std.proofs.Common.{◌≡◌, ◌≤◌, ◌+◌, ◌-◌, ◌*◌, ℕ, List, Some}
 use Rattle.alpha_io.specs.Sunk.{sunk}
 use Rattle.alpha_seq.specs.Devices.{drawn}
+use Rattle.alpha_seq.specs.Machine.{Stays}
 use Rattle.alpha_seq.specs.RunEffect.{HasNoFault, HasGrown}
 use Rattle.alpha_imprecise.specs.Telling.{telling}
 use Rattle.alpha_imprecise.proofs.RunGoes.{Goes, wait_left}
@@ -22,6 +23,7 @@ invariant-steps g l = record {
       (sunk g.N.Sink.written g.N.Sink.faults l.initial.notes l.notes);
   grown : HasGrown (sunk g.K.Sink.written g.K.Sink.faults l.initial.out l.out)
       × HasGrown (sunk g.N.Sink.written g.N.Sink.faults l.initial.notes l.notes);
+  same : Stays l.initial.wild.machine l.wild.machine;
 }
 
 abbrev pub decreases-steps : goal.decreases-steps

@@ -11,6 +11,6 @@ returns-clause-step c =
     let m = c.args.machine.now in
     let o = c.args.overflow.now in
     let left : Option Pending = Some (record { trigger = o.place; mask = c.mask_with.result; waited = 0 }) in
-    subst (λ (p : Option Pending). Chooses Triggered (wild_state m p) (wild_state c.set.new.machine left) (c.args.value ∷ [])) (sym c.requires.none)
-    (trigger-chooses m c.set.new.machine o.place o.rc c.args.value c.mask_with.result c.requires.overflows c.set.ensures
+    subst (λ (p : Option Pending). Chooses Triggered (wild_state m p) (wild_state c.set.new.self left) (c.args.value ∷ [])) (sym c.requires.none)
+    (trigger-chooses m c.set.new.self o.place o.rc c.args.value c.mask_with.result c.requires.overflows c.set.ensures
     (c.mask_with.ensures ∙ ap (λ n. with_register n o.rc) c.empty.ensures.value))

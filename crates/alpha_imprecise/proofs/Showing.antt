@@ -12,7 +12,7 @@ use Rattle.alpha_imprecise.specs.Moment.{Happening, Precisely, Triggered, Waited
 use Rattle.alpha_imprecise.specs.Run.{WildRun, HasUsed, finished, started_wild, run_wild}
 use Rattle.alpha_imprecise.specs.Made.{Making, begun, made, wild_end, lost_trap, shown_making}
 use Rattle.alpha_imprecise.specs.Restart.{SameSoFar, Agrees, IsRestartable}
-use Rattle.alpha_restart.specs.Shown.{SameRun, ChoicesAlike, ShowsSame, RunsAlike}
+use Rattle.alpha_imprecise.specs.Shown.{SameRun, ChoicesAlike, ShowsSame, RunsAlike}
 use Rattle.alpha_imprecise.proofs.Making.{ran_made}
 use Rattle.alpha_imprecise.proofs.Settling.{none_of, made_is}
 
