@@ -1,6 +1,7 @@
 pub mod Cutting
 pub mod Pushing
 pub mod Growing
+pub mod Reaching
 pub mod Refusing
 pub mod Underway
 pub mod Putting

@@ -134,7 +134,7 @@ length-bytes_after k (f ∷ fs) bytes =
     one at a by_entry = refl
 
 -- the data bytes are those of the image's own segments
-own-filled : (level : Option ℕ) (section : Section) (earlier : List Segment) (last : Segment) (base size : ℕ) → Filled level section earlier last size
+pub own-filled : (level : Option ℕ) (section : Section) (earlier : List Segment) (last : Segment) (base size : ℕ) → Filled level section earlier last size
     → (size ≡ filled_size (own_segments level (based base (earlier ++ last ∷ [])))) × (level ≡ None → length (based base (earlier ++ last ∷ [])) ≡ 1)
 own-filled None section [] last base size (e, f) = (omega (arith, f), λ n. refl)
 own-filled None section (s ∷ rest) last base size (e, f) = cc

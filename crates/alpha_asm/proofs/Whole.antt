@@ -67,7 +67,7 @@ insn_whole k line p (Some c) front rest h =
       | Some r ↦ ap (λ n. code_at (reached r.0 (k.code_base + 4 * p.words) (address_of k r.1)) n (front ++ c.insn ∷ rest)) (sym h) ∙ reaches (reached r.0 (k.code_base + 4 * p.words) (address_of k r.1)) c.insn front rest
     ]
 
-length-code_in : (k : Known) (p : Place) (co : Option Coded) → length (option_map_or (λ c. insn_in k p c ∷ []) co []) ≡ cond (is_some co) 1 0
+pub length-code_in : (k : Known) (p : Place) (co : Option Coded) → length (option_map_or (λ c. insn_in k p c ∷ []) co []) ≡ cond (is_some co) 1 0
 length-code_in k p None = refl
 length-code_in k p (Some c) = refl
 
@@ -135,7 +135,7 @@ length-cell_bytes : (k : Known) (c : Cell) → length (cell_bytes k c) ≡ cell_
 length-cell_bytes k (number bytes value) = length-low_bytes bytes value
 length-cell_bytes k (address r) = length-low_bytes 8 (unwrap_or (quadword_of (address_of k r)) 0)
 
-length-cells : (k : Known) (cs : List Cell) → length (flat_map (cell_bytes k) cs) ≡ sum_by cell_size cs
+pub length-cells : (k : Known) (cs : List Cell) → length (flat_map (cell_bytes k) cs) ≡ sum_by cell_size cs
 length-cells k [] = refl
 length-cells k (c ∷ cs) =
     length-append (cell_bytes k c) (flat_map (cell_bytes k) cs)

@@ -240,3 +240,101 @@ done:   stq $12,4096($9)
     assert_word(&rt, &image, 17, 0xc3ff_fff8);
     Ok(())
 }
+
+#[test]
+fn addresses_at_the_ends_of_their_reach(rt: HostRuntime) -> Result<(), Fail> {
+    let rows: [(&[u8], u32); 4] = [
+        (b"x: br x-4194300\n.entry x", 0xc3f0_0000),
+        (b"x: br x+4194304\n.entry x", 0xc3ef_ffff),
+        (b"x: ldah $1,%hi(x+0x3fff0000)($31)\n.entry x", 0x243f_4000),
+        (b"x: lda $1,%lo(x-0x10000)($31)\n.entry x", 0x203f_0000),
+    ];
+    for (source, want) in rows {
+        let image = image_of(rt.alloc(), source)?;
+        assert_word(&rt, &image, 0, want);
+    }
+    Ok(())
+}
+
+#[test]
+fn addresses_out_of_reach(rt: HostRuntime) {
+    let rows: [(&[u8], u32); 7] = [
+        (b"x: br x-4194304\n.entry x", 1),
+        (b"x: br x+4194308\n.entry x", 1),
+        (b"x: nop\nbr x+6\n.entry x", 2),
+        (b"x: ldah $1,%hi(x+0x3fff0001)($31)\n.entry x", 1),
+        (b"x: lda $1,%lo(x-0x10001)($31)\n.entry x", 1),
+        (b"x: nop\n.data\n.quad x,x-0x10001\n.entry x", 3),
+        (b".entry x\nbr x+2\nx: br x+2", 2),
+    ];
+    for (source, line) in rows {
+        assert_refused(&rt, rt.alloc(), source, Reach(line));
+    }
+}
+
+#[test]
+fn alignments(rt: HostRuntime) -> Result<(), Fail> {
+    let source = b"\
+        lda $1,%lo(a)($31)
+        .data
+        .byte 1
+        .align 2
+        .byte 2
+        .align 2
+        .zero 5
+        .align 3
+a:      .zero 1
+        .align 1
+        .align 0
+        .entry 0x10000
+";
+    let image = image_of(rt.alloc(), source)?;
+    assert_word(&rt, &image, 0, 0x203f_0010);
+    let want: [u8; 8] = [1, 0, 0, 0, 2, 0, 0, 0];
+    assert!(rt; image.data_bytes() == want.as_slice());
+    assert_eq!(rt; image.zeroed(), 10);
+    Ok(())
+}
+
+#[test]
+fn labels_of_code_and_segments(rt: HostRuntime) -> Result<(), Fail> {
+    let source = b"\
+        .level 1
+s:      ldah $1,%hi(c)($31)
+        .segment 0x10000000
+a:      .quad c,s,a
+        .zero 8
+b:      .zero 8
+        .segment 0x10002000
+        .quad b-8
+        .code
+        br s
+        .data
+c:      .byte 1
+        .entry s+4
+";
+    let image = image_of(rt.alloc(), source)?;
+    assert_word(&rt, &image, 0, 0x243f_1000);
+    assert_word(&rt, &image, 1, 0xc3ff_fffe);
+    assert_eq!(rt; image.entry(), 0x10004);
+    assert_eq!(rt; image.segments(), 2);
+    assert_eq!(rt; image.zeroed(), 16);
+    let want: [u8; 33] = [
+        8, 0x20, 0, 0x10, 0, 0, 0, 0, 0, 0, 1, 0, 0, 0, 0, 0, 0, 0, 0, 0x10, 0, 0, 0, 0, 0x18, 0,
+        0, 0x10, 0, 0, 0, 0, 1,
+    ];
+    assert!(rt; image.data_bytes() == want.as_slice());
+    Ok(())
+}
+
+#[test]
+fn the_longest_source_of_comments(rt: HostRuntime) -> Result<(), Fail> {
+    let mut line = [b'#'; 1024];
+    line[1023] = b'\n';
+    let mut source = Vec::with_capacity(rt.alloc(), 1 << 24)?;
+    for _ in 0..16_384 {
+        source.extend_from_slice(&line)?;
+    }
+    assert_refused(&rt, rt.alloc(), &source, NoEntry);
+    Ok(())
+}
