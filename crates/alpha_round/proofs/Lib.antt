@@ -1,0 +1,16 @@
+pub mod Items
+pub mod Cut
+pub mod Digits
+pub mod Rows
+pub mod Plain
+pub mod Making
+pub mod Places
+pub mod Segments
+pub mod Program
+pub mod Directives
+pub mod Codes
+pub mod Listing
+pub mod Same
+pub mod Sizes
+pub mod Insns
+pub mod Sources

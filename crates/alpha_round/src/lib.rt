@@ -1,0 +1,24 @@
+//! The laws that tie sources, images and listings. The crate has no code; its functions are laws.
+//!
+//! - [`laws_of_listings`] says that the listing of every good image, of either version, is a source that
+//!   assembles to that image.
+//! - [`laws_of_sources`] says that a source which is not refused assembles to an image, and to one alone.
+//!
+//! What a listing is is defined in `alpha_dis` (`specs/Listing.antt`), what a source assembles to in
+//! `alpha_asm` (`specs/Assembled.antt`). `specs/Source.antt` puts the two together: the image that a
+//! source is a source of. So where `alpha_dis::list` wrote all of its text, that text is a source of the
+//! image; and where `alpha_asm::assemble` gives an image for a text, the text is a source of that one.
+//!
+//! The proofs of the law of listings, lowest first: `Items.antt` has the statements that the lines of a
+//! listing say. `Cut.antt` (joined lines are cut into these lines again), `Digits.antt` (texts of
+//! numbers), `Rows.antt` (the values of a row of bytes), `Plain.antt` (statements without labels: none is
+//! refused, and what they make), `Making.antt` (what the statements of a listing make), `Places.antt` and
+//! `Segments.antt` (where they lead), `Program.antt` (they make the program of the image),
+//! `Directives.antt` and `Codes.antt` (each line reads back), `Listing.antt` (the law), `Same.antt` (a
+//! source is one of one image) and `Sizes.antt` (the length of a listing). Of the laws of sources:
+//! `Insns.antt` (what a line says is an instruction of the table) and `Sources.antt` (the image).
+#![tactic(auto)]
+
+mod laws;
+
+pub use laws::{laws_of_listings, laws_of_sources};
