@@ -1,0 +1,10 @@
+mod Words
+mod Printing
+mod Sinks
+mod Steps
+mod Sessions
+mod Hearing
+mod Scripts
+mod Underway
+mod Opening
+mod Transcripts

@@ -1,0 +1,167 @@
+-- What commands do to a session, one after another.
+use Rattle.std.specs.Prelude.{◌==◌}
+use Rattle.std.proofs.Common.{◌≡◌, ◌∙◌, ℕ, codes, length, Bool, true, false, cond, List, [], ◌∷◌, ◌++◌, Option, Some, None, refl, ap, append_assoc}
+use Rattle.alpha_io.specs.Sunk.{Sunk, sunk, Puts}
+use Rattle.alpha_seq.specs.declared.end.End.{End}
+use Rattle.alpha_seq.specs.declared.machine.Machine.{Machine}
+use Rattle.alpha_seq.specs.State.{State}
+use Rattle.alpha_seq.specs.Machine.{program_of, state_of}
+use Rattle.arrayvec.specs.ArrayVec.{ArrayVec}
+use Rattle.alpha_words.specs.declared.Completion.TheVariants.{Wrap}
+use Rattle.alpha_pal.specs.Kernel.{KernelState, new_kernel}
+use Rattle.alpha_image.specs.Parts.{Parts}
+use Rattle.alpha_shadow.specs.declared.broken.Broken.{Broken}
+use Rattle.alpha_seq.specs.Start.{start}
+use Rattle.alpha_debug.specs.declared.command.Command.{Command}
+use Rattle.alpha_debug.specs.declared.command.Command.TheVariants.{Nothing, Step, Go, Barrier, Break, Clear, Registers, Memory, Listing, Shadow, Log, Quit, Unknown}
+use Rattle.alpha_debug.specs.declared.travel.Until.{Until}
+use Rattle.alpha_debug.specs.declared.travel.Until.TheVariants as until
+use Rattle.alpha_debug.specs.declared.debugger.Debugger.{Debugger}
+use Rattle.alpha_debug.specs.declared.debugger.Talk.TheVariants.{GoesOn}
+use Rattle.alpha_debug.specs.Command.{most_steps}
+use Rattle.alpha_debug.specs.Lines.{ended, place_line}
+use Rattle.alpha_debug.specs.Session.{Setting, Session, IsVerdict, text_of, saying, walk, if_going, going, placing, travel, has_point, most_points, ok, is_shown, shown, answer}
+use Rattle.alpha_debug.specs.Effects.{Grows, Stops, session_of, setting_of, IsOpened, Makes, Fails, Answers, AnswerFails}
+use Rattle.alpha_debug.proofs.Sinks.{Grows-same, Grows-by, Grows-trans, Breaks-more, Breaks-after, Puts-both}
+use Rattle.alpha_debug.proofs.Steps.{walk-grows}
+
+-- ---- what is said
+
+-- a session that says some bytes
+pub saying-is : (d : Debugger) (text bytes : List ℕ) → saying (session_of d text) bytes ≡ session_of d (text ++ bytes)
+saying-is d text bytes = refl
+
+-- a session that says what it writes
+pub Makes-said : (bytes : List ℕ) (d : Debugger) (out : Sunk) → Puts out bytes → Makes (λ s. saying s bytes) d d out
+Makes-said bytes d out wrote = record { bytes = bytes; wrote = wrote; is = λ text. refl }
+
+pub Fails-said : (bytes : List ℕ) (d : Debugger) (out : Sunk) → Stops out bytes → Fails (λ s. saying s bytes) d out
+Fails-said bytes d out stops text = record { bytes = bytes; is = refl; stops = stops }
+
+-- ---- what is written stays
+
+going-grows : (g : Setting) (wanted : Until) (most : ℕ) (s : Session) (end : Option End) → Grows (text_of s) (text_of (if_going end s (walk g.program wanted s.points most s.state)))
+going-grows g wanted most s None = walk-grows g.program wanted s.points most s.state
+going-grows g wanted most s (Some end) = Grows-same (text_of s)
+
+placing-grows : (s : Session) → Grows (text_of s) (text_of (placing s))
+placing-grows s = Grows-by (text_of s) (place_line s.end s.state.pc)
+
+travel-grows : (g : Setting) (wanted : Until) (most : ℕ) (s : Session) → Grows (text_of s) (text_of (travel g wanted most s))
+travel-grows g wanted most s =
+    let t : Session = going g wanted most s in
+    Grows-trans (text_of s) (text_of t) (text_of (placing t)) (going-grows g wanted most s s.end) (placing-grows t)
+
+adding-by : (b c : Bool) (s x y z : Session) → Grows (text_of s) (text_of x) → Grows (text_of s) (text_of y) → Grows (text_of s) (text_of z) → Grows (text_of s) (text_of (cond b x (cond c y z)))
+adding-by true c s x y z p q r = p
+adding-by false true s x y z p q r = q
+adding-by false false s x y z p q r = r
+
+pub answer-grows : (g : Setting) (command : Command) (s : Session) → Grows (text_of s) (text_of (answer g command s))
+answer-grows g Nothing s = Grows-same (text_of s)
+answer-grows g (Step n) s = travel-grows g until.Spent n s
+answer-grows g Go s = travel-grows g until.Breakpoint most_steps s
+answer-grows g Barrier s = travel-grows g until.Barrier most_steps s
+answer-grows g (Break at) s =
+    adding-by (has_point s.points at) (length s.points == most_points) s (saying s ok) (saying s (ended (codes "full"))) (saying (record s { points = s.points ++ at ∷ [] }) ok)
+    (Grows-by (text_of s) ok) (Grows-by (text_of s) (ended (codes "full"))) (Grows-by (text_of s) ok)
+answer-grows g (Clear at) s = Grows-by (text_of s) _
+answer-grows g Quit s = Grows-same (text_of s)
+answer-grows g Registers s = Grows-by (text_of s) _
+answer-grows g (Memory at count) s = Grows-by (text_of s) _
+answer-grows g (Listing at count) s = Grows-by (text_of s) _
+answer-grows g Shadow s = Grows-by (text_of s) _
+answer-grows g Log s = Grows-by (text_of s) _
+answer-grows g Unknown s = Grows-by (text_of s) _
+
+-- ---- steps, and the place
+
+module _ {K : Type 0} (written : K → Option (List ℕ)) (faults : K → ℕ) (o p q : K) (becomes : Session → Session) (old new : Debugger) where
+  pub placed : Makes becomes old new (sunk written faults o p) → Puts (sunk written faults p q) (place_line new.end new.machine.pc)
+      → Makes (λ s. placing (becomes s)) old new (sunk written faults o q)
+  placed makes wrote = record {
+    bytes = makes.bytes ++ place_line new.end new.machine.pc;
+    wrote = Puts-both written faults o p q makes.bytes (place_line new.end new.machine.pc) makes.wrote wrote;
+    is = λ text.
+        ap placing (makes.is text)
+        ∙ ap (λ (l : List ℕ). session_of new l) (append_assoc text makes.bytes (place_line new.end new.machine.pc));
+  }
+
+  pub place_fails : Makes becomes old new (sunk written faults o p) → Stops (sunk written faults p q) (place_line new.end new.machine.pc)
+      → Fails (λ s. placing (becomes s)) old (sunk written faults o q)
+  place_fails makes stops text =
+      Breaks-after written faults o p q makes.bytes text (text_of (placing (becomes (session_of old text)))) makes.wrote
+      (record { bytes = place_line new.end new.machine.pc; is = ap (λ (s : Session). text_of (placing s)) (makes.is text); stops = stops })
+
+pub placed_fails : (becomes : Session → Session) (old : Debugger) (out : Sunk) → Fails becomes old out → Fails (λ s. placing (becomes s)) old out
+placed_fails becomes old out fails text =
+    Breaks-more out text (text_of (becomes (session_of old text))) (text_of (placing (becomes (session_of old text)))) (fails text) (placing-grows (becomes (session_of old text)))
+
+-- ---- commands
+
+-- what a command says doesn't depend on what was written
+shown-same : (g : Setting) (command : Command) (m : Machine) (text : List ℕ) → shown g command (state_of m [] text) ≡ shown g command (state_of m [] [])
+shown-same g Nothing m text = refl
+shown-same g (Step n) m text = refl
+shown-same g Go m text = refl
+shown-same g Barrier m text = refl
+shown-same g (Break at) m text = refl
+shown-same g (Clear at) m text = refl
+shown-same g Quit m text = refl
+shown-same g Registers m text = refl
+shown-same g (Memory at count) m text = refl
+shown-same g (Listing at count) m text = refl
+shown-same g Shadow m text = refl
+shown-same g Log m text = refl
+shown-same g Unknown m text = refl
+
+answer-shown : (g : Setting) (command : Command) (s : Session) → is_shown command ≡ true → answer g command s ≡ saying s (shown g command s.state)
+answer-shown g Nothing s e = absurd cc
+answer-shown g (Step n) s e = absurd cc
+answer-shown g Go s e = absurd cc
+answer-shown g Barrier s e = absurd cc
+answer-shown g (Break at) s e = absurd cc
+answer-shown g (Clear at) s e = absurd cc
+answer-shown g Quit s e = absurd cc
+answer-shown g Registers s e = refl
+answer-shown g (Memory at count) s e = refl
+answer-shown g (Listing at count) s e = refl
+answer-shown g Shadow s e = refl
+answer-shown g Log s e = refl
+answer-shown g Unknown s e = refl
+
+pub Answers-shown : (command : Command) (d : Debugger) (out : Sunk) → is_shown command ≡ true → Puts out (shown (setting_of d) command (state_of d.machine [] []))
+    → Answers command GoesOn d d out
+Answers-shown command d out e wrote = record {
+  bytes = shown (setting_of d) command (state_of d.machine [] []);
+  wrote = wrote;
+  is = λ text.
+      answer-shown (setting_of d) command (session_of d text) e
+      ∙ ap (λ (l : List ℕ). saying (session_of d text) l) (shown-same (setting_of d) command d.machine text);
+}
+
+pub AnswerFails-shown : (command : Command) (d : Debugger) (out : Sunk) → is_shown command ≡ true → Stops out (shown (setting_of d) command (state_of d.machine [] []))
+    → AnswerFails command d out
+AnswerFails-shown command d out e stops text = record {
+  bytes = shown (setting_of d) command (state_of d.machine [] []);
+  is = ap text_of (answer-shown (setting_of d) command (session_of d text) e) ∙ ap (λ (l : List ℕ). text ++ l) (shown-same (setting_of d) command d.machine text);
+  stops = stops;
+}
+
+-- a command that is answered by what a function of sessions makes
+pub Answers-made : (command : Command) (becomes : Session → Session) (old new : Debugger) (out : Sunk) → ((s : Session) → answer (setting_of old) command s ≡ becomes s)
+    → Makes becomes old new out → Answers command GoesOn old new out
+Answers-made command becomes old new out same makes = record { bytes = makes.bytes; wrote = makes.wrote; is = λ text. same (session_of old text) ∙ makes.is text }
+
+-- ---- the start
+
+pub IsOpened-made : (image : Parts) (machine : Machine) (points : ArrayVec ℕ) (verdict : Option Broken) → program_of machine ≡ record { image = image; how = Wrap }
+    → state_of machine [] [] ≡ start (program_of machine) [] → machine.kernel ≡ new_kernel → points.items ≡ [] → IsVerdict image.words verdict
+    → IsOpened image (record { machine = machine; verdict = verdict; points = points; end = None })
+IsOpened-made image machine points verdict program starts kernel none verdict_is = record {
+  setting = record { program = program; verdict = verdict_is };
+  start =
+      ap (λ (st : State). record { state = st; points = points.items; end = None; over = false }) starts
+      ∙ ap (λ (l : List ℕ). record { state = start (program_of machine) []; points = l; end = None; over = false }) none;
+  mode = ap (λ (k : KernelState). k.user) kernel;
+}

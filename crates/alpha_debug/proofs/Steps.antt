@@ -1,0 +1,160 @@
+-- Steps of the machine over an empty input.
+use Rattle.std.proofs.Common.{◌≡◌, ◌∙◌, ℕ, zero, suc, ◌⊎◌, Bool, true, false, cond, List, [], ◌++◌, Option, None, refl, sym, ap, subst, append_assoc, append-nil, ⊎_elim, arith}
+use Rattle.alpha_words.specs.Regs.{reg}
+use Rattle.alpha_io.specs.Sunk.{Sunk, sunk, Puts}
+use Rattle.alpha_mem.specs.Memory.{bytes_at}
+use Rattle.alpha_seq.specs.declared.machine.Machine.{Machine}
+use Rattle.alpha_seq.specs.State.{Program, State, Event, Stepped, stepped}
+use Rattle.alpha_seq.specs.Step.{step_from}
+use Rattle.alpha_seq.specs.Run.{end_of}
+use Rattle.alpha_seq.specs.Machine.{program_of, state_of, Stays}
+use Rattle.alpha_seq.specs.Devices.{Drawn, Idles}
+use Rattle.alpha_seq.specs.StepEffect.{OutputFails, LineFails}
+use Rattle.alpha_seq.proofs.Growing.{after-begins, wrote_all}
+use Rattle.alpha_debug.specs.declared.travel.Until.{Until}
+use Rattle.alpha_debug.specs.Session.{is_last, Walked, walk}
+use Rattle.alpha_debug.specs.Effects.{Grows, Breaks, Moves, MoveBreaks, Walks, WalkBreaks}
+use Rattle.alpha_debug.proofs.Sinks.{Grows-same, Grows-trans, Breaks-more, Breaks-after, Puts-both}
+
+-- ---- one step
+
+-- a write whose sink failed; the notes never fail
+pub sink_fault : (old new : Machine) (input : Drawn) (out notes : Sunk) → notes.before ≡ 0 → notes.now ≡ 0
+    → (OutputFails old new input out × Idles notes) ⊎ LineFails old new input out notes → MoveBreaks old out
+sink_fault old new input out notes first last did =
+    ⊎_elim
+    (λ (fails : OutputFails old new input out × Idles notes).
+    let one : OutputFails old new input out = fails.0 in
+    let part = one.part in
+    let bytes : List ℕ = bytes_at old.memory (reg old.regs 17) (reg old.regs 18) in
+    λ (text : List ℕ). record {
+      bytes = bytes;
+      is = wrote_all (program_of old) (state_of old [] text) one.class part.number part.descriptor part.range;
+      stops = record { part = record { prefix = part.prefix; later = one.later }; failed = one.cause };
+    })
+    (λ (fails : LineFails old new input out notes). absurd (let cause = fails.cause in omega arith))
+    did
+
+-- what a step has put stays
+pub step-grows : (g : Program) (s : State) → Grows s.outside.output (step_from g s).state.outside.output
+step-grows g s = let begins = after-begins g s 1 0 (omega arith) in record { bytes = begins.output.tail; is = begins.output.is }
+
+-- ---- more steps
+
+abbrev walk-by : Bool → Program → Until → List ℕ → ℕ → Stepped → Walked
+walk-by b g wanted points n t = cond b (record { state = t.state; end = end_of t.event }) (walk g wanted points n t.state)
+
+walk-none : (g : Program) (wanted : Until) (points : List ℕ) (s : State) → walk g wanted points 0 s ≡ record { state = s; end = None }
+unfolding walk
+walk-none g wanted points s = refl
+
+walk-more : (g : Program) (wanted : Until) (points : List ℕ) (n : ℕ) (s : State)
+    → walk g wanted points (suc n) s ≡ walk-by (is_last wanted points (step_from g s).event (step_from g s).state.pc) g wanted points n (step_from g s)
+unfolding walk
+walk-more g wanted points n s = refl
+
+-- a walk whose first step is this
+walk-step : (g : Program) (wanted : Until) (points : List ℕ) (n : ℕ) (s : State) (t : Stepped) → step_from g s ≡ t
+    → walk g wanted points (suc n) s ≡ walk-by (is_last wanted points t.event t.state.pc) g wanted points n t
+walk-step g wanted points n s t e =
+    walk-more g wanted points n s ∙ ap (λ (u : Stepped). walk-by (is_last wanted points u.event u.state.pc) g wanted points n u) e
+
+-- ---- what is put stays
+
+by-grows : (b : Bool) (g : Program) (wanted : Until) (points : List ℕ) (n : ℕ) (t : Stepped)
+    → Grows t.state.outside.output (walk g wanted points n t.state).state.outside.output
+    → Grows t.state.outside.output (walk-by b g wanted points n t).state.outside.output
+by-grows true g wanted points n t more = Grows-same t.state.outside.output
+by-grows false g wanted points n t more = more
+
+pub walk-grows : (g : Program) (wanted : Until) (points : List ℕ) (n : ℕ) (s : State) → Grows s.outside.output (walk g wanted points n s).state.outside.output
+walk-grows g wanted points zero s =
+    subst (λ (w : Walked). Grows s.outside.output w.state.outside.output) (sym (walk-none g wanted points s)) (Grows-same s.outside.output)
+walk-grows g wanted points (suc n) s =
+    let t : Stepped = step_from g s in
+    subst (λ (w : Walked). Grows s.outside.output w.state.outside.output) (sym (walk-more g wanted points n s))
+    (Grows-trans s.outside.output t.state.outside.output (walk-by (is_last wanted points t.event t.state.pc) g wanted points n t).state.outside.output
+    (step-grows g s) (by-grows (is_last wanted points t.event t.state.pc) g wanted points n t (walk-grows g wanted points n t.state)))
+
+-- what the first step has put stays
+first-grows : (g : Program) (wanted : Until) (points : List ℕ) (n : ℕ) (s : State)
+    → Grows (step_from g s).state.outside.output (walk g wanted points (suc n) s).state.outside.output
+first-grows g wanted points n s =
+    let t : Stepped = step_from g s in
+    subst (λ (w : Walked). Grows t.state.outside.output w.state.outside.output) (sym (walk-more g wanted points n s))
+    (by-grows (is_last wanted points t.event t.state.pc) g wanted points n t (walk-grows g wanted points n t.state))
+
+-- ---- the machine underway
+
+-- the steps so far lead to where the machine stands, and the others go on from there
+pub record Walking (wanted : Until) (points : List ℕ) (most left : ℕ) (old mid : Machine) (out : Sunk) : Type 0 where
+  pub bytes : List ℕ
+  pub wrote : Puts out bytes
+  pub is : (text : List ℕ)
+      → walk (program_of old) wanted points most (state_of old [] text)
+      ≡ walk (program_of old) wanted points left (state_of mid [] (text ++ bytes))
+
+pub walking_start : (wanted : Until) (points : List ℕ) (most left : ℕ) (m : Machine) (out : Sunk) → left ≡ most → Puts out [] → Walking wanted points most left m m out
+walking_start wanted points most left m out e none = record {
+  bytes = [];
+  wrote = none;
+  is = λ text.
+      ap (λ (n : ℕ). walk (program_of m) wanted points n (state_of m [] text)) (sym e)
+      ∙ ap (λ (l : List ℕ). walk (program_of m) wanted points left (state_of m [] l)) (sym (append-nil text));
+}
+
+module _ {K : Type 0} (written : K → Option (List ℕ)) (faults : K → ℕ) (o p q : K) (wanted : Until) (points : List ℕ) (most left : ℕ) (old mid new : Machine) (event : Event) where
+  -- one step more, and how the walk goes on behind it
+  pub walked : Stays old mid → (move : Moves event mid new (sunk written faults p q)) → (walking : Walking wanted points most (suc left) old mid (sunk written faults o p)) → (text : List ℕ)
+      → walk (program_of old) wanted points most (state_of old [] text)
+      ≡ walk-by (is_last wanted points event new.pc) (program_of old) wanted points left (stepped (state_of new [] (text ++ (walking.bytes ++ move.bytes))) event)
+  walked same move walking text =
+      walking.is text
+      ∙ walk-step (program_of old) wanted points left (state_of mid [] (text ++ walking.bytes)) (stepped (state_of new [] (text ++ (walking.bytes ++ move.bytes))) event)
+      (ap (λ (g : Program). step_from g (state_of mid [] (text ++ walking.bytes))) (sym same.program)
+      ∙ (move.is (text ++ walking.bytes) ∙ ap (λ (l : List ℕ). stepped (state_of new [] l) event) (append_assoc text walking.bytes move.bytes)))
+
+  pub walking_on : Stays old mid → Walking wanted points most (suc left) old mid (sunk written faults o p) → Moves event mid new (sunk written faults p q)
+      → is_last wanted points event new.pc ≡ false → Walking wanted points most left old new (sunk written faults o q)
+  walking_on same walking move goes = record {
+    bytes = walking.bytes ++ move.bytes;
+    wrote = Puts-both written faults o p q walking.bytes move.bytes walking.wrote move.wrote;
+    is = λ text.
+        walked same move walking text
+        ∙ ap (λ (b : Bool). walk-by b (program_of old) wanted points left (stepped (state_of new [] (text ++ (walking.bytes ++ move.bytes))) event)) goes;
+  }
+
+  pub walking_ends : Stays old mid → Walking wanted points most (suc left) old mid (sunk written faults o p) → Moves event mid new (sunk written faults p q)
+      → is_last wanted points event new.pc ≡ true → Walks wanted points most (end_of event) old new (sunk written faults o q)
+  walking_ends same walking move ends = record {
+    bytes = walking.bytes ++ move.bytes;
+    wrote = Puts-both written faults o p q walking.bytes move.bytes walking.wrote move.wrote;
+    is = λ text.
+        walked same move walking text
+        ∙ ap (λ (b : Bool). walk-by b (program_of old) wanted points left (stepped (state_of new [] (text ++ (walking.bytes ++ move.bytes))) event)) ends;
+  }
+
+module _ {K : Type 0} (written : K → Option (List ℕ)) (faults : K → ℕ) (o p q : K) (wanted : Until) (points : List ℕ) (most left : ℕ) (old mid : Machine) where
+  -- the sink failed in the next step
+  pub walking_breaks : Stays old mid → Walking wanted points most (suc left) old mid (sunk written faults o p) → MoveBreaks mid (sunk written faults p q)
+      → WalkBreaks wanted points most old (sunk written faults o q)
+  walking_breaks same walking breaks text =
+      let s : State = state_of mid [] (text ++ walking.bytes) in
+      let g : Program = program_of old in
+      let step : Breaks (sunk written faults p q) (text ++ walking.bytes) (step_from g s).state.outside.output =
+      subst (λ (h : Program). Breaks (sunk written faults p q) (text ++ walking.bytes) (step_from h s).state.outside.output) same.program (breaks (text ++ walking.bytes)) in
+      let more = Breaks-more (sunk written faults p q) (text ++ walking.bytes) (step_from g s).state.outside.output (walk g wanted points (suc left) s).state.outside.output step (first-grows g wanted points left s) in
+      subst (λ (w : Walked). Breaks (sunk written faults o q) text w.state.outside.output) (sym (walking.is text))
+      (Breaks-after written faults o p q walking.bytes text (walk g wanted points (suc left) s).state.outside.output walking.wrote more)
+
+-- no step is left
+pub walking_spent : (wanted : Until) (points : List ℕ) (most left : ℕ) (old mid : Machine) (out : Sunk) → left ≡ 0
+    → Walking wanted points most left old mid out → Walks wanted points most None old mid out
+walking_spent wanted points most left old mid out none walking = record {
+  bytes = walking.bytes;
+  wrote = walking.wrote;
+  is = λ text.
+      walking.is text
+      ∙ (ap (λ (n : ℕ). walk (program_of old) wanted points n (state_of mid [] (text ++ walking.bytes))) none
+      ∙ walk-none (program_of old) wanted points (state_of mid [] (text ++ walking.bytes)));
+}

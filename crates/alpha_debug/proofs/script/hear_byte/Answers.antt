@@ -1,0 +1,58 @@
+use Rattle.std.specs.Prelude.{◌==◌}
+use Rattle.std.proofs.Common.{◌≡◌, ◌∙◌, ◌<◌, ℕ, List, [], ◌∷◌, length, false, sym, ap, subst, arith}
+use Rattle.std.proofs.lemmas.Bool.{ne_eqb}
+use Rattle.std.proofs.lemmas.Bool.Decides.{nat_tests}
+use Rattle.std.specs.Str.Lines.{strip_carriage_return}
+use Rattle.alpha_io.specs.Sunk.{sunk}
+use Rattle.alpha_io.proofs.Sinks.{Puts-none}
+use Rattle.alpha_debug.specs.Effects.{Hears, HearFails}
+use Rattle.alpha_debug.proofs.Sinks.{OnErr-any}
+use Rattle.alpha_debug.proofs.Scripts.{hears_feed, hear_feed_fails, hears_other, kept_more, kept_full}
+use Rattle.alpha_debug.proofs.script.hear_byte.Goals as goal
+
+pub returns-in_err-talk-clause-refused : goal.returns-in_err-talk-clause-refused
+returns-in_err-talk-clause-refused g c =
+    let out = sunk g.K.Sink.written g.K.Sink.faults c.args.out.now c.answer_line.new.out in
+    let held = c.args.held.now.items in
+    let line : c.without_return.result.now ≡ strip_carriage_return held = c.without_return.ensures ∙ ap strip_carriage_return c.as_slice.ensures.value in
+    let feed : c.args.byte ≡ 10 = omega (arith, c.if-byte-eq10.true) in
+    λ begun is_held.
+    OnErr-any c.from_residual.result
+    (subst (λ (b : ℕ). HearFails (b ∷ []) begun c.args.debugger.now out) (sym feed)
+    (hear_feed_fails begun held c.without_return.result.now c.args.debugger.now out is_held line c.in_err-talk.ensures.refused))
+
+pub returns-in_ok-talk-clause-ok : goal.returns-in_ok-talk-clause-ok
+returns-in_ok-talk-clause-ok g c =
+    let out = sunk g.K.Sink.written g.K.Sink.faults c.args.out.now c.answer_line.new.out in
+    let held = c.args.held.now.items in
+    let old = c.args.debugger.now in
+    let new = c.answer_line.new.debugger in
+    let talk = c.in_ok-talk.talk in
+    let line : c.without_return.result.now ≡ strip_carriage_return held = c.without_return.ensures ∙ ap strip_carriage_return c.as_slice.ensures.value in
+    let feed : c.args.byte ≡ 10 = omega (arith, c.if-byte-eq10.true) in
+    λ begun is_held.
+    subst (λ (b : ℕ). Hears (b ∷ []) begun talk old new c.clear.new.self.items out) (sym feed)
+    (subst (λ (l : List ℕ). Hears (10 ∷ []) begun talk old new l out) (sym c.clear.ensures)
+    (hears_feed begun held c.without_return.result.now talk old new out is_held line c.answer_line.ensures.same.setting c.in_ok-talk.ensures.ok))
+
+pub returns-then-not-is_full-clause-ok : goal.returns-then-not-is_full-clause-ok
+returns-then-not-is_full-clause-ok g c =
+    let out = sunk g.K.Sink.written g.K.Sink.faults c.args.out.now c.args.out.now in
+    let held = c.args.held.now.items in
+    let other : (c.args.byte == 10) ≡ false = ne_eqb c.args.byte 10 (λ e. omega (arith, c.if-byte-eq10.false)) in
+    let room : length held < 1026 = grind (arith, nat_tests) in
+    λ begun is_held.
+    hears_other c.args.byte begun c.push.new.self.items c.args.debugger.now out other is_held.line
+    (kept_more c.args.byte begun held c.push.new.self.items is_held.front room c.push.ensures.items)
+    (Puts-none (g.K.Sink.written c.args.out.now) (g.K.Sink.faults c.args.out.now))
+
+pub returns-else-not-is_full-clause-ok : goal.returns-else-not-is_full-clause-ok
+returns-else-not-is_full-clause-ok g c =
+    let out = sunk g.K.Sink.written g.K.Sink.faults c.args.out.now c.args.out.now in
+    let held = c.args.held.now.items in
+    let other : (c.args.byte == 10) ≡ false = ne_eqb c.args.byte 10 (λ e. omega (arith, c.if-byte-eq10.false)) in
+    let full : length held ≡ 1026 = grind (arith, nat_tests) in
+    λ begun is_held.
+    hears_other c.args.byte begun held c.args.debugger.now out other is_held.line
+    (kept_full c.args.byte begun held is_held.front full)
+    (Puts-none (g.K.Sink.written c.args.out.now) (g.K.Sink.faults c.args.out.now))

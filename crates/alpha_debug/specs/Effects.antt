@@ -1,0 +1,210 @@
+-- What the code of a session did against its definition, where the sink may tell nothing.
+use Rattle.std.specs.Prelude.{◌≡◌, ℕ, ◌+◌, ◌-◌, ◌≤◌, ◌==◌, Bool, true, false, IsTrue, List, [], ◌++◌, length, All, take, Option}
+use Rattle.alpha_io.specs.Faults.{Rose}
+use Rattle.alpha_io.specs.Sunk.{Sunk, Puts, Partly, HasFailed}
+use Rattle.alpha_pal.specs.CallEffect.{Takes}
+use Rattle.alpha_image.specs.Parts.{Parts}
+use Rattle.alpha_seq.specs.Devices.{Drawn}
+use Rattle.alpha_seq.specs.declared.machine.Machine.{Machine}
+use Rattle.alpha_seq.specs.declared.end.End.{End}
+use Rattle.alpha_seq.specs.State.{Event, Went, Barriered, Overflowed, Ends, stepped}
+use Rattle.alpha_seq.specs.Step.{step_from}
+use Rattle.alpha_seq.specs.Machine.{program_of, state_of}
+use Rattle.alpha_debug.specs.declared.travel.Until.{Until}
+use Rattle.alpha_debug.specs.declared.travel.Moved.{Moved}
+use Rattle.alpha_debug.specs.declared.travel.Moved.TheVariants as moves
+use Rattle.alpha_debug.specs.declared.debugger.Debugger.{Debugger}
+use Rattle.alpha_debug.specs.declared.command.Command.{Command}
+use Rattle.alpha_debug.specs.declared.debugger.Talk.{Talk}
+use Rattle.alpha_debug.specs.declared.debugger.Talk.TheVariants.{GoesOn, Quits}
+use Rattle.alpha_debug.specs.declared.end.DebugEnd.{DebugEnd}
+use Rattle.alpha_debug.specs.declared.end.DebugEnd.TheVariants.{Done, InputFault, SinkFault, TooLarge, NoMemory}
+use Rattle.alpha_debug.specs.Session.{Setting, Session, IsSetting, opened, text_of, walk, answer}
+use Rattle.alpha_debug.specs.Script.{Transcript, transcript_from, script_limit}
+
+-- ---- writing
+
+-- the sink failed, with a prefix of these bytes written
+pub record Stops (s : Sunk) (bytes : List ℕ) : Type 0 where
+  pub part : Partly s bytes
+  pub failed : HasFailed s
+
+-- a text goes on with some bytes
+pub record Grows (front text : List ℕ) : Type 0 where
+  pub bytes : List ℕ
+  pub is : text ≡ front ++ bytes
+
+-- the sink failed, with a prefix written of what a text has behind its front
+pub record Breaks (s : Sunk) (front text : List ℕ) : Type 0 where
+  pub bytes : List ℕ
+  pub is : text ≡ front ++ bytes
+  pub stops : Stops s bytes
+
+-- ---- a machine over an empty input
+
+abbrev pub event_of : Moved → Event
+event_of moves.Went = Went
+event_of moves.Barrier = Barriered
+event_of (moves.Overflow at) = Overflowed at
+event_of (moves.Ended end) = Ends end
+
+-- the step of the definition, with what it puts
+pub record Moves (event : Event) (old new : Machine) (out : Sunk) : Type 0 where
+  pub bytes : List ℕ
+  pub wrote : Puts out bytes
+  pub is : (text : List ℕ)
+      → step_from (program_of old) (state_of old [] text) ≡ stepped (state_of new [] (text ++ bytes)) event
+
+-- the sink failed in a step
+abbrev pub MoveBreaks : Machine → Sunk → Type 0
+MoveBreaks old out = (text : List ℕ)
+    → Breaks out text (step_from (program_of old) (state_of old [] text)).state.outside.output
+
+-- the steps of the definition
+pub record Walks (wanted : Until) (points : List ℕ) (most : ℕ) (end : Option End) (old new : Machine) (out : Sunk) : Type 0 where
+  pub bytes : List ℕ
+  pub wrote : Puts out bytes
+  pub is : (text : List ℕ)
+      → walk (program_of old) wanted points most (state_of old [] text)
+      ≡ record { state = state_of new [] (text ++ bytes); end = end }
+
+abbrev pub WalkBreaks : Until → List ℕ → ℕ → Machine → Sunk → Type 0
+WalkBreaks wanted points most old out = (text : List ℕ)
+    → Breaks out text (walk (program_of old) wanted points most (state_of old [] text)).state.outside.output
+
+-- ---- a session
+
+-- how a session stands that has written a text
+abbrev pub session_of : Debugger → List ℕ → Session
+session_of d text = record { state = state_of d.machine [] text; points = d.points.items; end = d.end; over = false }
+
+abbrev pub setting_of : Debugger → Setting
+setting_of d = record { program = program_of d.machine; verdict = d.verdict }
+
+-- what no command changes: the setting, and the mode of the kernel
+pub record Remains (old new : Debugger) : Type 0 where
+  pub setting : setting_of new ≡ setting_of old
+  pub mode : new.machine.kernel.user ≡ old.machine.kernel.user
+
+-- it did what the definition says, and wrote what that says
+pub record Makes (becomes : Session → Session) (old new : Debugger) (out : Sunk) : Type 0 where
+  pub bytes : List ℕ
+  pub wrote : Puts out bytes
+  pub is : (text : List ℕ) → becomes (session_of old text) ≡ session_of new (text ++ bytes)
+
+-- the sink failed, with a prefix written of what the definition says
+abbrev pub Fails : (Session → Session) → Debugger → Sunk → Type 0
+Fails becomes old out = (text : List ℕ) → Breaks out text (text_of (becomes (session_of old text)))
+
+-- a session whose program stands at its start
+pub record IsOpened (image : Parts) (d : Debugger) : Type 0 where
+  pub setting : IsSetting image (setting_of d)
+  pub start : session_of d [] ≡ opened (setting_of d)
+  pub mode : IsTrue d.machine.kernel.user
+
+-- ---- commands
+
+abbrev pub has_quit : Talk → Bool
+has_quit GoesOn = false
+has_quit Quits = true
+
+-- how a session stands behind a command
+abbrev pub left_by : Talk → Debugger → List ℕ → Session
+left_by talk d text = record (session_of d text) { over = has_quit talk }
+
+-- it answered a command as the definition does
+pub record Answers (command : Command) (talk : Talk) (old new : Debugger) (out : Sunk) : Type 0 where
+  pub bytes : List ℕ
+  pub wrote : Puts out bytes
+  pub is : (text : List ℕ) → answer (setting_of old) command (session_of old text) ≡ left_by talk new (text ++ bytes)
+
+abbrev pub AnswerFails : Command → Debugger → Sunk → Type 0
+AnswerFails command old out = Fails (answer (setting_of old) command) old out
+
+-- ---- a script
+
+-- the line in hand, of which so many bytes are kept at most
+pub record IsHeld (begun held : List ℕ) : Type 0 where
+  pub front : held ≡ take 1026 begun
+  pub line : All (λ b. (b == 10) ≡ false) begun
+
+-- the transcript of a script, from how a session stands that has written a text
+abbrev pub told_from : Debugger → List ℕ → ℕ → List ℕ → List ℕ → Transcript
+told_from d text most begun script = transcript_from (setting_of d) (session_of d text) most begun script
+
+-- what comes of the rest of a script, by whether `quit` came
+abbrev pub told_after : Talk → Debugger → List ℕ → ℕ → List ℕ → List ℕ → Transcript
+told_after GoesOn d text most begun rest = told_from d text most begun rest
+told_after Quits d text most begun rest = record { text = text; end = Done }
+
+-- it answered the lines that end within some bytes of a script, behind a line begun
+pub record Hears (bytes begun : List ℕ) (talk : Talk) (old new : Debugger) (held : List ℕ) (out : Sunk) : Type 0 where
+  pub put : List ℕ
+  pub line : List ℕ
+  pub wrote : Puts out put
+  pub held_is : IsHeld line held
+  pub is : (text : List ℕ) (most : ℕ) (rest : List ℕ) → length bytes ≤ most
+      → told_from old text most begun (bytes ++ rest) ≡ told_after talk new (text ++ put) (most - length bytes) line rest
+
+abbrev pub HearFails : List ℕ → List ℕ → Debugger → Sunk → Type 0
+HearFails bytes begun old out = (text : List ℕ) (most : ℕ) (rest : List ℕ) → length bytes ≤ most
+    → Breaks out text (told_from old text most begun (bytes ++ rest)).text
+
+-- the last line of a script was answered, which no line feed ends
+pub record Closes (begun : List ℕ) (d : Debugger) (out : Sunk) : Type 0 where
+  pub put : List ℕ
+  pub wrote : Puts out put
+  pub is : (text : List ℕ) (most : ℕ) → told_from d text most begun [] ≡ record { text = text ++ put; end = Done }
+
+abbrev pub CloseFails : List ℕ → Debugger → Sunk → Type 0
+CloseFails begun d out = (text : List ℕ) (most : ℕ) → Breaks out text (told_from d text most begun []).text
+
+-- what the end of a script did, by its answer
+abbrev pub CloseEffect : DebugEnd → List ℕ → Debugger → Sunk → Type 0
+CloseEffect Done begun d out = Closes begun d out
+CloseEffect SinkFault begun d out = CloseFails begun d out
+CloseEffect end begun d out = ⊥
+
+-- ---- a whole session
+
+-- these bytes of the script were taken, and the rest is left
+pub record Reads (script : Drawn) (taken rest : List ℕ) : Type 0 where
+  pub took : Takes script.old script.new taken rest
+  pub most : length taken ≤ script_limit + 1
+
+-- a session to its end
+pub record Tells (d : Debugger) (end : DebugEnd) (script : Drawn) (out : Sunk) : Type 0 where
+  pub taken : List ℕ
+  pub rest : List ℕ
+  pub put : List ℕ
+  pub reads : Reads script taken rest
+  pub same : script.now ≡ script.before
+  pub wrote : Puts out put
+  pub is : (text : List ℕ) → told_from d text script_limit [] (taken ++ rest) ≡ record { text = text ++ put; end = end }
+
+-- a session whose script failed: it has written a prefix of the transcript
+pub record ReadingFails (d : Debugger) (script : Drawn) (out : Sunk) : Type 0 where
+  pub taken : List ℕ
+  pub rest : List ℕ
+  pub put : List ℕ
+  pub reads : Reads script taken rest
+  pub later : script.before ≤ script.now
+  pub cause : Rose script.before script.now
+  pub wrote : Puts out put
+  pub more : (text : List ℕ) → Grows (text ++ put) (told_from d text script_limit [] (taken ++ rest)).text
+
+-- a session whose sink failed
+pub record TellingFails (d : Debugger) (script : Drawn) (out : Sunk) : Type 0 where
+  pub taken : List ℕ
+  pub rest : List ℕ
+  pub reads : Reads script taken rest
+  pub same : script.now ≡ script.before
+  pub breaks : (text : List ℕ) → Breaks out text (told_from d text script_limit [] (taken ++ rest)).text
+
+-- what a session did that was made, by its answer
+abbrev pub TellEffect : DebugEnd → Debugger → Drawn → Sunk → Type 0
+TellEffect Done d script out = Tells d Done script out
+TellEffect TooLarge d script out = Tells d TooLarge script out
+TellEffect InputFault d script out = ReadingFails d script out
+TellEffect SinkFault d script out = TellingFails d script out
+TellEffect NoMemory d script out = ⊥

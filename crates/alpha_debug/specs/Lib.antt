@@ -1,0 +1,6 @@
+pub mod Command
+pub mod Lines
+pub mod Session
+pub mod Script
+pub mod Effects
+pub mod DebugEffect

@@ -1,0 +1,170 @@
+ghost use Rattle.std.specs.Prelude.{[], IsTrue, IfOk, OnOk, OnErr};
+ghost use Rattle.alpha_io.specs.Sunk.{sunk, Puts};
+ghost use Rattle.alpha_seq.specs.Machine.{state_of};
+ghost use Rattle.alpha_debug.specs.Session.{IsVerdict, going, travel, adding, clearing, is_shown, shown};
+ghost use Rattle.alpha_debug.specs.Effects.{setting_of, IsOpened, Stops, Remains, Makes, Fails, Answers, AnswerFails};
+
+use crate::breakpoints::{MOST_POINTS, Points, has_point, remove_point};
+use crate::command::{Command, MOST_STEPS};
+use crate::print::{log_line, place_line, print_code, print_memory, say, verdict_line};
+use crate::travel::{Until, walk};
+use alpha_image::Image;
+use alpha_io::{Failed, Sink};
+use alpha_seq::{End, Machine, write_registers};
+use alpha_shadow::{Broken, ImageCode, judge};
+use alpha_words::{Completion, NoMemory};
+use arrayvec::ArrayVec;
+use std::alloc::Global;
+
+/// A session.
+#[derive(Drop)]
+pub(crate) struct Debugger {
+    /// The program, in user mode.
+    pub machine: Machine,
+    /// The least broken place of the code, if there is one.
+    pub verdict: Option<Broken>,
+    /// The breakpoints.
+    pub points: Points,
+    /// How the program ended, if it has.
+    pub end: Option<End>,
+}
+
+/// Whether a session goes on.
+#[derive(Clone, Copy, Debug, PartialEq, Eq)]
+pub(crate) enum Talk {
+    /// It does.
+    GoesOn,
+    /// `quit` came.
+    Quits,
+}
+
+impl Debugger {
+    /// A session whose program stands at its start.
+    pub fn new(alloc: Global, image: Image) -> Result<Debugger, NoMemory>
+        ensures { IfOk result (IsOpened image) }
+    {
+        let verdict = verdict_of(&image);
+        let machine = Machine::new(alloc, image, Completion::Wrap)?;
+        Ok(Debugger {
+            machine,
+            verdict,
+            points: ArrayVec::new(),
+            end: None,
+        })
+    }
+
+    /// Answers a command.
+    pub fn answer<K: Sink>(&mut self, command: Command, out: &mut K) -> Result<Talk, Failed>
+        requires { IsTrue self.old.machine.kernel.user }
+        ensures ok { IfOk result (λ talk. Answers command talk self.old self.new
+            (sunk K.written K.faults out.old out.new)) }
+        ensures refused { OnErr result (AnswerFails command self.old
+            (sunk K.written K.faults out.old out.new)) }
+        ensures same { Remains self.old self.new }
+    {
+        match command {
+            Command::Nothing => {}
+            Command::Step(n) => self.travel(Until::Spent, n, out)?,
+            Command::Go => self.travel(Until::Breakpoint, MOST_STEPS, out)?,
+            Command::Barrier => self.travel(Until::Barrier, MOST_STEPS, out)?,
+            Command::Break(at) => self.add(at, out)?,
+            Command::Clear(at) => self.clear(at, out)?,
+            Command::Quit => return Ok(Talk::Quits),
+            command => self.show(command, out)?,
+        }
+        Ok(Talk::GoesOn)
+    }
+
+    // Makes steps, and says where the program stands.
+    fn travel<K: Sink>(&mut self, until: Until, most: u64, out: &mut K) -> Result<(), Failed>
+        requires { IsTrue self.old.machine.kernel.user }
+        ensures ok { OnOk result (Makes (travel (setting_of self.old) until most) self.old self.new
+            (sunk K.written K.faults out.old out.new)) }
+        ensures refused { OnErr result (Fails (travel (setting_of self.old) until most) self.old
+            (sunk K.written K.faults out.old out.new)) }
+        ensures same { Remains self.old self.new }
+    {
+        self.make_steps(until, most, out)?;
+        say(place_line(self.end, self.machine.pc).as_bytes(), out)
+    }
+
+    // Makes steps, unless the program has ended.
+    fn make_steps<K: Sink>(&mut self, until: Until, most: u64, out: &mut K) -> Result<(), Failed>
+        requires { IsTrue self.old.machine.kernel.user }
+        ensures ok { OnOk result (Makes (going (setting_of self.old) until most) self.old self.new
+            (sunk K.written K.faults out.old out.new)) }
+        ensures refused { OnErr result (Fails (going (setting_of self.old) until most) self.old
+            (sunk K.written K.faults out.old out.new)) }
+        ensures same { Remains self.old self.new }
+    {
+        if self.end.is_some() {
+            return Ok(());
+        }
+        self.end = walk(&mut self.machine, until, self.points.as_slice(), most, out)?;
+        Ok(())
+    }
+
+    // Adds a breakpoint.
+    fn add<K: Sink>(&mut self, at: u64, out: &mut K) -> Result<(), Failed>
+        ensures ok { OnOk result (Makes (λ s. adding s at) self.old self.new
+            (sunk K.written K.faults out.old out.new)) }
+        ensures refused { OnErr result (Fails (λ s. adding s at) self.old
+            (sunk K.written K.faults out.old out.new)) }
+        ensures same { Remains self.old self.new }
+    {
+        if has_point(self.points.as_slice(), at) {
+            return say(b"ok\n", out);
+        }
+        if self.points.len() == MOST_POINTS {
+            return say(b"full\n", out);
+        }
+        self.points.push(at);
+        say(b"ok\n", out)
+    }
+
+    // Removes a breakpoint.
+    fn clear<K: Sink>(&mut self, at: u64, out: &mut K) -> Result<(), Failed>
+        ensures ok { OnOk result (Makes (λ s. clearing s at) self.old self.new
+            (sunk K.written K.faults out.old out.new)) }
+        ensures refused { OnErr result (Fails (λ s. clearing s at) self.old
+            (sunk K.written K.faults out.old out.new)) }
+        ensures same { Remains self.old self.new }
+    {
+        remove_point(&mut self.points, at);
+        say(b"ok\n", out)
+    }
+
+    // Answers a command that changes nothing but what is written.
+    fn show<K: Sink>(&self, command: Command, out: &mut K) -> Result<(), Failed>
+        requires { IsTrue (is_shown command) }
+        ensures ok { OnOk result (Puts (sunk K.written K.faults out.old out.new)
+            (shown (setting_of self.now) command (state_of self.now.machine [] []))) }
+        ensures refused { OnErr result (Stops (sunk K.written K.faults out.old out.new)
+            (shown (setting_of self.now) command (state_of self.now.machine [] []))) }
+    {
+        match command {
+            Command::Registers => write_registers(&self.machine.regs, out),
+            Command::Memory(at, count) => print_memory(&self.machine.memory, at, count, out),
+            Command::Listing(at, count) => print_code(&self.machine.image, at, count, out),
+            Command::Shadow => {
+                let line = verdict_line(self.verdict, self.machine.image.code_base());
+                say(line.as_bytes(), out)
+            }
+            Command::Log => {
+                let line = log_line(self.machine.overflows, self.machine.last);
+                say(line.as_bytes(), out)
+            }
+            _ => say(b"?\n", out),
+        }
+    }
+}
+
+// The least broken place of an image's code, if there is one.
+fn verdict_of(image: &Image) -> Option<Broken>
+    ensures { IsVerdict image.now.words result }
+{
+    match judge(&mut ImageCode::new(image)) {
+        Ok(()) => None,
+        Err(broken) => Some(broken),
+    }
+}

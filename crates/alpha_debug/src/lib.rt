@@ -1,0 +1,36 @@
+//! A debugger of programs: it runs a script of commands, and writes what they answer.
+//!
+//! - [`debug`] is the session over an [`Image`](alpha_image::Image). [`DebugEnd`] says how it ended. The commands come line
+//!   by line from a source, and each is answered before the next line is looked at.
+//! - [`laws_of_transcripts`]: every script has a transcript at every image, and by one verdict it has one.
+//!
+//! The commands are `step`, `go`, `barrier`, `break`, `clear`, `regs`, `mem`, `dis`, `shadow`, `log` and `quit`; any other
+//! line is answered by `?`. The program runs on the sequential machine, over an empty input, and its output goes where the
+//! answers go, as it comes. An overflow is completed by wrapping.
+//!
+//! `specs/Command.antt` says what a line says, `specs/Lines.antt` what the lines of the answers are, `specs/Session.antt`
+//! how a session stands and what it answers to a command, `specs/Script.antt` what the transcript of a script is.
+//! `specs/Effects.antt` says what the code did against these, where devices may tell nothing.
+//!
+//! `src/command.rt` reads a line, `src/word.rt` its words and numbers. `src/debugger.rt` has the session and answers a
+//! command; `src/travel.rt` makes the steps, `src/breakpoints.rt` keeps the breakpoints, `src/print.rt` writes the lines.
+//! `src/script.rt` cuts the script into lines, in pieces of a fixed size, and `src/transcript.rt` is the whole.
+#![tactic(auto)]
+
+mod breakpoints;
+mod command;
+mod debugger;
+mod end;
+mod input;
+mod laws;
+mod print;
+mod script;
+#[cfg(test)]
+mod tests;
+mod transcript;
+mod travel;
+mod word;
+
+pub use end::DebugEnd;
+pub use laws::laws_of_transcripts;
+pub use transcript::debug;

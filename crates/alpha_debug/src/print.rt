@@ -1,0 +1,200 @@
+ghost use Rattle.std.specs.Prelude.{◌≡◌, ◌≤◌, ◌<◌, ◌+◌, ◌*◌, ◌^◌, ◌++◌, length, take, drop, min, OnOk, OnErr, Option, Some, slice_index};
+ghost use Rattle.hex.specs.Hex.{encode_lower};
+ghost use Rattle.alpha_io.specs.declared.line.TheConstants.{LINE_ROOM};
+ghost use Rattle.alpha_io.specs.Sunk.{sunk, Puts};
+ghost use Rattle.alpha_table.specs.Decoded.{decoded};
+ghost use Rattle.alpha_mem.specs.Block.{Block};
+ghost use Rattle.alpha_image.specs.Parts.{place_of};
+ghost use Rattle.alpha_debug.specs.Effects.{Stops};
+ghost use Rattle.alpha_debug.specs.Lines.{rows, place_line, memory_line, memory_row, bytes_lines, memory_lines, bad_range, code_line, code_row, code_lines, verdict_line, log_line};
+
+use alpha_image::{Image, code_word};
+use alpha_io::{Failed, Line, Sink, write_whole};
+use alpha_mem::Memory;
+use alpha_seq::{End, line_of_end};
+use alpha_shadow::{Broken, line_of_broken};
+use alpha_table::{Insn, decode};
+use alpha_text::{LineBuf, write_line};
+
+// How many bytes a line of `mem` has at most.
+const ROW: usize = 16;
+
+/// Appends bytes.
+pub(crate) fn say<K: Sink>(bytes: &[u8], out: &mut K) -> Result<(), Failed>
+    ensures ok { OnOk result (Puts (sunk K.written K.faults out.old out.new) bytes.now) }
+    ensures refused { OnErr result (Stops (sunk K.written K.faults out.old out.new) bytes.now) }
+{
+    write_whole(out, bytes)
+}
+
+/// `pc A`, or the line of the end.
+#[tactic(auto, unfolding(crate::specs::Lines::place_line))]
+pub(crate) fn place_line(end: Option<End>, pc: u64) -> Line
+    ensures { result ≡ place_line end pc }
+{
+    match end {
+        Some(end) => line_of_end(&end),
+        None => {
+            let mut line = Line::new();
+            line.push(b"pc ");
+            line.push_hex(pc);
+            line.end();
+            line
+        }
+    }
+}
+
+/// `overflows N last A`
+#[tactic(auto, unfolding(crate::specs::Lines::log_line))]
+pub(crate) fn log_line(count: u64, last: u64) -> Line
+    ensures { result ≡ log_line count last }
+{
+    let mut line = Line::new();
+    line.push(b"overflows ");
+    line.push_decimal(count);
+    line.push(b" last ");
+    line.push_hex(last);
+    line.end();
+    line
+}
+
+/// `accepted`, or the line of the least broken place.
+pub(crate) fn verdict_line(verdict: Option<Broken>, code_base: u64) -> Line
+    ensures { result ≡ verdict_line verdict code_base }
+{
+    match verdict {
+        Some(broken) => line_of_broken(&broken, code_base),
+        None => {
+            let mut line = Line::new();
+            line.push(b"accepted\n");
+            line
+        }
+    }
+}
+
+/// Appends the bytes of a range in lines of sixteen, or `bad range`.
+pub(crate) fn print_memory<K: Sink>(
+    memory: &Memory,
+    at: u64,
+    count: u64,
+    out: &mut K,
+) -> Result<(), Failed>
+    ensures ok { OnOk result (Puts (sunk K.written K.faults out.old out.new)
+        (memory_lines memory.now at count)) }
+    ensures refused { OnErr result (Stops (sunk K.written K.faults out.old out.new)
+        (memory_lines memory.now at count)) }
+{
+    match memory.bytes(at, count) {
+        Some(bytes) => print_bytes(at, bytes, out),
+        None => say(b"bad range\n", out),
+    }
+}
+
+// Appends bytes in lines of sixteen, the first of which stand at an address.
+fn print_bytes<K: Sink>(at: u64, bytes: &[u8], out: &mut K) -> Result<(), Failed>
+    requires { at + length bytes.now < 2 ^ 64 }
+    ensures ok { OnOk result (Puts (sunk K.written K.faults out.old out.new)
+        (bytes_lines at bytes.now)) }
+    ensures refused { OnErr result (Stops (sunk K.written K.faults out.old out.new)
+        (bytes_lines at bytes.now)) }
+{
+    for k in 0..bytes.len().div_ceil(ROW) {
+        let front = ROW * k;
+        let end = bytes.len().min(front + ROW);
+        let line = memory_line(at + front as u64, &bytes[front..end]);
+        say(line.as_bytes(), out)?;
+    }
+    Ok(())
+}
+
+// An address, and the bytes there.
+#[tactic(auto, unfolding(crate::specs::Lines::memory_line))]
+fn memory_line(at: u64, bytes: &[u8]) -> Line
+    requires { length bytes.now ≤ 16 }
+    ensures { result ≡ memory_line at bytes.now }
+{
+    let mut line = Line::new();
+    line.push_hex(at);
+    line.push(b" ");
+    push_bytes(&mut line, bytes);
+    line.end();
+    line
+}
+
+/// Appends the canonical lines of code words with their addresses, from an address on to the end of the code at most, or
+/// `bad range`.
+pub(crate) fn print_code<K: Sink>(
+    image: &Image,
+    at: u64,
+    count: u64,
+    out: &mut K,
+) -> Result<(), Failed>
+    ensures ok { OnOk result (Puts (sunk K.written K.faults out.old out.new)
+        (code_lines image.now (place_of image.now at) count)) }
+    ensures refused { OnErr result (Stops (sunk K.written K.faults out.old out.new)
+        (code_lines image.now (place_of image.now at) count)) }
+{
+    match image.place_of(at) {
+        Some(place) => print_words(image, place, count, out),
+        None => say(b"bad range\n", out),
+    }
+}
+
+// Appends the lines of code words from a place on.
+fn print_words<K: Sink>(image: &Image, place: u32, count: u64, out: &mut K) -> Result<(), Failed>
+    requires { place < length image.now.words }
+    ensures ok { OnOk result (Puts (sunk K.written K.faults out.old out.new)
+        (code_lines image.now (Some place) count)) }
+    ensures refused { OnErr result (Stops (sunk K.written K.faults out.old out.new)
+        (code_lines image.now (Some place) count)) }
+{
+    let count = count.min(u64::from(image.words() - place));
+    for k in 0..count {
+        let line = code_line(image, place + k as u32);
+        say(line.as_bytes(), out)?;
+    }
+    Ok(())
+}
+
+// The address of a code word, and the canonical line of its instruction.
+#[tactic(auto, using(crate::proofs::Printing::line_at), unfolding(crate::specs::Lines::code_line))]
+fn code_line(image: &Image, place: u32) -> Line
+    requires { place < length image.now.words }
+    ensures { result ≡ code_line (image.now.code_base + 4 * place) (slice_index image.now.words place) }
+{
+    let mut text = LineBuf::new();
+    write_line(&instruction(image, place), &mut text);
+    let mut line = Line::new();
+    line.push_hex(image.code_base() + 4 * u64::from(place));
+    line.push(b" ");
+    line.push(text.bytes());
+    line.end();
+    line
+}
+
+// The instruction of the code word at a place.
+fn instruction(image: &Image, place: u32) -> Insn
+    requires { place < length image.now.words }
+    ensures { decoded (slice_index image.now.words place) ≡ Some result }
+{
+    match code_word(image, place) {
+        Some(word) => match decode(word) {
+            Some(insn) => insn,
+            None => unreachable!(),
+        },
+        None => unreachable!(),
+    }
+}
+
+// Appends the hexadecimal digits of at most sixteen bytes.
+fn push_bytes(line: &mut Line, bytes: &[u8])
+    requires few { length bytes.now ≤ 16 }
+    requires room { length line.old + 32 ≤ LINE_ROOM }
+    ensures state { line.new ≡ line.old ++ encode_lower bytes.now }
+    ensures size { length (encode_lower bytes.now) ≡ 2 * length bytes.now }
+{
+    let mut space = [0; 2 * ROW];
+    let digits = &mut space[..2 * bytes.len()];
+    let _ = hex::encode_to_slice(bytes, digits);
+    line.push(digits);
+}

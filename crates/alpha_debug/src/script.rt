@@ -1,0 +1,95 @@
+ghost use Rattle.std.specs.Prelude.{◌≡◌, [], ◌∷◌, List, ℕ, IsTrue, IfOk, OnErr};
+ghost use Rattle.std.specs.Str.Lines.{strip_carriage_return};
+ghost use Rattle.alpha_io.specs.Sunk.{sunk};
+ghost use Rattle.alpha_debug.specs.Command.{command_of};
+ghost use Rattle.alpha_debug.specs.Effects.{Remains, Answers, AnswerFails, IsHeld, Hears, HearFails};
+
+use crate::command::command_of;
+use crate::debugger::{Debugger, Talk};
+use alpha_io::{Failed, Sink};
+use arrayvec::ArrayVec;
+
+// How many bytes of a line are kept: one that has so many is too long, whether or not its last is a carriage return.
+const HELD: usize = 1_026;
+
+/// The front of the line in hand, without a line feed.
+pub(crate) type Held = ArrayVec<u8, HELD>;
+
+/// Answers the lines that end within these further bytes of the script, to a `quit`.
+pub(crate) fn hear<K: Sink>(
+    debugger: &mut Debugger,
+    held: &mut Held,
+    bytes: &[u8],
+    out: &mut K,
+) -> Result<Talk, Failed>
+    requires { IsTrue debugger.old.machine.kernel.user }
+    ensures ok { (begun : List ℕ) → IsHeld begun held.old.items
+        → IfOk result (λ talk. Hears bytes.now begun talk debugger.old debugger.new held.new.items
+        (sunk K.written K.faults out.old out.new)) }
+    ensures refused { (begun : List ℕ) → IsHeld begun held.old.items
+        → OnErr result (HearFails bytes.now begun debugger.old
+        (sunk K.written K.faults out.old out.new)) }
+    ensures same { Remains debugger.old debugger.new }
+{
+    for byte in bytes {
+        match hear_byte(debugger, held, *byte, out)? {
+            Talk::GoesOn => {}
+            Talk::Quits => return Ok(Talk::Quits),
+        }
+    }
+    Ok(Talk::GoesOn)
+}
+
+// Takes a further byte of the script, and answers the line that it ends.
+fn hear_byte<K: Sink>(
+    debugger: &mut Debugger,
+    held: &mut Held,
+    byte: u8,
+    out: &mut K,
+) -> Result<Talk, Failed>
+    requires { IsTrue debugger.old.machine.kernel.user }
+    ensures ok { (begun : List ℕ) → IsHeld begun held.old.items
+        → IfOk result (λ talk. Hears (byte ∷ []) begun talk debugger.old debugger.new held.new.items
+        (sunk K.written K.faults out.old out.new)) }
+    ensures refused { (begun : List ℕ) → IsHeld begun held.old.items
+        → OnErr result (HearFails (byte ∷ []) begun debugger.old
+        (sunk K.written K.faults out.old out.new)) }
+    ensures same { Remains debugger.old debugger.new }
+{
+    if byte == b'\n' {
+        let talk = answer_line(debugger, without_return(held.as_slice()), out)?;
+        held.clear();
+        Ok(talk)
+    } else {
+        if !held.is_full() {
+            held.push(byte);
+        }
+        Ok(Talk::GoesOn)
+    }
+}
+
+/// Answers a line, which has lost its line end.
+pub(crate) fn answer_line<K: Sink>(
+    debugger: &mut Debugger,
+    line: &[u8],
+    out: &mut K,
+) -> Result<Talk, Failed>
+    requires { IsTrue debugger.old.machine.kernel.user }
+    ensures ok { IfOk result (λ talk. Answers (command_of line.now) talk debugger.old debugger.new
+        (sunk K.written K.faults out.old out.new)) }
+    ensures refused { OnErr result (AnswerFails (command_of line.now) debugger.old
+        (sunk K.written K.faults out.old out.new)) }
+    ensures same { Remains debugger.old debugger.new }
+{
+    debugger.answer(command_of(line), out)
+}
+
+// A line without the one carriage return at its end, if it has one.
+fn without_return(line: &[u8]) -> &[u8]
+    ensures { result.now ≡ strip_carriage_return line.now }
+{
+    match line {
+        [text @ .., b'\r'] => text,
+        _ => line,
+    }
+}

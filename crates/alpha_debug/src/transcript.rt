@@ -1,0 +1,89 @@
+ghost use Rattle.std.specs.Prelude.{IsTrue, List, ℕ};
+ghost use Rattle.alpha_io.specs.Sunk.{sunk};
+ghost use Rattle.alpha_seq.specs.Devices.{drawn};
+ghost use Rattle.alpha_debug.specs.DebugEffect.{DebugEffect};
+ghost use Rattle.alpha_debug.specs.Effects.{IsHeld, CloseEffect, TellEffect};
+
+use crate::DebugEnd;
+use crate::debugger::{Debugger, Talk};
+use crate::script::{Held, answer_line, hear};
+use alpha_image::Image;
+use alpha_io::{Failed, Sink, Source};
+use alpha_words::NoMemory;
+use arrayvec::ArrayVec;
+use std::alloc::Global;
+
+// How many bytes of a script count.
+const SCRIPT_LIMIT: usize = 1_048_576;
+
+// How many bytes one call of the script is asked for at most.
+const PIECE: usize = 16_384;
+
+/// Runs a script of commands on the program of an image, and writes its transcript.
+///
+/// The script is cut into lines at its line feeds, before each of which one carriage return may stand; what stands behind
+/// the last one is a line where it isn't empty. Of its bytes the first 1,048,576 count. The session ends at `quit`, or at
+/// the end of the script. Memory is taken only while the session is made, before anything is taken or written.
+///
+/// At most 1,048,577 bytes of the script are taken. Where a device fails, a prefix of the transcript was written.
+pub fn debug<S: Source, K: Sink>(
+    alloc: Global,
+    image: Image,
+    script: &mut S,
+    out: &mut K,
+) -> DebugEnd
+    ensures { DebugEffect result image
+        (drawn S.left S.faults script.old script.new)
+        (sunk K.written K.faults out.old out.new) }
+{
+    match Debugger::new(alloc, image) {
+        Ok(mut debugger) => converse(&mut debugger, script, out),
+        Err(NoMemory) => DebugEnd::NoMemory,
+    }
+}
+
+// Answers the lines of a script.
+fn converse<S: Source, K: Sink>(debugger: &mut Debugger, script: &mut S, out: &mut K) -> DebugEnd
+    requires { IsTrue debugger.old.machine.kernel.user }
+    ensures { TellEffect result debugger.old
+        (drawn S.left S.faults script.old script.new)
+        (sunk K.written K.faults out.old out.new) }
+{
+    let mut held = ArrayVec::new();
+    let mut space = [0; PIECE];
+    let mut most = SCRIPT_LIMIT;
+    while most > 0 {
+        let piece = &mut space[..most.min(PIECE)];
+        let count = match script.take(piece) {
+            Ok(count) => count,
+            Err(Failed) => return DebugEnd::InputFault,
+        };
+        if count == 0 {
+            return close(debugger, &held, out);
+        }
+        match hear(debugger, &mut held, &piece[..count], out) {
+            Ok(Talk::GoesOn) => {}
+            Ok(Talk::Quits) => return DebugEnd::Done,
+            Err(Failed) => return DebugEnd::SinkFault,
+        }
+        most -= count;
+    }
+    let mut more = [0; 1];
+    match script.take(&mut more) {
+        Ok(0) => close(debugger, &held, out),
+        Ok(_) => DebugEnd::TooLarge,
+        Err(Failed) => DebugEnd::InputFault,
+    }
+}
+
+// Ends a session at the end of the script: what stands behind its last line feed is answered.
+fn close<K: Sink>(debugger: &mut Debugger, held: &Held, out: &mut K) -> DebugEnd
+    requires { IsTrue debugger.old.machine.kernel.user }
+    ensures { (begun : List ℕ) → IsHeld begun held.now.items → CloseEffect result begun debugger.old
+        (sunk K.written K.faults out.old out.new) }
+{
+    match answer_line(debugger, held.as_slice(), out) {
+        Ok(_) => DebugEnd::Done,
+        Err(Failed) => DebugEnd::SinkFault,
+    }
+}

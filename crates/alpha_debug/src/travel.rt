@@ -1,0 +1,109 @@
+ghost use Rattle.std.specs.Prelude.{◌≡◌, IsTrue, IfOk, OnErr};
+ghost use Rattle.alpha_io.specs.Sunk.{sunk};
+ghost use Rattle.alpha_seq.specs.Machine.{Stays};
+ghost use Rattle.alpha_seq.specs.Run.{end_of};
+ghost use Rattle.alpha_debug.specs.Session.{is_reached, is_last};
+ghost use Rattle.alpha_debug.specs.Effects.{event_of, Moves, MoveBreaks, Walks, WalkBreaks};
+
+use crate::breakpoints::has_point;
+use crate::input::NoInput;
+use alpha_io::{Failed, NullSink, Sink};
+use alpha_seq::{End, Machine, StepEnd};
+
+/// Which step is the last one that is wanted.
+#[derive(Clone, Copy, Debug, PartialEq, Eq)]
+pub(crate) enum Until {
+    /// None: all steps are made.
+    Spent,
+    /// One behind which the PC is a breakpoint.
+    Breakpoint,
+    /// One that executes a barrier.
+    Barrier,
+}
+
+/// How a step went whose devices didn't fail.
+#[derive(Clone, Copy, Debug, PartialEq, Eq)]
+pub(crate) enum Moved {
+    /// An instruction was executed.
+    Went,
+    /// A barrier was executed.
+    Barrier,
+    /// The instruction at this address overflowed, and was logged.
+    Overflow(u64),
+    /// The program ended.
+    Ended(End),
+}
+
+/// Makes at most so many steps, fewer where the program ends or the wanted step came, and answers how the program ended.
+pub(crate) fn walk<K: Sink>(
+    machine: &mut Machine,
+    until: Until,
+    points: &[u64],
+    most: u64,
+    out: &mut K,
+) -> Result<Option<End>, Failed>
+    requires { IsTrue machine.old.kernel.user }
+    ensures ok { IfOk result (λ end. Walks until points.now most end machine.old machine.new
+        (sunk K.written K.faults out.old out.new)) }
+    ensures refused { OnErr result (WalkBreaks until points.now most machine.old
+        (sunk K.written K.faults out.old out.new)) }
+    ensures same { Stays machine.old machine.new }
+{
+    for _ in 0..most {
+        let moved = step(machine, out)?;
+        if is_last(until, points, moved, machine.pc) {
+            return Ok(end_of(moved));
+        }
+    }
+    Ok(None)
+}
+
+// Makes one step over an empty input, without notes.
+fn step<K: Sink>(machine: &mut Machine, out: &mut K) -> Result<Moved, Failed>
+    requires { IsTrue machine.old.kernel.user }
+    ensures ok { IfOk result (λ moved. Moves (event_of moved) machine.old machine.new
+        (sunk K.written K.faults out.old out.new)) }
+    ensures refused { OnErr result (MoveBreaks machine.old
+        (sunk K.written K.faults out.old out.new)) }
+    ensures same { Stays machine.old machine.new }
+{
+    match machine.step(&mut NoInput, out, &mut NullSink::new()) {
+        StepEnd::Went => Ok(Moved::Went),
+        StepEnd::Barrier => Ok(Moved::Barrier),
+        StepEnd::Overflow(at) => Ok(Moved::Overflow(at)),
+        StepEnd::Ended(end) => Ok(Moved::Ended(end)),
+        StepEnd::SinkFault => Err(Failed),
+        StepEnd::InputFault => unreachable!(),
+    }
+}
+
+// How the program ended, if it has.
+fn end_of(moved: Moved) -> Option<End>
+    ensures { result ≡ end_of (event_of moved) }
+{
+    match moved {
+        Moved::Ended(end) => Some(end),
+        _ => None,
+    }
+}
+
+// Whether no further step is made: the program has ended, or the wanted step came.
+fn is_last(until: Until, points: &[u64], moved: Moved, pc: u64) -> bool
+    ensures { result ≡ is_last until points.now (event_of moved) pc }
+{
+    match moved {
+        Moved::Ended(_) => true,
+        moved => is_reached(until, points, moved, pc),
+    }
+}
+
+// Whether the wanted step came.
+fn is_reached(until: Until, points: &[u64], moved: Moved, pc: u64) -> bool
+    ensures { result ≡ is_reached until points.now (event_of moved) pc }
+{
+    match until {
+        Until::Spent => false,
+        Until::Breakpoint => has_point(points, pc),
+        Until::Barrier => matches!(moved, Moved::Barrier),
+    }
+}
