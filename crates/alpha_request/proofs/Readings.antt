@@ -24,12 +24,14 @@ pub simple_and_free : (name : Name) → is_simple_and_free (app_of_name name) �
 unfolding clap_on_literals
 simple_and_free names.Check = refl
 simple_and_free names.Dis = refl
+simple_and_free names.Asm = refl
 simple_and_free names.Run = refl
 
 pub simple : (name : Name) → is_simple (app_of_name name) ≡ true
 unfolding clap_on_literals
 simple names.Check = refl
 simple names.Dis = refl
+simple names.Asm = refl
 simple names.Run = refl
 
 chosen : (kinds : Kinds) (rows : List Row) → kinds ≡ [] → unless_faulty kinds rows ≡ Some rows

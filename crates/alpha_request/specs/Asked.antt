@@ -14,8 +14,8 @@ use Rattle.alpha_request.specs.declared.name.Name.TheVariants as names
 use Rattle.alpha_request.specs.declared.request.Request.{Request}
 use Rattle.alpha_request.specs.declared.request.Refusal.{Refusal}
 use Rattle.alpha_request.specs.declared.request.Refusal.TheVariants.{BadWords, NoMemory}
-use Rattle.alpha_request.specs.Command.{Command, check, dis, run, command_of}
-use Rattle.alpha_request.specs.Options.{options_in}
+use Rattle.alpha_request.specs.Command.{Command, check, dis, asm, run, imprecise, command_of}
+use Rattle.alpha_request.specs.Options.{options_in, choices_in, force_in, has_choices, is_imprecise}
 use Rattle.clap.specs.declared.builder.action.ArgAction.TheVariants.{SetTrue}
 
 -- the command that a word names
@@ -23,6 +23,7 @@ abbrev pub name_of : Text → Option Name
 name_of word =
     if bytes_eq word (codes "check") then Some names.Check
     else if bytes_eq word (codes "dis") then Some names.Dis
+    else if bytes_eq word (codes "asm") then Some names.Asm
     else if bytes_eq word (codes "run") then Some names.Run else None
 
 -- ---- clap's definition of each command
@@ -45,16 +46,24 @@ bare = on_top (λ s. record s { disable_help_flag = true }) (new_app (codes "alp
 abbrev pub file_app : App
 file_app = with_rule bare (word (codes "file"))
 
--- the options of `run` and its file
+abbrev pub asm_app : App
+asm_app = with_rule file_app (word (codes "out"))
+
+-- the options of any run
+abbrev pub run_options : App
+run_options = with_rule (with_rule (with_rule bare (option (codes "complete"))) (option (codes "steps"))) (flag (codes "watch"))
+
+-- with those of a run of the imprecise machine that choose
+abbrev pub choice_options : App
+choice_options = with_rule (with_rule (with_rule run_options (flag (codes "imprecise"))) (option (codes "seed"))) (option (codes "choices"))
+
 abbrev pub run_app : App
-run_app =
-    with_rule
-    (with_rule (with_rule (with_rule bare (option (codes "complete"))) (option (codes "steps"))) (flag (codes "watch")))
-    (word (codes "file"))
+run_app = with_rule (with_rule choice_options (flag (codes "force"))) (word (codes "file"))
 
 abbrev pub app_of_name : Name → App
 app_of_name names.Check = file_app
 app_of_name names.Dis = file_app
+app_of_name names.Asm = asm_app
 app_of_name names.Run = run_app
 
 -- rows where there is no fault
@@ -68,11 +77,23 @@ matches_on app words = unless_faulty (fault_of app words) (matches_of app words)
 
 -- ---- the product's own rules
 
+-- a run of the sequential machine
+abbrev pub plain_in : List Row → Option Command
+plain_in rows = option_and_then (λ options. option_map (run options) (first_of (codes "file") rows)) (options_in rows)
+
+-- a run of the imprecise machine
+abbrev pub imprecise_in : List Row → Option Command
+imprecise_in rows =
+    option_and_then
+    (λ options. option_and_then (λ choices. option_map (imprecise options choices (force_in rows)) (first_of (codes "file") rows)) (choices_in rows))
+    (options_in rows)
+
 -- the command that matches make
 abbrev pub command_in : Name → List Row → Option Command
 command_in names.Check rows = option_map check (first_of (codes "file") rows)
 command_in names.Dis rows = option_map dis (first_of (codes "file") rows)
-command_in names.Run rows = option_and_then (λ options. option_map (run options) (first_of (codes "file") rows)) (options_in rows)
+command_in names.Asm rows = option_and_then (λ file. option_map (asm file) (first_of (codes "out") rows)) (first_of (codes "file") rows)
+command_in names.Run rows = if is_imprecise rows then imprecise_in rows else if has_choices rows then None else plain_in rows
 
 -- what words whose first one has this name ask for
 unfoldable pub asked_as : Name → List Text → Option Command

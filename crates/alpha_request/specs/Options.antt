@@ -1,5 +1,5 @@
 -- The options of `run`, by the product's own rules.
-use Rattle.std.specs.Prelude.{ℕ, ◌^◌, ◌&&◌, Bool, true, false, not, List, length, codes, nat_lt, Option, Some, None, option_map, if◌then◌else◌}
+use Rattle.std.specs.Prelude.{ℕ, ◌^◌, ◌&&◌, ◌||◌, Bool, true, false, not, List, length, codes, nat_lt, Option, Some, None, option_map, if◌then◌else◌}
 use Rattle.std.specs.Option.{option_and_then}
 use Rattle.std.specs.List.{list_all}
 use Rattle.std.specs.Char.{is_ascii_digit}
@@ -9,6 +9,8 @@ use Rattle.clap.specs.Walk.{Row, Text, first_of}
 use Rattle.alpha_words.specs.declared.Completion.{Completion}
 use Rattle.alpha_words.specs.declared.Completion.TheVariants.{Wrap, Saturate, Stop}
 use Rattle.alpha_request.specs.declared.options.RunOptions.{RunOptions}
+use Rattle.alpha_request.specs.declared.options.Choices.{Choices}
+use Rattle.alpha_request.specs.declared.options.Choices.TheVariants.{Seed, File}
 
 -- the completion that a text names
 abbrev pub completion_of : Text → Option Completion
@@ -39,6 +41,11 @@ abbrev pub is_given : Option Text → Bool
 is_given None = false
 is_given (Some text) = bytes_eq text (codes "true")
 
+-- an option is given
+abbrev pub is_there : Option Text → Bool
+is_there None = false
+is_there (Some text) = true
+
 abbrev pub complete_in : List Row → Option Completion
 complete_in rows = or_default Wrap completion_of (first_of (codes "complete") rows)
 
@@ -54,3 +61,34 @@ options_in rows =
     option_and_then
     (λ complete. option_map (λ steps. record { complete = complete; steps = steps; watch = watch_in rows }) (steps_in rows))
     (complete_in rows)
+
+-- ---- the choices of the imprecise machine
+
+-- where they come from, with the bytes of the file's name
+pub data Drawn : Type 0 where
+  seed : ℕ → Drawn
+  file : List ℕ → Drawn
+
+abbrev pub drawn_from : Choices → Drawn
+drawn_from (Seed n) = seed n
+drawn_from (File name) = file name.now
+
+-- a seed and a file exclude each other, and without both the seed is 0
+abbrev pub choices_from : Option Text → Option Text → Option Drawn
+choices_from None None = Some (seed 0)
+choices_from (Some number) None = option_map seed (number_of number)
+choices_from None (Some name) = Some (file name)
+choices_from (Some number) (Some name) = None
+
+abbrev pub choices_in : List Row → Option Drawn
+choices_in rows = choices_from (first_of (codes "seed") rows) (first_of (codes "choices") rows)
+
+abbrev pub is_imprecise : List Row → Bool
+is_imprecise rows = is_given (first_of (codes "imprecise") rows)
+
+abbrev pub force_in : List Row → Bool
+force_in rows = is_given (first_of (codes "force") rows)
+
+-- an option that only a run of the imprecise machine has
+abbrev pub has_choices : List Row → Bool
+has_choices rows = is_there (first_of (codes "seed") rows) || (is_there (first_of (codes "choices") rows) || force_in rows)

@@ -2,7 +2,7 @@
 //!
 //! - [`Words`] are the words, in their order.
 //! - [`Request`] is what good words ask for, [`Refusal`] why there is no request. [`RunOptions`] is
-//!   how a program is run.
+//!   how a program is run, [`Choices`] where the choices of the imprecise machine come from.
 //! - [`request_of`] reads the words. The first is a command's name exactly. `clap` reads the others
 //!   by the definition that it has of a simple command, which has no subcommands, no help and no
 //!   version flag. Then the product's own rules decide. So words ask for one command at most, and
@@ -25,6 +25,6 @@ mod request;
 mod tests;
 mod words;
 
-pub use options::RunOptions;
+pub use options::{Choices, RunOptions};
 pub use request::{Refusal, Request, request_of};
 pub use words::Words;

@@ -8,6 +8,8 @@ pub(crate) enum Name {
     Check,
     /// `dis`
     Dis,
+    /// `asm`
+    Asm,
     /// `run`
     Run,
 }
@@ -19,6 +21,7 @@ pub(crate) fn name_of(word: &str) -> Option<Name>
     match word {
         "check" => Some(Name::Check),
         "dis" => Some(Name::Dis),
+        "asm" => Some(Name::Asm),
         "run" => Some(Name::Run),
         _ => None,
     }

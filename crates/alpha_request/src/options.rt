@@ -1,10 +1,10 @@
-//! The options of `run`.
+//! The options of `run`, and the choices of `run --imprecise`.
 
-ghost use Rattle.std.specs.Prelude.{◌≡◌};
+ghost use Rattle.std.specs.Prelude.{◌≡◌, option_map};
 ghost use Rattle.std.specs.List.{list_all};
 ghost use Rattle.std.specs.Char.{is_ascii_digit};
-ghost use Rattle.clap.specs.Words.{found_of, rows_of};
-ghost use Rattle.alpha_request.specs.Options.{completion_of, is_digits, number_of, complete_in, steps_in, watch_in, options_in};
+ghost use Rattle.clap.specs.Words.{found_of, first_of, rows_of};
+ghost use Rattle.alpha_request.specs.Options.{choices_in, complete_in, completion_of, drawn_from, force_in, has_choices, is_digits, is_given, is_imprecise, is_there, number_of, options_in, seed, steps_in, watch_in};
 
 use crate::matches::text;
 use alpha_words::Completion;
@@ -20,6 +20,16 @@ pub struct RunOptions {
     pub steps: u64,
     /// `--watch`: whether each barrier is noted.
     pub watch: bool,
+}
+
+/// Where the choices of the imprecise machine come from: when it executes which of the instructions
+/// that may trap, when it reports a trap, and what a register holds until then.
+#[derive(Clone, Copy, Debug, PartialEq, Eq)]
+pub enum Choices<'a> {
+    /// `--seed N`: the words of the generator with this seed, 0 where no choices are given.
+    Seed(u64),
+    /// `--choices FILE`: the words of the file of this name.
+    File(&'a str),
 }
 
 // The most steps where none are given.
@@ -60,14 +70,70 @@ fn steps_in(matches: &ArgMatches<'_>) -> Option<u64>
     }
 }
 
-// The flag's text is `true` where it is given.
 fn watch_in(matches: &ArgMatches<'_>) -> bool
     ensures { result ≡ watch_in (rows_of (found_of matches.now)) }
 {
-    match text(matches, "watch") {
+    is_given(matches, "watch")
+}
+
+/// Whether the run is one of the imprecise machine.
+pub(crate) fn is_imprecise(matches: &ArgMatches<'_>) -> bool
+    ensures { result ≡ is_imprecise (rows_of (found_of matches.now)) }
+{
+    is_given(matches, "imprecise")
+}
+
+/// Whether a refused image is run as well.
+pub(crate) fn force_in(matches: &ArgMatches<'_>) -> bool
+    ensures { result ≡ force_in (rows_of (found_of matches.now)) }
+{
+    is_given(matches, "force")
+}
+
+/// Whether an option is given that only a run of the imprecise machine has.
+pub(crate) fn has_choices(matches: &ArgMatches<'_>) -> bool
+    ensures { result ≡ has_choices (rows_of (found_of matches.now)) }
+{
+    is_there(matches, "seed") || is_there(matches, "choices") || force_in(matches)
+}
+
+/// The choices that matches make: a seed and a file exclude each other.
+pub(crate) fn choices_in<'a>(matches: &ArgMatches<'a>) -> Option<Choices<'a>>
+    ensures { option_map drawn_from result ≡ choices_in (rows_of (found_of matches.now)) }
+{
+    match (text(matches, "seed"), text(matches, "choices")) {
+        (None, None) => Some(Choices::Seed(0)),
+        (Some(number), None) => seed_of(number),
+        (None, Some(name)) => Some(Choices::File(name)),
+        (Some(_), Some(_)) => None,
+    }
+}
+
+// The choices by the seed that a text stands for.
+fn seed_of<'a>(number: &str) -> Option<Choices<'a>>
+    ensures { option_map drawn_from result ≡ option_map seed (number_of number.now) }
+{
+    match number_of(number) {
+        Some(seed) => Some(Choices::Seed(seed)),
+        None => None,
+    }
+}
+
+// The flag's text is `true` where it is given.
+fn is_given(matches: &ArgMatches<'_>, id: &str) -> bool
+    ensures { result ≡ is_given (first_of id.now (rows_of (found_of matches.now))) }
+{
+    match text(matches, id) {
         Some(given) => given == "true",
         None => false,
     }
+}
+
+// An option is given.
+fn is_there(matches: &ArgMatches<'_>, id: &str) -> bool
+    ensures { result ≡ is_there (first_of id.now (rows_of (found_of matches.now))) }
+{
+    text(matches, id).is_some()
 }
 
 // The completion that a text names.

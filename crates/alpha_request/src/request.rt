@@ -1,12 +1,12 @@
 ghost use Rattle.std.specs.Prelude.{◌≡◌, option_map};
 ghost use Rattle.clap.specs.Words.{found_of, rows_of};
 ghost use Rattle.alpha_request.specs.Command.{command_of};
-ghost use Rattle.alpha_request.specs.Asked.{asked, command_in, Reads};
+ghost use Rattle.alpha_request.specs.Asked.{asked, command_in, imprecise_in, plain_in, Reads};
 
 use crate::matches::{matches_of, text};
 use crate::name::{Name, name_of};
-use crate::options::options_in;
-use crate::{RunOptions, Words};
+use crate::options::{choices_in, force_in, has_choices, is_imprecise, options_in};
+use crate::{Choices, RunOptions, Words};
 use clap::ArgMatches;
 use std::alloc::Global;
 
@@ -23,10 +23,28 @@ pub enum Request<'a> {
         /// The name of the file.
         file: &'a str,
     },
-    /// `run FILE`: a run of the image FILE.
+    /// `asm FILE OUT`: the image of the source FILE, kept as OUT.
+    Asm {
+        /// The name of the source.
+        file: &'a str,
+        /// The name under which the image is kept.
+        out: &'a str,
+    },
+    /// `run FILE`: a run of the image FILE by the sequential machine.
     Run {
         /// How it is run.
         options: RunOptions,
+        /// The name of the file.
+        file: &'a str,
+    },
+    /// `run --imprecise FILE`: a run of the image FILE by the imprecise machine.
+    RunImprecise {
+        /// How it is run.
+        options: RunOptions,
+        /// Where the machine's choices come from.
+        choices: Choices<'a>,
+        /// `--force`: whether it is run though its code can't be restarted after a late trap.
+        force: bool,
         /// The name of the file.
         file: &'a str,
     },
@@ -78,7 +96,22 @@ fn request_in<'a>(name: Name, matches: &ArgMatches<'a>) -> Option<Request<'a>>
             Some(file) => Some(Request::Dis { file }),
             None => None,
         },
+        Name::Asm => asm_request(matches),
         Name::Run => run_request(matches),
+    }
+}
+
+// The request of an assembly.
+fn asm_request<'a>(matches: &ArgMatches<'a>) -> Option<Request<'a>>
+    ensures { option_map command_of result
+        ≡ command_in Name.Asm (rows_of (found_of matches.now)) }
+{
+    match text(matches, "file") {
+        Some(file) => match text(matches, "out") {
+            Some(out) => Some(Request::Asm { file, out }),
+            None => None,
+        },
+        None => None,
     }
 }
 
@@ -86,6 +119,38 @@ fn request_in<'a>(name: Name, matches: &ArgMatches<'a>) -> Option<Request<'a>>
 fn run_request<'a>(matches: &ArgMatches<'a>) -> Option<Request<'a>>
     ensures { option_map command_of result
         ≡ command_in Name.Run (rows_of (found_of matches.now)) }
+{
+    if is_imprecise(matches) {
+        imprecise_request(matches)
+    } else if has_choices(matches) {
+        None
+    } else {
+        plain_request(matches)
+    }
+}
+
+// The request of a run of the imprecise machine.
+fn imprecise_request<'a>(matches: &ArgMatches<'a>) -> Option<Request<'a>>
+    ensures { option_map command_of result ≡ imprecise_in (rows_of (found_of matches.now)) }
+{
+    match (
+        options_in(matches),
+        choices_in(matches),
+        text(matches, "file"),
+    ) {
+        (Some(options), Some(choices), Some(file)) => Some(Request::RunImprecise {
+            options,
+            choices,
+            force: force_in(matches),
+            file,
+        }),
+        _ => None,
+    }
+}
+
+// The request of a run of the sequential machine, where no other options are given.
+fn plain_request<'a>(matches: &ArgMatches<'a>) -> Option<Request<'a>>
+    ensures { option_map command_of result ≡ plain_in (rows_of (found_of matches.now)) }
 {
     match options_in(matches) {
         Some(options) => match text(matches, "file") {

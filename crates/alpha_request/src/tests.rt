@@ -1,4 +1,4 @@
-use crate::{Refusal, Request, RunOptions, Words, request_of};
+use crate::{Choices, Refusal, Request, RunOptions, Words, request_of};
 use alpha_words::Completion;
 use std::alloc::Global;
 use std::test::Fail;
@@ -12,7 +12,11 @@ fn asked(alloc: Global, words: &[&str]) -> Result<Option<(&'static str, String)>
     match request_of(alloc, &given) {
         Ok(Request::Check { file }) => Ok(Some(("check", String::from_str(alloc, file)?))),
         Ok(Request::Dis { file }) => Ok(Some(("dis", String::from_str(alloc, file)?))),
-        Ok(Request::Run { file, .. }) => Ok(Some(("run", String::from_str(alloc, file)?))),
+        Ok(Request::Asm { file, .. }) => Ok(Some(("asm", String::from_str(alloc, file)?))),
+        Ok(Request::Run { file, .. } | Request::RunImprecise { file, .. }) => Ok(Some((
+            "run",
+            String::from_str(alloc, file)?,
+        ))),
         Err(Refusal::BadWords) => Ok(None),
         Err(Refusal::NoMemory) => Err(Fail::from("no memory")),
     }
@@ -71,6 +75,50 @@ fn a_listing_is_of_one_file(rt: HostRuntime) -> Result<(), Fail> {
     let refused: [&[&str]; 4] = [&["dis"], &["dis", "a", "b"], &["dis", "-a"], &["dism", "a"]];
     for words in refused {
         assert!(rt; asked(alloc, words)?.is_none());
+    }
+    Ok(())
+}
+
+// The source and the name for the image, if the words ask for an assembly.
+fn assembly(alloc: Global, words: &[&str]) -> Result<Option<(String, String)>, Fail> {
+    let mut given = Words::new(alloc);
+    for word in words {
+        given.push(word)?;
+    }
+    match request_of(alloc, &given) {
+        Ok(Request::Asm { file, out }) => Ok(Some((
+            String::from_str(alloc, file)?,
+            String::from_str(alloc, out)?,
+        ))),
+        Ok(_) | Err(Refusal::BadWords) => Ok(None),
+        Err(Refusal::NoMemory) => Err(Fail::from("no memory")),
+    }
+}
+
+#[test]
+fn an_assembly_has_a_source_and_then_a_name_for_the_image(rt: HostRuntime) -> Result<(), Fail> {
+    let alloc = rt.alloc();
+    let rows: [(&[&str], (&str, &str)); 3] = [
+        (&["asm", "a", "b"], ("a", "b")),
+        (&["asm", "a", "--", "-b"], ("a", "-b")),
+        (&["asm", "a", "a"], ("a", "a")),
+    ];
+    for (words, (file, out)) in rows {
+        match assembly(alloc, words)? {
+            Some(found) => {
+                assert!(rt; found.0.as_str() == file && found.1.as_str() == out);
+            }
+            None => return Err(Fail::from("no assembly")),
+        }
+    }
+    let refused: [&[&str]; 4] = [
+        &["asm"],
+        &["asm", "a"],
+        &["asm", "a", "b", "c"],
+        &["asm", "-o", "b", "a"],
+    ];
+    for words in refused {
+        assert!(rt; assembly(alloc, words)?.is_none());
     }
     Ok(())
 }
@@ -137,7 +185,7 @@ fn a_run_has_its_options_in_any_order(rt: HostRuntime) -> Result<(), Fail> {
 #[test]
 fn words_of_a_run_are_refused_by_the_rules(rt: HostRuntime) -> Result<(), Fail> {
     let alloc = rt.alloc();
-    let refused: [&[&str]; 22] = [
+    let refused: [&[&str]; 23] = [
         &["run"],
         &["run", "a", "b"],
         // each option once, with its value
@@ -162,11 +210,74 @@ fn words_of_a_run_are_refused_by_the_rules(rt: HostRuntime) -> Result<(), Fail> 
         // no option is shortened, and there are no others
         &["run", "--step", "3", "a"],
         &["run", "-w", "a"],
-        &["run", "--imprecise", "a"],
+        // the choices and the verdict are those of the imprecise machine
+        &["run", "--force", "a"],
         &["run", "--seed", "5", "a"],
+        &["run", "--choices", "c", "a"],
     ];
     for words in refused {
         assert!(rt; options(alloc, words)?.is_none());
+    }
+    Ok(())
+}
+
+// Whether the words ask for a run of the file `a` by the imprecise machine, with these choices.
+fn draws(alloc: Global, words: &[&str], wanted: Choices<'_>, forced: bool) -> Result<bool, Fail> {
+    let mut given = Words::new(alloc);
+    for word in words {
+        given.push(word)?;
+    }
+    match request_of(alloc, &given) {
+        Ok(
+            Request::RunImprecise {
+                options,
+                choices,
+                force,
+                file: "a",
+            },
+        ) => Ok(choices == wanted && force == forced && options.steps == 100_000_000),
+        Ok(_) | Err(Refusal::BadWords) => Ok(false),
+        Err(Refusal::NoMemory) => Err(Fail::from("no memory")),
+    }
+}
+
+#[test]
+fn the_choices_have_a_seed_or_a_file(rt: HostRuntime) -> Result<(), Fail> {
+    let alloc = rt.alloc();
+    let rows: [(&[&str], Choices<'_>, bool); 5] = [
+        (&["run", "--imprecise", "a"], Choices::Seed(0), false),
+        (
+            &["run", "a", "--seed=5", "--imprecise"],
+            Choices::Seed(5),
+            false,
+        ),
+        (
+            &["run", "--imprecise", "--choices", "c", "a"],
+            Choices::File("c"),
+            false,
+        ),
+        (
+            &["run", "--force", "--imprecise", "a"],
+            Choices::Seed(0),
+            true,
+        ),
+        (
+            &["run", "--imprecise", "--force", "--choices=", "a"],
+            Choices::File(""),
+            true,
+        ),
+    ];
+    for (words, wanted, forced) in rows {
+        assert!(rt; draws(alloc, words, wanted, forced)?);
+    }
+    let refused: [&[&str]; 4] = [
+        &["run", "--imprecise", "--seed", "5", "--choices", "c", "a"],
+        &["run", "--imprecise", "--seed", "18446744073709551616", "a"],
+        &["run", "--imprecise", "--choices", "--seed", "a"],
+        &["run", "--imprecise", "--imprecise", "a"],
+    ];
+    for words in refused {
+        assert!(rt; asked(alloc, words)?.is_none());
     }
     Ok(())
 }
