@@ -11,10 +11,9 @@ use Rattle.alpha_request.specs.Command.{check, dis, run}
 use Rattle.alpha_request.specs.declared.options.RunOptions.{RunOptions}
 use Rattle.alpha_seq.specs.declared.end.End.{End}
 use Rattle.alpha_seq.specs.declared.end.End.TheVariants as ends
-use Rattle.alpha_seq.specs.Run.{Shown}
 use Rattle.alpha_dis.specs.Listing.{listing}
 use Rattle.alpha_cmd.specs.declared.status.Status.{Status}
-use Rattle.alpha_cmd.specs.declared.status.Status.TheVariants.{Done, NotRestartable, BadWords, BadImage, Stopped, StepsSpent, ShelfFault, InputFault, SinkFault, TooLarge, NoMemory}
+use Rattle.alpha_cmd.specs.declared.status.Status.TheVariants.{Done, NotRestartable, BadWords, BadSource, BadImage, Stopped, StepsSpent, Lost, ShelfFault, InputFault, SinkFault, TooLarge, NoMemory}
 use Rattle.alpha_cmd.specs.Outcome.{Outcome, goes, stops}
 use Rattle.alpha_cmd.specs.Image.{Unread, NoImage, IsRefused}
 use Rattle.alpha_cmd.specs.Running.{end_status, run_status}
@@ -29,9 +28,11 @@ pub Unread-cause : (files : Files) (name : List ℕ) (limit : ℕ) (s : Status) 
 Unread-cause files name limit (Done n) h = absurd h
 Unread-cause files name limit (NotRestartable b) h = absurd h
 Unread-cause files name limit BadWords h = absurd h
+Unread-cause files name limit (BadSource fault) h = absurd h
 Unread-cause files name limit (BadImage fault) h = absurd h
 Unread-cause files name limit (Stopped end) h = absurd h
 Unread-cause files name limit StepsSpent h = absurd h
+Unread-cause files name limit (Lost lost) h = absurd h
 Unread-cause files name limit ShelfFault h = missing refl h
 Unread-cause files name limit InputFault h = absurd h
 Unread-cause files name limit SinkFault h = absurd h
@@ -48,9 +49,11 @@ pub NoImage-cause : (bytes : List ℕ) (s : Status) → NoImage bytes s → Faul
 NoImage-cause bytes (Done n) h = absurd h
 NoImage-cause bytes (NotRestartable b) h = absurd h
 NoImage-cause bytes BadWords h = absurd h
+NoImage-cause bytes (BadSource fault) h = absurd h
 NoImage-cause bytes (BadImage fault) h = record { fault = fault; is = refl; first = h }
 NoImage-cause bytes (Stopped end) h = absurd h
 NoImage-cause bytes StepsSpent h = absurd h
+NoImage-cause bytes (Lost lost) h = absurd h
 NoImage-cause bytes ShelfFault h = absurd h
 NoImage-cause bytes InputFault h = absurd h
 NoImage-cause bytes SinkFault h = absurd h
@@ -68,9 +71,11 @@ pub IsRefused-cause : (image : Parts) (s : Status) (line : List ℕ) → IsRefus
 IsRefused-cause image (Done n) line h = absurd h
 IsRefused-cause image (NotRestartable b) line h = record { place = b; is = refl; least = h.0; line_is = h.1 }
 IsRefused-cause image BadWords line h = absurd h
+IsRefused-cause image (BadSource fault) line h = absurd h
 IsRefused-cause image (BadImage fault) line h = absurd h
 IsRefused-cause image (Stopped end) line h = absurd h
 IsRefused-cause image StepsSpent line h = absurd h
+IsRefused-cause image (Lost lost) line h = absurd h
 IsRefused-cause image ShelfFault line h = absurd h
 IsRefused-cause image InputFault line h = absurd h
 IsRefused-cause image SinkFault line h = absurd h
@@ -88,7 +93,7 @@ pub data FileStatus (files : Files) (file : List ℕ) (s : Status) : Type 0 wher
   ended : (end : End) → s ≡ Stopped end → FileStatus files file s
   spent : s ≡ StepsSpent → FileStatus files file s
 
-of_missed : (files : Files) (file : List ℕ) (limit : ℕ) (s : Status) → Missed files file limit s → FileStatus files file s
+pub of_missed : (files : Files) (file : List ℕ) (limit : ℕ) (s : Status) → Missed files file limit s → FileStatus files file s
 of_missed files file limit s (missing is lacks) = missing is lacks
 of_missed files file limit s (large is longer) = large limit is
 

@@ -1,14 +1,15 @@
 -- From what a command has written and decided to how the call ends.
-use Rattle.std.proofs.Common.{◌≡◌, ◌≢◌, ◌⊎◌, ◌++◌, ◌∙◌, ℕ, List, [], Option, None, Some, IfSome, Result, Ok, Err, refl, sym, ap, subst, inl, inr, ⊎_elim, append-nil, append_assoc, arith}
+use Rattle.std.proofs.Common.{◌≡◌, ◌≢◌, ◌⊎◌, ◌∙◌, ℕ, List, [], Option, None, Some, IfSome, Result, Ok, Err, refl, sym, subst, inl, inr, ⊎_elim, arith}
 use Rattle.alpha_io.specs.declared.Failed.{Failed}
+use Rattle.alpha_io.specs.Shelved.{Shelved}
 use Rattle.alpha_io.specs.Sunk.{Sunk, sunk, Puts, Partly, HasFailed, IsCalm}
 use Rattle.alpha_io.proofs.Counts.{Rose-earlier}
 use Rattle.alpha_io.proofs.Sinks.{Puts-none, Puts-then, Partly-then, HasFailed-not_calm}
 use Rattle.alpha_cmd.specs.declared.decision.Decision.{Decision}
 use Rattle.alpha_cmd.specs.declared.status.Status.{Status}
 use Rattle.alpha_cmd.specs.declared.status.Status.TheVariants.{SinkFault, NoMemory}
-use Rattle.alpha_cmd.specs.Answer.{World, Answer, notes_of, said, IsAnswer, IsLeft, AreTold, IsAnswered}
-use Rattle.alpha_cmd.specs.Decision.{answer_in}
+use Rattle.alpha_cmd.specs.Answer.{World, Answer, notes_of, IsAnswer, IsLeft, AreTold, IsAnswered}
+use Rattle.alpha_cmd.specs.Kept.{Kept, nothing, HasKept}
 use Rattle.alpha_cmd.specs.Ends.{Ends, EndsPart, Leaves, Decides, still}
 use Rattle.alpha_cmd.specs.Tried.{TriedBy}
 use Rattle.alpha_cmd.proofs.Trying.{exact_tried, tried_not_sink, IsAnswered-tried}
@@ -21,12 +22,14 @@ pub IsLeft-own : (t : Answer) → IsLeft t t.left
 IsLeft-own t = IsLeft-same t.left
 
 -- a command that wrote nothing so far
-pub Leaves-all : (P : Answer → Type 0) (t : Answer) (u v : Option (List ℕ)) (m n : ℕ) → P t → Leaves P t (still u m) (still v n)
-Leaves-all P t u v m n is = record {
-  tried = t;
+pub Leaves-kept : (P : Answer → Type 0) (t : Answer) (kept : Kept) (s : Shelved) (u v : Option (List ℕ)) (m n : ℕ) → P (record t { kept = kept }) → HasKept kept s
+    → Leaves P t s (still u m) (still v n)
+Leaves-kept P t kept s u v m n is files = record {
+  tried = record t { kept = kept };
   is = is;
   status_is = refl;
   left_is = IsLeft-own t;
+  files = files;
   output = [];
   put = Puts-none u m;
   output_is = refl;
@@ -35,13 +38,20 @@ Leaves-all P t u v m n is = record {
   notes_are = refl;
 }
 
+-- nor kept a file
+pub Leaves-all : (P : Answer → Type 0) (t : Answer) (s : Shelved) (u v : Option (List ℕ)) (m n : ℕ) → P (record t { kept = nothing }) → HasKept nothing s
+    → Leaves P t s (still u m) (still v n)
+Leaves-all P t s u v m n is files = Leaves-kept P t nothing s u v m n is files
+
 -- one that tries what another does, or more
-pub Decides-map : (P Q : Answer → Type 0) → ((t : Answer) → P t → Q t) → (r : Result Decision Failed) (left : Option (List ℕ)) (out notes : Sunk) → Decides P r left out notes → Decides Q r left out notes
-Decides-map P Q f (Ok decision) left out notes h = record {
+pub Decides-map : (P Q : Answer → Type 0) → ((t : Answer) → P t → Q t) → (r : Result Decision Failed) (left : Option (List ℕ)) (s : Shelved) (out notes : Sunk)
+    → Decides P r left s out notes → Decides Q r left s out notes
+Decides-map P Q f (Ok decision) left s out notes h = record {
   tried = h.tried;
   is = f h.tried h.is;
   status_is = h.status_is;
   left_is = h.left_is;
+  files = h.files;
   output = h.output;
   put = h.put;
   output_is = h.output_is;
@@ -49,30 +59,33 @@ Decides-map P Q f (Ok decision) left out notes h = record {
   noted = h.noted;
   notes_are = h.notes_are;
 }
-Decides-map P Q f (Err failed) left out notes h = record {
+Decides-map P Q f (Err failed) left s out notes h = record {
   tried = h.tried;
   is = f h.tried h.is;
+  files = h.files;
   output = h.output;
   line = h.line;
   failed = h.failed;
 }
 
 -- what is tried is never a sink's fault
-pub Leaves-not_sink : (shelf input : Type 0) (words : List (List ℕ)) (w : World) (rest : Answer) (out notes : Sunk) → Leaves (TriedBy shelf input words w) rest out notes → rest.status ≢ SinkFault
-Leaves-not_sink shelf input words w rest out notes h e = tried_not_sink shelf input words w h.tried h.is (sym h.status_is ∙ e)
+pub Leaves-not_sink : (shelf input : Type 0) (words : List (List ℕ)) (w : World) (rest : Answer) (s : Shelved) (out notes : Sunk) → Leaves (TriedBy shelf input words w) rest s out notes
+    → rest.status ≢ SinkFault
+Leaves-not_sink shelf input words w rest s out notes h e = tried_not_sink shelf input words w h.tried h.is (sym h.status_is ∙ e)
 
 -- ---- the rest is written: the output is o, p and q at one moment after another, the notes are x, y and z
 
 module _ {K N : Type 0} (out-written : K → Option (List ℕ)) (out-faults : K → ℕ) (notes-written : N → Option (List ℕ)) (notes-faults : N → ℕ)
-    (o p q : K) (x y z : N) (P : Answer → Type 0) (rest : Answer)
-    (so_far : Leaves P rest (sunk out-written out-faults o p) (sunk notes-written notes-faults x y)) where
+    (o p q : K) (x y z : N) (s : Shelved) (P : Answer → Type 0) (rest : Answer)
+    (so_far : Leaves P rest s (sunk out-written out-faults o p) (sunk notes-written notes-faults x y)) where
   pub whole : (status : Status) → status ≡ rest.status → Puts (sunk out-written out-faults p q) rest.output → Puts (sunk notes-written notes-faults y z) (notes_of rest)
-      → Ends P status rest.left (sunk out-written out-faults o q) (sunk notes-written notes-faults x z)
+      → Ends P status rest.left s (sunk out-written out-faults o q) (sunk notes-written notes-faults x z)
   whole status is output line = record {
     tried = so_far.tried;
     is = so_far.is;
     status_is = is ∙ so_far.status_is;
     left_is = so_far.left_is;
+    files = so_far.files;
     output =
         subst (Puts (sunk out-written out-faults o q)) so_far.output_is
         (Puts-then (out-written o) (out-written p) (out-written q) (out-faults o) (out-faults p) (out-faults q) so_far.output rest.output so_far.put output);
@@ -88,10 +101,11 @@ module _ {K N : Type 0} (out-written : K → Option (List ℕ)) (out-faults : K 
 
   pub part : Partly (sunk out-written out-faults p q) rest.output → Partly (sunk notes-written notes-faults y z) (notes_of rest)
       → HasFailed (sunk out-written out-faults p q) ⊎ HasFailed (sunk notes-written notes-faults y z)
-      → EndsPart P (sunk out-written out-faults o q) (sunk notes-written notes-faults x z)
+      → EndsPart P s (sunk out-written out-faults o q) (sunk notes-written notes-faults x z)
   part output line h = record {
     tried = so_far.tried;
     is = so_far.is;
+    files = so_far.files;
     output =
         subst (Partly (sunk out-written out-faults o q)) so_far.output_is
         (Partly-then (out-written o) (out-written p) (out-written q) (out-faults o) (out-faults p) (out-faults q) so_far.output rest.output so_far.put output);
@@ -103,12 +117,12 @@ module _ {K N : Type 0} (out-written : K → Option (List ℕ)) (out-faults : K 
 
 -- ---- where files are told and no device fails
 
-pub exact_whole : (shelf input : Type 0) (words : List (List ℕ)) (w : World) (a : Answer) (status : Status) (left : Option (List ℕ)) (out notes : Sunk) → AreTold words w
-    → (shelf → ⊥) → (input → ⊥) → Ends (TriedBy shelf input words w) status left out notes → IsAnswer words w a → IsAnswered a status left out notes ⊎ (status ≡ NoMemory)
-exact_whole shelf input words w a status left out notes told calm quiet ends is =
-    IsAnswered-tried ends.tried a status left out notes ends.status_is ends.left_is ends.output ends.line
+pub exact_whole : (shelf input : Type 0) (words : List (List ℕ)) (w : World) (a : Answer) (status : Status) (left : Option (List ℕ)) (s : Shelved) (out notes : Sunk) → AreTold words w
+    → (shelf → ⊥) → (input → ⊥) → Ends (TriedBy shelf input words w) status left s out notes → IsAnswer words w a → IsAnswered a status left s out notes ⊎ (status ≡ NoMemory)
+exact_whole shelf input words w a status left s out notes told calm quiet ends is =
+    IsAnswered-tried ends.tried a status left s out notes ends.status_is ends.left_is ends.files ends.output ends.line
     (exact_tried shelf input words w ends.tried a told calm quiet ends.is is)
 
 -- no sink failed
-pub calm_part : (P : Answer → Type 0) (out notes : Sunk) → EndsPart P out notes → IsCalm out → IsCalm notes → ⊥
-calm_part P out notes part calm quiet = ⊎_elim (λ h. HasFailed-not_calm out h calm) (λ h. HasFailed-not_calm notes h quiet) part.failed
+pub calm_part : (P : Answer → Type 0) (s : Shelved) (out notes : Sunk) → EndsPart P s out notes → IsCalm out → IsCalm notes → ⊥
+calm_part P s out notes part calm quiet = ⊎_elim (λ h. HasFailed-not_calm out h calm) (λ h. HasFailed-not_calm notes h quiet) part.failed

@@ -1,6 +1,12 @@
+pub mod Alike
+pub mod Assembling
 pub mod Causes
 pub mod Endings
 pub mod Existence
+pub mod Keeping
+pub mod Listed
 pub mod Ran
 pub mod Trying
 pub mod Uniqueness
+pub mod WildRan
+pub mod Wilds

@@ -1,12 +1,12 @@
 -- From what a machine's run did to what the command `run` tries.
-use Rattle.std.proofs.Common.{◌≡◌, ◌⊎◌, ◌++◌, ◌∙◌, ℕ, Bool, List, [], Option, None, Some, IfSome, option_map, refl, sym, ap, subst, inl, inr, ⊎_elim, append-nil, arith}
-use Rattle.std.specs.Io.KnownBytes.{Appends}
-use Rattle.alpha_io.specs.Sunk.{Sunk, Puts, Partly, HasFailed}
+use Rattle.std.proofs.Common.{◌≡◌, ◌⊎◌, ◌++◌, ◌∙◌, ℕ, List, [], Option, None, Some, IfSome, option_map, refl, sym, ap, subst, inl, inr, ⊎_elim, append-nil, arith}
+use Rattle.alpha_io.specs.Files.{KeepsFiles}
+use Rattle.alpha_io.specs.Shelved.{Shelved}
+use Rattle.alpha_io.specs.Sunk.{Sunk, Puts}
 use Rattle.alpha_io.specs.Written.{WritesPrefix}
 use Rattle.alpha_io.proofs.Sinks.{Partly-more}
 use Rattle.alpha_io.proofs.Writes.{WritesPrefix-all}
-use Rattle.alpha_image.specs.Parts.{Parts}
-use Rattle.alpha_request.specs.Command.{Command, run}
+use Rattle.alpha_request.specs.Command.{run}
 use Rattle.alpha_request.specs.declared.options.RunOptions.{RunOptions}
 use Rattle.alpha_seq.specs.declared.end.End.{End}
 use Rattle.alpha_seq.specs.declared.machine.Machine.{Machine}
@@ -16,15 +16,15 @@ use Rattle.alpha_seq.specs.Run.{Run, Shown, after, shown, sequential}
 use Rattle.alpha_seq.specs.Machine.{program_of, state_of}
 use Rattle.alpha_seq.specs.Devices.{Drawn}
 use Rattle.alpha_seq.specs.RunEffect.{IsMade, HasGrown, HasNoFault, HasInputFault, HasOutputFault, HasNotesFault, ShowsPart, shown_from}
-use Rattle.alpha_cmd.specs.declared.status.Status.{Status}
 use Rattle.alpha_cmd.specs.declared.status.Status.TheVariants.{InputFault}
 use Rattle.alpha_cmd.specs.Status.{status_line}
 use Rattle.alpha_cmd.specs.Outcome.{goes}
 use Rattle.alpha_cmd.specs.Image.{ImageOf}
 use Rattle.alpha_cmd.specs.Running.{run_status, run_line, MayShow}
-use Rattle.alpha_cmd.specs.Answer.{World, Answer, answer_shown, notes_of, said, AnswerOf}
+use Rattle.alpha_cmd.specs.Answer.{World, Answer, answer_shown, said}
+use Rattle.alpha_cmd.specs.Kept.{nothing}
 use Rattle.alpha_cmd.specs.Ends.{EndsPart, Leaves}
-use Rattle.alpha_cmd.specs.Tried.{IsStarved, TriedOf}
+use Rattle.alpha_cmd.specs.Tried.{TriedOf}
 use Rattle.alpha_cmd.proofs.Trying.{shown_answer}
 
 -- a machine at the start of an image's program
@@ -112,31 +112,33 @@ run_begins options m (Some bytes) out notes at part output lines =
 
 -- ---- what the command tries
 
-module _ (options : RunOptions) (file : List ℕ) (w : World) (m : Machine) (shelf input : Type 0) (found : ImageOf w.files file (goes m.image)) where
+module _ (options : RunOptions) (file : List ℕ) (w : World) (m : Machine) (shelf input : Type 0) (found : ImageOf w.files file (goes m.image))
+    (s : Shelved) (same : KeepsFiles s.old s.new) where
   -- a run that was made, with the status and the line of its end still to be written
   pub made_tried : (d : Drawn) (out notes : Sunk) (end : Option End) → d.old ≡ w.input → Shows options m end d out notes
-      → Leaves (TriedOf shelf input (run options file) w) (said d.new (run_status end) (run_line end)) out notes
-  made_tried d out notes end told s =
-      let may : MayShow options w.input m.image s.what = subst (λ l. MayShow options l m.image s.what) told s.may in
+      → Leaves (TriedOf shelf input (run options file) w) (said d.new (run_status end) (run_line end)) s out notes
+  made_tried d out notes end told did =
+      let may : MayShow options w.input m.image did.what = subst (λ l. MayShow options l m.image did.what) told did.may in
       record {
-        tried = answer_shown w.input s.what;
-        is = inl (shown_answer w options file m.image s.what found may);
-        status_is = ap run_status (sym s.end_is);
-        left_is = subst (λ (l : Option (List ℕ)). IfSome (option_map (λ (b : List ℕ). s.what.left) l) (λ rest. d.new ≡ Some rest)) told s.left;
-        output = s.what.output;
-        put = s.bytes;
-        output_is = append-nil s.what.output;
-        trace = s.what.notes;
-        noted = s.lines;
-        notes_are = ap (λ line. s.what.notes ++ line) (ap run_line (sym s.end_is));
+        tried = answer_shown w.input did.what;
+        is = inl (shown_answer w options file m.image did.what found may);
+        status_is = ap run_status (sym did.end_is);
+        files = same;
+        left_is = subst (λ (l : Option (List ℕ)). IfSome (option_map (λ (b : List ℕ). did.what.left) l) (λ rest. d.new ≡ Some rest)) told did.left;
+        output = did.what.output;
+        put = did.bytes;
+        output_is = append-nil did.what.output;
+        trace = did.what.notes;
+        noted = did.lines;
+        notes_are = ap (λ line. did.what.notes ++ line) (ap run_line (sym did.end_is));
       }
 
   -- one whose input failed, with the line of the fault still to be written
   pub starved_tried : (d : Drawn) (out notes : Sunk) → HasInputFault d out notes → (HasInputFault d out notes → input) → Begins options m w.input out notes
-      → Leaves (TriedOf shelf input (run options file) w) (said d.new InputFault (status_line InputFault)) out notes
+      → Leaves (TriedOf shelf input (run options file) w) (said d.new InputFault (status_line InputFault)) s out notes
   starved_tried d out notes fault cause b =
       let line = status_line InputFault in
-      let t : Answer = record { status = InputFault; output = b.bytes.done; trace = b.lines.done; line = line; left = None } in
+      let t : Answer = record { status = InputFault; output = b.bytes.done; trace = b.lines.done; line = line; left = None; kept = nothing } in
       record {
         tried = t;
         is = inr (inr (record {
@@ -149,9 +151,11 @@ module _ (options : RunOptions) (file : List ℕ) (w : World) (m : Machine) (she
           trace = (b.lines.rest, b.lines.whole);
           line = refl;
           left = refl;
+          kept = refl;
         }));
         status_is = refl;
         left_is = tt;
+        files = same;
         output = b.bytes.done;
         put = record { written = b.bytes.written; same = fault.sink };
         output_is = append-nil b.bytes.done;
@@ -162,10 +166,11 @@ module _ (options : RunOptions) (file : List ℕ) (w : World) (m : Machine) (she
 
   -- one for which a sink failed
   pub unwritten_tried : (d : Drawn) (out notes : Sunk) → HasOutputFault d out notes ⊎ HasNotesFault d out notes → Begins options m w.input out notes
-      → EndsPart (TriedOf shelf input (run options file) w) out notes
+      → EndsPart (TriedOf shelf input (run options file) w) s out notes
   unwritten_tried d out notes fault b = record {
     tried = answer_shown w.input b.what;
     is = inl (shown_answer w options file m.image b.what found b.may);
+    files = same;
     output = record {
       prefix = b.bytes;
       later = ⊎_elim (λ (f : HasOutputFault d out notes). f.later) (λ (f : HasNotesFault d out notes). omega (arith, f.sink)) fault;

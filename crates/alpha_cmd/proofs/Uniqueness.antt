@@ -1,5 +1,5 @@
 -- Where files are told, a stage has one outcome, and words have one answer.
-use Rattle.std.proofs.Common.{◌≡◌, ◌⊎◌, ◌<◌, ◌≤◌, ◌∙◌, ℕ, List, length, Option, None, Some, IsSome, IsSomeAnd, sym, ap, subst, inl, inr, ⊎_elim, arith}
+use Rattle.std.proofs.Common.{◌≡◌, ◌<◌, ◌≤◌, ◌∙◌, ℕ, Bool, true, false, List, length, Option, None, Some, IsSome, IsSomeAnd, sym, ap, subst, inl, inr, ⊎_elim, arith}
 use Rattle.alpha_io.specs.Files.{Files}
 use Rattle.alpha_image.specs.Parts.{Parts, IsImage, spelling}
 use Rattle.alpha_image.specs.ImageFault.{first_fault}
@@ -8,16 +8,22 @@ use Rattle.alpha_shadow.specs.declared.broken.Broken.{Broken}
 use Rattle.alpha_shadow.specs.Broken.{IsLeastBroken, NoLater}
 use Rattle.alpha_shadow.specs.Report.{broken_line}
 use Rattle.alpha_shadow.proofs.Conditions.{condition_number-injective}
-use Rattle.alpha_request.specs.Command.{Command, check, dis, run}
+use Rattle.alpha_request.specs.Command.{Command, check, dis, asm, run, imprecise}
 use Rattle.alpha_request.specs.declared.options.RunOptions.{RunOptions}
-use Rattle.alpha_seq.specs.Run.{Shown}
+use Rattle.alpha_request.specs.Options as choices_of
+use Rattle.alpha_imprecise.specs.Pcg.{pcg_word, seeded}
 use Rattle.alpha_dis.specs.Listing.{listing}
 use Rattle.alpha_cmd.specs.declared.status.Status.{Status}
-use Rattle.alpha_cmd.specs.declared.status.Status.TheVariants.{NotRestartable, BadImage}
+use Rattle.alpha_cmd.specs.declared.status.Status.TheVariants.{NotRestartable, BadSource, BadImage}
 use Rattle.alpha_cmd.specs.Status.{status_line}
 use Rattle.alpha_cmd.specs.Outcome.{Outcome, goes, stops, Then, Gives}
 use Rattle.alpha_cmd.specs.Image.{Reads, Spells, ImageOf, Judges, image_limit}
-use Rattle.alpha_cmd.specs.Answer.{World, Answer, accepted, done_with, answer_shown, answer_of, Runs, Steps, AnswerOf, IsAnswer, IsTold, AreTold}
+use Rattle.alpha_cmd.specs.Answer.{World, Answer, accepted, done_with, KeepsAs, answer_shown, answer_wild, answer_of, Runs, RunsWild, Steps, AnswerOf, IsAnswer, IsTold, AreTold}
+use Rattle.alpha_cmd.specs.Choosing.{listed_word}
+use Rattle.alpha_cmd.specs.Imprecise.{choices_limit, ChoicesOf, Plan, plan_by, PlanOf, Passes}
+use Rattle.alpha_cmd.specs.Assembly.{IsMade, Assembles, Makes, source_limit}
+use Rattle.alpha_round.proofs.Same.{one-image}
+use Rattle.alpha_cmd.proofs.Assembling.{Unmade, NoProgram-cause, Untaken-cause}
 use Rattle.alpha_cmd.proofs.Causes.{Missed, missing, large, Unread-cause, Faulty, NoImage-cause, Refused, IsRefused-cause}
 
 -- a stage has one outcome
@@ -150,6 +156,40 @@ Judges-single image (goes a) (stops t m) h g = let r = IsRefused-cause image t m
 Judges-single image (stops s l) (goes b) h g = let r = IsRefused-cause image s l h in absurd (g.0 r.place.trigger r.place.at r.place.condition r.least.broken)
 Judges-single image (stops s l) (stops t m) h g = same_refusal image s t l m (IsRefused-cause image s l h) (IsRefused-cause image t m g)
 
+-- ---- an assembly
+
+same_refused : (source : List ℕ) (s t : Status) → Unmade source s → Unmade source t → s ≡ t
+same_refused source s t f g =
+    let a = f.first in
+    let b = g.first in
+    let same : f.fault ≡ g.fault = cc in
+    f.is ∙ (ap BadSource same ∙ sym g.is)
+
+made_apart : (source bytes : List ℕ) (s : Status) → IsMade source bytes → Unmade source s → ⊥
+made_apart source bytes s made f = let some = made.1.1 in let none = f.first in cc
+
+same_made : (source a b : List ℕ) → IsMade source a → IsMade source b → a ≡ b
+same_made source a b (p, x, s) (q, y, t) = s ∙ (ap spelling (one-image source p q x y) ∙ sym t)
+
+pub Assembles-single : (source : List ℕ) → IsSingle (Assembles source)
+Assembles-single source (goes a) (goes b) h g = ap goes (same_made source a b h g)
+Assembles-single source (goes a) (stops t m) h g = absurd (made_apart source a t h (NoProgram-cause source t g.0))
+Assembles-single source (stops s l) (goes b) h g = absurd (made_apart source b s g (NoProgram-cause source s h.0))
+Assembles-single source (stops s l) (stops t m) h g =
+    let same = same_refused source s t (NoProgram-cause source s h.0) (NoProgram-cause source t g.0) in
+    same_stop s t l m same (h.1 ∙ (ap status_line same ∙ sym g.1))
+
+pub Makes-single : (files : Files) (name : List ℕ) → IsSome files → IsSingle (Makes files name)
+Makes-single files name told = Then-single (Reads files name source_limit) Assembles (Reads-single files name source_limit told) Assembles-single
+
+pub KeepsAs-single : (w : World) (out bytes : List ℕ) → IsSingle (KeepsAs w out bytes)
+KeepsAs-single w out bytes (goes a) (goes b) h g = ap goes (h.1 ∙ sym g.1)
+KeepsAs-single w out bytes (goes a) (stops t m) h g = absurd (h.0 (Untaken-cause _ t g.0).1)
+KeepsAs-single w out bytes (stops s l) (goes b) h g = absurd (g.0 (Untaken-cause _ s h.0).1)
+KeepsAs-single w out bytes (stops s l) (stops t m) h g =
+    let same = (Untaken-cause _ s h.0).0 ∙ sym (Untaken-cause _ t g.0).0 in
+    same_stop s t l m same (h.1 ∙ (ap status_line same ∙ sym g.1))
+
 -- ---- an answer
 
 Runs-single : (options : RunOptions) (input : Option (List ℕ)) (image : Parts) → IsSome input → IsSingle (Runs options input image)
@@ -160,6 +200,31 @@ Runs-single options (Some input) image told (goes a) (goes b) h g =
 Runs-single options (Some input) image told (goes a) (stops t m) h g = absurd g
 Runs-single options (Some input) image told (stops s l) p h g = absurd h
 
+-- ---- a run of the imprecise machine
+
+ChoicesOf-single : (files : Files) (choices : choices_of.Drawn) → IsSome files → IsSingle (ChoicesOf files choices)
+ChoicesOf-single files (choices_of.seed n) told = Gives-single (pcg_word (seeded n))
+ChoicesOf-single files (choices_of.file name) told =
+    Then-single (Reads files name choices_limit) (λ bytes. Gives (listed_word bytes)) (Reads-single files name choices_limit told)
+    (λ bytes. Gives-single (listed_word bytes))
+
+PlanOf-single : (files : Files) (name : List ℕ) (choices : choices_of.Drawn) → IsSome files → IsSingle (PlanOf files name choices)
+PlanOf-single files name choices told =
+    Then-single (ImageOf files name) (λ image. Then (ChoicesOf files choices) (λ ahead. Gives (plan_by image ahead))) (ImageOf-single files name told)
+    (λ image. Then-single (ChoicesOf files choices) (λ ahead. Gives (plan_by image ahead)) (ChoicesOf-single files choices told) (λ ahead. Gives-single (plan_by image ahead)))
+
+Passes-single : (force : Bool) (plan : Plan) → IsSingle (Passes force plan)
+Passes-single true plan = Gives-single plan
+Passes-single false plan = Then-single (Judges plan.image) (λ image. Gives plan) (Judges-single plan.image) (λ image. Gives-single plan)
+
+RunsWild-single : (options : RunOptions) (force : Bool) (input : Option (List ℕ)) (plan : Plan) → IsSome input → IsSingle (RunsWild options force input plan)
+RunsWild-single options force None plan told o p h g = cc
+RunsWild-single options force (Some input) plan told (goes a) (goes b) h g =
+    let same : h.0 ≡ g.0 = h.1 ∙ sym g.1 in
+    ap goes (h.2 ∙ (ap (answer_wild (Some input)) same ∙ sym g.2))
+RunsWild-single options force (Some input) plan told (goes a) (stops t m) h g = absurd g
+RunsWild-single options force (Some input) plan told (stops s l) p h g = absurd h
+
 pub Steps-single : (command : Command) (w : World) → IsTold command w → IsSingle (Steps command w)
 Steps-single (check file) w told =
     Then-single (Then (ImageOf w.files file) Judges) (λ image. Gives (accepted w.input))
@@ -168,8 +233,14 @@ Steps-single (check file) w told =
 Steps-single (dis file) w told =
     Then-single (ImageOf w.files file) (λ image. Gives (done_with w.input (listing image))) (ImageOf-single w.files file told)
     (λ image. Gives-single (done_with w.input (listing image)))
+Steps-single (asm file out) w told =
+    Then-single (Makes w.files file) (KeepsAs w out) (Makes-single w.files file told) (λ bytes. KeepsAs-single w out bytes)
 Steps-single (run options file) w told =
     Then-single (ImageOf w.files file) (Runs options w.input) (ImageOf-single w.files file told.0) (λ image. Runs-single options w.input image told.1)
+Steps-single (imprecise options choices force name) w told =
+    Then-single (Then (PlanOf w.files name choices) (Passes force)) (RunsWild options force w.input)
+    (Then-single (PlanOf w.files name choices) (Passes force) (PlanOf-single w.files name choices told.0) (Passes-single force))
+    (λ plan. RunsWild-single options force w.input plan told.1)
 
 pub AnswerOf-single : (command : Command) (w : World) (a b : Answer) → IsTold command w → AnswerOf command w a → AnswerOf command w b → a ≡ b
 AnswerOf-single command w a b told h g = h.2 ∙ (ap (answer_of w.input) (Steps-single command w told h.0 g.0 h.1 g.1) ∙ sym g.2)

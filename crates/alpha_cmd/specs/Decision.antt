@@ -2,7 +2,8 @@
 use Rattle.std.specs.Prelude.{ℕ, List, [], Option}
 use Rattle.alpha_cmd.specs.declared.decision.Decision.{Decision}
 use Rattle.alpha_cmd.specs.Answer.{Answer}
+use Rattle.alpha_cmd.specs.Kept.{nothing}
 
 -- with this input left
 abbrev pub answer_in : Option (List ℕ) → Decision → Answer
-answer_in left d = record { status = d.status; output = d.output; trace = []; line = d.line; left = left }
+answer_in left d = record { status = d.status; output = d.output; trace = []; line = d.line; left = left; kept = nothing }

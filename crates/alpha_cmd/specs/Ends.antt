@@ -1,26 +1,31 @@
 -- How a call ends: what was tried, and what of it was written.
 use Rattle.std.specs.Prelude.{◌≡◌, ◌⊎◌, ◌++◌, ℕ, List, Option, Result, Ok, Err}
 use Rattle.alpha_io.specs.declared.Failed.{Failed}
+use Rattle.alpha_io.specs.Shelved.{Shelved}
 use Rattle.alpha_io.specs.Sunk.{Sunk, Puts, Partly, HasFailed}
 use Rattle.alpha_cmd.specs.declared.decision.Decision.{Decision}
 use Rattle.alpha_cmd.specs.declared.status.Status.{Status}
 use Rattle.alpha_cmd.specs.declared.status.Status.TheVariants.{SinkFault}
 use Rattle.alpha_cmd.specs.Answer.{Answer, notes_of, IsLeft}
 use Rattle.alpha_cmd.specs.Decision.{answer_in}
+use Rattle.alpha_cmd.specs.Kept.{Kept, HasKept}
 
--- What was tried was written, all of it, its status is the call's, and its input left is what the source tells.
-pub record Ends (P : Answer → Type 0) (status : Status) (left : Option (List ℕ)) (out notes : Sunk) : Type 0 where
+-- What was tried was written, all of it, its status is the call's, its input left is what the source tells, and the file that
+-- it keeps is kept.
+pub record Ends (P : Answer → Type 0) (status : Status) (left : Option (List ℕ)) (shelf : Shelved) (out notes : Sunk) : Type 0 where
   pub tried : Answer
   pub is : P tried
   pub status_is : status ≡ tried.status
   pub left_is : IsLeft tried left
+  pub files : HasKept tried.kept shelf
   pub output : Puts out tried.output
   pub line : Puts notes (notes_of tried)
 
 -- a sink failed, and a prefix of what was tried was written
-pub record EndsPart (P : Answer → Type 0) (out notes : Sunk) : Type 0 where
+pub record EndsPart (P : Answer → Type 0) (shelf : Shelved) (out notes : Sunk) : Type 0 where
   pub tried : Answer
   pub is : P tried
+  pub files : HasKept tried.kept shelf
   pub output : Partly out tried.output
   pub line : Partly notes (notes_of tried)
   pub failed : HasFailed out ⊎ HasFailed notes
@@ -28,11 +33,12 @@ pub record EndsPart (P : Answer → Type 0) (out notes : Sunk) : Type 0 where
 -- ---- a command that writes while it works
 
 -- the front of what was tried was written, and this is the rest of it
-pub record Leaves (P : Answer → Type 0) (rest : Answer) (out notes : Sunk) : Type 0 where
+pub record Leaves (P : Answer → Type 0) (rest : Answer) (shelf : Shelved) (out notes : Sunk) : Type 0 where
   pub tried : Answer
   pub is : P tried
   pub status_is : rest.status ≡ tried.status
   pub left_is : IsLeft tried rest.left
+  pub files : HasKept tried.kept shelf
   pub output : List ℕ
   pub put : Puts out output
   pub output_is : output ++ rest.output ≡ tried.output
@@ -41,9 +47,13 @@ pub record Leaves (P : Answer → Type 0) (rest : Answer) (out notes : Sunk) : T
   pub notes_are : trace ++ notes_of rest ≡ notes_of tried
 
 -- it decides, with the rest still to be written, or a sink failed
-abbrev pub Decides : (Answer → Type 0) → Result Decision Failed → Option (List ℕ) → Sunk → Sunk → Type 0
-Decides P (Ok decision) left out notes = Leaves P (answer_in left decision) out notes
-Decides P (Err failed) left out notes = EndsPart P out notes
+abbrev pub Decides : (Answer → Type 0) → Result Decision Failed → Option (List ℕ) → Shelved → Sunk → Sunk → Type 0
+Decides P (Ok decision) left shelf out notes = Leaves P (answer_in left decision) shelf out notes
+Decides P (Err failed) left shelf out notes = EndsPart P shelf out notes
+
+-- one that wrote nothing so far, with what it kept
+abbrev pub Settles : (Answer → Type 0) → Answer → Shelved → Type 0
+Settles P rest shelf = (kept : Kept) × P (record rest { kept = kept }) × HasKept kept shelf
 
 -- the status that it answers
 abbrev pub status_in : Result Decision Failed → Status

@@ -1,7 +1,12 @@
+pub mod Alike
 pub mod Answer
+pub mod Assembly
+pub mod Choosing
 pub mod Decision
 pub mod Ends
 pub mod Image
+pub mod Imprecise
+pub mod Kept
 pub mod Outcome
 pub mod Running
 pub mod Status

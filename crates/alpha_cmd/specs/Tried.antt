@@ -1,11 +1,14 @@
 -- What a call tries to write: the answer to its words, or what a fault of a device or want of memory leaves of it.
-use Rattle.std.specs.Prelude.{◌≡◌, ◌⊎◌, ◌++◌, ◌≤◌, ℕ, List, Option, None}
-use Rattle.alpha_io.specs.Files.{Files, IfTold}
-use Rattle.alpha_request.specs.Command.{Command, check, dis, run}
+use Rattle.std.specs.Prelude.{◌≡◌, ◌⊎◌, ◌++◌, ◌≤◌, ℕ, List, length, None, true}
+use Rattle.alpha_io.specs.Files.{Files, IfTold, KeepsFiles, KeepsOtherFiles}
+use Rattle.alpha_request.specs.Command.{Command, check, dis, asm, run, imprecise}
+use Rattle.alpha_request.specs.Options as choices
 use Rattle.alpha_seq.specs.Devices.{Drawn}
 use Rattle.alpha_cmd.specs.declared.status.Status.{Status}
-use Rattle.alpha_cmd.specs.declared.status.Status.TheVariants.{Done, Stopped, StepsSpent, ShelfFault, InputFault, SinkFault, NoMemory}
+use Rattle.alpha_cmd.specs.declared.status.Status.TheVariants.{Done, Stopped, StepsSpent, Lost, ShelfFault, InputFault, SinkFault, NoMemory}
 use Rattle.alpha_cmd.specs.Status.{status_line}
+use Rattle.alpha_cmd.specs.Kept.{Kept, nothing, spoilt}
+use Rattle.alpha_cmd.specs.Assembly.{IsMade}
 use Rattle.alpha_cmd.specs.Answer.{World, Answer, said, AnswerOf, Asks, IsAnswer}
 
 -- the statuses that cut a command short, each with its cause; the first fact is that the shelf failed
@@ -14,10 +17,17 @@ CutBy shelf NoMemory = Unit {0}
 CutBy shelf ShelfFault = shelf
 CutBy shelf _ = ⊥
 
+-- what a command that was cut short leaves of the files: they stay, but for the one whose keep failed with the shelf
+abbrev pub MaySpoil : Command → Status → Kept → Type 0
+MaySpoil command status nothing = Unit {0}
+MaySpoil (asm file out) ShelfFault (spoilt name) = name ≡ out
+MaySpoil _ _ _ = ⊥
+
 -- what a command that was cut short has for the sinks: the line of its status, and nothing before it
-pub record IsCut (shelf : Type 0) (w : World) (t : Answer) : Type 0 where
+pub record IsCut (shelf : Type 0) (command : Command) (w : World) (t : Answer) : Type 0 where
   pub cause : CutBy shelf t.status
-  pub is : t ≡ said w.input t.status (status_line t.status)
+  pub kept : MaySpoil command t.status t.kept
+  pub is : t ≡ record (said w.input t.status (status_line t.status)) { kept = t.kept }
 
 -- the statuses under which a command may have taken input
 abbrev pub MayTake : Command → Status → Type 0
@@ -26,7 +36,25 @@ MayTake (run options file) (Stopped end) = Unit {0}
 MayTake (run options file) StepsSpent = Unit {0}
 MayTake (run options file) InputFault = Unit {0}
 MayTake (run options file) SinkFault = Unit {0}
+MayTake (imprecise options choices force file) (Done n) = Unit {0}
+MayTake (imprecise options choices force file) (Stopped end) = Unit {0}
+MayTake (imprecise options choices force file) StepsSpent = Unit {0}
+MayTake (imprecise options choices force file) (Lost lost) = Unit {0}
+MayTake (imprecise options choices force file) InputFault = Unit {0}
+MayTake (imprecise options choices force file) SinkFault = Unit {0}
 MayTake _ _ = ⊥
+
+-- the statuses under which a command may have changed a file, and the name of that file
+abbrev pub MayKeep : Command → Status → List ℕ → Type 0
+MayKeep (asm file out) (Done n) name = name ≡ out
+MayKeep (asm file out) ShelfFault name = name ≡ out
+MayKeep (asm file out) SinkFault name = name ≡ out
+MayKeep _ _ _ = ⊥
+
+-- told files stay, but for the file that a command keeps
+abbrev pub Spares : Command → Status → Files → Files → Type 0
+Spares command status old new =
+    KeepsFiles old new ⊎ ((name : List ℕ) × MayKeep command status name × KeepsOtherFiles old new name)
 
 -- bytes begin with these
 abbrev pub IsFront : List ℕ → List ℕ → Type 0
@@ -44,10 +72,11 @@ pub record IsStarved (input : Type 0) (command : Command) (w : World) (t : Answe
   pub trace : IsFront t.trace answer.trace
   pub line : t.line ≡ status_line InputFault
   pub left : t.left ≡ None
+  pub kept : t.kept ≡ nothing
 
 -- what a command tries to write, if the shelf failed or the input did
 abbrev pub Fails : Type 0 → Type 0 → Command → World → Answer → Type 0
-Fails shelf input command w t = IsCut shelf w t ⊎ IsStarved input command w t
+Fails shelf input command w t = IsCut shelf command w t ⊎ IsStarved input command w t
 
 -- what a command tries to write
 abbrev pub TriedOf : Type 0 → Type 0 → Command → World → Answer → Type 0
@@ -64,8 +93,16 @@ pub record CountStays (d : Drawn) (stays : Type 0) : Type 0 where
   pub later : d.before ≤ d.now
   pub calm : stays → d.now ≡ d.before
 
--- the files that a command reads are there, where files are told
-abbrev pub HasFiles : Command → Files → Type 0
-HasFiles (check file) files = IfTold files file (λ bytes. Unit {0})
-HasFiles (dis file) files = IfTold files file (λ bytes. Unit {0})
-HasFiles (run options file) files = IfTold files file (λ bytes. Unit {0})
+-- a choices file is there, where files are told
+abbrev pub HasChoices : choices.Drawn → World → Type 0
+HasChoices (choices.seed n) w = Unit {0}
+HasChoices (choices.file name) w = IfTold w.files name (λ bytes. Unit {0})
+
+-- where files are told, those that a command reads are there, and the one that it keeps is taken
+abbrev pub HasFiles : Command → World → Type 0
+HasFiles (check file) w = IfTold w.files file (λ bytes. Unit {0})
+HasFiles (dis file) w = IfTold w.files file (λ bytes. Unit {0})
+HasFiles (asm file out) w =
+    IfTold w.files file (λ source. (bytes : List ℕ) → IsMade source bytes → w.takes out (length bytes) ≡ true)
+HasFiles (run options file) w = IfTold w.files file (λ bytes. Unit {0})
+HasFiles (imprecise options drawn force file) w = IfTold w.files file (λ bytes. Unit {0}) × HasChoices drawn w

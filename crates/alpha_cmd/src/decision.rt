@@ -4,6 +4,7 @@ ghost use Rattle.alpha_shadow.specs.Report.{broken_line};
 ghost use Rattle.alpha_seq.specs.Notes.{end_line};
 ghost use Rattle.alpha_cmd.specs.Status.{status_line};
 ghost use Rattle.alpha_cmd.specs.Running.{end_status};
+ghost use Rattle.alpha_cmd.specs.Imprecise.{drawn_status};
 ghost use Rattle.alpha_cmd.specs.Answer.{said, accepted};
 ghost use Rattle.alpha_cmd.specs.Decision.{answer_in};
 
@@ -76,6 +77,19 @@ impl Decision {
         }
     }
 
+    /// An end of a program that the imprecise machine ran by so many words.
+    pub(crate) fn ended_by(end: &End, drawn: u64) -> Decision
+        ensures answer { (left : Option (List ℕ)) → answer_in left result
+            ≡ said left (drawn_status drawn end.now) (end_line end.now) }
+        ensures status { result.status ≡ drawn_status drawn end.now }
+    {
+        Decision {
+            status: drawn_status_of(end, drawn),
+            output: Line::new(),
+            line: line_of_end(end),
+        }
+    }
+
     /// Writes what is still to be written, and answers the status, or that a sink failed.
     pub(crate) fn deliver<K: Sink, N: Sink>(&self, out: &mut K, notes: &mut N) -> Status
         requires { self.now.status ≢ Status.SinkFault }
@@ -106,6 +120,16 @@ fn status_of(end: &End) -> Status
 {
     match *end {
         End::Exit(_) => Status::Done(0),
+        other => Status::Stopped(other),
+    }
+}
+
+// The status of an end of the imprecise machine, by the number of words.
+fn drawn_status_of(end: &End, drawn: u64) -> Status
+    ensures { result ≡ drawn_status drawn end.now }
+{
+    match *end {
+        End::Exit(_) => Status::Done(drawn),
         other => Status::Stopped(other),
     }
 }

@@ -1,5 +1,16 @@
-ghost use Rattle.std.specs.Prelude.{◌≡◌, ℕ, List, IsSome};
-ghost use Rattle.alpha_cmd.specs.Answer.{Answer, AreTold, HaveBytes, World, IsAnswer};
+ghost use Rattle.std.specs.Prelude.{◌≡◌, ℕ, Bool, List, IsSome};
+ghost use Rattle.alpha_image.specs.Parts.{Parts, IsImage};
+ghost use Rattle.alpha_shadow.specs.Broken.{IsAccepted};
+ghost use Rattle.alpha_round.specs.Source.{IsSourceOf};
+ghost use Rattle.alpha_request.specs.Command as commands;
+ghost use Rattle.alpha_request.specs.Options.{Drawn};
+ghost use Rattle.alpha_request.specs.declared.options.RunOptions.{RunOptions};
+ghost use Rattle.alpha_imprecise.specs.Restart.{IsRestartable};
+ghost use Rattle.alpha_cmd.specs.declared.status.Status.TheVariants.{Done};
+ghost use Rattle.alpha_cmd.specs.Outcome.{goes};
+ghost use Rattle.alpha_cmd.specs.Image.{ImageOf};
+ghost use Rattle.alpha_cmd.specs.Alike.{HasWords, IsChecked, undrawn};
+ghost use Rattle.alpha_cmd.specs.Answer.{Answer, AnswerOf, AreTold, HaveBytes, IsTold, World, IsAnswer};
 
 /// The laws of answers: words have one answer where what their command reads is told, the files and
 /// for a run the input; and where told files are of bytes, they have some. So each status comes
@@ -9,4 +20,25 @@ pub fn laws_of_answers()
         → IsAnswer words w a → IsAnswer words w b → a ≡ b }
     ensures some_answer { (words : List (List ℕ)) (w : World) → IsSome w.files → HaveBytes w.files
         → (a : Answer) × IsAnswer words w a }
+{}
+
+/// The law of listings: where `dis` is done, what it writes is a source of the image of its file.
+pub fn laws_of_listed_files()
+    ensures { (file : List ℕ) (w : World) (a : Answer) → AnswerOf (commands.dis file) w a → a.status ≡ Done 0
+        → (image : Parts) × ImageOf w.files file (goes image) × IsSourceOf a.output image }
+{}
+
+/// The law of restarts: an accepted image can be restarted after each late trap, whatever the
+/// imprecise machine chooses. So where `check FILE` is done, `run --imprecise FILE` has the answer of
+/// `run FILE` with the same options, the verdict passed over or not: the same status, output, notes
+/// and input left, whatever words the machine draws. Only their number, which the status carries
+/// where the program has exited, is its own.
+pub fn laws_of_restarts()
+    ensures accepted { (image : Parts) → IsImage image → IsAccepted image.words
+        → IsRestartable image }
+    ensures alike { (options : RunOptions) (choices : Drawn) (force : Bool) (file : List ℕ)
+        (w : World) (a b : Answer) → IsTold (commands.run options file) w
+        → HasWords w.files choices → IsChecked file w
+        → AnswerOf (commands.run options file) w a
+        → AnswerOf (commands.imprecise options choices force file) w b → undrawn b ≡ a }
 {}

@@ -1,27 +1,39 @@
 //! The commands of the program, from its words to a status and to bytes written.
 //!
 //! - [`Words`] are the words after the program's name, [`Status`] is how a call ended.
-//! - [`alpha_top`] does what the words ask. Words, files and input have one answer: a status and the
-//!   bytes for the output and for the notes. It is put together from stages, whose order is the order
-//!   of refusals (`specs/Answer.antt` over `specs/Outcome.antt` and `specs/Image.antt`). A fault of a
-//!   device or want of memory may cut a call short, and then a part of an answer, or the line of that
-//!   status, was written (`specs/Tried.antt`, `specs/Ends.antt`).
+//! - [`alpha_top`] does what the words ask. Words, files and input have one answer: a status, the
+//!   bytes for the output and for the notes, the input left, and the file that is kept. It is put
+//!   together from stages, whose order is the order of refusals (`specs/Answer.antt` over
+//!   `specs/Outcome.antt`, `specs/Image.antt` and `specs/Assembly.antt`). A fault of a device or want
+//!   of memory may cut a call short, and then a part of an answer, or the line of that status, was
+//!   written (`specs/Tried.antt`, `specs/Ends.antt`).
 //! - [`alpha_sure`] is the same call over devices that never fail.
 //! - [`image_of`] makes the image of a file's bytes.
-//! - [`laws_of_answers`] says that words have one answer, and some, where files are told.
+//! - [`laws_of_answers`] says that words have one answer where what their command reads is told, and
+//!   some where files are told. [`laws_of_listed_files`] says that what `dis` writes is a source of
+//!   the image of its file.
+//! - [`laws_of_restarts`] says that accepted images can be restarted, and so that a run of the
+//!   imprecise machine of a file that `check` accepts has the answer of the sequential run, but for
+//!   the number of words that it draws (`specs/Alike.antt`).
 //!
 //! A command decides, and `Decision::deliver` writes what is then still to be written: all of it, but
-//! for a command that writes while it works, as `dis.rt`. `alpha_request` reads the words, `image.rt` has
-//! the stages that lead to an image, each command has a module, as `check.rt`, and `top.rt` matches
-//! what is asked. `line.rt` and `specs/Status.antt` have the line and the number of each status.
-//! A further command is a row in `specs/Answer.antt` (`Steps`), in `specs/Tried.antt` (`HasFiles`) and
-//! in `perform`, beside its module.
+//! for a command that writes while it works, as `dis.rt` and `run.rt`. `alpha_request` reads the
+//! words, `image.rt` has the stages that lead to an image and `choosing.rt` the one that leads to the
+//! words of an imprecise run, `specs/Running.antt` and `specs/Imprecise.antt` say what runs show and
+//! `specs/Kept.antt` what becomes of files, each command has a module, as `check.rt`, and `top.rt`
+//! matches what is asked. `line.rt` and `specs/Status.antt` have the line and the number of each
+//! status.
+//! A further command is a row in `specs/Answer.antt` (`Steps`, `IsTold`), in `specs/Tried.antt`
+//! (`HasFiles`, `MayTake`, and `MayKeep` where it keeps a file) and in `perform`, beside its module.
 #![tactic(auto)]
 
+mod asm;
 mod check;
+mod choosing;
 mod decision;
 mod dis;
 mod image;
+mod imprecise;
 mod laws;
 mod line;
 mod run;
@@ -32,8 +44,9 @@ mod tests;
 mod top;
 
 pub use alpha_request::Words;
+pub use asm::SOURCE_LIMIT;
 pub use image::{IMAGE_LIMIT, image_of};
-pub use laws::laws_of_answers;
+pub use laws::{laws_of_answers, laws_of_listed_files, laws_of_restarts};
 pub use status::Status;
 pub use sure::alpha_sure;
 pub use top::alpha_top;

@@ -2,12 +2,15 @@
 
 ghost use Rattle.std.specs.Prelude.{◌≡◌, ◌≤◌, length};
 ghost use Rattle.alpha_io.specs.declared.line.TheConstants.{LINE_ROOM};
-ghost use Rattle.alpha_cmd.specs.Status.{status_line, fault_line, numbered_line, limit_line};
+ghost use Rattle.alpha_cmd.specs.Status.{status_line, fault_line, kind_number, limit_line, lost_line, numbered_line, placed_line, refusal_line};
 
 use crate::Status;
+use alpha_asm::AsmFault;
 use alpha_image::ImageFault;
 use alpha_io::Line;
 use alpha_seq::line_of_end;
+use alpha_text::{LineFault, LineFaultKind};
+use alpha_trap::Lost;
 
 /// The line of a status, empty where it has none of its own.
 pub(crate) fn line_of(status: &Status) -> Line
@@ -16,9 +19,11 @@ pub(crate) fn line_of(status: &Status) -> Line
     match status {
         Status::Done(_) | Status::NotRestartable(_) | Status::SinkFault => Line::new(),
         Status::BadWords => text(b"words\n"),
+        Status::BadSource(fault) => refusal_line(fault),
         Status::BadImage(fault) => fault_line(fault),
         Status::Stopped(end) => line_of_end(end),
         Status::StepsSpent => text(b"steps\n"),
+        Status::Lost(lost) => lost_line(lost),
         Status::ShelfFault => text(b"shelf\n"),
         Status::InputFault => text(b"input\n"),
         Status::TooLarge(limit) => limit_line(*limit),
@@ -34,6 +39,53 @@ pub(crate) fn text(bytes: &[u8]) -> Line
     let mut line = Line::new();
     line.push(bytes);
     line
+}
+
+// `source kind K line L column C detail D`, the numbers 0 where there is none.
+fn refusal_line(fault: &AsmFault) -> Line
+    ensures { result ≡ refusal_line fault.now }
+{
+    match *fault {
+        AsmFault::Line(line, LineFault { kind, column }) => {
+            placed_line(1, u64::from(line), u64::from(column), kind_number(kind))
+        }
+        AsmFault::Duplicate(line) => placed_line(2, u64::from(line), 0, 0),
+        AsmFault::Undefined(line) => placed_line(3, u64::from(line), 0, 0),
+        AsmFault::Reach(line) => placed_line(4, u64::from(line), 0, 0),
+        AsmFault::Section(line) => placed_line(5, u64::from(line), 0, 0),
+        AsmFault::NoEntry => placed_line(6, 0, 0, 0),
+        AsmFault::LongLine(line) => placed_line(7, u64::from(line), 0, 0),
+        AsmFault::ImageField(field) => placed_line(8, 0, 0, u64::from(field)),
+        AsmFault::NoMemory => placed_line(9, 0, 0, 0),
+    }
+}
+
+fn kind_number(kind: LineFaultKind) -> u64
+    ensures { result ≡ kind_number kind }
+{
+    match kind {
+        LineFaultKind::BadToken => 1,
+        LineFaultKind::UnknownName => 2,
+        LineFaultKind::BadOperands => 3,
+        LineFaultKind::OutOfRange => 4,
+    }
+}
+
+#[tactic(auto, unfolding(crate::specs::Status::placed_line))]
+fn placed_line(kind: u64, line: u64, column: u64, detail: u64) -> Line
+    ensures { result ≡ placed_line kind line column detail }
+{
+    let mut text = Line::new();
+    text.push(b"source kind ");
+    text.push_decimal(kind);
+    text.push(b" line ");
+    text.push_decimal(line);
+    text.push(b" column ");
+    text.push_decimal(column);
+    text.push(b" detail ");
+    text.push_decimal(detail);
+    text.end();
+    text
 }
 
 // `image kind K first F second S`, the numbers 0 where there is none.
@@ -72,6 +124,19 @@ fn limit_line(limit: u64) -> Line
     let mut line = Line::new();
     line.push(b"too large ");
     line.push_decimal(limit);
+    line.end();
+    line
+}
+
+#[tactic(auto, unfolding(crate::specs::Status::lost_line))]
+fn lost_line(lost: &Lost) -> Line
+    ensures { result ≡ lost_line lost.now.trap_pc lost.now.mask }
+{
+    let mut line = Line::new();
+    line.push(b"lost ");
+    line.push_hex(lost.trap_pc);
+    line.push(b" mask ");
+    line.push_decimal(u64::from(lost.mask.bits()));
     line.end();
     line
 }

@@ -2,6 +2,7 @@
 
 ghost use Rattle.std.specs.Prelude.{◌≡◌, ◌≢◌, ◌⊎◌, ℕ, List, [], IfOk, IsTrue};
 ghost use Rattle.alpha_io.specs.Faults.{Rose};
+ghost use Rattle.alpha_io.specs.Files.{KeepsFiles};
 ghost use Rattle.alpha_io.specs.Shelved.{Shelved, shelved, OnlyReads};
 ghost use Rattle.alpha_io.specs.Sunk.{sunk};
 ghost use Rattle.alpha_request.specs.Command as commands;
@@ -37,6 +38,7 @@ pub(crate) fn run<H: Shelf, S: Source, K: Sink, N: Sink>(
     ensures tried { Decides (TriedOf (Rose (H.faults shelf.old) (H.faults shelf.new))
         (Rose (S.faults input.old) (S.faults input.new)) (commands.run options file.now)
         (world H.files H.takes S.left shelf.old input.old)) result (S.left input.new)
+        (shelved H.files H.takes H.faults shelf.old shelf.new)
         (sunk K.written K.faults out.old out.new) (sunk N.written N.faults notes.old notes.new) }
     ensures shelf { OnlyReads (shelved H.files H.takes H.faults shelf.old shelf.new)
         (IfOk result (λ decision. decision.status ≢ Status.ShelfFault)) }
@@ -66,11 +68,12 @@ fn run_machine<S: Source, K: Sink, N: Sink>(
     requires start { (bytes : List ℕ) → state_of machine.old bytes []
         ≡ start (program_of machine.old) bytes }
     requires mode { IsTrue machine.old.kernel.user }
-    ensures tried { (shelf : Shelved) (file : List ℕ) → ImageOf shelf.old file (goes machine.old.image)
+    ensures tried { (shelf : Shelved) (file : List ℕ)
+        → ImageOf shelf.old file (goes machine.old.image) → KeepsFiles shelf.old shelf.new
         → Decides (TriedOf (Rose shelf.before shelf.now)
         (Rose (S.faults input.old) (S.faults input.new)) (commands.run options file)
         (record { files = shelf.old; takes = shelf.took; input = S.left input.old }))
-        result (S.left input.new)
+        result (S.left input.new) shelf
         (sunk K.written K.faults out.old out.new) (sunk N.written N.faults notes.old notes.new) }
     ensures status { IfOk result (λ decision. decision.status ≢ Status.ShelfFault) }
     ensures input { (file : List ℕ) → MayTake (commands.run options file) (status_in result) }

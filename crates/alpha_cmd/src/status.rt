@@ -1,8 +1,10 @@
 ghost use Rattle.std.specs.Prelude.{◌≡◌};
 
+use alpha_asm::AsmFault;
 use alpha_image::ImageFault;
 use alpha_seq::End;
 use alpha_shadow::Broken;
+use alpha_trap::Lost;
 
 /// How a call of the program ended. The exit status of each is its [`Status::number`].
 #[derive(Clone, Copy, Debug, PartialEq, Eq)]
@@ -13,13 +15,17 @@ pub enum Status {
     NotRestartable(Broken),
     /// The words are no command.
     BadWords,
+    /// The source defines no image: its first refusal.
+    BadSource(AsmFault),
     /// The bytes of the file are no image: their first fault.
     BadImage(ImageFault),
     /// The program ended otherwise than by the system call exit.
     Stopped(End),
     /// The program was run for as many steps as it was given, and hasn't ended.
     StepsSpent,
-    /// A file that the words name isn't there, or the file system failed.
+    /// The imprecise machine reported a trap, and no instruction was found for it.
+    Lost(Lost),
+    /// A file that the words name isn't there or may not be kept, or the file system failed.
     ShelfFault,
     /// The input failed.
     InputFault,
@@ -42,9 +48,11 @@ impl Status {
             Status::Done(_) => 0,
             Status::NotRestartable(_) => 1,
             Status::BadWords => 2,
+            Status::BadSource(_) => 3,
             Status::BadImage(_) => 4,
             Status::Stopped(_) => 5,
             Status::StepsSpent => 6,
+            Status::Lost(_) => 7,
             Status::ShelfFault => 8,
             Status::InputFault => 9,
             Status::SinkFault => 10,

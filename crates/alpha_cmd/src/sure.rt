@@ -1,9 +1,9 @@
 ghost use Rattle.std.specs.Prelude.{◌≡◌, ◌≢◌, ◌⊎◌, Some};
 ghost use Rattle.alpha_io.specs.Files.{KeepsFiles};
-ghost use Rattle.alpha_io.specs.SureShelfState.{sure_file, sure_takes};
+ghost use Rattle.alpha_io.specs.SureShelfState.{sure_file};
 ghost use Rattle.alpha_request.specs.Command.{Command};
-ghost use Rattle.alpha_cmd.specs.Answer.{Answer, Asks, IsAnswer};
-ghost use Rattle.alpha_cmd.specs.Tried.{HasFiles, MayTake};
+ghost use Rattle.alpha_cmd.specs.Answer.{Answer, Asks, IsAnswer, sure_world};
+ghost use Rattle.alpha_cmd.specs.Tried.{HasFiles, MayTake, Spares};
 
 use crate::{Status, alpha_top};
 use alpha_io::{NullSink, SureShelf, SureSource};
@@ -18,20 +18,18 @@ pub fn alpha_sure(
     shelf: &mut SureShelf,
     input: &mut SureSource,
 ) -> Status
-    ensures answer { (a : Answer) → IsAnswer words.now
-        (record {
-          files = Some (sure_file shelf.old);
-          takes = sure_takes shelf.old;
-          input = Some input.old;
-        }) a → (result ≡ a.status) ⊎ (result ≡ Status.NoMemory) }
+    ensures answer { (a : Answer) → IsAnswer words.now (sure_world shelf.old input.old) a
+        → (result ≡ a.status) ⊎ (result ≡ Status.NoMemory) }
 
-    // No stream fails, and the shelf answers only for a file that it doesn't have.
+    // No stream fails, and the shelf answers only for a file that it doesn't have or doesn't take.
     ensures streams { (result ≢ Status.InputFault) × (result ≢ Status.SinkFault) }
     ensures shelf { (command : Command) → Asks words.now command
-        → HasFiles command (Some (sure_file shelf.old)) → result ≢ Status.ShelfFault }
+        → HasFiles command (sure_world shelf.old input.old) → result ≢ Status.ShelfFault }
 
-    // Files stay, and so does input but for a run.
-    ensures files { KeepsFiles (Some (sure_file shelf.old)) (Some (sure_file shelf.new)) }
+    // Files stay, but for the one that an assembly keeps, and so does input but for a run.
+    ensures files { KeepsFiles (Some (sure_file shelf.old)) (Some (sure_file shelf.new))
+        ⊎ ((command : Command) × Asks words.now command
+        × Spares command result (Some (sure_file shelf.old)) (Some (sure_file shelf.new))) }
     ensures input { (input.new ≡ input.old)
         ⊎ ((command : Command) × Asks words.now command × MayTake command result) }
 {

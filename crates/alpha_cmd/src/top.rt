@@ -1,17 +1,29 @@
-ghost use Rattle.std.specs.Prelude.{◌≡◌, ◌≢◌, ◌⊎◌, IfOk};
+ghost use Rattle.std.specs.Prelude.{◌≡◌, ◌≢◌, ◌⊎◌, ℕ, Bool, List, IfOk};
 ghost use Rattle.alpha_io.specs.Faults.{Rose, Calm};
-ghost use Rattle.alpha_io.specs.Shelved.{shelved, OnlyReads};
+ghost use Rattle.alpha_io.specs.Files.{KeepsFiles};
+ghost use Rattle.alpha_io.specs.Shelved.{shelved};
 ghost use Rattle.alpha_io.specs.Sunk.{sunk, IsCalm};
+ghost use Rattle.alpha_image.specs.Parts.{Parts};
+ghost use Rattle.alpha_request.specs.Command as commands;
 ghost use Rattle.alpha_request.specs.Command.{Command, command_of};
+ghost use Rattle.alpha_request.specs.Options.{Drawn};
+ghost use Rattle.alpha_request.specs.declared.options.RunOptions.{RunOptions};
 ghost use Rattle.alpha_seq.specs.Devices.{drawn};
-ghost use Rattle.alpha_cmd.specs.Answer.{Answer, AreTold, Asks, world, IsAnswer, IsAnswered};
+ghost use Rattle.alpha_imprecise.specs.Restart.{IsRestartable};
+ghost use Rattle.alpha_cmd.specs.Alike.{but_drawn, HasWords, IsChecked};
+ghost use Rattle.alpha_cmd.specs.Answer.{Answer, AnswerOf, AreTold, Asks, world, IsAnswer, IsAnswered, IsTold};
 ghost use Rattle.alpha_cmd.specs.Ends.{Decides, Ends, EndsPart, status_in};
-ghost use Rattle.alpha_cmd.specs.Tried.{CountStays, MayTake, TriedBy, TriedOf};
+ghost use Rattle.alpha_cmd.specs.Image.{ImageOf};
+ghost use Rattle.alpha_cmd.specs.Kept.{Serves};
+ghost use Rattle.alpha_cmd.specs.Outcome.{goes};
+ghost use Rattle.alpha_cmd.specs.Tried.{CountStays, MayTake, Spares, TriedBy, TriedOf};
 
 use crate::Status;
+use crate::asm::asm;
 use crate::check::check;
 use crate::decision::Decision;
 use crate::dis::dis;
+use crate::imprecise::{Asked, imprecise};
 use crate::run::run;
 use alpha_io::{Failed, Shelf, Sink, Source};
 use alpha_request::{Refusal, Request, Words, request_of};
@@ -20,8 +32,11 @@ use std::alloc::Global;
 /// Does what the words ask, and answers the status.
 ///
 /// `check FILE` judges the image of the file: `accepted` goes to the output, or the line of the
-/// least broken place to the notes. `dis FILE` writes its listing to the output. `run FILE` runs its
+/// least broken place to the notes. `dis FILE` writes its listing to the output. `asm FILE OUT`
+/// assembles the source of the file, and keeps its image as OUT. `run FILE` runs an image's
 /// program over the input: what it puts goes to the output, and the lines of the run to the notes.
+/// `run --imprecise FILE` does so by the imprecise machine: an image that `check` refuses is refused,
+/// unless `--force` is given, and an accepted one has what `run FILE` has.
 /// Each other status has its line on the notes.
 pub fn alpha_top<H: Shelf, S: Source, K: Sink, N: Sink>(
     alloc: Global,
@@ -37,6 +52,7 @@ pub fn alpha_top<H: Shelf, S: Source, K: Sink, N: Sink>(
         → Ends (TriedBy (Rose (H.faults shelf.old) (H.faults shelf.new))
         (Rose (S.faults input.old) (S.faults input.new)) words.now
         (world H.files H.takes S.left shelf.old input.old)) result (S.left input.new)
+        (shelved H.files H.takes H.faults shelf.old shelf.new)
         (sunk K.written K.faults out.old out.new) (sunk N.written N.faults notes.old notes.new) }
 
     // Where something couldn't be written, a sink failed, and a prefix of that was written.
@@ -44,11 +60,16 @@ pub fn alpha_top<H: Shelf, S: Source, K: Sink, N: Sink>(
         → EndsPart (TriedBy (Rose (H.faults shelf.old) (H.faults shelf.new))
         (Rose (S.faults input.old) (S.faults input.new)) words.now
         (world H.files H.takes S.left shelf.old input.old))
+        (shelved H.files H.takes H.faults shelf.old shelf.new)
         (sunk K.written K.faults out.old out.new) (sunk N.written N.faults notes.old notes.new) }
 
-    // Files are only read, and the shelf fails only under its status, or under that of a sink.
-    ensures shelf { OnlyReads (shelved H.files H.takes H.faults shelf.old shelf.new)
+    // The shelf fails only under its status, or under that of a sink. Told files stay, but for the
+    // one that an assembly keeps.
+    ensures shelf { Serves (shelved H.files H.takes H.faults shelf.old shelf.new)
         ((result ≢ Status.ShelfFault) × (result ≢ Status.SinkFault)) }
+    ensures files { KeepsFiles (H.files shelf.old) (H.files shelf.new)
+        ⊎ ((command : Command) × Asks words.now command
+        × Spares command result (H.files shelf.old) (H.files shelf.new)) }
 
     // Input is not touched, but by a run that was begun, and it fails only under its status, or
     // under that of a sink.
@@ -59,13 +80,38 @@ pub fn alpha_top<H: Shelf, S: Source, K: Sink, N: Sink>(
 
     // Where what the words' command reads is told and no device fails, the words' answer is given,
     // or memory ran out.
-    ensures exact { (a : Answer) → AreTold words.now (world H.files H.takes S.left shelf.old input.old)
+    ensures exact { (a : Answer)
+        → AreTold words.now (world H.files H.takes S.left shelf.old input.old)
         → Calm (H.faults shelf.old) (H.faults shelf.new)
         → Calm (S.faults input.old) (S.faults input.new)
         → IsCalm (sunk K.written K.faults out.old out.new)
         → IsCalm (sunk N.written N.faults notes.old notes.new)
         → IsAnswer words.now (world H.files H.takes S.left shelf.old input.old) a
-        → IsAnswered a result (S.left input.new) (sunk K.written K.faults out.old out.new)
+        → IsAnswered a result (S.left input.new)
+        (shelved H.files H.takes H.faults shelf.old shelf.new)
+        (sunk K.written K.faults out.old out.new)
+        (sunk N.written N.faults notes.old notes.new) ⊎ (result ≡ Status.NoMemory) }
+
+    // Where a check is done, the image of its file can be restarted after each late trap.
+    ensures restarts { (file : List ℕ) → Asks words.now (commands.check file)
+        → result ≡ Status.Done 0
+        → (image : Parts) × ImageOf (H.files shelf.old) file (goes image) × IsRestartable image }
+
+    // A run of the imprecise machine of a file that a check accepts has the answer of the sequential
+    // run with the same options, whatever words it draws and whether the verdict is passed over: only
+    // the number of words, which the status carries where the program has exited, is its own.
+    ensures alike { (options : RunOptions) (choices : Drawn) (force : Bool) (file : List ℕ)
+        (a : Answer) → Asks words.now (commands.imprecise options choices force file)
+        → let w = world H.files H.takes S.left shelf.old input.old in
+        IsTold (commands.run options file) w → HasWords w.files choices → IsChecked file w
+        → AnswerOf (commands.run options file) w a
+        → Calm (H.faults shelf.old) (H.faults shelf.new)
+        → Calm (S.faults input.old) (S.faults input.new)
+        → IsCalm (sunk K.written K.faults out.old out.new)
+        → IsCalm (sunk N.written N.faults notes.old notes.new)
+        → IsAnswered a (but_drawn result) (S.left input.new)
+        (shelved H.files H.takes H.faults shelf.old shelf.new)
+        (sunk K.written K.faults out.old out.new)
         (sunk N.written N.faults notes.old notes.new) ⊎ (result ≡ Status.NoMemory) }
 {
     match decide(alloc, words, shelf, input, out, notes) {
@@ -87,9 +133,13 @@ fn decide<H: Shelf, S: Source, K: Sink, N: Sink>(
     ensures tried { Decides (TriedBy (Rose (H.faults shelf.old) (H.faults shelf.new))
         (Rose (S.faults input.old) (S.faults input.new)) words.now
         (world H.files H.takes S.left shelf.old input.old)) result (S.left input.new)
+        (shelved H.files H.takes H.faults shelf.old shelf.new)
         (sunk K.written K.faults out.old out.new) (sunk N.written N.faults notes.old notes.new) }
-    ensures shelf { OnlyReads (shelved H.files H.takes H.faults shelf.old shelf.new)
+    ensures shelf { Serves (shelved H.files H.takes H.faults shelf.old shelf.new)
         (IfOk result (λ decision. decision.status ≢ Status.ShelfFault)) }
+    ensures files { KeepsFiles (H.files shelf.old) (H.files shelf.new)
+        ⊎ ((command : Command) × Asks words.now command
+        × Spares command (status_in result) (H.files shelf.old) (H.files shelf.new)) }
     ensures input { (input.new ≡ input.old)
         ⊎ ((command : Command) × Asks words.now command × MayTake command (status_in result)) }
     ensures source { CountStays (drawn S.left S.faults input.old input.new)
@@ -114,9 +164,12 @@ fn perform<H: Shelf, S: Source, K: Sink, N: Sink>(
     ensures tried { Decides (TriedOf (Rose (H.faults shelf.old) (H.faults shelf.new))
         (Rose (S.faults input.old) (S.faults input.new)) (command_of request.entry)
         (world H.files H.takes S.left shelf.old input.old)) result (S.left input.new)
+        (shelved H.files H.takes H.faults shelf.old shelf.new)
         (sunk K.written K.faults out.old out.new) (sunk N.written N.faults notes.old notes.new) }
-    ensures shelf { OnlyReads (shelved H.files H.takes H.faults shelf.old shelf.new)
+    ensures shelf { Serves (shelved H.files H.takes H.faults shelf.old shelf.new)
         (IfOk result (λ decision. decision.status ≢ Status.ShelfFault)) }
+    ensures files { Spares (command_of request.entry) (status_in result)
+        (H.files shelf.old) (H.files shelf.new) }
     ensures input { (input.new ≡ input.old)
         ⊎ MayTake (command_of request.entry) (status_in result) }
     ensures source { CountStays (drawn S.left S.faults input.old input.new)
@@ -125,6 +178,21 @@ fn perform<H: Shelf, S: Source, K: Sink, N: Sink>(
     match request {
         Request::Check { file } => Ok(check(alloc, file, shelf)),
         Request::Dis { file } => dis(alloc, file, shelf, out),
+        Request::Asm { file, out } => Ok(asm(alloc, file, out, shelf)),
+        Request::RunImprecise {
+            options,
+            choices,
+            force,
+            file,
+        } => {
+            let asked = Asked {
+                options,
+                choices,
+                force,
+                file,
+            };
+            imprecise(alloc, asked, shelf, input, out, notes)
+        }
         Request::Run { options, file } => run(alloc, options, file, shelf, input, out, notes),
     }
 }

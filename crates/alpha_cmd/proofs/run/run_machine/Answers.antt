@@ -1,9 +1,8 @@
-use Rattle.std.proofs.Common.{◌≡◌, ◌∙◌, Some, None, refl, sym, subst, arith}
+use Rattle.std.proofs.Common.{◌∙◌, Some, None, refl, sym, subst}
 use Rattle.alpha_io.specs.Faults.{Rose}
 use Rattle.alpha_io.specs.Sunk.{sunk}
 use Rattle.alpha_request.specs.Command as commands
 use Rattle.alpha_seq.specs.Devices.{drawn}
-use Rattle.alpha_cmd.specs.declared.status.Status.TheVariants.{StepsSpent, InputFault}
 use Rattle.alpha_cmd.specs.Answer.{World, Answer}
 use Rattle.alpha_cmd.specs.Ends.{Leaves}
 use Rattle.alpha_cmd.specs.Tried.{MayTake, TriedOf}
@@ -12,15 +11,15 @@ use Rattle.alpha_cmd.proofs.Ran.{run_shows, run_begins, made_tried, starved_trie
 use Rattle.alpha_cmd.proofs.run.run_machine.Goals as goal
 
 pub returns-in-Ended-clause-tried : goal.returns-in-Ended-clause-tried
-returns-in-Ended-clause-tried g c = λ shelf file found.
+returns-in-Ended-clause-tried g c = λ shelf file found same.
     let w : World = record { files = shelf.old; takes = shelf.took; input = g.S.Source.left c.args.input.now } in
     let input = drawn g.S.Source.left g.S.Source.faults c.args.input.now c.run.new.input in
     let out = sunk g.K.Sink.written g.K.Sink.faults c.args.out.now c.run.new.out in
     let notes = sunk g.N.Sink.written g.N.Sink.faults c.args.notes.now c.run.new.notes in
     let did = c.in-Ended.ensures in
-    subst (λ (rest : Answer). Leaves (TriedOf (Rose shelf.before shelf.now) (Rose input.before input.now) (commands.run c.args.options file) w) rest out notes)
+    subst (λ (rest : Answer). Leaves (TriedOf (Rose shelf.before shelf.now) (Rose input.before input.now) (commands.run c.args.options file) w) rest shelf out notes)
     (sym (c.ended.ensures.answer input.new))
-    (made_tried c.args.options file w c.args.machine.now (Rose shelf.before shelf.now) (Rose input.before input.now) found input out notes (Some c.in-Ended.end) refl
+    (made_tried c.args.options file w c.args.machine.now (Rose shelf.before shelf.now) (Rose input.before input.now) found shelf same input out notes (Some c.in-Ended.end) refl
     (run_shows c.args.options (Some c.in-Ended.end) c.args.machine.now c.run.new.machine input out notes
     (record { how = c.requires.how; state = c.requires.start }) did.effect did.output did.notes did.cause))
 
@@ -32,15 +31,15 @@ returns-in-Ended-clause-input g c = λ file.
     subst (MayTake (commands.run c.args.options file)) (sym c.ended.ensures.status) (MayTake-end c.args.options file c.in-Ended.end)
 
 pub returns-in-Spent-clause-tried : goal.returns-in-Spent-clause-tried
-returns-in-Spent-clause-tried g c = λ shelf file found.
+returns-in-Spent-clause-tried g c = λ shelf file found same.
     let w : World = record { files = shelf.old; takes = shelf.took; input = g.S.Source.left c.args.input.now } in
     let input = drawn g.S.Source.left g.S.Source.faults c.args.input.now c.run.new.input in
     let out = sunk g.K.Sink.written g.K.Sink.faults c.args.out.now c.run.new.out in
     let notes = sunk g.N.Sink.written g.N.Sink.faults c.args.notes.now c.run.new.notes in
     let did = c.in-Spent.ensures in
-    subst (λ (rest : Answer). Leaves (TriedOf (Rose shelf.before shelf.now) (Rose input.before input.now) (commands.run c.args.options file) w) rest out notes)
+    subst (λ (rest : Answer). Leaves (TriedOf (Rose shelf.before shelf.now) (Rose input.before input.now) (commands.run c.args.options file) w) rest shelf out notes)
     (sym (c.said.ensures.answer input.new))
-    (made_tried c.args.options file w c.args.machine.now (Rose shelf.before shelf.now) (Rose input.before input.now) found input out notes None refl
+    (made_tried c.args.options file w c.args.machine.now (Rose shelf.before shelf.now) (Rose input.before input.now) found shelf same input out notes None refl
     (run_shows c.args.options None c.args.machine.now c.run.new.machine input out notes
     (record { how = c.requires.how; state = c.requires.start }) did.effect did.output did.notes did.cause))
 
@@ -49,15 +48,15 @@ returns-in-Spent-clause-input g c = λ file.
     subst (MayTake (commands.run c.args.options file)) (sym c.said.ensures.status) tt
 
 pub returns-in-InputFault-clause-tried : goal.returns-in-InputFault-clause-tried
-returns-in-InputFault-clause-tried g c = λ shelf file found.
+returns-in-InputFault-clause-tried g c = λ shelf file found same.
     let w : World = record { files = shelf.old; takes = shelf.took; input = g.S.Source.left c.args.input.now } in
     let input = drawn g.S.Source.left g.S.Source.faults c.args.input.now c.run.new.input in
     let out = sunk g.K.Sink.written g.K.Sink.faults c.args.out.now c.run.new.out in
     let notes = sunk g.N.Sink.written g.N.Sink.faults c.args.notes.now c.run.new.notes in
     let did = c.in-InputFault.ensures in
-    subst (λ (rest : Answer). Leaves (TriedOf (Rose shelf.before shelf.now) (Rose input.before input.now) (commands.run c.args.options file) w) rest out notes)
+    subst (λ (rest : Answer). Leaves (TriedOf (Rose shelf.before shelf.now) (Rose input.before input.now) (commands.run c.args.options file) w) rest shelf out notes)
     (sym (c.said-in-InputFault.ensures.answer input.new))
-    (starved_tried c.args.options file w c.args.machine.now (Rose shelf.before shelf.now) (Rose input.before input.now) found input out notes did.cause (λ fault. fault.source)
+    (starved_tried c.args.options file w c.args.machine.now (Rose shelf.before shelf.now) (Rose input.before input.now) found shelf same input out notes did.cause (λ fault. fault.source)
     (run_begins c.args.options c.args.machine.now w.input out notes (record { how = c.requires.how; state = c.requires.start }) did.prefix did.output did.notes))
 
 pub returns-in-InputFault-clause-input : goal.returns-in-InputFault-clause-input
@@ -69,11 +68,11 @@ returns-in-InputFault-clause-source g c =
     record { later = c.in-InputFault.ensures.cause.later; calm = λ other. absurd (other c.said-in-InputFault.ensures.status) }
 
 pub returns-in-SinkFault-clause-tried : goal.returns-in-SinkFault-clause-tried
-returns-in-SinkFault-clause-tried g c = λ shelf file found.
+returns-in-SinkFault-clause-tried g c = λ shelf file found same.
     let w : World = record { files = shelf.old; takes = shelf.took; input = g.S.Source.left c.args.input.now } in
     let input = drawn g.S.Source.left g.S.Source.faults c.args.input.now c.run.new.input in
     let out = sunk g.K.Sink.written g.K.Sink.faults c.args.out.now c.run.new.out in
     let notes = sunk g.N.Sink.written g.N.Sink.faults c.args.notes.now c.run.new.notes in
     let did = c.in-SinkFault.ensures in
-    unwritten_tried c.args.options file w c.args.machine.now (Rose shelf.before shelf.now) (Rose input.before input.now) found input out notes did.cause
+    unwritten_tried c.args.options file w c.args.machine.now (Rose shelf.before shelf.now) (Rose input.before input.now) found shelf same input out notes did.cause
     (run_begins c.args.options c.args.machine.now w.input out notes (record { how = c.requires.how; state = c.requires.start }) did.prefix did.output did.notes)

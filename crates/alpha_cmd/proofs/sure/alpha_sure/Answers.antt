@@ -1,4 +1,4 @@
-use Rattle.std.proofs.Common.{◌≡◌, ◌≢◌, ◌∙◌, refl, sym, inl, inr, ⊎_elim}
+use Rattle.std.proofs.Common.{◌≡◌, ◌≢◌, ◌∙◌, sym, inl, inr, ⊎_elim}
 use Rattle.alpha_cmd.specs.declared.status.Status.TheVariants.{SinkFault, NoMemory}
 use Rattle.alpha_cmd.proofs.Trying.{told_sure, tried_not_input, tried_there, Rose-none, Calm-none}
 use Rattle.alpha_cmd.proofs.sure.alpha_sure.Goals as goal
@@ -20,4 +20,4 @@ returns-clause-shelf c = λ command asks there e.
     tried_there _ _ c.args.words.now command _ ends.tried Rose-none asks there ends.is (sym ends.status_is ∙ e)
 
 pub returns-clause-files : goal.returns-clause-files
-returns-clause-files c = c.alpha_top.ensures.shelf.files
+returns-clause-files c = c.alpha_top.ensures.files

@@ -1,14 +1,18 @@
-use Rattle.std.proofs.Common.{◌≡◌, ◌≢◌, ◌⊎◌, ◌∙◌, sym, subst, inl, inr, ⊎_elim}
+use Rattle.std.proofs.Common.{◌≡◌, ◌≢◌, ◌∙◌, sym, subst, inl, inr, ⊎_elim}
 use Rattle.alpha_io.specs.Faults.{Rose}
+use Rattle.alpha_io.specs.Files.{KeepsFiles}
+use Rattle.alpha_io.specs.Shelved.{shelved}
 use Rattle.alpha_io.specs.Sunk.{sunk}
 use Rattle.alpha_io.proofs.Counts.{Rose-not_calm}
-use Rattle.alpha_cmd.specs.declared.status.Status.TheVariants.{SinkFault}
+use Rattle.alpha_cmd.specs.declared.status.Status.TheVariants.{Done, SinkFault}
 use Rattle.alpha_request.specs.Command.{Command}
-use Rattle.alpha_cmd.specs.Answer.{World, Asks, world}
+use Rattle.alpha_cmd.specs.Answer.{Asks, world}
 use Rattle.alpha_cmd.specs.Decision.{answer_in}
-use Rattle.alpha_cmd.specs.Tried.{MayTake, TriedBy}
+use Rattle.alpha_cmd.specs.Tried.{MayTake, Spares, TriedBy}
 use Rattle.alpha_cmd.proofs.Endings.{Leaves-not_sink, whole, part, exact_whole, calm_part}
+use Rattle.alpha_cmd.proofs.Keeping.{Spares-sink}
 use Rattle.alpha_cmd.proofs.Trying.{is_sink, MayTake-sink}
+use Rattle.alpha_cmd.proofs.Alike.{tried_restarts, alike_call}
 use Rattle.alpha_cmd.proofs.top.alpha_top.Goals as goal
 
 pub deliver-requires : goal.deliver-requires
@@ -17,6 +21,7 @@ deliver-requires g c =
     let shelf = Rose (g.H.Shelf.faults c.args.shelf.now) (g.H.Shelf.faults c.decide.new.shelf) in
     let input = Rose (g.S.Source.faults c.args.input.now) (g.S.Source.faults c.decide.new.input) in
     Leaves-not_sink shelf input c.args.words.now w (answer_in (g.S.Source.left c.decide.new.input) c.in-Ok.decision)
+    (shelved g.H.Shelf.files g.H.Shelf.takes g.H.Shelf.faults c.args.shelf.now c.decide.new.shelf)
     (sunk g.K.Sink.written g.K.Sink.faults c.args.out.now c.decide.new.out) (sunk g.N.Sink.written g.N.Sink.faults c.args.notes.now c.decide.new.notes)
     c.in-Ok.ensures.tried
 
@@ -27,6 +32,7 @@ returns-in-Ok-clause-whole g c = λ calm.
     let input = Rose (g.S.Source.faults c.args.input.now) (g.S.Source.faults c.decide.new.input) in
     whole g.K.Sink.written g.K.Sink.faults g.N.Sink.written g.N.Sink.faults
     c.args.out.now c.decide.new.out c.deliver.new.out c.args.notes.now c.decide.new.notes c.deliver.new.notes
+    (shelved g.H.Shelf.files g.H.Shelf.takes g.H.Shelf.faults c.args.shelf.now c.decide.new.shelf)
     (TriedBy shelf input c.args.words.now w) (answer_in (g.S.Source.left c.decide.new.input) c.in-Ok.decision) c.in-Ok.ensures.tried
     c.deliver.result (c.deliver.ensures.status calm) (c.deliver.ensures.output calm) (c.deliver.ensures.notes calm)
 
@@ -37,8 +43,26 @@ returns-in-Ok-clause-part g c = λ e.
     let input = Rose (g.S.Source.faults c.args.input.now) (g.S.Source.faults c.decide.new.input) in
     part g.K.Sink.written g.K.Sink.faults g.N.Sink.written g.N.Sink.faults
     c.args.out.now c.decide.new.out c.deliver.new.out c.args.notes.now c.decide.new.notes c.deliver.new.notes
+    (shelved g.H.Shelf.files g.H.Shelf.takes g.H.Shelf.faults c.args.shelf.now c.decide.new.shelf)
     (TriedBy shelf input c.args.words.now w) (answer_in (g.S.Source.left c.decide.new.input) c.in-Ok.decision) c.in-Ok.ensures.tried
     c.deliver.ensures.output_part c.deliver.ensures.notes_part (c.deliver.ensures.failed e)
+
+pub returns-in-Ok-clause-files : goal.returns-in-Ok-clause-files
+returns-in-Ok-clause-files g c =
+    let old = g.H.Shelf.files c.args.shelf.now in
+    let new = g.H.Shelf.files c.decide.new.shelf in
+    ⊎_elim
+    (λ (h : KeepsFiles old new). inl h)
+    (λ (h : (command : Command) × Asks c.args.words.now command × Spares command c.in-Ok.decision.status old new).
+    inr (
+      h.0,
+      h.1,
+      ⊎_elim
+          (λ (e : c.deliver.result ≡ SinkFault). subst (λ s. Spares h.0 s old new) (sym e) (Spares-sink h.0 c.in-Ok.decision.status old new h.2))
+          (λ (e : c.deliver.result ≢ SinkFault). subst (λ s. Spares h.0 s old new) (sym (c.deliver.ensures.status e)) h.2)
+          (is_sink c.deliver.result),
+    ))
+    c.in-Ok.ensures.files
 
 pub returns-in-Ok-clause-input : goal.returns-in-Ok-clause-input
 returns-in-Ok-clause-input g c =
@@ -62,10 +86,11 @@ returns-in-Ok-clause-exact g c = λ a told quiet fed out notes is.
     let input = Rose (g.S.Source.faults c.args.input.now) (g.S.Source.faults c.decide.new.input) in
     let O = sunk g.K.Sink.written g.K.Sink.faults c.args.out.now c.deliver.new.out in
     let N = sunk g.N.Sink.written g.N.Sink.faults c.args.notes.now c.deliver.new.notes in
+    let s = shelved g.H.Shelf.files g.H.Shelf.takes g.H.Shelf.faults c.args.shelf.now c.decide.new.shelf in
     ⊎_elim
-    (λ (e : c.deliver.result ≡ SinkFault). absurd (calm_part (TriedBy shelf input c.args.words.now w) O N (returns-in-Ok-clause-part g c e) out notes))
+    (λ (e : c.deliver.result ≡ SinkFault). absurd (calm_part (TriedBy shelf input c.args.words.now w) s O N (returns-in-Ok-clause-part g c e) out notes))
     (λ (e : c.deliver.result ≢ SinkFault).
-    exact_whole shelf input c.args.words.now w a c.deliver.result (g.S.Source.left c.decide.new.input) O N told
+    exact_whole shelf input c.args.words.now w a c.deliver.result (g.S.Source.left c.decide.new.input) s O N told
     (λ p. Rose-not_calm _ _ p quiet) (λ p. Rose-not_calm _ _ p fed) (returns-in-Ok-clause-whole g c e) is)
     (is_sink c.deliver.result)
 
@@ -75,5 +100,33 @@ returns-in-Err-clause-exact g c = λ a told quiet fed out notes is.
     let shelf = Rose (g.H.Shelf.faults c.args.shelf.now) (g.H.Shelf.faults c.decide.new.shelf) in
     let input = Rose (g.S.Source.faults c.args.input.now) (g.S.Source.faults c.decide.new.input) in
     absurd (calm_part (TriedBy shelf input c.args.words.now w)
+    (shelved g.H.Shelf.files g.H.Shelf.takes g.H.Shelf.faults c.args.shelf.now c.decide.new.shelf)
     (sunk g.K.Sink.written g.K.Sink.faults c.args.out.now c.decide.new.out) (sunk g.N.Sink.written g.N.Sink.faults c.args.notes.now c.decide.new.notes)
     c.in-Err.ensures.tried out notes)
+
+pub returns-in-Ok-clause-restarts : goal.returns-in-Ok-clause-restarts
+returns-in-Ok-clause-restarts g c = λ file asks e.
+    let w = world g.H.Shelf.files g.H.Shelf.takes g.S.Source.left c.args.shelf.now c.args.input.now in
+    let shelf = Rose (g.H.Shelf.faults c.args.shelf.now) (g.H.Shelf.faults c.decide.new.shelf) in
+    let input = Rose (g.S.Source.faults c.args.input.now) (g.S.Source.faults c.decide.new.input) in
+    let ends = returns-in-Ok-clause-whole g c (λ failed. let x : Done 0 ≡ SinkFault = sym e ∙ failed in cc) in
+    tried_restarts shelf input c.args.words.now file w ends.tried asks ends.is (sym ends.status_is ∙ e)
+
+pub returns-in-Ok-clause-alike : goal.returns-in-Ok-clause-alike
+returns-in-Ok-clause-alike g c = λ options choices force file a asks told has checked is quiet fed out notes.
+    let w = world g.H.Shelf.files g.H.Shelf.takes g.S.Source.left c.args.shelf.now c.args.input.now in
+    alike_call c.args.words.now options choices force file w a c.deliver.result (g.S.Source.left c.decide.new.input)
+    (shelved g.H.Shelf.files g.H.Shelf.takes g.H.Shelf.faults c.args.shelf.now c.decide.new.shelf)
+    (sunk g.K.Sink.written g.K.Sink.faults c.args.out.now c.deliver.new.out) (sunk g.N.Sink.written g.N.Sink.faults c.args.notes.now c.deliver.new.notes)
+    asks told has checked is (λ b read answer. returns-in-Ok-clause-exact g c b read quiet fed out notes answer)
+
+pub returns-in-Err-clause-restarts : goal.returns-in-Err-clause-restarts
+returns-in-Err-clause-restarts g c = λ file asks e. absurd (let x : SinkFault ≡ Done 0 = e in cc)
+
+pub returns-in-Err-clause-alike : goal.returns-in-Err-clause-alike
+returns-in-Err-clause-alike g c = λ options choices force file a asks told has checked is quiet fed out notes.
+    let w = world g.H.Shelf.files g.H.Shelf.takes g.S.Source.left c.args.shelf.now c.args.input.now in
+    alike_call c.args.words.now options choices force file w a SinkFault (g.S.Source.left c.decide.new.input)
+    (shelved g.H.Shelf.files g.H.Shelf.takes g.H.Shelf.faults c.args.shelf.now c.decide.new.shelf)
+    (sunk g.K.Sink.written g.K.Sink.faults c.args.out.now c.decide.new.out) (sunk g.N.Sink.written g.N.Sink.faults c.args.notes.now c.decide.new.notes)
+    asks told has checked is (λ b read answer. returns-in-Err-clause-exact g c b read quiet fed out notes answer)

@@ -1,8 +1,10 @@
-use Rattle.std.proofs.Common.{◌≡◌, ◌⊎◌, inl, inr, ⊎_elim}
+use Rattle.std.proofs.Common.{◌≡◌, inl, inr, ⊎_elim}
 use Rattle.alpha_io.specs.Faults.{Rose}
+use Rattle.alpha_io.specs.Shelved.{shelved}
 use Rattle.alpha_io.specs.Sunk.{sunk}
+use Rattle.alpha_io.proofs.Shelved.{KeepsFiles-refl}
 use Rattle.alpha_request.specs.Command.{command_of}
-use Rattle.alpha_cmd.specs.Answer.{World, world}
+use Rattle.alpha_cmd.specs.Answer.{world}
 use Rattle.alpha_cmd.specs.Decision.{answer_in}
 use Rattle.alpha_cmd.specs.Ends.{status_in}
 use Rattle.alpha_cmd.specs.Tried.{MayTake, TriedOf, TriedBy}
@@ -18,7 +20,8 @@ returns-in-Ok-clause-tried g c =
     let command = command_of c.in-Ok.request in
     Decides-map (TriedOf shelf input command w) (TriedBy shelf input c.args.words.now w)
     (λ t. asked_tried shelf input c.args.words.now command w t c.in-Ok.ensures)
-    c.perform.result (g.S.Source.left c.perform.new.input) (sunk g.K.Sink.written g.K.Sink.faults c.args.out.now c.perform.new.out)
+    c.perform.result (g.S.Source.left c.perform.new.input)
+    (shelved g.H.Shelf.files g.H.Shelf.takes g.H.Shelf.faults c.args.shelf.now c.perform.new.shelf) (sunk g.K.Sink.written g.K.Sink.faults c.args.out.now c.perform.new.out)
     (sunk g.N.Sink.written g.N.Sink.faults c.args.notes.now c.perform.new.notes) c.perform.ensures.tried
 
 pub returns-in-Ok-clause-input : goal.returns-in-Ok-clause-input
@@ -28,6 +31,9 @@ returns-in-Ok-clause-input g c =
     (λ (h : MayTake (command_of c.in-Ok.request) (status_in c.perform.result)). inr (command_of c.in-Ok.request, c.in-Ok.ensures, h))
     c.perform.ensures.input
 
+pub returns-in-Ok-clause-files : goal.returns-in-Ok-clause-files
+returns-in-Ok-clause-files g c = inr (command_of c.in-Ok.request, c.in-Ok.ensures, c.perform.ensures.files)
+
 pub returns-in-Err-BadWords-clause-tried : goal.returns-in-Err-BadWords-clause-tried
 returns-in-Err-BadWords-clause-tried g c =
     let shelf = Rose (g.H.Shelf.faults c.args.shelf.now) (g.H.Shelf.faults c.args.shelf.now) in
@@ -35,8 +41,10 @@ returns-in-Err-BadWords-clause-tried g c =
     let left = g.S.Source.left c.args.input.now in
     let w = world g.H.Shelf.files g.H.Shelf.takes g.S.Source.left c.args.shelf.now c.args.input.now in
     Leaves-all (TriedBy shelf input c.args.words.now w) (answer_in left c.said.result)
+    (shelved g.H.Shelf.files g.H.Shelf.takes g.H.Shelf.faults c.args.shelf.now c.args.shelf.now)
     (g.K.Sink.written c.args.out.now) (g.N.Sink.written c.args.notes.now) (g.K.Sink.faults c.args.out.now) (g.N.Sink.faults c.args.notes.now)
     (inl (inl (rw c.in-Err-BadWords.field-0-is at c.in-Err-BadWords.ensures, c.said.ensures.answer left)))
+    (KeepsFiles-refl w.files)
 
 pub returns-in-Err-NoMemory-clause-tried : goal.returns-in-Err-NoMemory-clause-tried
 returns-in-Err-NoMemory-clause-tried g c =
@@ -45,5 +53,7 @@ returns-in-Err-NoMemory-clause-tried g c =
     let left = g.S.Source.left c.args.input.now in
     let w = world g.H.Shelf.files g.H.Shelf.takes g.S.Source.left c.args.shelf.now c.args.input.now in
     Leaves-all (TriedBy shelf input c.args.words.now w) (answer_in left c.said-in-Err-NoMemory.result)
+    (shelved g.H.Shelf.files g.H.Shelf.takes g.H.Shelf.faults c.args.shelf.now c.args.shelf.now)
     (g.K.Sink.written c.args.out.now) (g.N.Sink.written c.args.notes.now) (g.K.Sink.faults c.args.out.now) (g.N.Sink.faults c.args.notes.now)
     (inr (inr (c.said-in-Err-NoMemory.ensures.answer left)))
+    (KeepsFiles-refl w.files)

@@ -1,11 +1,11 @@
-use Rattle.std.proofs.Common.{refl, arith}
 use Rattle.alpha_io.specs.Faults.{Rose}
+use Rattle.alpha_io.specs.Shelved.{shelved}
 use Rattle.alpha_request.specs.Command as commands
 use Rattle.alpha_seq.specs.Devices.{drawn}
-use Rattle.alpha_cmd.specs.Answer.{World, world}
+use Rattle.alpha_cmd.specs.Answer.{world}
 use Rattle.alpha_cmd.specs.Decision.{answer_in}
 use Rattle.alpha_cmd.specs.Tried.{TriedOf}
-use Rattle.alpha_cmd.proofs.Endings.{Leaves-all}
+use Rattle.alpha_cmd.proofs.Endings.{Leaves-all, Leaves-kept}
 use Rattle.alpha_cmd.proofs.top.perform.Goals as goal
 
 pub returns-in-Check-clause-tried : goal.returns-in-Check-clause-tried
@@ -15,10 +15,23 @@ returns-in-Check-clause-tried g c =
     let input = Rose (g.S.Source.faults c.args.input.now) (g.S.Source.faults c.args.input.now) in
     rw c.in-Check.is
     (Leaves-all (TriedOf shelf input (commands.check c.in-Check.file.now) w) (answer_in (g.S.Source.left c.args.input.now) c.check.result)
+    (shelved g.H.Shelf.files g.H.Shelf.takes g.H.Shelf.faults c.args.shelf.now c.check.new.shelf)
     (g.K.Sink.written c.args.out.now) (g.N.Sink.written c.args.notes.now) (g.K.Sink.faults c.args.out.now) (g.N.Sink.faults c.args.notes.now)
-    (c.check.ensures.tried (drawn g.S.Source.left g.S.Source.faults c.args.input.now c.args.input.now)))
+    (c.check.ensures.tried (drawn g.S.Source.left g.S.Source.faults c.args.input.now c.args.input.now)) c.check.ensures.shelf.files)
 
 pub returns-in-Dis-clause-tried : goal.returns-in-Dis-clause-tried
 returns-in-Dis-clause-tried g c =
     rw c.in-Dis.is
     (c.dis.ensures.tried (drawn g.S.Source.left g.S.Source.faults c.args.input.now c.args.input.now) (g.N.Sink.written c.args.notes.now) (g.N.Sink.faults c.args.notes.now))
+
+pub returns-in-Asm-clause-tried : goal.returns-in-Asm-clause-tried
+returns-in-Asm-clause-tried g c =
+    let w = world g.H.Shelf.files g.H.Shelf.takes g.S.Source.left c.args.shelf.now c.args.input.now in
+    let shelf = Rose (g.H.Shelf.faults c.args.shelf.now) (g.H.Shelf.faults c.asm.new.shelf) in
+    let input = Rose (g.S.Source.faults c.args.input.now) (g.S.Source.faults c.args.input.now) in
+    let settled = c.asm.ensures.tried (drawn g.S.Source.left g.S.Source.faults c.args.input.now c.args.input.now) in
+    rw c.in-Asm.is
+    (Leaves-kept (TriedOf shelf input (commands.asm c.in-Asm.file.now c.in-Asm.out.now) w) (answer_in (g.S.Source.left c.args.input.now) c.asm.result) settled.0
+    (shelved g.H.Shelf.files g.H.Shelf.takes g.H.Shelf.faults c.args.shelf.now c.asm.new.shelf)
+    (g.K.Sink.written c.args.out.now) (g.N.Sink.written c.args.notes.now) (g.K.Sink.faults c.args.out.now) (g.N.Sink.faults c.args.notes.now)
+    settled.1 settled.2)

@@ -1,0 +1,107 @@
+use Rattle.std.proofs.Common.{refl, sym, ap, subst}
+use Rattle.alpha_io.specs.Faults.{Rose}
+use Rattle.alpha_io.specs.Sunk.{sunk}
+use Rattle.alpha_request.specs.Command as commands
+use Rattle.alpha_restart.proofs.Agreeing.{accepted_restarts}
+use Rattle.alpha_seq.specs.declared.end.RunEnd.TheVariants as runs
+use Rattle.alpha_seq.specs.Devices.{drawn}
+use Rattle.alpha_cmd.specs.declared.status.Status.TheVariants as statuses
+use Rattle.alpha_cmd.specs.Choosing.{ahead_in}
+use Rattle.alpha_cmd.specs.Imprecise.{plan_by, drawn_status}
+use Rattle.alpha_cmd.specs.Answer.{World, Answer}
+use Rattle.alpha_cmd.specs.Ends.{Leaves}
+use Rattle.alpha_cmd.specs.Tried.{TriedOf}
+use Rattle.alpha_cmd.proofs.Trying.{passed}
+use Rattle.alpha_cmd.proofs.WildRan.{counted, fits, planned_image, run_shows, run_begins, made_tried, starved_tried, unwritten_tried}
+use Rattle.alpha_cmd.proofs.imprecise.run_wild.Goals as goal
+
+pub returns-in-Ended-clause-tried : goal.returns-in-Ended-clause-tried
+returns-in-Ended-clause-tried g c = λ shelf file choices force found good same.
+    let w : World = record { files = shelf.old; takes = shelf.took; input = g.S.Source.left c.args.input.now } in
+    let input = drawn g.S.Source.left g.S.Source.faults c.args.input.now c.run.new.input in
+    let out = sunk g.K.Sink.written g.K.Sink.faults c.args.out.now c.run.new.out in
+    let notes = sunk g.N.Sink.written g.N.Sink.faults c.args.notes.now c.run.new.notes in
+    let m = c.args.wild.now.machine in
+    let ahead = ahead_in c.args.chooser.now.chooser in
+    let did = c.in-Ended.ensures in
+    subst (λ (rest : Answer). Leaves (TriedOf (Rose shelf.before shelf.now) (Rose input.before input.now) (commands.imprecise c.args.options choices force file) w) rest shelf out notes)
+    (sym (c.ended_by.ensures.answer input.new))
+    (made_tried c.args.options m ahead c.requires.how file choices force w (Rose shelf.before shelf.now) (Rose input.before input.now) found (passed force (plan_by m.image ahead) good) shelf same
+    (runs.Ended c.in-Ended.end) (drawn_status c.drawn.result c.in-Ended.end) input out notes refl
+    (run_shows c.args.options m ahead c.requires.how force (runs.Ended c.in-Ended.end) (drawn_status c.drawn.result c.in-Ended.end) c.drawn.result input _ _ out notes tt (ap (λ n. drawn_status n c.in-Ended.end) (fits c.drawn.result c.drawn.type_inv))
+    (λ k count. ap (λ n. drawn_status n c.in-Ended.end) (counted c.args.chooser.now.drawn c.run.new.chooser.drawn c.drawn.result k c.requires.none c.drawn.ensures c.drawn.type_inv count))
+    (λ bytes told. did.told bytes ahead told refl c.requires.fresh)
+    (λ bytes told judges. did.restarted bytes told c.requires.fresh (accepted_restarts m.image (planned_image shelf.old file choices m.image ahead found) (good judges)))
+    did.output did.notes did.cause))
+
+pub returns-in-Spent-clause-tried : goal.returns-in-Spent-clause-tried
+returns-in-Spent-clause-tried g c = λ shelf file choices force found good same.
+    let w : World = record { files = shelf.old; takes = shelf.took; input = g.S.Source.left c.args.input.now } in
+    let input = drawn g.S.Source.left g.S.Source.faults c.args.input.now c.run.new.input in
+    let out = sunk g.K.Sink.written g.K.Sink.faults c.args.out.now c.run.new.out in
+    let notes = sunk g.N.Sink.written g.N.Sink.faults c.args.notes.now c.run.new.notes in
+    let m = c.args.wild.now.machine in
+    let ahead = ahead_in c.args.chooser.now.chooser in
+    let did = c.in-Spent.ensures in
+    subst (λ (rest : Answer). Leaves (TriedOf (Rose shelf.before shelf.now) (Rose input.before input.now) (commands.imprecise c.args.options choices force file) w) rest shelf out notes)
+    (sym (c.said.ensures.answer input.new))
+    (made_tried c.args.options m ahead c.requires.how file choices force w (Rose shelf.before shelf.now) (Rose input.before input.now) found (passed force (plan_by m.image ahead) good) shelf same
+    (runs.Spent) (statuses.StepsSpent) input out notes refl
+    (run_shows c.args.options m ahead c.requires.how force (runs.Spent) (statuses.StepsSpent) 0 input _ _ out notes tt refl
+    (λ k count. refl)
+    (λ bytes told. did.told bytes ahead told refl c.requires.fresh)
+    (λ bytes told judges. did.restarted bytes told c.requires.fresh (accepted_restarts m.image (planned_image shelf.old file choices m.image ahead found) (good judges)))
+    did.output did.notes did.cause))
+
+pub returns-in-Lost-clause-tried : goal.returns-in-Lost-clause-tried
+returns-in-Lost-clause-tried g c = λ shelf file choices force found good same.
+    let w : World = record { files = shelf.old; takes = shelf.took; input = g.S.Source.left c.args.input.now } in
+    let input = drawn g.S.Source.left g.S.Source.faults c.args.input.now c.run.new.input in
+    let out = sunk g.K.Sink.written g.K.Sink.faults c.args.out.now c.run.new.out in
+    let notes = sunk g.N.Sink.written g.N.Sink.faults c.args.notes.now c.run.new.notes in
+    let m = c.args.wild.now.machine in
+    let ahead = ahead_in c.args.chooser.now.chooser in
+    let did = c.in-Lost.ensures in
+    subst (λ (rest : Answer). Leaves (TriedOf (Rose shelf.before shelf.now) (Rose input.before input.now) (commands.imprecise c.args.options choices force file) w) rest shelf out notes)
+    (sym (c.said-in-Lost.ensures.answer input.new))
+    (made_tried c.args.options m ahead c.requires.how file choices force w (Rose shelf.before shelf.now) (Rose input.before input.now) found (passed force (plan_by m.image ahead) good) shelf same
+    (runs.Lost c.in-Lost.trap_pc c.in-Lost.mask) (statuses.Lost (record { trap_pc = c.in-Lost.trap_pc; mask = c.in-Lost.mask })) input out notes refl
+    (run_shows c.args.options m ahead c.requires.how force (runs.Lost c.in-Lost.trap_pc c.in-Lost.mask) (statuses.Lost (record { trap_pc = c.in-Lost.trap_pc; mask = c.in-Lost.mask })) 0 input _ _ out notes tt refl
+    (λ k count. refl)
+    (λ bytes told. did.told bytes ahead told refl c.requires.fresh)
+    (λ bytes told judges. did.restarted bytes told c.requires.fresh (accepted_restarts m.image (planned_image shelf.old file choices m.image ahead found) (good judges)))
+    did.output did.notes did.cause))
+
+pub returns-in-InputFault-clause-tried : goal.returns-in-InputFault-clause-tried
+returns-in-InputFault-clause-tried g c = λ shelf file choices force found good same.
+    let w : World = record { files = shelf.old; takes = shelf.took; input = g.S.Source.left c.args.input.now } in
+    let input = drawn g.S.Source.left g.S.Source.faults c.args.input.now c.run.new.input in
+    let out = sunk g.K.Sink.written g.K.Sink.faults c.args.out.now c.run.new.out in
+    let notes = sunk g.N.Sink.written g.N.Sink.faults c.args.notes.now c.run.new.notes in
+    let m = c.args.wild.now.machine in
+    let ahead = ahead_in c.args.chooser.now.chooser in
+    let did = c.in-InputFault.ensures in
+    subst (λ (rest : Answer). Leaves (TriedOf (Rose shelf.before shelf.now) (Rose input.before input.now) (commands.imprecise c.args.options choices force file) w) rest shelf out notes)
+    (sym (c.said-in-InputFault.ensures.answer input.new))
+    (starved_tried c.args.options m ahead c.requires.how file choices force w (Rose shelf.before shelf.now) (Rose input.before input.now) found (passed force (plan_by m.image ahead) good) shelf same
+    input out notes did.cause (λ fault. fault.source)
+    (run_begins c.args.options m ahead c.requires.how force (runs.InputFault) input _ _ out notes
+    (λ bytes told. did.told bytes ahead told refl c.requires.fresh)
+    (λ bytes told judges. did.restarted bytes told c.requires.fresh (accepted_restarts m.image (planned_image shelf.old file choices m.image ahead found) (good judges)))
+    did.output did.notes))
+
+pub returns-in-SinkFault-clause-tried : goal.returns-in-SinkFault-clause-tried
+returns-in-SinkFault-clause-tried g c = λ shelf file choices force found good same.
+    let w : World = record { files = shelf.old; takes = shelf.took; input = g.S.Source.left c.args.input.now } in
+    let input = drawn g.S.Source.left g.S.Source.faults c.args.input.now c.run.new.input in
+    let out = sunk g.K.Sink.written g.K.Sink.faults c.args.out.now c.run.new.out in
+    let notes = sunk g.N.Sink.written g.N.Sink.faults c.args.notes.now c.run.new.notes in
+    let m = c.args.wild.now.machine in
+    let ahead = ahead_in c.args.chooser.now.chooser in
+    let did = c.in-SinkFault.ensures in
+    unwritten_tried c.args.options m ahead c.requires.how file choices force w (Rose shelf.before shelf.now) (Rose input.before input.now) found (passed force (plan_by m.image ahead) good) shelf same
+    input out notes did.cause
+    (run_begins c.args.options m ahead c.requires.how force (runs.SinkFault) input _ _ out notes
+    (λ bytes told. did.told bytes ahead told refl c.requires.fresh)
+    (λ bytes told judges. did.restarted bytes told c.requires.fresh (accepted_restarts m.image (planned_image shelf.old file choices m.image ahead found) (good judges)))
+    did.output did.notes)

@@ -1,0 +1,83 @@
+//! The words by which the imprecise machine chooses.
+
+ghost use Rattle.std.specs.Prelude.{◌≢◌, ◌⊎◌, IfOk, IfErr, Some, None, Err};
+ghost use Rattle.alpha_io.specs.Faults.{Rose};
+ghost use Rattle.alpha_io.specs.Shelved.{shelved, OnlyReads};
+ghost use Rattle.alpha_request.specs.Options as choices;
+ghost use Rattle.alpha_request.specs.Options.{drawn_from};
+ghost use Rattle.alpha_cmd.specs.Outcome.{goes, stops};
+ghost use Rattle.alpha_cmd.specs.Status.{status_line};
+ghost use Rattle.alpha_cmd.specs.Choosing.{ahead_in};
+ghost use Rattle.alpha_cmd.specs.Imprecise.{ChoicesOf};
+ghost use Rattle.alpha_cmd.specs.Tried.{CutBy};
+
+use crate::Status;
+use crate::image::read_file;
+use alpha_imprecise::{Chooser, ListChooser, PcgChooser};
+use alpha_io::Shelf;
+use alpha_request::Choices;
+use std::alloc::Global;
+
+/// The most bytes of a choices file.
+pub const CHOICES_LIMIT: u64 = 1_048_576;
+
+/// Where the words come from.
+#[derive(Drop)]
+pub(crate) enum Choosing {
+    /// A seeded generator.
+    Seeded(PcgChooser),
+    /// The bytes of a file.
+    Listed(ListChooser),
+}
+
+impl Chooser for Choosing {
+    ghost ahead = { λ c. Some (ahead_in c) };
+
+    ghost drawn = { λ _. None };
+
+    fn next(&mut self) -> u64 {
+        match self {
+            Choosing::Seeded(chooser) => chooser.next(),
+            Choosing::Listed(chooser) => chooser.next(),
+        }
+    }
+}
+
+/// The words that the choices name: those of the seed, or those that the file writes.
+pub(crate) fn chooser_of<H: Shelf>(
+    alloc: Global,
+    choices: &Choices<'_>,
+    shelf: &mut H,
+) -> Result<Choosing, Status>
+    ensures ok { IfOk result (λ c.
+        ChoicesOf (H.files shelf.old) (drawn_from choices.now) (goes (ahead_in c))) }
+    ensures refused { IfErr result (λ status.
+        ChoicesOf (H.files shelf.old) (drawn_from choices.now) (stops status (status_line status))
+        ⊎ CutBy (Rose (H.faults shelf.old) (H.faults shelf.new)) status) }
+    ensures shelf { OnlyReads (shelved H.files H.takes H.faults shelf.old shelf.new)
+        (result ≢ Err Status.ShelfFault) }
+{
+    match *choices {
+        Choices::Seed(seed) => Ok(Choosing::Seeded(PcgChooser::new(seed))),
+        Choices::File(name) => listed(alloc, name, shelf),
+    }
+}
+
+// The words that a file writes.
+fn listed<H: Shelf>(alloc: Global, name: &str, shelf: &mut H) -> Result<Choosing, Status>
+    ensures ok { IfOk result (λ c.
+        ChoicesOf (H.files shelf.old) (choices.file name.now) (goes (ahead_in c))) }
+    ensures refused { IfErr result (λ status.
+        ChoicesOf (H.files shelf.old) (choices.file name.now) (stops status (status_line status))
+        ⊎ CutBy (Rose (H.faults shelf.old) (H.faults shelf.new)) status) }
+    ensures shelf { OnlyReads (shelved H.files H.takes H.faults shelf.old shelf.new)
+        (result ≢ Err Status.ShelfFault) }
+{
+    match read_file(alloc, shelf, name, CHOICES_LIMIT) {
+        Ok(bytes) => match ListChooser::new(alloc, bytes.as_slice()) {
+            Ok(chooser) => Ok(Choosing::Listed(chooser)),
+            Err(_) => Err(Status::NoMemory),
+        },
+        Err(status) => Err(status),
+    }
+}
