@@ -1,70 +1,14 @@
 #!/usr/bin/env python3
-"""Measures `check` on large images that it makes itself: how long it takes, beside `cat` of the same file
-and, where it is installed, GNU objdump for alpha over the same code (the best of five runs of each, in
-milliseconds, and its ratio to `cat`); and, where valgrind is installed, how many host instructions the
-verdict takes a word. For that an image of the same words whose first one breaks its shadow is measured too,
-and subtracted.
+"""Measures `check` on large images: how long it takes, beside `cat` of the same file and, where it is installed,
+GNU objdump for alpha over the same code; and how many host instructions the verdict takes a word. For that an
+image of the same words whose first one breaks its shadow is measured too, and subtracted.
 
-    bench/check.py [PROGRAM]    PROGRAM: crates/alpha_tool/out/alpha_tool if left out
+    bench/check.py [PROGRAM]
 """
-import os
-import re
 import shutil
-import struct
-import subprocess
-import sys
-import tempfile
-import time
 
-TRAPB, NOP = 0x63FF0000, 0x47FF041F
-WORDS = 262_144
-TOP = os.path.dirname(os.path.dirname(os.path.abspath(__file__)))
-
-
-def operate(opcode, function, ra, rb, rc):
-    return opcode << 26 | ra << 21 | rb << 16 | function << 5 | rc
-
-
-def addqv(rc):
-    return operate(0x10, 0x60, 1, 2, rc)
-
-
-def memory(opcode, ra, disp):
-    return opcode << 26 | ra << 21 | 30 << 16 | disp & 0xFFFF
-
-
-def load(disp):
-    return memory(0x29, 0, disp)
-
-
-def store(disp):
-    return memory(0x2D, 1, disp)
-
-
-BR = 0x30 << 26 | 31 << 21
-
-
-def image(code, data=b""):
-    header = struct.pack("<8sQQQIIII", b"ALPHAIM1", 0x10000, 0x10000000, 0x10000, len(code), len(data), 0, 65536)
-    return header + struct.pack(f"<{len(code)}I", *code) + data
-
-
-def level_image(code, count, data):
-    """Version 2, at level 2, with so many segments that share the data evenly."""
-    share = len(data) // count
-    numbers = struct.pack("<8sQQIIII", b"ALPHAIM2", 0x10000, 0x10000, len(code), 65536, 2, count)
-    segments = b"".join(struct.pack("<QII", 0x10000000 + n * share, share, 0) for n in range(count))
-    return numbers + segments + struct.pack(f"<{len(code)}I", *code) + data
-
-
-def repeated(part):
-    code = part * (WORDS // len(part))
-    return code + [NOP] * (WORDS - len(code))
-
-
-def no_triggers():
-    """Plain words, loads and stores, a branch each six."""
-    return repeated([NOP, load(0), operate(0x10, 0x20, 3, 4, 5), store(8), NOP, BR])
+from measure import (NOP, TRAPB, WORDS, addqv, best, counts_instructions, file_of, image, instructions,
+                     level_image, load, no_triggers, print_times, repeated, store, the_program)
 
 
 def short_shadows():
@@ -93,43 +37,22 @@ def shadows_of_loads_and_stores():
     return repeated(shadow + [TRAPB])
 
 
-def best(command, runs=5):
-    times = []
-    for _ in range(runs):
-        start = time.perf_counter()
-        subprocess.run(command, stdout=subprocess.DEVNULL, stderr=subprocess.PIPE, check=True)
-        times.append(time.perf_counter() - start)
-    return min(times) * 1000
-
-
-def instructions(program, contents, name="check"):
-    """How many host instructions the program takes for a command on an image."""
-    with tempfile.NamedTemporaryFile() as file, tempfile.NamedTemporaryFile() as out:
-        file.write(contents)
-        file.flush()
-        command = ["valgrind", "--tool=callgrind", f"--callgrind-out-file={out.name}", program, name, file.name]
-        text = subprocess.run(command, stdout=subprocess.DEVNULL, stderr=subprocess.PIPE, text=True).stderr
-    return int(re.search(r"Collected : (\d+)", text).group(1))
-
-
-def milliseconds(program, objdump, name, contents):
-    with tempfile.NamedTemporaryFile() as file:
-        file.write(contents)
-        file.flush()
-        base = best(["cat", file.name])
-        rows = [("cat", base), ("check", best([program, "check", file.name]))]
+def milliseconds(program, name, contents):
+    objdump = shutil.which("alpha-linux-gnu-objdump")
+    with file_of(contents) as file:
+        rows = [("cat", best(["cat", file.name])), ("check", best([program, "check", file.name]))]
         if objdump:
-            command = [objdump, "-D", "-b", "binary", "-m", "alpha", file.name]
-            rows.append(("objdump", best(command, 1)))
-    for what, millis in rows:
-        print(f"{name}: {what} {millis:.1f} ms, {millis / base:.1f} of cat")
+            rows.append(("objdump", best([objdump, "-D", "-b", "binary", "-m", "alpha", file.name], 1)))
+    print_times(name, rows)
+
+
+def counted(program, contents):
+    with file_of(contents) as file:
+        return instructions([program, "check", file.name])
 
 
 def main():
-    program = sys.argv[1] if len(sys.argv) > 1 else os.path.join(TOP, "crates/alpha_tool/out/alpha_tool")
-    if not os.access(program, os.X_OK):
-        sys.exit(f"{program} is not built: run ./alpha once")
-    objdump = shutil.which("alpha-linux-gnu-objdump")
+    program = the_program()
     cases = {
         "no triggers": no_triggers(),
         "short shadows": short_shadows(),
@@ -138,14 +61,14 @@ def main():
         "long shadows of loads and stores": shadows_of_loads_and_stores(),
     }
     for name, code in cases.items():
-        milliseconds(program, objdump, name, image(code))
+        milliseconds(program, name, image(code))
     short, data = cases["short shadows"], bytes(16_777_216)
-    milliseconds(program, objdump, "short shadows, 16 MiB of data", image(short, data))
-    milliseconds(program, objdump, "short shadows, 8 segments of 2 MiB", level_image(short, 8, data))
-    if shutil.which("valgrind"):
+    milliseconds(program, "short shadows, 16 MiB of data", image(short, data))
+    milliseconds(program, "short shadows, 8 segments of 2 MiB", level_image(short, 8, data))
+    if counts_instructions():
         for name, code in cases.items():
-            whole = instructions(program, image(code))
-            first = instructions(program, image([addqv(31)] + code[1:]))
+            whole = counted(program, image(code))
+            first = counted(program, image([addqv(31)] + code[1:]))
             print(f"{name}: {(whole - first) / WORDS:.1f} instructions a word")
 
 
