@@ -43,9 +43,9 @@ begun_fresh w bytes words fresh =
 -- ---- words that are told
 
 -- told words begin with these
-record Starts (words list : List ℕ) : Type 0 where
-  coming : List ℕ
-  is : list ≡ words ++ coming
+pub record Starts (words list : List ℕ) : Type 0 where
+  pub coming : List ℕ
+  pub is : list ≡ words ++ coming
 
 starts : (words : List ℕ) (n : ℕ) (ahead : ℕ → ℕ) → length words ≤ n → ((k : ℕ) → k < length words → ahead k ≡ slice_index words k)
     → Starts words (first_words n ahead)
@@ -64,7 +64,7 @@ went_ahead ahead None words went = absurd went
 went_ahead ahead (Some rest) words went = went.0
 
 -- the words that a chooser went on by begin those that it tells
-told_starts : (before after : Telling) (ahead : ℕ → ℕ) (words : List ℕ) (n : ℕ) → before.ahead ≡ Some ahead → Moves before after words → length words ≤ n
+pub told_starts : (before after : Telling) (ahead : ℕ → ℕ) (words : List ℕ) (n : ℕ) → before.ahead ≡ Some ahead → Moves before after words → length words ≤ n
     → Starts words (first_words n ahead)
 told_starts before after ahead words n tells drew low =
     starts words n ahead low (went_ahead ahead after.ahead words (subst (λ o. Goes o after.ahead words) tells drew.went))
