@@ -7,4 +7,4 @@ mod Hearing
 mod Scripts
 mod Underway
 mod Opening
-mod Transcripts
+pub mod Transcripts

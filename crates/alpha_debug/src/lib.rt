@@ -33,4 +33,4 @@ mod word;
 
 pub use end::DebugEnd;
 pub use laws::laws_of_transcripts;
-pub use transcript::debug;
+pub use transcript::{SCRIPT_LIMIT, debug};

@@ -1,4 +1,4 @@
-ghost use Rattle.std.specs.Prelude.{IsTrue, List, ℕ};
+ghost use Rattle.std.specs.Prelude.{◌≡◌, IsTrue, List, ℕ};
 ghost use Rattle.alpha_io.specs.Sunk.{sunk};
 ghost use Rattle.alpha_seq.specs.Devices.{drawn};
 ghost use Rattle.alpha_debug.specs.DebugEffect.{DebugEffect};
@@ -13,8 +13,8 @@ use alpha_words::NoMemory;
 use arrayvec::ArrayVec;
 use std::alloc::Global;
 
-// How many bytes of a script count.
-const SCRIPT_LIMIT: usize = 1_048_576;
+/// How many bytes of a script count.
+pub const SCRIPT_LIMIT: usize = 1_048_576;
 
 // How many bytes one call of the script is asked for at most.
 const PIECE: usize = 16_384;
@@ -25,16 +25,18 @@ const PIECE: usize = 16_384;
 /// the last one is a line where it isn't empty. Of its bytes the first 1,048,576 count. The session ends at `quit`, or at
 /// the end of the script. Memory is taken only while the session is made, before anything is taken or written.
 ///
-/// At most 1,048,577 bytes of the script are taken. Where a device fails, a prefix of the transcript was written.
+/// At most 1,048,577 bytes of the script are taken. Where a device fails, a prefix of the transcript was written. Without
+/// memory for the session the devices are not called.
 pub fn debug<S: Source, K: Sink>(
     alloc: Global,
     image: Image,
     script: &mut S,
     out: &mut K,
 ) -> DebugEnd
-    ensures { DebugEffect result image
+    ensures effect { DebugEffect result image
         (drawn S.left S.faults script.old script.new)
         (sunk K.written K.faults out.old out.new) }
+    ensures same { result ≡ DebugEnd.NoMemory → (script.new ≡ script.old) × (out.new ≡ out.old) }
 {
     match Debugger::new(alloc, image) {
         Ok(mut debugger) => converse(&mut debugger, script, out),
