@@ -1,0 +1,9 @@
+pub mod Coding
+pub mod Decoding
+pub mod Shadows
+pub mod Counting
+pub mod Good
+pub mod Stepping
+pub mod Joining
+pub mod Making
+pub mod Tallying

@@ -1,0 +1,8 @@
+use Rattle.alpha_trial.proofs.Decoding.{program_decoded}
+use Rattle.alpha_trial.proofs.Counting.{program_size, program_count}
+use Rattle.alpha_trial.proofs.Shadows.{program_accepted}
+use Rattle.alpha_trial.proofs.Good.{image_good}
+use Rattle.alpha_trial.proofs.laws.laws_of_trials.Goals as goal
+
+pub returns : goal.returns
+returns c = record { words = program_decoded; size = program_size; triggers = program_count; accepted = program_accepted; good = image_good }

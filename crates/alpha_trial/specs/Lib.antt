@@ -1,0 +1,4 @@
+pub mod Program
+pub mod Words
+pub mod Report
+pub mod Counted

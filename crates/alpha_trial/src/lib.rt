@@ -1,0 +1,30 @@
+//! The trial: a program of any size that overflows often, made by a number and run on both machines.
+//!
+//! - [`trial_image`] is the image of the trial with a number: so many blocks, each with two instructions that may
+//!   trap, by the words of a generator that the number seeds. The checker accepts it.
+//! - [`trial`] judges the image, runs it on the sequential machine and on the imprecise one, and writes a line for
+//!   each run to a sink. [`TrialFault`] says why that wasn't done.
+//! - [`laws_of_trials`]: what the words of the program are, how many there are, that each such program is accepted,
+//!   whatever numbers are drawn, and that its image is good.
+//!
+//! `specs/Program.antt` has the program by its instructions, `specs/Words.antt` the same by words and the image,
+//! `specs/Report.antt` the lines, from the runs of both machines, and `specs/Counted.antt` what the code's runs did.
+//! `src/program.rt` makes the program, `src/runs.rt` runs it unit by unit and counts the units, `src/report.rt` writes
+//! the lines, and `src/trials.rt` puts them together.
+//!
+//! In `proofs/`, `Decoding.antt` ties words to instructions, `Shadows.antt` shows that the program is accepted,
+//! `Counting.antt` and `Good.antt` the other laws; `Stepping.antt` follows the sequential run, `Joining.antt` and
+//! `Making.antt` the imprecise one, and `Tallying.antt` says what was counted in them.
+#![tactic(auto)]
+
+mod laws;
+mod program;
+mod report;
+mod runs;
+#[cfg(test)]
+mod tests;
+mod trials;
+
+pub use laws::laws_of_trials;
+pub use program::trial_image;
+pub use trials::{TrialFault, trial};
