@@ -26,6 +26,8 @@ simple_and_free names.Check = refl
 simple_and_free names.Dis = refl
 simple_and_free names.Asm = refl
 simple_and_free names.Run = refl
+simple_and_free names.Debug = refl
+simple_and_free names.Trial = refl
 
 pub simple : (name : Name) → is_simple (app_of_name name) ≡ true
 unfolding clap_on_literals
@@ -33,6 +35,8 @@ simple names.Check = refl
 simple names.Dis = refl
 simple names.Asm = refl
 simple names.Run = refl
+simple names.Debug = refl
+simple names.Trial = refl
 
 chosen : (kinds : Kinds) (rows : List Row) → kinds ≡ [] → unless_faulty kinds rows ≡ Some rows
 chosen [] rows none = refl

@@ -14,8 +14,8 @@ use Rattle.alpha_request.specs.declared.name.Name.TheVariants as names
 use Rattle.alpha_request.specs.declared.request.Request.{Request}
 use Rattle.alpha_request.specs.declared.request.Refusal.{Refusal}
 use Rattle.alpha_request.specs.declared.request.Refusal.TheVariants.{BadWords, NoMemory}
-use Rattle.alpha_request.specs.Command.{Command, check, dis, asm, run, imprecise, command_of}
-use Rattle.alpha_request.specs.Options.{options_in, choices_in, force_in, has_choices, is_imprecise}
+use Rattle.alpha_request.specs.Command.{Command, check, dis, asm, run, imprecise, debug, trial, command_of}
+use Rattle.alpha_request.specs.Options.{blocks_in, options_in, choices_in, force_in, has_choices, is_imprecise}
 use Rattle.clap.specs.declared.builder.action.ArgAction.TheVariants.{SetTrue}
 
 -- the command that a word names
@@ -24,7 +24,9 @@ name_of word =
     if bytes_eq word (codes "check") then Some names.Check
     else if bytes_eq word (codes "dis") then Some names.Dis
     else if bytes_eq word (codes "asm") then Some names.Asm
-    else if bytes_eq word (codes "run") then Some names.Run else None
+    else if bytes_eq word (codes "run") then Some names.Run
+    else if bytes_eq word (codes "debug") then Some names.Debug
+    else if bytes_eq word (codes "trial") then Some names.Trial else None
 
 -- ---- clap's definition of each command
 
@@ -60,11 +62,16 @@ choice_options = with_rule (with_rule (with_rule run_options (flag (codes "impre
 abbrev pub run_app : App
 run_app = with_rule (with_rule choice_options (flag (codes "force"))) (word (codes "file"))
 
+abbrev pub trial_app : App
+trial_app = with_rule bare (word (codes "blocks"))
+
 abbrev pub app_of_name : Name → App
 app_of_name names.Check = file_app
 app_of_name names.Dis = file_app
 app_of_name names.Asm = asm_app
 app_of_name names.Run = run_app
+app_of_name names.Debug = file_app
+app_of_name names.Trial = trial_app
 
 -- rows where there is no fault
 abbrev pub unless_faulty : Kinds → List Row → Option (List Row)
@@ -94,6 +101,8 @@ command_in names.Check rows = option_map check (first_of (codes "file") rows)
 command_in names.Dis rows = option_map dis (first_of (codes "file") rows)
 command_in names.Asm rows = option_and_then (λ file. option_map (asm file) (first_of (codes "out") rows)) (first_of (codes "file") rows)
 command_in names.Run rows = if is_imprecise rows then imprecise_in rows else if has_choices rows then None else plain_in rows
+command_in names.Debug rows = option_map debug (first_of (codes "file") rows)
+command_in names.Trial rows = option_map trial (blocks_in rows)
 
 -- what words whose first one has this name ask for
 unfoldable pub asked_as : Name → List Text → Option Command

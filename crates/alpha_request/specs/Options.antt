@@ -1,5 +1,5 @@
 -- The options of `run`, by the product's own rules.
-use Rattle.std.specs.Prelude.{ℕ, ◌^◌, ◌&&◌, ◌||◌, Bool, true, false, not, List, length, codes, nat_lt, Option, Some, None, option_map, if◌then◌else◌}
+use Rattle.std.specs.Prelude.{ℕ, ◌^◌, ◌&&◌, ◌||◌, Bool, true, false, not, List, length, codes, nat_lt, nat_le, Option, Some, None, option_map, if◌then◌else◌}
 use Rattle.std.specs.Option.{option_and_then}
 use Rattle.std.specs.List.{list_all}
 use Rattle.std.specs.Char.{is_ascii_digit}
@@ -92,3 +92,15 @@ force_in rows = is_given (first_of (codes "force") rows)
 -- an option that only a run of the imprecise machine has
 abbrev pub has_choices : List Row → Bool
 has_choices rows = is_there (first_of (codes "seed") rows) || (is_there (first_of (codes "choices") rows) || force_in rows)
+
+-- ---- the blocks of a trial
+
+-- from 1 to 20,000
+abbrev pub within_blocks : ℕ → Option ℕ
+within_blocks n = if nat_lt 0 n && nat_le n 20000 then Some n else None
+
+abbrev pub blocks_of : Text → Option ℕ
+blocks_of text = option_and_then within_blocks (number_of text)
+
+abbrev pub blocks_in : List Row → Option ℕ
+blocks_in rows = option_and_then blocks_of (first_of (codes "blocks") rows)

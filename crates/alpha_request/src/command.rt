@@ -2,7 +2,7 @@
 
 ghost use Rattle.std.specs.Prelude.{◌≡◌, IfOk, false};
 ghost use Rattle.clap.specs.Words.{app_of, rule_of, with_rule};
-ghost use Rattle.alpha_request.specs.Asked.{bare, word, option, flag, file_app, asm_app, run_options, choice_options, run_app, app_of_name};
+ghost use Rattle.alpha_request.specs.Asked.{bare, word, option, flag, file_app, asm_app, trial_app, run_options, choice_options, run_app, app_of_name};
 
 use crate::name::Name;
 use clap::{Arg, ArgAction, Command};
@@ -13,9 +13,10 @@ pub(crate) fn command_for<'a>(alloc: Global, name: Name) -> Result<Command<'a>, 
     ensures { IfOk result (λ command. app_of command ≡ app_of_name name) }
 {
     match name {
-        Name::Check | Name::Dis => file_command(alloc),
+        Name::Check | Name::Dis | Name::Debug => file_command(alloc),
         Name::Asm => asm_command(alloc),
         Name::Run => run_command(alloc),
+        Name::Trial => trial_command(alloc),
     }
 }
 
@@ -24,6 +25,13 @@ fn file_command<'a>(alloc: Global) -> Result<Command<'a>, AllocError>
     ensures { IfOk result (λ command. app_of command ≡ file_app) }
 {
     with_arg(bare_command(alloc), word(alloc, "file"))
+}
+
+// A command that has a number of blocks.
+fn trial_command<'a>(alloc: Global) -> Result<Command<'a>, AllocError>
+    ensures { IfOk result (λ command. app_of command ≡ trial_app) }
+{
+    with_arg(bare_command(alloc), word(alloc, "blocks"))
 }
 
 // A command that reads one file and writes another.

@@ -6,7 +6,8 @@
 //! - [`request_of`] reads the words. The first is a command's name exactly. `clap` reads the others
 //!   by the definition that it has of a simple command, which has no subcommands, no help and no
 //!   version flag. Then the product's own rules decide. So words ask for one command at most, and
-//!   which one is a function of them (`specs/Asked.antt`, `asked`).
+//!   which one is a function of them (`specs/Asked.antt`, `asked`). [`laws_of_trial_words`] says how
+//!   many blocks a trial has that they ask for.
 //!
 //! `words.rt` has the words, `name.rt` the names of the commands, `command.rt` what `clap` is told of
 //! each, `matches.rt` what is read of its matches, `options.rt` the options of `run` with their rules
@@ -17,6 +18,7 @@
 #![tactic(auto)]
 
 mod command;
+mod laws;
 mod matches;
 mod name;
 mod options;
@@ -25,6 +27,7 @@ mod request;
 mod tests;
 mod words;
 
+pub use laws::laws_of_trial_words;
 pub use options::{Choices, RunOptions};
 pub use request::{Refusal, Request, request_of};
 pub use words::Words;

@@ -12,6 +12,10 @@ pub(crate) enum Name {
     Asm,
     /// `run`
     Run,
+    /// `debug`
+    Debug,
+    /// `trial`
+    Trial,
 }
 
 /// The command that a word names, letter by letter.
@@ -23,6 +27,8 @@ pub(crate) fn name_of(word: &str) -> Option<Name>
         "dis" => Some(Name::Dis),
         "asm" => Some(Name::Asm),
         "run" => Some(Name::Run),
+        "debug" => Some(Name::Debug),
+        "trial" => Some(Name::Trial),
         _ => None,
     }
 }

@@ -1,10 +1,10 @@
-//! The options of `run`, and the choices of `run --imprecise`.
+//! The options of `run`, the choices of `run --imprecise`, and the number of `trial`.
 
 ghost use Rattle.std.specs.Prelude.{◌≡◌, option_map};
 ghost use Rattle.std.specs.List.{list_all};
 ghost use Rattle.std.specs.Char.{is_ascii_digit};
 ghost use Rattle.clap.specs.Words.{found_of, first_of, rows_of};
-ghost use Rattle.alpha_request.specs.Options.{choices_in, complete_in, completion_of, drawn_from, force_in, has_choices, is_digits, is_given, is_imprecise, is_there, number_of, options_in, seed, steps_in, watch_in};
+ghost use Rattle.alpha_request.specs.Options.{blocks_in, blocks_of, choices_in, complete_in, completion_of, drawn_from, force_in, has_choices, is_digits, is_given, is_imprecise, is_there, number_of, options_in, seed, steps_in, watch_in, within_blocks};
 
 use crate::matches::text;
 use alpha_words::Completion;
@@ -34,6 +34,9 @@ pub enum Choices<'a> {
 
 // The most steps where none are given.
 const STEPS: u64 = 100_000_000;
+
+// The most blocks of a trial.
+const MOST_BLOCKS: u64 = 20_000;
 
 // The most digits of a number.
 const MOST_DIGITS: usize = 20;
@@ -116,6 +119,37 @@ fn seed_of<'a>(number: &str) -> Option<Choices<'a>>
     match number_of(number) {
         Some(seed) => Some(Choices::Seed(seed)),
         None => None,
+    }
+}
+
+/// The number of blocks of a trial.
+pub(crate) fn blocks_in(matches: &ArgMatches<'_>) -> Option<u32>
+    ensures { result ≡ blocks_in (rows_of (found_of matches.now)) }
+{
+    match text(matches, "blocks") {
+        Some(number) => blocks_of(number),
+        None => None,
+    }
+}
+
+// The number of blocks that a text stands for.
+fn blocks_of(text: &str) -> Option<u32>
+    ensures { result ≡ blocks_of text.now }
+{
+    match number_of(text) {
+        Some(blocks) => within_blocks(blocks),
+        None => None,
+    }
+}
+
+// A number of blocks, where it is one.
+fn within_blocks(blocks: u64) -> Option<u32>
+    ensures { result ≡ within_blocks blocks }
+{
+    if 0 < blocks && blocks <= MOST_BLOCKS {
+        Some(blocks as u32)
+    } else {
+        None
     }
 }
 

@@ -5,7 +5,7 @@ ghost use Rattle.alpha_request.specs.Asked.{asked, command_in, imprecise_in, pla
 
 use crate::matches::{matches_of, text};
 use crate::name::{Name, name_of};
-use crate::options::{choices_in, force_in, has_choices, is_imprecise, options_in};
+use crate::options::{blocks_in, choices_in, force_in, has_choices, is_imprecise, options_in};
 use crate::{Choices, RunOptions, Words};
 use clap::ArgMatches;
 use std::alloc::Global;
@@ -47,6 +47,16 @@ pub enum Request<'a> {
         force: bool,
         /// The name of the file.
         file: &'a str,
+    },
+    /// `debug FILE`: the debugger on the image FILE, whose script is the input.
+    Debug {
+        /// The name of the file.
+        file: &'a str,
+    },
+    /// `trial N`: the trial of so many blocks.
+    Trial {
+        /// The number of blocks, from 1 to 20,000. It is the seed of the trial too.
+        blocks: u32,
     },
 }
 
@@ -98,6 +108,22 @@ fn request_in<'a>(name: Name, matches: &ArgMatches<'a>) -> Option<Request<'a>>
         },
         Name::Asm => asm_request(matches),
         Name::Run => run_request(matches),
+        Name::Trial => trial_request(matches),
+        Name::Debug => match text(matches, "file") {
+            Some(file) => Some(Request::Debug { file }),
+            None => None,
+        },
+    }
+}
+
+// The request of a trial.
+fn trial_request<'a>(matches: &ArgMatches<'a>) -> Option<Request<'a>>
+    ensures { option_map command_of result
+        ≡ command_in Name.Trial (rows_of (found_of matches.now)) }
+{
+    match blocks_in(matches) {
+        Some(blocks) => Some(Request::Trial { blocks }),
+        None => None,
     }
 }
 

@@ -12,11 +12,13 @@ fn asked(alloc: Global, words: &[&str]) -> Result<Option<(&'static str, String)>
     match request_of(alloc, &given) {
         Ok(Request::Check { file }) => Ok(Some(("check", String::from_str(alloc, file)?))),
         Ok(Request::Dis { file }) => Ok(Some(("dis", String::from_str(alloc, file)?))),
+        Ok(Request::Debug { file }) => Ok(Some(("debug", String::from_str(alloc, file)?))),
         Ok(Request::Asm { file, .. }) => Ok(Some(("asm", String::from_str(alloc, file)?))),
         Ok(Request::Run { file, .. } | Request::RunImprecise { file, .. }) => Ok(Some((
             "run",
             String::from_str(alloc, file)?,
         ))),
+        Ok(Request::Trial { .. }) => Ok(Some(("trial", String::new(alloc)))),
         Err(Refusal::BadWords) => Ok(None),
         Err(Refusal::NoMemory) => Err(Fail::from("no memory")),
     }
@@ -66,13 +68,24 @@ fn a_check_has_one_file_by_the_rules_of_clap(rt: HostRuntime) -> Result<(), Fail
 }
 
 #[test]
-fn a_listing_is_of_one_file(rt: HostRuntime) -> Result<(), Fail> {
+fn a_listing_and_a_debugger_have_one_file(rt: HostRuntime) -> Result<(), Fail> {
     let alloc = rt.alloc();
     match asked(alloc, &["dis", "--", "-a"])? {
         Some((command, file)) => assert!(rt; command == "dis" && file.as_str() == "-a"),
         None => return Err(Fail::from("no command")),
     }
-    let refused: [&[&str]; 4] = [&["dis"], &["dis", "a", "b"], &["dis", "-a"], &["dism", "a"]];
+    match asked(alloc, &["debug", "a"])? {
+        Some((command, file)) => assert!(rt; command == "debug" && file.as_str() == "a"),
+        None => return Err(Fail::from("no command")),
+    }
+    let refused: [&[&str]; 6] = [
+        &["dis"],
+        &["dis", "a", "b"],
+        &["dis", "-a"],
+        &["dism", "a"],
+        &["debug"],
+        &["debug", "a", "b"],
+    ];
     for words in refused {
         assert!(rt; asked(alloc, words)?.is_none());
     }
@@ -278,6 +291,32 @@ fn the_choices_have_a_seed_or_a_file(rt: HostRuntime) -> Result<(), Fail> {
     ];
     for words in refused {
         assert!(rt; asked(alloc, words)?.is_none());
+    }
+    Ok(())
+}
+
+#[test]
+fn a_trial_has_1_to_20000_blocks(rt: HostRuntime) -> Result<(), Fail> {
+    let alloc = rt.alloc();
+    let rows: [(&str, Option<u32>); 7] = [
+        ("1", Some(1)),
+        ("20000", Some(20_000)),
+        ("007", Some(7)),
+        ("0", None),
+        ("20001", None),
+        ("4294967297", None),
+        ("", None),
+    ];
+    for (number, wanted) in rows {
+        let mut given = Words::new(alloc);
+        given.push("trial")?;
+        given.push(number)?;
+        let blocks = match request_of(alloc, &given) {
+            Ok(Request::Trial { blocks }) => Some(blocks),
+            Ok(_) | Err(Refusal::BadWords) => None,
+            Err(Refusal::NoMemory) => return Err(Fail::from("no memory")),
+        };
+        assert!(rt; blocks == wanted, "{number}");
     }
     Ok(())
 }
