@@ -10,12 +10,14 @@ use Rattle.alpha_shadow.specs.declared.broken.Broken.{Broken}
 use Rattle.alpha_shadow.specs.Broken.{IsAccepted, IsLeastBroken}
 use Rattle.alpha_shadow.specs.Report.{broken_line}
 use Rattle.alpha_shadow.proofs.Decided.{verdict}
-use Rattle.alpha_request.specs.Command.{Command, check, dis, asm, run, imprecise}
+use Rattle.alpha_request.specs.Command.{Command, check, dis, asm, run, imprecise, debug, trial}
 use Rattle.alpha_request.specs.declared.options.RunOptions.{RunOptions}
 use Rattle.alpha_request.specs.Options as choices_of
 use Rattle.alpha_imprecise.specs.Pcg.{pcg_word, seeded}
 use Rattle.alpha_imprecise.specs.Made.{ShownWild}
 use Rattle.alpha_seq.specs.Run.{Shown, sequential}
+use Rattle.alpha_debug.proofs.Transcripts.{some_transcript}
+use Rattle.alpha_trial.specs.Report.{trial_text}
 use Rattle.alpha_request.specs.Asked.{asked}
 use Rattle.alpha_dis.specs.Listing.{listing}
 use Rattle.alpha_cmd.specs.declared.status.Status.TheVariants.{NotRestartable, BadWords, BadSource, BadImage, ShelfFault, TooLarge}
@@ -29,7 +31,7 @@ use Rattle.alpha_round.proofs.Sources.{some-image}
 use Rattle.alpha_cmd.specs.Choosing.{listed_word}
 use Rattle.alpha_cmd.specs.Imprecise.{choices_limit, ChoicesOf, Plan, plan_by, PlanOf, Passes, run_by}
 use Rattle.alpha_cmd.specs.Assembly.{Assembles, Makes, source_limit}
-use Rattle.alpha_cmd.specs.Answer.{World, Answer, KeepsAs, kept_as, accepted, done_with, answer_shown, answer_wild, answer_of, said, Runs, RunsWild, Steps, IsAnswer, HaveBytes}
+use Rattle.alpha_cmd.specs.Answer.{World, Answer, KeepsAs, kept_as, accepted, done_with, answer_shown, answer_wild, answer_told, answer_of, said, Runs, RunsWild, Debugs, Steps, IsAnswer, HaveBytes}
 
 -- a stage has an outcome
 abbrev pub HasOutcome : {X : Type 0} → (Outcome X → Type 0) → Type 0
@@ -141,6 +143,10 @@ RunsWild-some options force (Some input) plan =
     let s = run_by force (record { image = plan.image; how = options.complete }) input plan.ahead options.steps options.watch in
     (goes (answer_wild (Some input) s), (s, refl, refl))
 
+Debugs-some : (input : Option (List ℕ)) (image : Parts) → HasOutcome (Debugs input image)
+Debugs-some None image = let (t, is) = some_transcript image [] in (goes (answer_told t), (t, ([], is), refl))
+Debugs-some (Some script) image = let (t, is) = some_transcript image script in (goes (answer_told t), (t, is, refl))
+
 Steps-some : (command : Command) (files : List ℕ → Option (List ℕ)) (w : World) → w.files ≡ Some files → HaveBytes w.files → HasOutcome (Steps command w)
 Steps-some (check file) files w told whole =
     Then-some (Then (ImageOf w.files file) Judges) (λ image. Gives (accepted w.input))
@@ -166,6 +172,11 @@ Steps-some (imprecise options choices force name) files w told whole =
     (subst (λ f. HasOutcome (PlanOf f name choices)) (sym told) (PlanOf-some files name choices (subst HaveBytes told whole)))
     (λ plan found. Passes-some force plan))
     (λ plan found. RunsWild-some options force w.input plan)
+Steps-some (debug file) files w told whole =
+    Then-some (ImageOf w.files file) (Debugs w.input)
+    (subst (λ f. HasOutcome (ImageOf f file)) (sym told) (ImageOf-some files file (subst HaveBytes told whole)))
+    (λ image found. Debugs-some w.input image)
+Steps-some (trial blocks) files w told whole = (goes (done_with w.input (trial_text blocks)), refl)
 
 told_files : (files : Files) → IsSome files → (f : List ℕ → Option (List ℕ)) × (files ≡ Some f)
 told_files None told = cc

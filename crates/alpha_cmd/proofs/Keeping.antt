@@ -1,7 +1,7 @@
 -- What an assembly tries, by the stages that lead there, and what becomes of the files.
 use Rattle.std.proofs.Common.{◌≡◌, ◌⊎◌, ℕ, List, length, Bool, None, Some, refl, sym, ap, subst, inl, inr}
 use Rattle.alpha_io.specs.Files.{Files, Refuses, KeepsFiles}
-use Rattle.alpha_request.specs.Command.{Command, check, dis, asm, run, imprecise}
+use Rattle.alpha_request.specs.Command.{Command, check, dis, asm, run, imprecise, debug, trial}
 use Rattle.alpha_cmd.specs.declared.status.Status.{Status}
 use Rattle.alpha_cmd.specs.declared.status.Status.TheVariants.{Done, NotRestartable, BadWords, BadSource, BadImage, Stopped, StepsSpent, Lost, ShelfFault, InputFault, SinkFault, TooLarge, NoMemory}
 use Rattle.alpha_cmd.specs.Status.{status_line}
@@ -85,6 +85,8 @@ MayKeep-sink (asm source out) (TooLarge limit) name h = absurd h
 MayKeep-sink (asm source out) NoMemory name h = absurd h
 MayKeep-sink (run options source) s name h = absurd h
 MayKeep-sink (imprecise options choices force source) s name h = absurd h
+MayKeep-sink (debug source) s name h = absurd h
+MayKeep-sink (trial blocks) s name h = absurd h
 
 pub Spares-sink : (command : Command) (s : Status) (old new : Files) → Spares command s old new → Spares command SinkFault old new
 Spares-sink command s old new (inl h) = inl h

@@ -6,6 +6,10 @@ pub mod Existence
 pub mod Keeping
 pub mod Listed
 pub mod Ran
+pub mod Sessions
+pub mod Tested
+pub mod Told
+pub mod Trials
 pub mod Trying
 pub mod Uniqueness
 pub mod WildRan

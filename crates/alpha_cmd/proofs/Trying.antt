@@ -6,13 +6,14 @@ use Rattle.alpha_io.specs.Shelved.{Shelved}
 use Rattle.alpha_io.specs.Sunk.{Sunk, Puts}
 use Rattle.alpha_io.proofs.Shelved.{Lacks-not_told, IfTold-weaker}
 use Rattle.alpha_image.specs.Parts.{Parts}
-use Rattle.alpha_request.specs.Command.{Command, check, dis, asm, run, imprecise}
+use Rattle.alpha_request.specs.Command.{Command, check, dis, asm, run, imprecise, debug, trial}
 use Rattle.alpha_request.specs.declared.options.RunOptions.{RunOptions}
 use Rattle.alpha_request.specs.Options.{Drawn}
 use Rattle.alpha_seq.specs.declared.end.End.{End}
 use Rattle.alpha_seq.specs.declared.end.End.TheVariants as ends
 use Rattle.alpha_seq.specs.Run.{Shown}
 use Rattle.alpha_imprecise.specs.Made.{ShownWild}
+use Rattle.alpha_debug.specs.Script.{Transcript}
 use Rattle.alpha_shadow.specs.Broken.{IsAccepted}
 use Rattle.alpha_dis.specs.Listing.{listing}
 use Rattle.alpha_cmd.specs.declared.status.Status.{Status}
@@ -21,12 +22,15 @@ use Rattle.alpha_cmd.specs.Status.{status_line}
 use Rattle.alpha_cmd.specs.Outcome.{goes, stops}
 use Rattle.alpha_cmd.specs.Image.{ImageOf, IsRefused, Judges}
 use Rattle.alpha_cmd.specs.Running.{end_status, MayShow}
+use Rattle.alpha_cmd.specs.Debugging.{MayTell}
 use Rattle.alpha_cmd.specs.Imprecise.{choices_limit, ChoicesOf, Plan, PlanOf, Passes, MayShowWild, drawn_status}
-use Rattle.alpha_cmd.specs.Answer.{World, Answer, accepted, done_with, answer_shown, answer_wild, notes_of, said, Asks, AnswerOf, IsAnswer, IsLeft, AreTold, IsAnswered}
+use Rattle.alpha_cmd.specs.Answer.{World, Answer, accepted, done_with, answer_shown, answer_wild, answer_told, notes_of, said, Asks, AnswerOf, IsAnswer, IsLeft, AreTold, IsAnswered}
 use Rattle.alpha_cmd.specs.Kept.{HasKept}
 use Rattle.alpha_cmd.specs.Tried.{CutBy, IsCut, IsStarved, MayTake, Fails, TriedOf, TriedBy, HasChoices, HasFiles}
 use Rattle.alpha_cmd.proofs.Causes.{FileStatus, done, missing, large, faulty, broken, ended, spent, of_missed, check_status, dis_status, run_has_status}
 use Rattle.alpha_cmd.proofs.Assembling.{AsmStatus, of_file, unmade, untaken, asm_status, read_has, Refuses-false}
+use Rattle.alpha_cmd.proofs.Sessions.{debug_has_status}
+use Rattle.alpha_cmd.proofs.Trials.{trial_done}
 use Rattle.alpha_cmd.proofs.Wilds.{WildStatus, of_image, of_choices, done_by, lost_at, wild_has_status}
 use Rattle.alpha_cmd.proofs.Uniqueness.{IsAnswer-single}
 
@@ -123,6 +127,17 @@ CutBy-map P Q f InputFault h = absurd h
 CutBy-map P Q f SinkFault h = absurd h
 CutBy-map P Q f (TooLarge limit) h = absurd h
 CutBy-map P Q f NoMemory h = h
+
+-- ---- the answers of `debug`
+
+pub told_answer : (w : World) (file : List ℕ) (image : Parts) (t : Transcript) → ImageOf w.files file (goes image) → MayTell w.input image t
+    → AnswerOf (debug file) w (answer_told t)
+told_answer w file image t found may = (goes (answer_told t), (image, found, (t, may, refl)), refl)
+
+pub unloaded_debug : (shelf input : Type 0) (w : World) (file : List ℕ) (s : Status) (t : Answer) → ImageOf w.files file (stops s (status_line s)) ⊎ CutBy shelf s
+    → t ≡ said w.input s (status_line s) → TriedOf shelf input (debug file) w t
+unloaded_debug shelf input w file s t (inl h) is = inl (stops s (status_line s), inl h, is)
+unloaded_debug shelf input w file s t (inr h) is = inr (inl (cut_short shelf (debug file) w s t h is))
 
 -- what a command tries is tried for the words that ask for it
 pub asked_tried : (shelf input : Type 0) (words : List (List ℕ)) (command : Command) (w : World) (t : Answer) → Asks words command → TriedOf shelf input command w t
@@ -238,6 +253,9 @@ answer_not (dis file) w a f e h = file_not w.files file a.status f e (dis_status
 answer_not (asm file out) w a f e h = asm_not w file out a.status f e (asm_status file out w a h)
 answer_not (run options file) w a f e h = file_not w.files file a.status f e (run_has_status options file w a h)
 answer_not (imprecise options choices force file) w a f e h = wild_not w file choices a.status f e (wild_has_status options choices force file w a h)
+answer_not (debug file) w a f e h = file_not w.files file a.status f e (debug_has_status file w a h)
+answer_not (trial blocks) w a of_input e h = let is = trial_done blocks w a h in cc
+answer_not (trial blocks) w a of_sink e h = let is = trial_done blocks w a h in cc
 
 words_not : (a : Answer) (f : Fault) → a.status ≡ status_of f → a.status ≡ BadWords → ⊥
 words_not a of_input e h = cc
@@ -299,6 +317,8 @@ answer_there (dis file) w a there e h = file_there w.files file a.status there e
 answer_there (asm file out) w a there e h = asm_there w file out a.status there e (asm_status file out w a h)
 answer_there (run options file) w a there e h = file_there w.files file a.status there e (run_has_status options file w a h)
 answer_there (imprecise options choices force file) w a there e h = wild_there w file choices a.status there.0 there.1 e (wild_has_status options choices force file w a h)
+answer_there (debug file) w a there e h = file_there w.files file a.status there e (debug_has_status file w a h)
+answer_there (trial blocks) w a there e h = let is = trial_done blocks w a h in cc
 
 pub tried_there : (shelf input : Type 0) (words : List (List ℕ)) (command : Command) (w : World) (t : Answer) → (shelf → ⊥) → Asks words command → HasFiles command w
     → TriedBy shelf input words w t → t.status ≢ ShelfFault
@@ -322,6 +342,8 @@ MayTake-sink (dis file) s h = absurd h
 MayTake-sink (asm file out) s h = absurd h
 MayTake-sink (run options file) s h = tt
 MayTake-sink (imprecise options choices force file) s h = tt
+MayTake-sink (debug file) s h = tt
+MayTake-sink (trial blocks) s h = absurd h
 
 pub end_not_shelf : (end : End) → end_status end ≢ ShelfFault
 end_not_shelf (ends.Exit v) e = cc
@@ -364,6 +386,8 @@ told_sure words file takes input (dis name) asks = refl
 told_sure words file takes input (asm name out) asks = refl
 told_sure words file takes input (run options name) asks = (refl, refl)
 told_sure words file takes input (imprecise options choices force name) asks = (refl, refl)
+told_sure words file takes input (debug name) asks = (refl, refl)
+told_sure words file takes input (trial blocks) asks = tt
 
 pub Rose-none : Rose 0 0 → ⊥
 Rose-none rose = omega arith

@@ -1,5 +1,5 @@
 -- Where files are told, a stage has one outcome, and words have one answer.
-use Rattle.std.proofs.Common.{◌≡◌, ◌<◌, ◌≤◌, ◌∙◌, ℕ, Bool, true, false, List, length, Option, None, Some, IsSome, IsSomeAnd, sym, ap, subst, inl, inr, ⊎_elim, arith}
+use Rattle.std.proofs.Common.{◌≡◌, ◌<◌, ◌≤◌, ◌∙◌, ℕ, Bool, true, false, List, length, Option, None, Some, IsSome, IsSomeAnd, refl, sym, ap, subst, inl, inr, ⊎_elim, arith}
 use Rattle.alpha_io.specs.Files.{Files}
 use Rattle.alpha_image.specs.Parts.{Parts, IsImage, spelling}
 use Rattle.alpha_image.specs.ImageFault.{first_fault}
@@ -8,17 +8,20 @@ use Rattle.alpha_shadow.specs.declared.broken.Broken.{Broken}
 use Rattle.alpha_shadow.specs.Broken.{IsLeastBroken, NoLater}
 use Rattle.alpha_shadow.specs.Report.{broken_line}
 use Rattle.alpha_shadow.proofs.Conditions.{condition_number-injective}
-use Rattle.alpha_request.specs.Command.{Command, check, dis, asm, run, imprecise}
+use Rattle.alpha_request.specs.Command.{Command, check, dis, asm, run, imprecise, debug, trial}
 use Rattle.alpha_request.specs.declared.options.RunOptions.{RunOptions}
 use Rattle.alpha_request.specs.Options as choices_of
 use Rattle.alpha_imprecise.specs.Pcg.{pcg_word, seeded}
 use Rattle.alpha_dis.specs.Listing.{listing}
+use Rattle.alpha_debug.specs.Session.{IsVerdict}
+use Rattle.alpha_debug.proofs.Transcripts.{one_transcript}
+use Rattle.alpha_trial.specs.Report.{trial_text}
 use Rattle.alpha_cmd.specs.declared.status.Status.{Status}
 use Rattle.alpha_cmd.specs.declared.status.Status.TheVariants.{NotRestartable, BadSource, BadImage}
 use Rattle.alpha_cmd.specs.Status.{status_line}
 use Rattle.alpha_cmd.specs.Outcome.{Outcome, goes, stops, Then, Gives}
 use Rattle.alpha_cmd.specs.Image.{Reads, Spells, ImageOf, Judges, image_limit}
-use Rattle.alpha_cmd.specs.Answer.{World, Answer, accepted, done_with, KeepsAs, answer_shown, answer_wild, answer_of, Runs, RunsWild, Steps, AnswerOf, IsAnswer, IsTold, AreTold}
+use Rattle.alpha_cmd.specs.Answer.{World, Answer, accepted, done_with, KeepsAs, answer_shown, answer_wild, answer_told, answer_of, Runs, RunsWild, Debugs, Steps, AnswerOf, IsAnswer, IsTold, AreTold}
 use Rattle.alpha_cmd.specs.Choosing.{listed_word}
 use Rattle.alpha_cmd.specs.Imprecise.{choices_limit, ChoicesOf, Plan, plan_by, PlanOf, Passes}
 use Rattle.alpha_cmd.specs.Assembly.{IsMade, Assembles, Makes, source_limit}
@@ -225,6 +228,20 @@ RunsWild-single options force (Some input) plan told (goes a) (goes b) h g =
 RunsWild-single options force (Some input) plan told (goes a) (stops t m) h g = absurd g
 RunsWild-single options force (Some input) plan told (stops s l) p h g = absurd h
 
+same_verdict : (words : List ℕ) (v u : Option Broken) → IsVerdict words v → IsVerdict words u → v ≡ u
+same_verdict words None None h g = refl
+same_verdict words None (Some b) h g = absurd (h b.trigger b.at b.condition g.broken)
+same_verdict words (Some b) None h g = absurd (g b.trigger b.at b.condition h.broken)
+same_verdict words (Some b) (Some c) h g = ap Some (same_least words b c h g)
+
+Debugs-single : (input : Option (List ℕ)) (image : Parts) → IsSome input → IsSingle (Debugs input image)
+Debugs-single None image told o p h g = cc
+Debugs-single (Some script) image told (goes a) (goes b) h g =
+    let verdict = same_verdict image.words h.1.setting.verdict g.1.setting.verdict h.1.is_setting.verdict g.1.is_setting.verdict in
+    ap goes (h.2 ∙ (ap answer_told (one_transcript image script h.0 g.0 h.1 g.1 verdict) ∙ sym g.2))
+Debugs-single (Some script) image told (goes a) (stops t m) h g = absurd g
+Debugs-single (Some script) image told (stops s l) p h g = absurd h
+
 pub Steps-single : (command : Command) (w : World) → IsTold command w → IsSingle (Steps command w)
 Steps-single (check file) w told =
     Then-single (Then (ImageOf w.files file) Judges) (λ image. Gives (accepted w.input))
@@ -241,6 +258,9 @@ Steps-single (imprecise options choices force name) w told =
     Then-single (Then (PlanOf w.files name choices) (Passes force)) (RunsWild options force w.input)
     (Then-single (PlanOf w.files name choices) (Passes force) (PlanOf-single w.files name choices told.0) (Passes-single force))
     (λ plan. RunsWild-single options force w.input plan told.1)
+Steps-single (debug file) w told =
+    Then-single (ImageOf w.files file) (Debugs w.input) (ImageOf-single w.files file told.0) (λ image. Debugs-single w.input image told.1)
+Steps-single (trial blocks) w told = Gives-single (done_with w.input (trial_text blocks))
 
 pub AnswerOf-single : (command : Command) (w : World) (a b : Answer) → IsTold command w → AnswerOf command w a → AnswerOf command w b → a ≡ b
 AnswerOf-single command w a b told h g = h.2 ∙ (ap (answer_of w.input) (Steps-single command w told h.0 g.0 h.1 g.1) ∙ sym g.2)

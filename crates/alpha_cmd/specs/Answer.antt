@@ -5,12 +5,14 @@ use Rattle.alpha_io.specs.Shelved.{Shelved}
 use Rattle.alpha_io.specs.Sunk.{Sunk, Puts}
 use Rattle.alpha_io.specs.SureShelfState.{SureShelfState, sure_file, sure_takes}
 use Rattle.alpha_image.specs.Parts.{Parts, IsByte}
-use Rattle.alpha_request.specs.Command.{Command, check, dis, asm, run, imprecise}
+use Rattle.alpha_request.specs.Command.{Command, check, dis, asm, run, imprecise, debug, trial}
 use Rattle.alpha_request.specs.declared.options.RunOptions.{RunOptions}
 use Rattle.alpha_request.specs.Asked.{asked}
 use Rattle.alpha_dis.specs.Listing.{listing}
 use Rattle.alpha_seq.specs.Run.{Shown}
 use Rattle.alpha_imprecise.specs.Made.{ShownWild}
+use Rattle.alpha_debug.specs.Script.{Transcript}
+use Rattle.alpha_trial.specs.Report.{trial_text}
 use Rattle.alpha_cmd.specs.declared.status.Status.{Status}
 use Rattle.alpha_cmd.specs.declared.status.Status.TheVariants.{Done, BadWords}
 use Rattle.alpha_cmd.specs.Outcome.{Outcome, goes, stops, Then, Gives}
@@ -19,6 +21,7 @@ use Rattle.alpha_cmd.specs.Image.{ImageOf, Judges}
 use Rattle.alpha_cmd.specs.Assembly.{Makes, Untaken}
 use Rattle.alpha_cmd.specs.Kept.{Kept, nothing, HasKept}
 use Rattle.alpha_cmd.specs.Kept as kinds
+use Rattle.alpha_cmd.specs.Debugging.{MayTell, session_status}
 use Rattle.alpha_cmd.specs.Running.{run_status, run_line, MayShow}
 use Rattle.alpha_cmd.specs.Imprecise.{Plan, PlanOf, Passes, MayShowWild, wild_status, wild_line}
 
@@ -92,6 +95,17 @@ answer_wild input s = record {
   kept = nothing;
 }
 
+-- what a session tells; how much of the script is left is not said here (`LeavesTail`)
+abbrev pub answer_told : Transcript → Answer
+answer_told t = record {
+  status = session_status t.end;
+  output = t.text;
+  trace = [];
+  line = status_line (session_status t.end);
+  left = None;
+  kept = nothing;
+}
+
 abbrev pub answer_of : Option (List ℕ) → Outcome Answer → Answer
 answer_of input (goes a) = a
 answer_of input (stops status line) = said input status line
@@ -113,6 +127,11 @@ RunsWild options force input plan (goes a) =
     (s : ShownWild) × MayShowWild options force input plan s × (a ≡ answer_wild input s)
 RunsWild options force input plan (stops status line) = ⊥
 
+-- a session on the program of an image, over this input as its script
+abbrev pub Debugs : Option (List ℕ) → Parts → Outcome Answer → Type 0
+Debugs input image (goes a) = (t : Transcript) × MayTell input image t × (a ≡ answer_told t)
+Debugs input image (stops status line) = ⊥
+
 -- bytes are kept under a name, where they are taken
 abbrev pub KeepsAs : World → List ℕ → List ℕ → Outcome Answer → Type 0
 KeepsAs w out bytes (goes a) = ¬ Refuses w.files (w.takes out (length bytes)) × (a ≡ kept_as w.input out bytes)
@@ -125,6 +144,8 @@ Steps (asm file out) w = Then (Makes w.files file) (KeepsAs w out)
 Steps (run options file) w = Then (ImageOf w.files file) (Runs options w.input)
 Steps (imprecise options choices force file) w =
     Then (Then (PlanOf w.files file choices) (Passes force)) (RunsWild options force w.input)
+Steps (debug file) w = Then (ImageOf w.files file) (Debugs w.input)
+Steps (trial blocks) w = Gives (done_with w.input (trial_text blocks))
 
 -- ---- the answer to words
 
@@ -153,6 +174,8 @@ IsTold (dis file) w = IsSome w.files
 IsTold (asm file out) w = IsSome w.files
 IsTold (run options file) w = IsSome w.files × IsSome w.input
 IsTold (imprecise options choices force file) w = IsSome w.files × IsSome w.input
+IsTold (debug file) w = IsSome w.files × IsSome w.input
+IsTold (trial blocks) w = Unit {0}
 
 -- what the words' command reads is told
 abbrev pub AreTold : List (List ℕ) → World → Type 0

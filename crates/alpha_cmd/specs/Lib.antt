@@ -2,6 +2,7 @@ pub mod Alike
 pub mod Answer
 pub mod Assembly
 pub mod Choosing
+pub mod Debugging
 pub mod Decision
 pub mod Ends
 pub mod Image

@@ -1,11 +1,12 @@
 -- What a call tries to write: the answer to its words, or what a fault of a device or want of memory leaves of it.
 use Rattle.std.specs.Prelude.{◌≡◌, ◌⊎◌, ◌++◌, ◌≤◌, ℕ, List, length, None, true}
 use Rattle.alpha_io.specs.Files.{Files, IfTold, KeepsFiles, KeepsOtherFiles}
-use Rattle.alpha_request.specs.Command.{Command, check, dis, asm, run, imprecise}
+use Rattle.alpha_request.specs.Command.{Command, check, dis, asm, run, imprecise, debug, trial}
 use Rattle.alpha_request.specs.Options as choices
 use Rattle.alpha_seq.specs.Devices.{Drawn}
+use Rattle.alpha_debug.specs.Script.{script_limit}
 use Rattle.alpha_cmd.specs.declared.status.Status.{Status}
-use Rattle.alpha_cmd.specs.declared.status.Status.TheVariants.{Done, Stopped, StepsSpent, Lost, ShelfFault, InputFault, SinkFault, NoMemory}
+use Rattle.alpha_cmd.specs.declared.status.Status.TheVariants.{Done, Stopped, StepsSpent, Lost, ShelfFault, InputFault, SinkFault, TooLarge, NoMemory}
 use Rattle.alpha_cmd.specs.Status.{status_line}
 use Rattle.alpha_cmd.specs.Kept.{Kept, nothing, spoilt}
 use Rattle.alpha_cmd.specs.Assembly.{IsMade}
@@ -42,6 +43,10 @@ MayTake (imprecise options choices force file) StepsSpent = Unit {0}
 MayTake (imprecise options choices force file) (Lost lost) = Unit {0}
 MayTake (imprecise options choices force file) InputFault = Unit {0}
 MayTake (imprecise options choices force file) SinkFault = Unit {0}
+MayTake (debug file) (Done n) = Unit {0}
+MayTake (debug file) InputFault = Unit {0}
+MayTake (debug file) SinkFault = Unit {0}
+MayTake (debug file) (TooLarge limit) = limit ≡ script_limit
 MayTake _ _ = ⊥
 
 -- the statuses under which a command may have changed a file, and the name of that file
@@ -106,3 +111,5 @@ HasFiles (asm file out) w =
     IfTold w.files file (λ source. (bytes : List ℕ) → IsMade source bytes → w.takes out (length bytes) ≡ true)
 HasFiles (run options file) w = IfTold w.files file (λ bytes. Unit {0})
 HasFiles (imprecise options drawn force file) w = IfTold w.files file (λ bytes. Unit {0}) × HasChoices drawn w
+HasFiles (debug file) w = IfTold w.files file (λ bytes. Unit {0})
+HasFiles (trial blocks) w = Unit {0}

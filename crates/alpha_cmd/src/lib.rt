@@ -17,12 +17,12 @@
 //!   the number of words that it draws (`specs/Alike.antt`).
 //!
 //! A command decides, and `Decision::deliver` writes what is then still to be written: all of it, but
-//! for a command that writes while it works, as `dis.rt` and `run.rt`. `alpha_request` reads the
-//! words, `image.rt` has the stages that lead to an image and `choosing.rt` the one that leads to the
-//! words of an imprecise run, `specs/Running.antt` and `specs/Imprecise.antt` say what runs show and
-//! `specs/Kept.antt` what becomes of files, each command has a module, as `check.rt`, and `top.rt`
-//! matches what is asked. `line.rt` and `specs/Status.antt` have the line and the number of each
-//! status.
+//! for a command that writes while it works, as `dis.rt`, `run.rt` and `debug.rt`. `alpha_request`
+//! reads the words, `image.rt` has the stages that lead to an image and `choosing.rt` the one that
+//! leads to the words of an imprecise run, `specs/Running.antt` and `specs/Imprecise.antt` say what
+//! runs show, `specs/Debugging.antt` what a session tells and `specs/Kept.antt` what becomes of files,
+//! each command has a module, as `check.rt`, and `top.rt` matches what is asked. `line.rt` and
+//! `specs/Status.antt` have the line and the number of each status.
 //! A further command is a row in `specs/Answer.antt` (`Steps`, `IsTold`), in `specs/Tried.antt`
 //! (`HasFiles`, `MayTake`, and `MayKeep` where it keeps a file) and in `perform`, beside its module.
 #![tactic(auto)]
@@ -30,6 +30,7 @@
 mod asm;
 mod check;
 mod choosing;
+mod debug;
 mod decision;
 mod dis;
 mod image;
@@ -42,8 +43,10 @@ mod sure;
 #[cfg(test)]
 mod tests;
 mod top;
+mod trial;
 
 pub use alpha_request::Words;
+pub use alpha_trial::trial_image;
 pub use asm::SOURCE_LIMIT;
 pub use image::{IMAGE_LIMIT, image_of};
 pub use laws::{laws_of_answers, laws_of_listed_files, laws_of_restarts};

@@ -1,4 +1,4 @@
-ghost use Rattle.std.specs.Prelude.{◌≡◌, ◌≢◌, ◌⊎◌, ℕ, Bool, List, IfOk};
+ghost use Rattle.std.specs.Prelude.{◌≡◌, ◌≢◌, ◌<◌, ◌≤◌, ◌⊎◌, ℕ, Bool, List, IfOk};
 ghost use Rattle.alpha_io.specs.Faults.{Rose, Calm};
 ghost use Rattle.alpha_io.specs.Files.{KeepsFiles};
 ghost use Rattle.alpha_io.specs.Shelved.{shelved};
@@ -12,6 +12,7 @@ ghost use Rattle.alpha_seq.specs.Devices.{drawn};
 ghost use Rattle.alpha_imprecise.specs.Restart.{IsRestartable};
 ghost use Rattle.alpha_cmd.specs.Alike.{but_drawn, HasWords, IsChecked};
 ghost use Rattle.alpha_cmd.specs.Answer.{Answer, AnswerOf, AreTold, Asks, world, IsAnswer, IsAnswered, IsTold};
+ghost use Rattle.alpha_cmd.specs.Debugging.{LeavesTail, script_most};
 ghost use Rattle.alpha_cmd.specs.Ends.{Decides, Ends, EndsPart, status_in};
 ghost use Rattle.alpha_cmd.specs.Image.{ImageOf};
 ghost use Rattle.alpha_cmd.specs.Kept.{Serves};
@@ -21,10 +22,12 @@ ghost use Rattle.alpha_cmd.specs.Tried.{CountStays, MayTake, Spares, TriedBy, Tr
 use crate::Status;
 use crate::asm::asm;
 use crate::check::check;
+use crate::debug::debug;
 use crate::decision::Decision;
 use crate::dis::dis;
 use crate::imprecise::{Asked, imprecise};
 use crate::run::run;
+use crate::trial::trial;
 use alpha_io::{Failed, Shelf, Sink, Source};
 use alpha_request::{Refusal, Request, Words, request_of};
 use std::alloc::Global;
@@ -36,7 +39,9 @@ use std::alloc::Global;
 /// assembles the source of the file, and keeps its image as OUT. `run FILE` runs an image's
 /// program over the input: what it puts goes to the output, and the lines of the run to the notes.
 /// `run --imprecise FILE` does so by the imprecise machine: an image that `check` refuses is refused,
-/// unless `--force` is given, and an accepted one has what `run FILE` has.
+/// unless `--force` is given, and an accepted one has what `run FILE` has. `debug FILE` answers the
+/// input as a script on the program, and what it answers goes to the output. `trial N` writes a line
+/// for each of its runs there.
 /// Each other status has its line on the notes.
 pub fn alpha_top<H: Shelf, S: Source, K: Sink, N: Sink>(
     alloc: Global,
@@ -71,12 +76,16 @@ pub fn alpha_top<H: Shelf, S: Source, K: Sink, N: Sink>(
         ⊎ ((command : Command) × Asks words.now command
         × Spares command result (H.files shelf.old) (H.files shelf.new)) }
 
-    // Input is not touched, but by a run that was begun, and it fails only under its status, or
-    // under that of a sink.
+    // Input is not touched, but by a run or a session that was begun, and it fails only under its
+    // status, or under that of a sink.
     ensures input { (input.new ≡ input.old)
         ⊎ ((command : Command) × Asks words.now command × MayTake command result) }
     ensures source { CountStays (drawn S.left S.faults input.old input.new)
         ((result ≢ Status.InputFault) × (result ≢ Status.SinkFault)) }
+
+    // Of a script no more is taken than the bytes that count and one.
+    ensures script { (file : List ℕ) → Asks words.now (commands.debug file)
+        → LeavesTail script_most (S.left input.old) (S.left input.new) }
 
     // Where what the words' command reads is told and no device fails, the words' answer is given,
     // or memory ran out.
@@ -144,6 +153,8 @@ fn decide<H: Shelf, S: Source, K: Sink, N: Sink>(
         ⊎ ((command : Command) × Asks words.now command × MayTake command (status_in result)) }
     ensures source { CountStays (drawn S.left S.faults input.old input.new)
         (IfOk result (λ decision. decision.status ≢ Status.InputFault)) }
+    ensures script { (file : List ℕ) → Asks words.now (commands.debug file)
+        → LeavesTail script_most (S.left input.old) (S.left input.new) }
 {
     match request_of(alloc, words) {
         Ok(request) => perform(alloc, request, shelf, input, out, notes),
@@ -161,6 +172,8 @@ fn perform<H: Shelf, S: Source, K: Sink, N: Sink>(
     out: &mut K,
     notes: &mut N,
 ) -> Result<Decision, Failed>
+    requires blocks { (n : ℕ) → command_of request ≡ commands.trial n
+        → (0 < n) × (n ≤ 20000) }
     ensures tried { Decides (TriedOf (Rose (H.faults shelf.old) (H.faults shelf.new))
         (Rose (S.faults input.old) (S.faults input.new)) (command_of request.entry)
         (world H.files H.takes S.left shelf.old input.old)) result (S.left input.new)
@@ -174,6 +187,8 @@ fn perform<H: Shelf, S: Source, K: Sink, N: Sink>(
         ⊎ MayTake (command_of request.entry) (status_in result) }
     ensures source { CountStays (drawn S.left S.faults input.old input.new)
         (IfOk result (λ decision. decision.status ≢ Status.InputFault)) }
+    ensures script { (file : List ℕ) → command_of request.entry ≡ commands.debug file
+        → LeavesTail script_most (S.left input.old) (S.left input.new) }
 {
     match request {
         Request::Check { file } => Ok(check(alloc, file, shelf)),
@@ -194,5 +209,7 @@ fn perform<H: Shelf, S: Source, K: Sink, N: Sink>(
             imprecise(alloc, asked, shelf, input, out, notes)
         }
         Request::Run { options, file } => run(alloc, options, file, shelf, input, out, notes),
+        Request::Debug { file } => debug(alloc, file, shelf, input, out),
+        Request::Trial { blocks } => trial(alloc, blocks, out),
     }
 }

@@ -1,14 +1,16 @@
-use Rattle.std.proofs.Common.{◌≡◌, inl, inr, ⊎_elim}
+use Rattle.std.proofs.Common.{◌≡◌, ◌∙◌, Some, refl, ap, inl, inr, ⊎_elim}
 use Rattle.alpha_io.specs.Faults.{Rose}
 use Rattle.alpha_io.specs.Shelved.{shelved}
 use Rattle.alpha_io.specs.Sunk.{sunk}
 use Rattle.alpha_io.proofs.Shelved.{KeepsFiles-refl}
 use Rattle.alpha_request.specs.Command.{command_of}
+use Rattle.alpha_request.proofs.Blocks.{asked_blocks}
 use Rattle.alpha_cmd.specs.Answer.{world}
 use Rattle.alpha_cmd.specs.Decision.{answer_in}
 use Rattle.alpha_cmd.specs.Ends.{status_in}
 use Rattle.alpha_cmd.specs.Tried.{MayTake, TriedOf, TriedBy}
 use Rattle.alpha_cmd.proofs.Endings.{Leaves-all, Decides-map}
+use Rattle.alpha_cmd.proofs.Told.{tail_same}
 use Rattle.alpha_cmd.proofs.Trying.{asked_tried}
 use Rattle.alpha_cmd.proofs.top.decide.Goals as goal
 
@@ -57,3 +59,9 @@ returns-in-Err-NoMemory-clause-tried g c =
     (g.K.Sink.written c.args.out.now) (g.N.Sink.written c.args.notes.now) (g.K.Sink.faults c.args.out.now) (g.N.Sink.faults c.args.notes.now)
     (inr (inr (c.said-in-Err-NoMemory.ensures.answer left)))
     (KeepsFiles-refl w.files)
+
+pub returns-in-Err-NoMemory-clause-script : goal.returns-in-Err-NoMemory-clause-script
+returns-in-Err-NoMemory-clause-script g c = λ file asks. tail_same (g.S.Source.left c.args.input.now) (g.S.Source.left c.args.input.now) refl
+
+pub perform-requires : goal.perform-requires
+perform-requires g c = record { blocks = λ n is. asked_blocks c.args.words.now n (c.in-Ok.ensures ∙ ap Some is) }

@@ -1,6 +1,9 @@
+use Rattle.std.proofs.Common.{ap}
 use Rattle.alpha_io.specs.Faults.{Rose}
 use Rattle.alpha_io.specs.Shelved.{shelved}
+use Rattle.alpha_io.proofs.Shelved.{KeepsFiles-refl}
 use Rattle.alpha_request.specs.Command as commands
+use Rattle.alpha_request.specs.Command.{command_of}
 use Rattle.alpha_seq.specs.Devices.{drawn}
 use Rattle.alpha_cmd.specs.Answer.{world}
 use Rattle.alpha_cmd.specs.Decision.{answer_in}
@@ -35,3 +38,16 @@ returns-in-Asm-clause-tried g c =
     (shelved g.H.Shelf.files g.H.Shelf.takes g.H.Shelf.faults c.args.shelf.now c.asm.new.shelf)
     (g.K.Sink.written c.args.out.now) (g.N.Sink.written c.args.notes.now) (g.K.Sink.faults c.args.out.now) (g.N.Sink.faults c.args.notes.now)
     settled.1 settled.2)
+
+pub trial-requires-clause-some : goal.trial-requires-clause-some
+trial-requires-clause-some g c = (c.requires.blocks c.in-Trial.blocks (ap command_of c.in-Trial.is)).0
+
+pub trial-requires-clause-bound : goal.trial-requires-clause-bound
+trial-requires-clause-bound g c = (c.requires.blocks c.in-Trial.blocks (ap command_of c.in-Trial.is)).1
+
+pub returns-in-Trial-clause-tried : goal.returns-in-Trial-clause-tried
+returns-in-Trial-clause-tried g c =
+    rw c.in-Trial.is
+    (c.trial.ensures.tried (shelved g.H.Shelf.files g.H.Shelf.takes g.H.Shelf.faults c.args.shelf.now c.args.shelf.now)
+    (drawn g.S.Source.left g.S.Source.faults c.args.input.now c.args.input.now) (g.N.Sink.written c.args.notes.now) (g.N.Sink.faults c.args.notes.now)
+    (KeepsFiles-refl (g.H.Shelf.files c.args.shelf.now)))

@@ -1,0 +1,33 @@
+-- What a session of the debugger tells, its status, and what it leaves of its script.
+use Rattle.std.specs.Prelude.{ℕ, ◌+◌, ◌≤◌, List, length, Option, Some, None}
+use Rattle.alpha_pal.specs.CallEffect.{Takes}
+use Rattle.alpha_image.specs.Parts.{Parts}
+use Rattle.alpha_debug.specs.declared.end.DebugEnd.{DebugEnd}
+use Rattle.alpha_debug.specs.declared.end.DebugEnd.TheVariants as ends
+use Rattle.alpha_debug.specs.Script.{Transcript, IsTranscript, script_limit}
+use Rattle.alpha_cmd.specs.declared.status.Status.{Status}
+use Rattle.alpha_cmd.specs.declared.status.Status.TheVariants.{Done, InputFault, SinkFault, TooLarge, NoMemory}
+
+-- the transcript at an image of the script that the input tells; where it tells nothing, that of some script
+abbrev pub MayTell : Option (List ℕ) → Parts → Transcript → Type 0
+MayTell None image t = (script : List ℕ) × IsTranscript image script t
+MayTell (Some script) image t = IsTranscript image script t
+
+-- the status of a session
+abbrev pub session_status : DebugEnd → Status
+session_status ends.Done = Done 0
+session_status ends.InputFault = InputFault
+session_status ends.SinkFault = SinkFault
+session_status ends.TooLarge = TooLarge script_limit
+session_status ends.NoMemory = NoMemory
+
+-- What is left of an input that is told: a suffix, which holds all that stands behind so many bytes at its front.
+pub record LeavesTail (most : ℕ) (old new : Option (List ℕ)) : Type 0 where
+  pub taken : List ℕ
+  pub rest : List ℕ
+  pub took : Takes old new taken rest
+  pub bound : length taken ≤ most
+
+-- the most bytes of a script that are taken: those that count and one
+abbrev pub script_most : ℕ
+script_most = script_limit + 1

@@ -1,0 +1,54 @@
+//! `debug FILE`: a session of the debugger on the image's program.
+
+ghost use Rattle.std.specs.Prelude.{◌≡◌, ◌≢◌, ◌⊎◌, ℕ, List, Option, IfOk};
+ghost use Rattle.alpha_io.specs.Faults.{Rose};
+ghost use Rattle.alpha_io.specs.Shelved.{shelved, OnlyReads};
+ghost use Rattle.alpha_io.specs.Sunk.{sunk};
+ghost use Rattle.alpha_request.specs.Command as commands;
+ghost use Rattle.alpha_seq.specs.Devices.{drawn};
+ghost use Rattle.alpha_cmd.specs.Answer.{world};
+ghost use Rattle.alpha_cmd.specs.Debugging.{LeavesTail, script_most};
+ghost use Rattle.alpha_cmd.specs.Ends.{Decides, status_in, still};
+ghost use Rattle.alpha_cmd.specs.Tried.{CountStays, MayTake, TriedOf};
+
+use crate::Status;
+use crate::decision::Decision;
+use crate::image::load;
+use alpha_debug::{DebugEnd, SCRIPT_LIMIT};
+use alpha_io::{Failed, Shelf, Sink, Source};
+use std::alloc::Global;
+
+/// Reads the image of a file and answers the commands of the input on its program. Nothing is put
+/// and nothing taken before the session has all of its memory.
+pub(crate) fn debug<H: Shelf, S: Source, K: Sink>(
+    alloc: Global,
+    file: &str,
+    shelf: &mut H,
+    input: &mut S,
+    out: &mut K,
+) -> Result<Decision, Failed>
+    ensures tried { (told : Option (List ℕ)) (count : ℕ)
+        → Decides (TriedOf (Rose (H.faults shelf.old) (H.faults shelf.new))
+        (Rose (S.faults input.old) (S.faults input.new)) (commands.debug file.now)
+        (world H.files H.takes S.left shelf.old input.old)) result (S.left input.new)
+        (shelved H.files H.takes H.faults shelf.old shelf.new)
+        (sunk K.written K.faults out.old out.new) (still told count) }
+    ensures shelf { OnlyReads (shelved H.files H.takes H.faults shelf.old shelf.new)
+        (IfOk result (λ decision. decision.status ≢ Status.ShelfFault)) }
+    ensures input { (input.new ≡ input.old)
+        ⊎ MayTake (commands.debug file.now) (status_in result) }
+    ensures source { CountStays (drawn S.left S.faults input.old input.new)
+        (IfOk result (λ decision. decision.status ≢ Status.InputFault)) }
+    ensures script { LeavesTail script_most (S.left input.old) (S.left input.new) }
+{
+    match load(alloc, shelf, file) {
+        Ok(image) => match alpha_debug::debug(alloc, image, input, out) {
+            DebugEnd::Done => Ok(Decision::said(Status::Done(0))),
+            DebugEnd::TooLarge => Ok(Decision::said(Status::TooLarge(SCRIPT_LIMIT as u64))),
+            DebugEnd::InputFault => Ok(Decision::said(Status::InputFault)),
+            DebugEnd::SinkFault => Err(Failed),
+            DebugEnd::NoMemory => Ok(Decision::said(Status::NoMemory)),
+        },
+        Err(status) => Ok(Decision::said(status)),
+    }
+}
