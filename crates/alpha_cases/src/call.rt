@@ -135,6 +135,12 @@ impl<'a> Call<'a> {
         match entry.name {
             "input" => call.input = rest.as_bytes().to_vec(alloc)?,
             "inputhex" => call.input = bytes_of(alloc, rest)?,
+            "script" => call.input.extend_from_slice(entry.block.as_bytes())?,
+            "feeds" => {
+                for _ in 0..number_of(rest)? {
+                    call.input.push(10)?;
+                }
+            }
             "piece" => call.piece = number_of(rest)? as usize,
             "fails" => {
                 let (device, calls) = rest.split_once(" ").unwrap_or((rest, ""));

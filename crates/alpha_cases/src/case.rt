@@ -145,7 +145,10 @@ impl<'a> Scene<'a> {
                 self.until = Some(device_of(entry.rest)?);
                 Ok(())
             }
-            "input" | "inputhex" | "piece" | "fails" => match self.call.take() {
+            "input" | "inputhex" | "script" | "feeds" | "piece" | "fails" => match self
+                .call
+                .take()
+            {
                 Some(call) => {
                     self.call = Some(call.with(alloc, &entry)?);
                     Ok(())

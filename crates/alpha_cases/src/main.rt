@@ -16,6 +16,7 @@
 //! | `call WORDS` | a call of the program, which the lines below speak of |
 //! | `for W ..` | the call is made for each of these, in place of `%` in its words |
 //! | `input TEXT`, `inputhex HEX` | the bytes of the input; none where they are left out |
+//! | `script`, with lines, `feeds N` | so much more of the input: these lines, so many line feeds |
 //! | `piece N` | how many bytes of the input one call gives at most |
 //! | `fails DEVICE N ..` | the calls of the shelf, the input, the output or the notes that fail, from 0 on |
 //! | `status N` | the number of the status, and with `drawn D` how many words were drawn |
@@ -32,12 +33,15 @@ mod lines;
 use std::fs;
 
 // The files of cases.
-const FILES: [&str; 6] = [
+const FILES: [&str; 9] = [
     "check.cases",
     "asm.cases",
     "run.cases",
     "edges.cases",
     "imprecise.cases",
+    "debug.cases",
+    "sessions.cases",
+    "trial.cases",
     "failing.cases",
 ];
 
