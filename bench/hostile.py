@@ -1,7 +1,8 @@
 #!/usr/bin/env python3
 """Feeds the built program with files of random bytes, damaged images, random word lists, sources of random tokens
 and scripts of random lines. Each call must end with a status of the table, and with the line of that status behind
-whatever it notes. Prints how often each status came.
+whatever it notes. Then each command gets large files and less and less memory: it must end as with enough of it, or
+with status 12, its line and nothing on the output. Prints how often each status came.
 
     bench/hostile.py [PROGRAM] [COUNT] [SEED]    COUNT: files of each kind, 10,000 if left out
 """
@@ -9,12 +10,12 @@ import collections
 import os
 import random
 import re
-import struct
+import resource
 import subprocess
 import sys
 import tempfile
 
-from measure import image, level_image, the_program
+from measure import NOP, TRAPB, image, level_image, repeated, the_program
 
 HEXADECIMAL = "[0-9a-f]{16}"
 LINES = {
@@ -69,6 +70,33 @@ def script(random):
     return "\n".join(random.choice(COMMANDS) for _ in range(random.randrange(0, 12))).encode()
 
 
+def little_memory(program, folder):
+    """The calls that end otherwise than they should, with so many KiB of address space and more."""
+    large, source, out = (os.path.join(folder, name) for name in ("large", "source", "out"))
+    with open(large, "wb") as file:
+        file.write(image(repeated([NOP, NOP, TRAPB]), bytes(4_000_000)))
+    with open(source, "w") as file:
+        file.write("nop\n" * 200_000 + ".entry 0x10000\n")
+    calls = {"check": [large], "dis": [large], "asm": [source, out], "run": ["--steps", "100", large],
+             "run --imprecise": ["--steps", "100", large], "debug": [large]}
+    wrong = 0
+    for name, rest in calls.items():
+        command, own, seen = [program, *name.split(), *rest], None, collections.Counter()
+        for kibibytes in range(40_000, 3_500, -250):
+            def limit():
+                resource.setrlimit(resource.RLIMIT_AS, (kibibytes * 1024, kibibytes * 1024))
+
+            ended = subprocess.run(command, input=b"go\n", capture_output=True, preexec_fn=limit)
+            answer = ended.returncode, ended.stdout, ended.stderr
+            own = own or answer
+            seen[ended.returncode] += 1
+            if answer not in (own, (12, b"", b"no memory\n")):
+                wrong += 1
+                print(f"{name}: with {kibibytes} KiB: status {answer[0]}, {answer[2][-200:]!r}")
+        print(f"{name} with little memory: " + ", ".join(f"status {status} {times} times" for status, times in sorted(seen.items())))
+    return wrong
+
+
 def main():
     program = the_program()
     count = int(sys.argv[2]) if len(sys.argv) > 2 else 10_000
@@ -105,6 +133,7 @@ def main():
                     wrong += 1
                     print(f"{name}: {command}: status {ended.returncode}, {ended.stderr[-200:]!r}: {contents.hex()}")
             print(f"{name}: " + ", ".join(f"status {status} {times} times" for status, times in sorted(seen.items())))
+        wrong += little_memory(program, folder)
     sys.exit(bool(wrong))
 
 
