@@ -17,9 +17,13 @@ const LARGEST: u64 = 18_874_368;
 /// A device of a call.
 #[derive(Clone, Copy, Debug, PartialEq, Eq)]
 pub enum Device {
+    /// The files.
     Shelf,
+    /// Standard input.
     Input,
+    /// Standard output.
     Output,
+    /// Standard error.
     Notes,
 }
 
@@ -57,9 +61,13 @@ impl Device {
 /// The calls of each device that fail, from 0 on.
 #[derive(Drop)]
 pub struct Failing {
+    /// Those of the files.
     pub shelf: Vec<u64>,
+    /// Those of standard input.
     pub input: Vec<u64>,
+    /// Those of standard output.
     pub output: Vec<u64>,
+    /// Those of standard error.
     pub notes: Vec<u64>,
 }
 
@@ -90,17 +98,22 @@ impl Failing {
 pub struct Call<'a> {
     /// Its words, in which `%` stands for the word that it is made for.
     pub words: &'a str,
+    /// What stands on its standard input.
     pub input: Vec<u8>,
     /// How many bytes of the input one take gives at most.
     pub piece: usize,
+    /// Which calls of the devices fail.
     pub failing: Failing,
 }
 
 /// What a call answered, what it wrote, and the files that it left.
 #[derive(Drop)]
 pub struct Answer {
+    /// How it ended.
     pub status: Status,
+    /// What it wrote to standard output.
     pub output: Vec<u8>,
+    /// What it wrote to standard error.
     pub notes: Vec<u8>,
     shelf: MemoryShelf,
 }

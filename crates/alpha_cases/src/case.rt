@@ -14,7 +14,9 @@ const MOST_CALLS: u64 = 100_000;
 /// A file of a case.
 #[derive(Drop)]
 pub struct File<'a> {
+    /// Its name on the shelf.
     pub name: &'a str,
+    /// What stands in it.
     pub bytes: Vec<u8>,
 }
 

@@ -103,7 +103,7 @@ pub words_of-lt : (bytes : List ℕ) → IsBytes bytes → (k : ℕ) → k < len
 words_of-lt bytes fits k h =
     rw (get_or-words_of bytes k (omega (arith, length-words_of bytes))) (longword_at-lt (4 * k) bytes fits)
 
-words_of-front : (w : ℕ) (rest : List ℕ) → w < 2 ^ 32 → words_of (longword w ++ rest) ≡ w ∷ words_of rest
+pub words_of-front : (w : ℕ) (rest : List ℕ) → w < 2 ^ 32 → words_of (longword w ++ rest) ≡ w ∷ words_of rest
 unfolding longword
 words_of-front w rest small = ap (λ (n : ℕ). n ∷ words_of rest) (longword_at-front (longword w) 0 w [] refl small)
 

@@ -4,8 +4,8 @@
 //!   a count of its faults. [`Failed`] is the one answer of a device that failed.
 //! - [`read_whole`] reads a file of a shelf up to a limit, [`write_whole`] writes all of some bytes.
 //! - [`Line`] is a line of text in the making, in a buffer of its own.
-//! - In memory: [`MemorySource`] and [`SureSource`], [`MemorySink`] and [`NullSink`],
-//!   [`MemoryShelf`] and [`SureShelf`]. The sure ones and the null one never fail.
+//! - In memory: [`MemorySource`] and [`SureSource`], [`MemorySink`], [`TrickleSink`] and
+//!   [`NullSink`], [`MemoryShelf`] and [`SureShelf`]. The sure ones and the null one never fail.
 //! - On a real system: [`ReadSource`] over a reader, [`WriteSink`] over a writer, [`DiskShelf`] over
 //!   the file system. They tell nothing.
 //!
@@ -45,6 +45,7 @@ pub use memory::shelf::MemoryShelf;
 pub use memory::sink::{MemorySink, NullSink};
 pub use memory::source::{MemorySource, SureSource};
 pub use memory::sure_shelf::SureShelf;
+pub use memory::trickle::TrickleSink;
 pub use read::{ReadFault, read_whole};
 pub use shelf::Shelf;
 pub use sink::{Sink, write_whole};

@@ -6,6 +6,7 @@ pub(crate) mod shelf;
 pub(crate) mod sink;
 pub(crate) mod source;
 pub(crate) mod sure_shelf;
+pub(crate) mod trickle;
 
 // Copies the front of the bytes into the front of the buffer, and answers how many they were.
 fn copy_front(bytes: &[u8], buf: &mut [u8]) -> usize

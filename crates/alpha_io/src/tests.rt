@@ -16,24 +16,6 @@ impl Read for Broken {
     }
 }
 
-// A sink that takes one byte per call.
-#[derive(Drop)]
-struct Trickle {
-    sink: MemorySink,
-}
-
-impl Sink for Trickle {
-    ghost use Rattle.std.specs.Prelude.{Some};
-
-    ghost written = { λ s. Some s.sink.written };
-
-    ghost faults = { λ s. s.sink.faults };
-
-    fn put(&mut self, bytes: &[u8]) -> Result<usize, Failed> {
-        self.sink.put(&bytes[..1])
-    }
-}
-
 fn whole<H: Shelf>(
     alloc: Global,
     shelf: &mut H,
@@ -72,15 +54,14 @@ fn a_sure_source_gives_what_fits(rt: HostRuntime) -> Result<(), Fail> {
 #[test]
 fn a_whole_write_goes_on_after_a_short_put(rt: HostRuntime) -> Result<(), Fail> {
     let alloc = rt.alloc();
-    let sink = MemorySink::new(alloc, 9, [4].to_vec(alloc)?)?;
-    let mut out = Trickle { sink };
+    let mut out = TrickleSink::new(alloc, 9, [4].to_vec(alloc)?)?;
     let answers = [
         write_whole(&mut out, &[1, 2, 3]),
         write_whole(&mut out, &[4, 5]),
         write_whole(&mut NullSink::new(), &[1, 2]),
     ];
     assert_eq!(rt; answers, [Ok(()), Err(Failed), Ok(())]);
-    assert_eq!(rt; out.sink.bytes(), [1, 2, 3, 4].as_slice());
+    assert_eq!(rt; out.bytes(), [1, 2, 3, 4].as_slice());
     Ok(())
 }
 

@@ -1,5 +1,5 @@
 use crate::plain::least_broken;
-use alpha_image::{Fields, Image};
+use alpha_samples::sample;
 use alpha_shadow::{Broken, ImageCode, judge};
 use alpha_table::{Insn, decode};
 use alpha_words::Word;
@@ -57,21 +57,7 @@ fn insns_of(alloc: Global, words: &[u32]) -> anyhow::Result<Vec<Insn>> {
 
 // The checker's verdict on an image with this code.
 fn judged(alloc: Global, words: &[u32]) -> anyhow::Result<Option<Broken>> {
-    let mut code = Vec::new(alloc);
-    for word in words {
-        code.extend_from_slice(&word.to_le_bytes())?;
-    }
-    let fields = Fields {
-        code_base: 0x1_0000,
-        data_base: 0x1000_0000,
-        entry: 0x1_0000,
-        zeroed: 0,
-        stack: 65_536,
-    };
-    if code.len() % 4 != 0 {
-        bail!("the code has no whole words");
-    }
-    let image = Image::build(alloc, &fields, &code, &[])?;
+    let image = sample(alloc, words, 0)?;
     Ok(judge(&mut ImageCode::new(&image)).err())
 }
 
