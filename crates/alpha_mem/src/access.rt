@@ -31,7 +31,8 @@ impl Size {
 /// Why a load or a store is refused.
 #[derive(Clone, Copy, Debug, PartialEq, Eq)]
 pub enum MemFault {
-    /// The address is no multiple of the size. This is checked first.
+    /// The address is no multiple of the size (Architecture Handbook, section 4.2). This is checked
+    /// first.
     Align,
     /// A byte lies in no region or, for a store, in a region that isn't writable.
     Region,

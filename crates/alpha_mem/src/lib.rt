@@ -5,7 +5,8 @@
 //!   read, and the writable ones may be written. Loads and stores are aligned and little-endian
 //!   (Architecture Handbook, sections 2.1 and 4.2); ranges of any length are read and written by
 //!   `bytes` and `write`.
-//! - [`Size`] is how many bytes a load or a store has, [`MemFault`] why one is refused.
+//! - [`Size`] is how many bytes a load or a store has, [`MemFault`] why one is refused. [`number_of`]
+//!   is the number that bytes are in memory.
 //! - The functions of `src/laws.rt` do nothing: their contracts are the laws of memory.
 //!   [`laws_of_writes`]: a write keeps where the regions lie, keeps each byte outside its range, and
 //!   puts its bytes inside; two writes that follow one another are one. [`laws_of_reads`]: two
@@ -33,6 +34,7 @@ pub use laws::{
     laws_of_writes,
 };
 pub use memory::Memory;
+pub use number::number_of;
 
 #[cfg(test)]
 mod tests;

@@ -1,7 +1,8 @@
 ghost use Rattle.std.specs.Prelude.{◌≡◌, ◌≤◌, length};
 ghost use Rattle.alpha_words.specs.Digits.{little};
 
-/// The number whose bytes these are, the lowest first.
+/// The number whose bytes these are, at most eight, the lowest first (Architecture Handbook,
+/// section 2.1).
 pub fn number_of(bytes: &[u8]) -> u64
     requires { length bytes.now ≤ 8 }
     ensures { result ≡ little bytes.now }

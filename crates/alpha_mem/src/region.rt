@@ -80,7 +80,8 @@ impl Region {
         self.bytes[at..at + bytes.len()].copy_from_slice(bytes);
     }
 
-    /// Writes the number's low bytes, as many as the size says, the lowest first.
+    /// Writes the number's low bytes, as many as the size says, the lowest first (Architecture
+    /// Handbook, section 2.1).
     pub fn put_number(&mut self, addr: u64, size: Size, value: u64)
         requires { IsTrue (holds (shape_of self.old) addr (size_of size)) }
         ensures { self.new ≡ overwritten self.old addr (low_bytes (size_of size) value) }

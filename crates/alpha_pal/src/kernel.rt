@@ -58,14 +58,14 @@ impl Kernel {
         })
     }
 
-    /// Whether the mode is user.
+    /// Whether the mode is user (Reference Manual, OSF/1 processor status).
     pub fn is_user(&self) -> bool
         ensures { result ≡ self.now.user }
     {
         self.user
     }
 
-    /// The 48 bytes of the last entry's frame.
+    /// The 48 bytes of the last entry's frame (Reference Manual, OSF/1 PALcode stack frames).
     pub fn frame(&self) -> &[u8]
         ensures { result.now ≡ bytes_of self.now.frame }
     {
@@ -151,7 +151,7 @@ impl Kernel {
         }
     }
 
-    /// The PC in the frame, in kernel mode.
+    /// The PC in the frame, in kernel mode (Reference Manual, OSF/1 PALcode stack frames).
     pub fn trap_pc(&self) -> u64
         requires { self.now.user ≡ false }
         ensures { result ≡ self.now.frame.pc }
@@ -159,7 +159,8 @@ impl Kernel {
         self.saved().pc
     }
 
-    /// Changes the PC in the frame, in kernel mode.
+    /// Changes the PC in the frame, in kernel mode, which is where `rti` goes on (Reference Manual,
+    /// OSF/1 return from trap rti).
     pub fn set_pc(&mut self, pc: u64)
         requires { self.old.user ≡ false }
         ensures { self.new ≡ record self.old { frame = record self.old.frame { pc = pc } } }

@@ -2,8 +2,8 @@ ghost use Rattle.std.specs.Prelude.{⊤, ◌≡◌, [], ◌∷◌, codes};
 
 use bitflags::{Flag, Flags};
 
-/// The exception summary of an arithmetic trap, a set of bits (Architecture Handbook, arithmetic
-/// traps).
+/// The exception summary of an arithmetic trap, a set of bits (Reference Manual, OSF/1 exception
+/// summary).
 #[derive(Clone, Copy, Debug, PartialEq, Eq)]
 pub struct Summary(pub u64);
 

@@ -1,29 +1,11 @@
 use crate::named::reg;
 use crate::{Kernel, PalEnd, Summary};
-use alpha_io::{Failed, MemorySink, MemorySource, NullSink, Sink, Source};
+use alpha_io::{MemorySink, MemorySource, NullSink, Sink, Source, TrickleSink};
 use alpha_mem::Memory;
 use alpha_words::{NoMemory, PalCall, RegFile, RegSet};
 use bitflags::Flags;
 use std::alloc::Global;
 use std::test::Fail;
-
-// A sink that takes one byte per call.
-#[derive(Drop)]
-struct Trickle {
-    sink: MemorySink,
-}
-
-impl Sink for Trickle {
-    ghost use Rattle.std.specs.Prelude.{Some};
-
-    ghost written = { λ s. Some s.sink.written };
-
-    ghost faults = { λ s. s.sink.faults };
-
-    fn put(&mut self, bytes: &[u8]) -> Result<usize, Failed> {
-        self.sink.put(&bytes[..1])
-    }
-}
 
 // A kernel and a memory: sixteen bytes that may be read, and at once after them eight that may be
 // written too.
@@ -167,14 +149,13 @@ fn a_write_goes_on_over_short_puts(rt: HostRuntime) -> Result<(), Fail> {
     let alloc = rt.alloc();
     let mut bench = Bench::new(alloc)?;
     let mut input = MemorySource::new(Vec::new(alloc), 1, Vec::new(alloc));
-    let sink = MemorySink::new(alloc, 9, [5].to_vec(alloc)?)?;
-    let mut out = Trickle { sink };
+    let mut out = TrickleSink::new(alloc, 9, [5].to_vec(alloc)?)?;
     let request = [4, 1, 0x1_0000, 4];
     let got = bench.call(PalCall::Callsys, request, &mut input, &mut out);
     assert_eq!(rt; got, (PalEnd::Goes, 4, 0));
     let got = bench.call(PalCall::Callsys, request, &mut input, &mut out);
     assert_eq!(rt; got, (PalEnd::SinkFault, 4, 0));
-    assert_eq!(rt; out.sink.bytes(), b"01230".as_slice());
+    assert_eq!(rt; out.bytes(), b"01230".as_slice());
     Ok(())
 }
 

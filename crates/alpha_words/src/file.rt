@@ -4,7 +4,8 @@ ghost use Rattle.alpha_words.specs.Regs.{reg, put, IsFile};
 use crate::Reg;
 use std::marker::Model;
 
-/// The values of the 32 registers. A clause sees them as a list, whose last number is 0.
+/// The values of the 32 registers (Architecture Handbook, section 3.1.2). A clause sees them as a
+/// list, whose last number is 0.
 #[derive(Clone, Copy, Debug)]
 pub struct RegFile {
     values: [u64; 32],
@@ -32,7 +33,7 @@ impl RegFile {
         RegFile { values: [0; 32] }
     }
 
-    /// The register's value, 0 for R31.
+    /// The register's value, 0 for R31 (Architecture Handbook, section 3.1.2).
     #[tactic(auto, unfolding(crate::specs::Regs::reg))]
     pub fn get(&self, r: Reg) -> u64
         ensures value { result ≡ reg self.now r }
@@ -41,7 +42,7 @@ impl RegFile {
         self.values[r.number() as usize]
     }
 
-    /// Writes the register. R31 stays 0.
+    /// Writes the register. R31 stays 0 (Architecture Handbook, section 3.1.2).
     #[tactic(auto, unfolding(crate::specs::Regs::reg, crate::specs::Regs::put))]
     pub fn set(&mut self, r: Reg, value: u64)
         ensures value { self.new ≡ put self.old r value }

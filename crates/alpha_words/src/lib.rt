@@ -44,7 +44,8 @@ impl<T: Drop> From<AllocFailed<T>> for NoMemory {
     }
 }
 
-/// The level of an implementation: which instructions it has, and what AMASK and IMPLVER answer.
+/// The level of an implementation: which instructions it has, and what AMASK and IMPLVER answer
+/// (Architecture Handbook, section 4.11).
 #[derive(Clone, Copy, Debug, PartialEq, Eq)]
 pub enum Level {
     /// The base instructions, and the byte and word extension.
@@ -89,7 +90,7 @@ impl Level {
 #[derive(Clone, Copy, Debug, PartialEq, Eq)]
 pub enum Completion {
     /// Its destination gets the number of the size's signed range that is congruent to the exact
-    /// result.
+    /// result (Architecture Handbook, section 4.4).
     Wrap,
     /// Its destination gets the bound of the size's signed range that is nearest to the exact result.
     Saturate,

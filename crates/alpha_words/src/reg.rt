@@ -2,7 +2,7 @@ ghost use Rattle.std.specs.Prelude.{◌≡◌, ◌%◌, ◌<◌, ◌≤◌, IfSo
 
 use std::marker::Model;
 
-/// An integer register, R0 to R31. A clause sees its number.
+/// An integer register, R0 to R31 (Architecture Handbook, section 3.1.2). A clause sees its number.
 #[derive(Clone, Copy, Debug, PartialEq, Eq)]
 pub struct Reg {
     number: u8,
@@ -21,7 +21,7 @@ impl Model for Reg {
 }
 
 impl Reg {
-    /// R31, which reads as 0 and ignores writes.
+    /// R31, which reads as 0 and ignores writes (Architecture Handbook, section 3.1.2).
     pub const ZERO: Reg = Reg { number: 31 };
 
     /// The register with this number, `None` exactly above 31.
