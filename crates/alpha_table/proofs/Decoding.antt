@@ -1,5 +1,5 @@
 -- The decoded instruction of a word is the one of the table.
-use Rattle.std.proofs.Common.{◌≡◌, ◌≢◌, ◌<◌, ◌^◌, ℕ, pos, ◌+◌, ◌+ℤ◌, ◌-ℤ◌, ◌≤ℤ◌, ◌<ℤ◌, ltb, Bool, true, false, Option, Some, None, List, [], ◌∷◌, ◌==◌, ◌&&◌, cond, eqb, find, ◌⊎◌, inl, inr, ⊎_elim, refl, sym, ap, ◌∙◌, subst, arith}
+use Rattle.std.proofs.Common.{◌≡◌, ◌≤◌, ◌≢◌, ◌<◌, ◌^◌, ℕ, pos, ◌+◌, ◌+ℤ◌, ◌-ℤ◌, ◌≤ℤ◌, ◌<ℤ◌, ltb, Bool, true, false, Option, Some, None, List, [], ◌∷◌, ◌==◌, ◌&&◌, cond, eqb, find, ◌⊎◌, inl, inr, ⊎_elim, refl, sym, ap, ◌∙◌, subst, arith}
 use Rattle.std.specs.Option.{option_map, option_or, IfNone}
 use Rattle.std.proofs.lemmas.Bool.{eq-eqb, eqb-true, eqb-false, ltb-true, ltb-false}
 use Rattle.std.proofs.lemmas.Int.{ints}
@@ -318,7 +318,7 @@ only_pal w e none (Misc op) h = omega arith
 only_pal w e none (Fetch modify rb) h = omega arith
 only_pal w e none (Pal call) h = none call h
 
-pub only_operate : (w : ℕ) → IsOperateOpcode (field 31 26 w) → (field 31 26 w ≢ 0x18) → (field 31 26 w ≢ 0x1a) → ((op : Op) (ra : ℕ) (src : Src) (rc : ℕ) → Row w (Operate op ra src rc) → ⊥) → (i : Form) → Row w i → ⊥
+pub only_operate : (w : ℕ) → (0x10 ≤ field 31 26 w) × (field 31 26 w ≤ 0x1c) → (field 31 26 w ≢ 0x18) → (field 31 26 w ≢ 0x1a) → ((op : Op) (ra : ℕ) (src : Src) (rc : ℕ) → Row w (Operate op ra src rc) → ⊥) → (i : Form) → Row w i → ⊥
 only_operate w e no_misc no_jump none (Mem op ra rb disp) h = let o = opcode-memory op in omega arith
 only_operate w e no_misc no_jump none (Branch op ra disp) h = let o = opcode-branch op in omega arith
 only_operate w e no_misc no_jump none (Jump kind ra rb hint) h = no_jump h.0
@@ -354,21 +354,17 @@ only_branch w e none (Misc op) h = omega arith
 only_branch w e none (Fetch modify rb) h = omega arith
 only_branch w e none (Pal call) h = omega arith
 
-pub only_memory : (w : ℕ) → (field 31 26 w ≢ 0) × (IsOperateOpcode (field 31 26 w) → ⊥) × (field 31 26 w ≢ 0x18) × (field 31 26 w ≢ 0x1a) × (field 31 26 w < 0x30)
+pub only_memory : (w : ℕ) → (field 31 26 w ≢ 0) × ((0x10 ≤ field 31 26 w) × (field 31 26 w ≤ 0x1c) → ⊥) × (field 31 26 w ≢ 0x18) × (field 31 26 w ≢ 0x1a) × (field 31 26 w < 0x30)
     → ((op : MemOp) (ra rb : ℕ) (disp : _) → Row w (Mem op ra rb disp) → ⊥) → (i : Form) → Row w i → ⊥
 only_memory w e none (Mem op ra rb disp) h = none op ra rb disp h
 only_memory w e none (Branch op ra disp) h = let o = opcode-branch op in omega arith
 only_memory w e none (Jump kind ra rb hint) h = e.3 h.0
-only_memory w e none (Operate op ra src rc) h = e.1 (subst IsOperateOpcode (sym h.0) (opcode-operate op))
+only_memory w e none (Operate op ra src rc) h = let o = opcode-operate op in e.1 (omega arith, omega arith)
 only_memory w e none (Misc op) h = e.2 h.0
 only_memory w e none (Fetch modify rb) h = e.2 h.0
 only_memory w e none (Pal call) h = e.0 h.0
 
 -- what follows where there is nothing
--- the same, by the number of the opcode
-pub only_operate_at : (w o : ℕ) → o ≡ field 31 26 w → IsOperateOpcode o → (o ≢ 0x18) → (o ≢ 0x1a) → ((op : Op) (ra : ℕ) (src : Src) (rc : ℕ) → Row w (Operate op ra src rc) → ⊥) → (i : Form) → Row w i → ⊥
-only_operate_at w o e is no_misc no_jump = subst (λ o. IsOperateOpcode o → (o ≢ 0x18) → (o ≢ 0x1a) → ((op : Op) (ra : ℕ) (src : Src) (rc : ℕ) → Row w (Operate op ra src rc) → ⊥) → (i : Form) → Row w i → ⊥) (sym e) (only_operate w) is no_misc no_jump
-
 pub none_then : {A : Type 0} {P Q : Type 0} (o : Option A) → (P → Q) → IfNone o P → IfNone o Q
 none_then None f h = f h
 none_then (Some x) f h = tt

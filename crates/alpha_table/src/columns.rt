@@ -6,7 +6,7 @@ ghost use Rattle.alpha_table.specs.Columns.{counts, source_registers, uses_of, s
 use crate::{Form, Insn, MemOp, MemRole, OpRole, Src, TrapOp};
 use alpha_words::{Level, Reg, RegSet};
 
-/// What an instruction is to a trap shadow.
+/// What an instruction is to a trap shadow (Architecture Handbook, arithmetic trap completion).
 #[derive(Clone, Copy, Debug, PartialEq, Eq)]
 pub enum InsnKind {
     /// None of the others.
@@ -25,7 +25,7 @@ pub enum InsnKind {
     Turn,
 }
 
-/// An access to memory.
+/// An access to memory (Architecture Handbook, section 4.2).
 #[derive(Clone, Copy, Debug, PartialEq, Eq)]
 pub struct MemAccess {
     /// The base register.
@@ -74,8 +74,8 @@ impl ByteSpan {
     }
 }
 
-/// The registers that the instruction reads, but for R31. A conditional move reads its
-/// destination too.
+/// The registers that the instruction reads, but for R31 (Architecture Handbook, chapter 4). A
+/// conditional move reads its destination too.
 pub fn uses(i: &Insn) -> RegSet
     ensures { (r : ℕ) → Has result r ↔ IsTrue (uses_of i.now r) }
 {
@@ -106,7 +106,8 @@ fn operate_sources(ra: Reg, src: &Src) -> RegSet
     }
 }
 
-/// The register that the instruction writes, `None` where there is none or it is R31.
+/// The register that the instruction writes (Architecture Handbook, chapter 4), `None` where there
+/// is none or it is R31.
 pub fn sets(i: &Insn) -> Option<Reg>
     ensures value { result ≡ sets_of i.now }
     ensures bound { IfSome result (λ r. r < 31) }
@@ -124,7 +125,8 @@ pub fn sets(i: &Insn) -> Option<Reg>
     written.filter(|r| r.number() < 31)
 }
 
-/// What the instruction is to a trap shadow. A load into R31 is plain, but for the locked ones.
+/// What the instruction is to a trap shadow (Architecture Handbook, arithmetic trap completion). A
+/// load into R31 is plain, but for the locked ones.
 #[inline(always)]
 pub fn kind(i: &Insn) -> InsnKind
     ensures { result ≡ kind_of i.now }
@@ -132,9 +134,9 @@ pub fn kind(i: &Insn) -> InsnKind
     match i.form() {
         Form::Mem { op, ra, .. } => memory_kind(op, ra),
         Form::Branch { .. } | Form::Jump { .. } => InsnKind::Turn,
-        Form::Operate { op, .. } => match op.row().role {
-            OpRole::Trap(_) => InsnKind::Trigger,
-            OpRole::Plain | OpRole::Move => InsnKind::Plain,
+        Form::Operate { op, .. } => match op.trap() {
+            Some(_) => InsnKind::Trigger,
+            None => InsnKind::Plain,
         },
         Form::Misc(op) if op.row().reports => InsnKind::Barrier,
         Form::Misc(_) => InsnKind::Plain,
@@ -161,7 +163,8 @@ fn memory_kind(op: MemOp, ra: Reg) -> InsnKind
     }
 }
 
-/// The access that the instruction makes to memory, if it makes one.
+/// The access that the instruction makes to memory, if it makes one (Architecture Handbook,
+/// section 4.2).
 pub fn access(i: &Insn) -> Option<MemAccess>
     ensures { result ≡ access_of i.now }
 {
@@ -188,7 +191,7 @@ pub fn span(i: &Insn) -> Option<ByteSpan>
     access(i).map(|access| access.span())
 }
 
-/// The operation that may trap, for an instruction with `/V`.
+/// The operation that may trap, for an instruction with `/V` (Architecture Handbook, section 4.4).
 pub fn trap_op(i: &Insn) -> Option<TrapOp>
     ensures { result ≡ trap_op_of i.now }
 {

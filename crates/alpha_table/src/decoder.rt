@@ -1,4 +1,4 @@
-ghost use Rattle.std.specs.Prelude.{◌≡◌, ℕ, IfSome, IfNone};
+ghost use Rattle.std.specs.Prelude.{◌≡◌, ◌≢◌, ℕ, IfSome, IfNone};
 ghost use Rattle.alpha_words.specs.Field.{field};
 ghost use Rattle.alpha_table.specs.Row.{Row, SourceField};
 ghost use Rattle.alpha_table.specs.Decoded.{decoded};
@@ -9,6 +9,7 @@ use crate::insn::operands_fit;
 use crate::{BranchOp, Form, Insn, JumpKind, MemOp, MiscOp, Op, Src};
 use alpha_words::{Reg, Word};
 
+#[inline(always)]
 fn memory(w: Word) -> Option<Form>
     ensures found { IfSome result (λ form. Row w.0 form) }
     ensures none { IfNone result ((op : _) (ra rb : ℕ) (d : _) → Row w.0 (Mem op ra rb d) → ⊥) }
@@ -22,6 +23,7 @@ fn memory(w: Word) -> Option<Form>
     })
 }
 
+#[inline(always)]
 fn branch(w: Word) -> Option<Form>
     ensures found { IfSome result (λ form. Row w.0 form) }
     ensures none { IfNone result ((op : _) (ra : ℕ) (disp : _) → Row w.0 (Branch op ra disp) → ⊥) }
@@ -81,6 +83,7 @@ fn pal(w: Word) -> Option<Form>
     Some(Form::Pal(pal_call_at(w.pal())?))
 }
 
+#[inline(always)]
 fn source(w: Word) -> Option<Src>
     ensures found { IfSome result (λ src. SourceField w.0 src) }
     ensures none { IfNone result ((src : _) → SourceField w.0 src → ⊥) }
@@ -102,7 +105,7 @@ fn operate(w: Word) -> Option<Form>
     let op = Op::at(w.opcode(), w.function())?;
     let src = source(w)?;
     let ra = w.ra();
-    if !operands_fit(op.row().operands, ra, &src) {
+    if !operands_fit(op.operands(), ra, &src) {
         return None;
     }
     Some(Form::Operate {
@@ -113,31 +116,56 @@ fn operate(w: Word) -> Option<Form>
     })
 }
 
+// The instruction of a word whose opcode has neither a format of its own nor several. Where no operate instruction
+// has the opcode, its search finds none.
+#[inline(always)]
+fn common_form(w: Word) -> Option<Form>
+    requires pal { field 31 26 w.0 ≢ 0x00 }
+    requires misc { field 31 26 w.0 ≢ 0x18 }
+    requires jump { field 31 26 w.0 ≢ 0x1a }
+    ensures found { IfSome result (λ form. Row w.0 form) }
+    ensures none { IfNone result ((form : _) → Row w.0 form → ⊥) }
+{
+    match w.opcode() {
+        0x10..=0x1c => operate(w),
+        0x30..=0x3f => branch(w),
+        _ => memory(w),
+    }
+}
+
 // The instruction in the one format that words of this opcode have.
+#[inline(always)]
 fn form_of(w: Word) -> Option<Form>
     ensures found { IfSome result (λ form. Row w.0 form) }
     ensures none { IfNone result ((form : _) → Row w.0 form → ⊥) }
 {
     match w.opcode() {
         0x00 => pal(w),
-        0x10 => operate(w),
-        0x11 => operate(w),
-        0x12 => operate(w),
-        0x13 => operate(w),
         0x18 => match misc(w) {
             Some(form) => Some(form),
             None => fetch(w),
         },
         0x1a => jump(w),
-        0x1c => operate(w),
-        0x30..=0x3f => branch(w),
-        _ => memory(w),
+        _ => common_form(w),
     }
 }
 
-/// The instruction that the word stands for, `None` exactly where it is outside the table.
+/// The instruction that the word stands for (Architecture Handbook, section 3.3), `None` exactly
+/// where it is outside the table.
 #[tactic(auto, using(crate::proofs::Decoding::decoding))]
 pub fn decode(w: Word) -> Option<Insn>
+    ensures row { IfSome result (λ i. Row w.0 i) }
+    ensures none { IfNone result ((i : _) → Row w.0 i → ⊥) }
+    ensures value { result ≡ decoded w.0 }
+{
+    Some(Insn::new(form_of(w)?))
+}
+
+/// The same, as a part of the code that calls it: for a loop that looks at one word after another
+/// and takes its instruction apart at once.
+#[tactic(auto, using(crate::proofs::Decoding::decoding))]
+#[inline(always)]
+pub fn decode_inline(w: Word) -> Option<Insn>
     ensures row { IfSome result (λ i. Row w.0 i) }
     ensures none { IfNone result ((i : _) → Row w.0 i → ⊥) }
     ensures value { result ≡ decoded w.0 }

@@ -8,7 +8,7 @@ use crate::formats::{fetch_function, pal_function};
 use crate::{Form, Insn, Op, Src};
 use alpha_words::{Reg, Word};
 
-/// The one word of the table that stands for the instruction.
+/// The one word of the table that stands for the instruction (Architecture Handbook, section 3.3).
 pub fn encode(i: &Insn) -> Word
     ensures row { Row result.0 i.now }
     ensures only { (w : ℕ) → w < 2 ^ 32 → Row w i.now → w ≡ result.0 }

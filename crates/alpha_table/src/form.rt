@@ -4,7 +4,7 @@ ghost use Rattle.alpha_table.specs.Names.{mnemonic_of};
 use crate::{BranchOp, JumpKind, MemOp, MiscOp, Mnemonic, Op};
 use alpha_words::{PalCall, Reg};
 
-/// The second source of an operate instruction.
+/// The second source of an operate instruction (Architecture Handbook, section 3.3.3).
 #[derive(Clone, Copy, Debug, PartialEq, Eq)]
 pub enum Src {
     /// A register.
@@ -13,10 +13,10 @@ pub enum Src {
     Lit(u8),
 }
 
-/// An instruction with its operands, by format (Architecture Handbook, instruction formats).
+/// An instruction with its operands, by format (Architecture Handbook, section 3.3).
 #[derive(Clone, Copy, Debug, PartialEq, Eq)]
 pub enum Form {
-    /// A memory instruction with a displacement.
+    /// A memory instruction with a displacement (section 3.3.1).
     Mem {
         /// Its row.
         op: MemOp,
@@ -27,7 +27,7 @@ pub enum Form {
         /// The displacement, in bytes; of LDAH in units of 65,536 bytes.
         disp: i16,
     },
-    /// A branch.
+    /// A branch (section 3.3.2).
     Branch {
         /// Its row.
         op: BranchOp,
@@ -36,7 +36,7 @@ pub enum Form {
         /// The displacement, in words, from the next instruction on. It has 21 bits.
         disp: i32,
     },
-    /// A jump.
+    /// A jump (section 3.3.1).
     Jump {
         /// Its row.
         kind: JumpKind,
@@ -47,7 +47,7 @@ pub enum Form {
         /// What it tells the branch predictor. It has 14 bits.
         hint: u16,
     },
-    /// An operate instruction.
+    /// An operate instruction (section 3.3.3).
     Operate {
         /// Its row.
         op: Op,
@@ -58,16 +58,16 @@ pub enum Form {
         /// The destination.
         rc: Reg,
     },
-    /// A barrier with the miscellaneous opcode.
+    /// A barrier with the miscellaneous opcode (section 3.3.1).
     Misc(MiscOp),
-    /// A prefetch, which is a hint.
+    /// A prefetch, which is a hint (section 3.3.1).
     Fetch {
         /// Whether it has the intent to modify (FETCH_M).
         modify: bool,
         /// The register with the address.
         rb: Reg,
     },
-    /// A PALcode call.
+    /// A PALcode call (section 3.3.5).
     Pal(PalCall),
 }
 

@@ -1,6 +1,6 @@
 //! The instruction table: which word stands for which instruction, what each instruction uses, sets,
-//! accesses and is to a trap shadow, and its name (Architecture Handbook, instruction formats and
-//! instruction descriptions; integer instructions with the byte and word extension and the count
+//! accesses and is to a trap shadow, and its name (Architecture Handbook, section 3.3 on formats and
+//! chapter 4 on instructions; integer instructions with the byte and word extension and the count
 //! extension, and seven of the OSF/1 PALcode calls).
 //!
 //! - [`Form`] is an instruction with its operands, by format. [`Insn`] is one whose fields are
@@ -40,7 +40,7 @@ mod tests;
 pub use columns::{
     ByteSpan, InsnKind, MemAccess, access, kind, level_of, sets, span, trap_op, uses,
 };
-pub use decoder::decode;
+pub use decoder::{decode, decode_inline};
 pub use encoder::encode;
 pub use form::{Form, Src};
 pub use insn::Insn;

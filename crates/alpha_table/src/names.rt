@@ -7,7 +7,8 @@ use crate::operate::OPERATES;
 use crate::{BranchOp, JumpKind, MemOp, MiscOp, Op};
 use alpha_words::PalCall;
 
-/// What a name of the table stands for: a row of one of the formats.
+/// What a name of the table stands for: a row of one of the formats (Architecture Handbook, section
+/// 3.3).
 #[derive(Clone, Copy, Debug, PartialEq, Eq)]
 pub enum Mnemonic {
     /// A memory instruction.

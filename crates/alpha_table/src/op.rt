@@ -1,7 +1,7 @@
 use alpha_words::Level;
 
-/// An operate instruction (Architecture Handbook, instruction descriptions). A row with `/V` ends
-/// in `V`.
+/// An operate instruction (Architecture Handbook, sections 4.4 to 4.6, and 4.11 for AMASK and
+/// IMPLVER). A row with `/V` ends in `V`.
 #[derive(Clone, Copy, Debug, PartialEq, Eq)]
 pub enum Op {
     /// Add longword.
@@ -154,7 +154,7 @@ pub enum Op {
     Cttz,
 }
 
-/// The operate instructions that trap on overflow.
+/// The operate instructions that trap on overflow (Architecture Handbook, section 4.4).
 #[derive(Clone, Copy, Debug, PartialEq, Eq)]
 pub enum TrapOp {
     /// Add longword.
@@ -171,8 +171,8 @@ pub enum TrapOp {
     MulqV,
 }
 
-/// What a conditional move or branch tests its register for. All but the first two compare the
-/// signed number with zero.
+/// What a conditional move or branch tests its register for (Architecture Handbook, sections 4.3
+/// and 4.5). All but the first two compare the signed number with zero.
 #[derive(Clone, Copy, Debug, PartialEq, Eq)]
 pub enum Cond {
     /// The low bit is clear.
@@ -204,7 +204,8 @@ pub enum OpRole {
     Trap(TrapOp),
 }
 
-/// Which operands an operate instruction takes.
+/// Which operands an operate instruction takes (Architecture Handbook, section 3.3.3, and what the
+/// counts have in 4.4, SEXTB and SEXTW in 4.6, AMASK and IMPLVER in 4.11).
 #[derive(Clone, Copy, Debug, PartialEq, Eq)]
 pub enum OperandRule {
     /// Any first register, and a register or a literal.

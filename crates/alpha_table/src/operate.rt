@@ -102,11 +102,36 @@ macro_rules! row_of {
     };
 }
 
+macro_rules! trap_in {
+    (Trap $trap:ident) => {
+        Some(TrapOp::$trap)
+    };
+    ($role:ident) => {
+        None
+    };
+}
+
+macro_rules! trap_of {
+    (($op:expr) $($row:ident $name:literal $opcode:literal $function:literal $role:ident $(($trap:ident))? $operands:ident $level:ident,)*) => {
+        match $op {
+            $(Op::$row => trap_in!($role $($trap)?),)*
+        }
+    };
+}
+
 macro_rules! op_at {
     (($wanted:expr, $code:expr) $($row:ident $name:literal $opcode:literal $function:literal $role:ident $(($trap:ident))? $operands:ident $level:ident,)*) => {
         match ($wanted, $code) {
             $(($opcode, $function) => Some(Op::$row),)*
             _ => None,
+        }
+    };
+}
+
+macro_rules! operands_of {
+    (($op:expr) $($row:ident $name:literal $opcode:literal $function:literal $role:ident $(($trap:ident))? $operands:ident $level:ident,)*) => {
+        match $op {
+            $(Op::$row => OperandRule::$operands,)*
         }
     };
 }
@@ -155,14 +180,19 @@ impl Op {
         operate_rows!(name_of self)
     }
 
+    /// Which operands it takes.
+    #[inline(always)]
+    pub(crate) fn operands(self) -> OperandRule
+        ensures { result ≡ (op_row self).operands }
+    {
+        operate_rows!(operands_of self)
+    }
+
     /// The operation that traps, for a row with `/V`.
-    #[inline]
+    #[inline(always)]
     pub fn trap(self) -> Option<TrapOp>
         ensures { result ≡ trap_of self }
     {
-        match self.row().role {
-            OpRole::Trap(op) => Some(op),
-            OpRole::Plain | OpRole::Move => None,
-        }
+        operate_rows!(trap_of self)
     }
 }

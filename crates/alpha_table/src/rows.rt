@@ -1,6 +1,6 @@
 use crate::Cond;
 
-/// A memory instruction with a displacement (Architecture Handbook, memory format).
+/// A memory instruction with a displacement (Architecture Handbook, sections 3.3.1 and 4.2).
 #[derive(Clone, Copy, Debug, PartialEq, Eq)]
 pub enum MemOp {
     /// Load address.
@@ -37,7 +37,7 @@ pub enum MemOp {
     StqC,
 }
 
-/// A branch (Architecture Handbook, branch format).
+/// A branch (Architecture Handbook, sections 3.3.2 and 4.3).
 #[derive(Clone, Copy, Debug, PartialEq, Eq)]
 pub enum BranchOp {
     /// Branch.
@@ -62,7 +62,8 @@ pub enum BranchOp {
     Bgt,
 }
 
-/// A jump. The kinds differ in what they tell the branch predictor alone.
+/// A jump (Architecture Handbook, section 4.3). The kinds differ in what they tell the branch
+/// predictor alone.
 #[derive(Clone, Copy, Debug, PartialEq, Eq)]
 pub enum JumpKind {
     /// Jump.
@@ -75,7 +76,7 @@ pub enum JumpKind {
     JsrCoroutine,
 }
 
-/// A barrier among the miscellaneous instructions.
+/// A barrier among the miscellaneous instructions (Architecture Handbook, section 4.11).
 #[derive(Clone, Copy, Debug, PartialEq, Eq)]
 pub enum MiscOp {
     /// Trap barrier.
@@ -88,7 +89,8 @@ pub enum MiscOp {
     Wmb,
 }
 
-/// How a load fills the bits of its register above those that it read.
+/// How a load fills the bits of its register above those that it read (Architecture Handbook,
+/// section 4.2).
 #[derive(Clone, Copy, Debug, PartialEq, Eq)]
 pub enum Extension {
     /// With zeros. A quadword leaves no such bits.
@@ -97,7 +99,7 @@ pub enum Extension {
     Sign,
 }
 
-/// What a memory instruction does with its address.
+/// What a memory instruction does with its address (Architecture Handbook, section 4.2).
 #[derive(Clone, Copy, Debug, PartialEq, Eq)]
 pub enum MemRole {
     /// It writes the address to its register, and accesses nothing.

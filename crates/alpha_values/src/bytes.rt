@@ -3,8 +3,8 @@ ghost use Rattle.alpha_words.specs.Digits.{digits};
 ghost use Rattle.alpha_values.specs.Bits.{inverted};
 ghost use Rattle.alpha_values.specs.Bytes.{extracted_low, extracted_high, inserted_low, inserted_high, cleared, masked_low, masked_high, zapped, zapped_not, bytes_compared};
 
-/// EXTxL: the bytes of Ra from Rb's place on, as many as the size has (Architecture Handbook, byte
-/// manipulation instructions). A size is in bytes.
+/// EXTxL: the bytes of Ra from Rb's place on, as many as the size has (Architecture Handbook,
+/// section 4.6, as all of this file). A size is in bytes.
 pub(crate) fn extract_low(size: u32, a: u64, b: u64) -> u64
     requires some { 0 < size }
     requires most { size ≤ 8 }

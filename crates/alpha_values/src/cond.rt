@@ -5,7 +5,7 @@ use crate::number::quadword;
 use alpha_table::Cond;
 
 /// Whether Ra meets the condition: its low bit is clear or set, or it is so against 0 as a signed
-/// number (Architecture Handbook, conditional branch and conditional move instructions).
+/// number (Architecture Handbook, sections 4.3 and 4.5).
 #[tactic(auto, unfolding(crate::specs::Cond::is_taken))]
 pub fn taken(c: Cond, a: u64) -> bool
     ensures { result ≡ is_taken c a }

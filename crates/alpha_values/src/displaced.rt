@@ -3,15 +3,15 @@ ghost use Rattle.alpha_values.specs.Address.{address_of, high_address_of, access
 
 use alpha_table::MemAccess;
 
-/// The base plus the displacement in bytes, modulo 2^64 (Architecture Handbook, load address
-/// instructions).
+/// The base plus the displacement in bytes, modulo 2^64 (Architecture Handbook, section 4.2).
 pub fn address(base: u64, disp: i16) -> u64
     ensures { result ≡ address_of base disp }
 {
     base.wrapping_add_signed(i64::from(disp))
 }
 
-/// The base plus 65,536 times the displacement, modulo 2^64, as LDAH has it.
+/// The base plus 65,536 times the displacement, modulo 2^64, as LDAH has it (Architecture Handbook,
+/// section 4.2).
 pub fn high_address(base: u64, disp: i16) -> u64
     ensures { result ≡ high_address_of base disp }
 {
@@ -19,7 +19,7 @@ pub fn high_address(base: u64, disp: i16) -> u64
 }
 
 /// The address of an access whose base register has this value, with the three low bits cleared for
-/// LDQ_U and STQ_U (Architecture Handbook, memory integer load and store instructions).
+/// LDQ_U and STQ_U (Architecture Handbook, section 4.2).
 #[tactic(auto, unfolding(crate::specs::Address::access_address))]
 pub fn access_address(access: &MemAccess, base: u64) -> u64
     ensures { result ≡ access_address access.now base }

@@ -27,8 +27,8 @@ pub fn operate(op: Op, a: u64, b: u64, old: u64) -> u64
     operate_at(Level::One, op, a, b, old)
 }
 
-/// The result of an operate instruction (Architecture Handbook, instruction descriptions): `a` is
-/// Ra, `b` is Rb or the literal, and `old` is what the destination had, which a conditional move
+/// The result of an operate instruction (Architecture Handbook, sections 4.4 to 4.6 and 4.11): `a`
+/// is Ra, `b` is Rb or the literal, and `old` is what the destination had, which a conditional move
 /// may leave there. A `/V` row gives the wrapped result. AMASK and IMPLVER alone depend on the level.
 #[tactic(auto, unfolding(crate::specs::Op::result_of, crate::specs::TrapOp::completed_of))]
 pub fn operate_at(level: Level, op: Op, a: u64, b: u64, old: u64) -> u64

@@ -7,9 +7,10 @@ use alpha_table::TrapOp;
 use alpha_words::Completion;
 
 /// Whether the exact result of Ra and Rb lies outside the signed range of the operation's size, 32
-/// bits for a longword and 64 for a quadword (Architecture Handbook, integer arithmetic
-/// instructions). A longword operation uses the low 32 bits of both.
+/// bits for a longword and 64 for a quadword (Architecture Handbook, section 4.4). A longword
+/// operation uses the low 32 bits of both.
 #[tactic(auto, using(crate::proofs::Ranges::overflow_long, crate::proofs::Ranges::overflow_quad), unfolding(crate::specs::TrapOp::overflow_of))]
+#[inline(always)]
 pub fn overflows(op: TrapOp, a: u64, b: u64) -> bool
     ensures { result ≡ overflow_of op a b }
 {
@@ -24,9 +25,9 @@ pub fn overflows(op: TrapOp, a: u64, b: u64) -> bool
 }
 
 /// The value that completes the instruction, from Ra and Rb: the exact result where it lies in the
-/// signed range of the size, else by wrap the number of the range that is congruent to it, and by
-/// saturate the nearest bound. Stop has the value of wrap, since the instruction completes by it
-/// where nothing overflows.
+/// signed range of the size, else by wrap the number of the range that is congruent to it
+/// (Architecture Handbook, section 4.4), and by saturate the nearest bound. Stop has the value of
+/// wrap, since the instruction completes by it where nothing overflows.
 #[tactic(auto, unfolding(crate::specs::TrapOp::completed_of))]
 pub fn completed(op: TrapOp, a: u64, b: u64, how: Completion) -> u64
     ensures { result ≡ completed_of op a b how }
