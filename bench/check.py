@@ -37,6 +37,13 @@ def shadows_of_loads_and_stores():
     return repeated(shadow + [TRAPB])
 
 
+def shadows_of_stores_among_loads():
+    """The same, but that one load lies above the stores, so that each store is held against each load."""
+    shadow = [addqv(rc) for rc in range(3, 27)] + [load(-8 * k) for k in range(499)] + [load(8000)]
+    shadow += [store(8 + 8 * k) for k in range(500)]
+    return repeated(shadow + [TRAPB])
+
+
 def milliseconds(program, name, contents):
     objdump = shutil.which("alpha-linux-gnu-objdump")
     with file_of(contents) as file:
@@ -59,6 +66,7 @@ def main():
         "long shadows": long_shadows(),
         "long shadows of stores": shadows_of_stores(),
         "long shadows of loads and stores": shadows_of_loads_and_stores(),
+        "long shadows of stores among loads": shadows_of_stores_among_loads(),
     }
     for name, code in cases.items():
         milliseconds(program, name, image(code))

@@ -6,7 +6,7 @@ use Rattle.alpha_table.specs.declared.columns.InsnKind.TheVariants as kinds
 use Rattle.alpha_shadow.specs.declared.broken.Condition.{Condition}
 use Rattle.alpha_shadow.specs.declared.broken.Condition.TheVariants.{ZeroDestination, SourceLost, SameDestination, WildBase, LoadThenStore, Locked, Turn, Open, Long}
 use Rattle.alpha_shadow.specs.declared.broken.Broken.{Broken}
-use Rattle.alpha_shadow.specs.declared.window.Trigger.{Trigger}
+use Rattle.alpha_shadow.specs.declared.triggers.Trigger.{Trigger}
 use Rattle.alpha_shadow.specs.declared.window.Window.{Window}
 use Rattle.alpha_shadow.specs.Code.{kind_at}
 use Rattle.alpha_shadow.specs.Broken.{IsBroken, IsAccepted, IsLeastBroken, condition_number}
@@ -14,7 +14,7 @@ use Rattle.alpha_shadow.specs.Window.{Summarizes, IsUnbroken, IsOpen, IsFirstTha
 use Rattle.alpha_shadow.specs.Place.{IsLeastUpTo}
 use Rattle.alpha_shadow.proofs.Tables.{kind_within, past_end}
 use Rattle.alpha_shadow.proofs.Shadows.{no_triggers, triggers_room, first_there}
-use Rattle.alpha_shadow.proofs.Loads.{no_loads, loads_room}
+use Rattle.alpha_shadow.proofs.OpenLoads.{no_loads, loads_room}
 use Rattle.alpha_shadow.proofs.Places.{broken_open, open_broken}
 use Rattle.alpha_shadow.proofs.Long.{not_past}
 use Rattle.alpha_shadow.proofs.Steps.{number_bound}

@@ -1,8 +1,10 @@
 pub mod Barriers
 pub mod Conditions
 pub mod Tables
+pub mod Traps
 pub mod Shadows
-pub mod Loads
+pub mod OpenLoads
+pub mod Covers
 pub mod Ends
 pub mod Places
 pub mod Long

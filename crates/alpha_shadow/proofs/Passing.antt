@@ -5,15 +5,17 @@ use Rattle.alpha_words.specs.Regs.{Has}
 use Rattle.alpha_table.specs.declared.columns.InsnKind.{InsnKind}
 use Rattle.alpha_table.specs.declared.columns.InsnKind.TheVariants as kinds
 use Rattle.alpha_table.specs.declared.columns.MemAccess.{MemAccess}
+use Rattle.alpha_table.specs.Columns.{access_of}
 use Rattle.alpha_shadow.specs.declared.columns.Columns.{Columns}
-use Rattle.alpha_shadow.specs.declared.window.Trigger.{Trigger}
-use Rattle.alpha_shadow.specs.declared.window.Reach.{Reach}
+use Rattle.alpha_shadow.specs.declared.triggers.Trigger.{Trigger}
+use Rattle.alpha_shadow.specs.declared.loads.Reach.{Reach}
 use Rattle.alpha_shadow.specs.declared.window.Window.{Window}
 use Rattle.alpha_shadow.specs.Code.{kind_at, Sets, Uses, SetIn}
 use Rattle.alpha_shadow.specs.Columns.{HasColumns, destination_of}
-use Rattle.alpha_shadow.specs.Window.{Summarizes, UsedIn, AreEnds, Notes, next_triggers, open_triggers, next_loads, open_loads, reach_of}
+use Rattle.alpha_shadow.specs.Window.{Summarizes, UsedIn, AreEnds, Notes, next_triggers, open_triggers, next_loads, open_loads}
+use Rattle.alpha_shadow.specs.Reach.{reach_of}
 use Rattle.alpha_shadow.proofs.Shadows.{open_triggers_next, no_triggers}
-use Rattle.alpha_shadow.proofs.Loads.{open_loads_next, no_loads}
+use Rattle.alpha_shadow.proofs.OpenLoads.{open_loads_next, no_loads}
 use Rattle.alpha_shadow.proofs.Ends.{set_meets, used_meets, ends_next, ends_skip}
 
 -- before the first word
@@ -68,13 +70,13 @@ notes_no_set code at word before h e size = record {
 -- A window after a word of a shadow, by what became of its parts.
 pub passed : (code : List ℕ) (at : ℕ) (w after : Window) (word : Columns) → Summarizes code w at → HasColumns code at word
     → after.triggers.items ≡ next_triggers (Some word.kind) (record { place = at; destination = destination_of code at }) w.triggers.items
-    → after.loads.items ≡ next_loads (Some word.kind) word.access w.triggers.items w.loads.items
+    → after.loads.items ≡ next_loads (Some word.kind) (access_of word.insn) w.triggers.items w.loads.items
     → Notes (Sets code at) at w.set.ends after.set.ends → Notes (Uses code at) at w.used.ends after.used.ends → Summarizes code after (at + 1)
 passed code at w after word s h t l set used = record {
   triggers = t ∙ (ap (next_triggers (Some word.kind) (record { place = at; destination = destination_of code at })) s.triggers
       ∙ sym (open_triggers_next code at word.kind (destination_of code at) h.kind refl));
-  loads = l ∙ (ap (λ ts. next_loads (Some word.kind) word.access ts w.loads.items) s.triggers
-      ∙ (ap (next_loads (Some word.kind) word.access (open_triggers code at)) s.loads ∙ sym (open_loads_next code at word.kind word.access h.kind h.access)));
+  loads = l ∙ (ap (λ ts. next_loads (Some word.kind) (access_of word.insn) ts w.loads.items) s.triggers
+      ∙ (ap (next_loads (Some word.kind) (access_of word.insn) (open_triggers code at)) s.loads ∙ sym (open_loads_next code at word.kind (access_of word.insn) h.kind h.access)));
   set = ends_next code at (SetIn code) (Sets code) w.set.ends after.set.ends (set_meets code) set s.set;
   used = ends_next code at (UsedIn code) (Uses code) w.used.ends after.used.ends (used_meets code) used s.used;
 }

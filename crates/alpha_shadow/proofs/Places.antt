@@ -8,13 +8,14 @@ use Rattle.alpha_table.specs.declared.columns.MemAccess.{MemAccess}
 use Rattle.alpha_shadow.specs.declared.broken.Condition.{Condition}
 use Rattle.alpha_shadow.specs.declared.broken.Condition.TheVariants.{ZeroDestination, SourceLost, SameDestination, WildBase, LoadThenStore, Locked, Turn}
 use Rattle.alpha_shadow.specs.declared.columns.Columns.{Columns}
-use Rattle.alpha_shadow.specs.declared.window.Trigger.{Trigger}
+use Rattle.alpha_shadow.specs.declared.triggers.Trigger.{Trigger}
 use Rattle.alpha_shadow.specs.declared.window.Window.{Window}
 use Rattle.alpha_shadow.specs.Code.{kind_at, access_at, destination_at, sets_at, Sets, Uses, SetIn, ExposedIn}
 use Rattle.alpha_shadow.specs.Columns.{HasColumns, destination_of}
 use Rattle.alpha_table.specs.Code.{Straight}
 use Rattle.alpha_shadow.specs.Broken.{Holds, IsBroken, StoreMeets, LosesSource}
-use Rattle.alpha_shadow.specs.Window.{Summarizes, IsUnbroken, IsOpen, IsFirstThat, LoadTouches, UsedIn, MayTouch, reach_of, place_of, stands_within, open_triggers}
+use Rattle.alpha_shadow.specs.Window.{Summarizes, IsUnbroken, IsOpen, IsFirstThat, LoadTouches, UsedIn, place_of, stands_within, open_triggers}
+use Rattle.alpha_shadow.specs.Reach.{MayTouch, reach_of}
 use Rattle.alpha_shadow.specs.Place.{IsFirstBroken}
 use Rattle.alpha_shadow.proofs.Tables.{trigger_destination}
 use Rattle.alpha_shadow.proofs.Shadows.{find_open, first_that, first_open}

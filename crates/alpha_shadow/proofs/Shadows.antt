@@ -5,7 +5,7 @@ use Rattle.std.proofs.lemmas.Bool.{cases_eq}
 use Rattle.std.proofs.lemmas.List.Folds.{find-append}
 use Rattle.alpha_table.specs.declared.columns.InsnKind.{InsnKind}
 use Rattle.alpha_table.specs.declared.columns.InsnKind.TheVariants as kinds
-use Rattle.alpha_shadow.specs.declared.window.Trigger.{Trigger}
+use Rattle.alpha_shadow.specs.declared.triggers.Trigger.{Trigger}
 use Rattle.alpha_shadow.specs.Code.{kind_at}
 use Rattle.alpha_shadow.specs.Columns.{destination_of}
 use Rattle.alpha_table.specs.Code.{Straight}

@@ -1,6 +1,8 @@
 pub mod Code
 pub mod Broken
 pub mod Columns
+pub mod Reach
+pub mod Kept
 pub mod Window
 pub mod Place
 pub mod Fetched

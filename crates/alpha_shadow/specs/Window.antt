@@ -1,15 +1,15 @@
 -- What is known of the words before a place, without walking back over them.
-use Rattle.std.specs.Prelude.{◌≡◌, ◌≢◌, ◌<◌, ◌≤◌, ◌+◌, ◌<ℤ◌, ◌↔◌, ◌⊎◌, ℕ, zero, suc, Option, Some, None, List, [], ◌∷◌, ◌++◌, length, slice_index, Bool, nat_le, nat_lt, ◌&&◌}
+use Rattle.std.specs.Prelude.{◌≡◌, ◌<◌, ◌≤◌, ◌+◌, ◌↔◌, ◌⊎◌, ℕ, zero, suc, Option, Some, None, List, [], ◌∷◌, ◌++◌, length, slice_index, Bool, nat_le, nat_lt, ◌&&◌}
 use Rattle.alpha_table.specs.declared.columns.InsnKind.{InsnKind}
 use Rattle.alpha_table.specs.declared.columns.InsnKind.TheVariants as kinds
 use Rattle.alpha_table.specs.declared.columns.MemAccess.{MemAccess}
-use Rattle.alpha_table.specs.Columns.{bytes_spanned}
 use Rattle.alpha_shadow.specs.declared.broken.Condition.{Condition}
-use Rattle.alpha_shadow.specs.declared.window.Trigger.{Trigger}
-use Rattle.alpha_shadow.specs.declared.window.Reach.{Reach}
+use Rattle.alpha_shadow.specs.declared.triggers.Trigger.{Trigger}
+use Rattle.alpha_shadow.specs.declared.loads.Reach.{Reach}
 use Rattle.alpha_shadow.specs.declared.window.Window.{Window}
 use Rattle.alpha_shadow.specs.Code.{kind_at, access_at, Uses, SetIn}
 use Rattle.alpha_shadow.specs.Columns.{destination_of}
+use Rattle.alpha_shadow.specs.Reach.{reach_of, MayTouch}
 use Rattle.alpha_table.specs.Code.{Straight}
 use Rattle.alpha_shadow.specs.Broken.{IsBroken}
 
@@ -56,13 +56,6 @@ next_triggers None trigger open_before = open_before
 unfoldable pub open_triggers : List ℕ → ℕ → List Trigger
 open_triggers code zero = []
 open_triggers code (suc n) = next_triggers (kind_at code n) (trigger_at code n) (open_triggers code n)
-
-abbrev pub reach_of : MemAccess → Reach
-reach_of a = record { base = a.base; span = bytes_spanned a }
-
--- two reaches may touch a common byte: by different bases, or by one base where their spans meet
-abbrev pub MayTouch : Reach → Reach → Type 0
-MayTouch a b = (a.base ≢ b.base) ⊎ ((a.span.low <ℤ b.span.high) × (b.span.low <ℤ a.span.high))
 
 -- the loads after one more load, where a trigger is open
 abbrev pub one_more_load : Option MemAccess → List Trigger → List Reach → List Reach

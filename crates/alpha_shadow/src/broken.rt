@@ -1,6 +1,7 @@
 ghost use Rattle.std.specs.Prelude.{◌≡◌};
 
-/// A condition of a trap shadow, C1 to C9 in this order. At a place of the shadow:
+/// A condition of a trap shadow, C1 to C9 in this order (Architecture Handbook, arithmetic trap
+/// completion; the exact form is this project's own). At a place of the shadow:
 #[derive(Clone, Copy, Debug, PartialEq, Eq)]
 pub enum Condition {
     /// C1: the trigger's destination is R31.
@@ -47,7 +48,10 @@ impl Condition {
 /// A broken place: the trigger's word number, the word number of the place, and the condition.
 #[derive(Clone, Copy, Debug, PartialEq, Eq)]
 pub struct Broken {
+    /// The word number of the trigger.
     pub trigger: u32,
+    /// The word number of the place, which is that of the trigger or a greater one.
     pub at: u32,
+    /// The condition that is broken there.
     pub condition: Condition,
 }

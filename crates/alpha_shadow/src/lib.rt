@@ -1,5 +1,6 @@
 //! The checker of trap shadows: whether code can be restarted after an overflow trap that is
-//! reported late, or the least place that breaks a shadow.
+//! reported late, or the least place that breaks a shadow (Architecture Handbook, arithmetic trap
+//! completion; the exact form is this project's own).
 //!
 //! - [`Condition`] is one of the nine conditions, C1 to C9, and [`Broken`] a broken place.
 //! - [`judge`] is the verdict on the words that a [`Fetch`] gives. It looks at each word once at most,
@@ -12,12 +13,14 @@
 //! broken, which code is accepted and which broken place is the least. The body is `verdict.rt` (the
 //! walk over the words) over `place.rt` (the least broken place at one word, condition by condition),
 //! `window.rt` (what is known of the words before a place, whose meaning is `specs/Window.antt`),
-//! `last.rt` (the last place of each register) and `columns.rt` (what is read of one word).
+//! `triggers.rt` and `loads.rt` (the open triggers, and the loads after the first of them), `last.rt`
+//! (the last place of each register) and `columns.rt` (what is read of one word).
 //!
-//! `proofs/Shadows.antt`, `Loads.antt` and `Ends.antt` follow the open triggers, the kept loads and the
+//! `proofs/Shadows.antt`, `OpenLoads.antt` and `Ends.antt` follow the open triggers, the kept loads and the
 //! registers' places word by word; `Places.antt` ties each condition to them, `Steps.antt` joins the
-//! conditions, `Passing.antt` and `Judging.antt` make the walk, `Decided.antt` has the laws, and
-//! `Tables.antt` alone looks into the instruction table.
+//! conditions, `Passing.antt` and `Judging.antt` make the walk, and `Decided.antt` has the laws.
+//! `Covers.antt` has what a cover of loads covers. `Tables.antt`, `Traps.antt` for words with
+//! `/V` and `Barriers.antt` for TRAPB alone look into the instruction table.
 #![tactic(auto)]
 
 mod broken;
@@ -26,8 +29,10 @@ mod fetch;
 mod image_code;
 mod last;
 mod laws;
+mod loads;
 mod place;
 mod report;
+mod triggers;
 mod verdict;
 mod window;
 

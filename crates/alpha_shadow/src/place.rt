@@ -7,7 +7,8 @@ ghost use Rattle.alpha_shadow.specs.Window.{Summarizes, IsUnbroken};
 ghost use Rattle.alpha_shadow.specs.Place.{IsFirstBroken, IsLeastUpTo};
 
 use crate::columns::Columns;
-use crate::window::{Reach, Window};
+use crate::loads::Reach;
+use crate::window::Window;
 use crate::{Broken, Condition};
 use alpha_table::InsnKind;
 use alpha_words::Reg;
@@ -166,7 +167,7 @@ fn wild_base(window: &Window, word: &Columns) -> Option<u32>
     ensures { (code : List ℕ) (at : ℕ) → Summarizes code window.now at → HasColumns code at word.now
         → IsFirstBroken code at Condition.WildBase result }
 {
-    let access = word.access?;
+    let access = word.access()?;
     let first = window.first()?;
     if first < window.set.end(access.base) {
         Some(first)
@@ -179,7 +180,7 @@ fn load_then_store(window: &Window, word: &Columns) -> Option<u32>
     ensures { (code : List ℕ) (at : ℕ) → Summarizes code window.now at → HasColumns code at word.now
         → IsFirstBroken code at Condition.LoadThenStore result }
 {
-    let store = word.access?;
+    let store = word.access()?;
     if word.kind == InsnKind::Store {
         window.first_with_load_that_may_meet(&Reach::of(&store))
     } else {

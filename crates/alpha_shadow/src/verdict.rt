@@ -1,15 +1,15 @@
 ghost use Rattle.std.specs.Prelude.{◌≡◌, ◌≤◌, ◌+◌, length, OnOk, IfErr};
 ghost use Rattle.alpha_shadow.specs.Broken.{IsAccepted, IsLeastBroken};
 
-use crate::columns::Columns;
-use crate::fetch::insn_of;
+use crate::columns::{Columns, is_trapb, may_trap};
 use crate::place::broken_at;
 use crate::window::Window;
 use crate::{Broken, Condition, Fetch};
-use alpha_table::{InsnKind, kind};
+use alpha_table::InsnKind;
 
 /// Whether a trap that is reported late leaves the code restartable: `Ok` exactly where no place is
-/// broken, else the least broken place, by its place, then by its trigger, then by its condition.
+/// broken, else the least broken place, by its place, then by its trigger, then by its condition
+/// (Architecture Handbook, arithmetic trap completion).
 ///
 /// It looks at each word once at most, and takes no memory.
 pub fn judge<F: Fetch>(code: &mut F) -> Result<(), Broken>
@@ -21,20 +21,26 @@ pub fn judge<F: Fetch>(code: &mut F) -> Result<(), Broken>
     let mut window = Window::empty();
     let words = code.words();
     for at in 0..words {
-        let insn = insn_of(code, at);
-        let kind = kind(&insn);
-        if window.is_quiet(kind) {
+        let word = code.word(at);
+        if window.is_clear() && !may_trap(word) {
             continue;
         }
-        if kind == InsnKind::Barrier {
+        if is_trapb(word) {
             window.close();
             continue;
         }
-        let word = Columns::of(&insn, kind);
-        if let Some(broken) = broken_at(&window, at, &word) {
+        let columns = Columns::of(word);
+        if window.is_quiet(columns.kind) {
+            continue;
+        }
+        if columns.kind == InsnKind::Barrier {
+            window.close();
+            continue;
+        }
+        if let Some(broken) = broken_at(&window, at, &columns) {
             return Err(broken);
         }
-        window.pass(at, &word);
+        window.pass(at, &columns);
     }
     match window.first() {
         None => Ok(()),

@@ -4,71 +4,23 @@ ghost use Rattle.std.specs.List.{Any};
 ghost use Rattle.alpha_table.specs.declared.columns.InsnKind.TheVariants as kinds;
 ghost use Rattle.alpha_shadow.specs.Code.{Sets, Uses};
 ghost use Rattle.alpha_shadow.specs.Columns.{HasColumns};
-ghost use Rattle.alpha_shadow.specs.Window.{Summarizes, HasRoom, Notes, place_of, stands_within, reach_of, MayTouch};
+ghost use Rattle.alpha_shadow.specs.Window.{Summarizes, HasRoom, Notes, place_of, stands_within};
+ghost use Rattle.alpha_shadow.specs.Reach.{MayTouch};
 
 use crate::columns::Columns;
 use crate::last::LastPlaces;
-use alpha_table::{ByteSpan, InsnKind, MemAccess};
+use crate::loads::{Loads, Reach};
+use crate::triggers::{Trigger, Triggers};
+use alpha_table::InsnKind;
 use alpha_words::Reg;
-use arrayvec::ArrayVec;
-
-/// An instruction that may trap.
-#[derive(Clone, Copy)]
-pub(crate) struct Trigger {
-    pub(crate) place: u32,
-    pub(crate) destination: Reg,
-}
-
-impl Default for Trigger {
-    fn default() -> Trigger {
-        Trigger {
-            place: 0,
-            destination: Reg::ZERO,
-        }
-    }
-}
-
-/// The bytes that an access may touch, counted from a base register.
-#[derive(Clone, Copy)]
-pub(crate) struct Reach {
-    pub(crate) base: Reg,
-    pub(crate) span: ByteSpan,
-}
-
-impl Default for Reach {
-    fn default() -> Reach {
-        Reach {
-            base: Reg::ZERO,
-            span: ByteSpan { low: 0, high: 0 },
-        }
-    }
-}
-
-impl Reach {
-    pub(crate) fn of(access: &MemAccess) -> Reach
-        ensures { result ≡ reach_of access.now }
-    {
-        Reach {
-            base: access.base,
-            span: access.span(),
-        }
-    }
-
-    /// Whether both may touch a byte: by different bases, or where their spans meet.
-    pub(crate) fn may_meet(&self, other: &Reach) -> bool
-        ensures { IsTrue result ↔ MayTouch self.now other.now }
-    {
-        self.base != other.base || self.span.meets(&other.span)
-    }
-}
 
 /// What is known of the words before a place: the triggers whose shadows reach it, in order, the
 /// loads after the first of them, and for each register the last word that set it and the last that
 /// used it. The last two speak of the words of these shadows alone, and are never cleared.
 #[derive(Drop)]
 pub(crate) struct Window {
-    pub(crate) triggers: ArrayVec<Trigger, 1025>,
-    pub(crate) loads: ArrayVec<Reach, 1025>,
+    pub(crate) triggers: Triggers,
+    pub(crate) loads: Loads,
     pub(crate) set: LastPlaces,
     pub(crate) used: LastPlaces,
 }
@@ -79,8 +31,8 @@ impl Window {
         ensures { (code : List ℕ) → Summarizes code result 0 }
     {
         Window {
-            triggers: ArrayVec::new(),
-            loads: ArrayVec::new(),
+            triggers: Triggers::empty(),
+            loads: Loads::empty(),
             set: LastPlaces::empty(),
             used: LastPlaces::empty(),
         }
@@ -90,7 +42,8 @@ impl Window {
     pub(crate) fn first(&self) -> Option<u32>
         ensures { result ≡ option_map place_of (slice_get self.now.triggers.items 0) }
     {
-        self.triggers.first().map(|trigger| trigger.place)
+        let triggers = self.triggers.as_slice();
+        triggers.first().map(|trigger| trigger.place)
     }
 
     /// The first open trigger at a place in [from, to).
@@ -101,7 +54,17 @@ impl Window {
         if to <= from {
             return None;
         }
-        let mut triggers = self.triggers.iter();
+        self.find_within(from, to)
+    }
+
+    // The same for any range, which few words ask for. It stays a function of its own, so that the
+    // walk over the words has registers enough.
+    #[inline(never)]
+    fn find_within(&self, from: u32, to: u32) -> Option<u32>
+        ensures { result ≡ option_map place_of (find (stands_within from to)
+            self.now.triggers.items) }
+    {
+        let mut triggers = self.triggers.as_slice().iter();
         triggers
             .find(|t| from <= t.place && t.place < to)
             .map(|t| t.place)
@@ -112,27 +75,31 @@ impl Window {
         ensures { result ≡ option_map place_of (find (λ t. t.destination == destination)
             self.now.triggers.items) }
     {
-        let mut triggers = self.triggers.iter();
+        let mut triggers = self.triggers.as_slice().iter();
         triggers
             .find(|t| t.destination == destination)
             .map(|t| t.place)
     }
 
-    /// The first open trigger, where a load after it may touch a byte of a store. It stays a function of its
-    /// own, so that the walk over the loads has registers enough.
-    #[inline(never)]
+    /// The first open trigger, where a load after it may touch a byte of a store.
     pub(crate) fn first_with_load_that_may_meet(&self, store: &Reach) -> Option<u32>
         ensures { (Any (λ load. MayTouch load store.now) self.now.loads.items
             × (result ≡ option_map place_of (slice_get self.now.triggers.items 0)))
             ⊎ (¬ Any (λ load. MayTouch load store.now) self.now.loads.items
             × (result ≡ None)) }
     {
-        let store = *store;
-        if self.loads.iter().any(|load| load.may_meet(&store)) {
+        if self.loads.may_meet(store) {
             self.first()
         } else {
             None
         }
+    }
+
+    /// Whether no shadow reaches the place.
+    pub(crate) fn is_clear(&self) -> bool
+        ensures { IsTrue result ↔ (self.now.triggers.items ≡ []) }
+    {
+        self.triggers.is_empty()
     }
 
     /// Whether no shadow has a word of this kind: none reaches its place, and it begins none.
@@ -169,7 +136,7 @@ impl Window {
                 destination: columns.destination(),
             }),
             InsnKind::Load => {
-                if let Some(access) = columns.access {
+                if let Some(access) = columns.access() {
                     self.loads.push(Reach::of(&access));
                 }
             }

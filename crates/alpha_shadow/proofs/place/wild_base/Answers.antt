@@ -16,7 +16,7 @@ returns-then-first-end c = λ code at s h.
     let first = c.in_ok-first.first in
     let f = subst (IsFirstThat code at (λ p. Unit {0})) c.in_ok-first.was (window_first code c.args.window.now at s c.first.result c.first.ensures) in
     let less : first < slice_index c.args.window.now.set.ends a.base = let e = c.end.ensures.value in let t = c.if-first-end.true in omega arith in
-    wild_open code c.args.window.now at a s c.end.ensures.register (h.access ∙ c.in_ok-access.was) (Some first)
+    wild_open code c.args.window.now at a s c.end.ensures.register (h.access ∙ (sym c.access.ensures ∙ c.in_ok-access.was)) (Some first)
     (first_has code at (λ p. p < slice_index c.args.window.now.set.ends a.base) first f less)
 
 pub returns-else-first-end : goal.returns-else-first-end
@@ -25,5 +25,5 @@ returns-else-first-end c = λ code at s h.
     let first = c.in_ok-first.first in
     let f = subst (IsFirstThat code at (λ p. Unit {0})) c.in_ok-first.was (window_first code c.args.window.now at s c.first.result c.first.ensures) in
     let more : slice_index c.args.window.now.set.ends a.base ≤ first = let e = c.end.ensures.value in let t = c.if-first-end.false in omega arith in
-    wild_open code c.args.window.now at a s c.end.ensures.register (h.access ∙ c.in_ok-access.was) None
+    wild_open code c.args.window.now at a s c.end.ensures.register (h.access ∙ (sym c.access.ensures ∙ c.in_ok-access.was)) None
     (first_lacks code at (λ p. p < slice_index c.args.window.now.set.ends a.base) first f (λ p above q. omega arith) (λ q. omega arith))

@@ -5,7 +5,7 @@ use Rattle.alpha_shadow.proofs.window.Window.empty.Goals as goal
 
 pub returns : goal.returns
 returns c = λ code.
-    let set : length c.empty.result.ends ≡ 32 = search rules in
-    let used : length c.empty-2.result.ends ≡ 32 = search rules in
-    let w : Window = record { triggers = c.new.result; loads = c.new-2.result; set = c.empty.result; used = c.empty-2.result } in
-    nothing_passed code w c.new.ensures c.new-2.ensures set c.empty.ensures used c.empty-2.ensures
+    let set : length c.empty-3.result.ends ≡ 32 = search rules in
+    let used : length c.empty-4.result.ends ≡ 32 = search rules in
+    let w : Window = record { triggers = c.empty.result; loads = c.empty-2.result; set = c.empty-3.result; used = c.empty-4.result } in
+    nothing_passed code w c.empty.ensures c.empty-2.ensures set c.empty-3.ensures used c.empty-4.ensures
