@@ -11,25 +11,36 @@ use alpha_words::{PalCall, Word};
 /// The sign before a number.
 #[derive(Clone, Copy, Debug, PartialEq, Eq)]
 pub enum Sign {
+    /// `+`, or none.
     Plus,
+    /// `-`
     Minus,
 }
 
 /// A number among operands, within the range of its piece.
 #[derive(Clone, Copy, Debug, PartialEq, Eq)]
 pub enum Number {
+    /// The displacement of a memory instruction, in bytes.
     Displacement(i16),
+    /// The number that `mov` has in the place of a register.
     Immediate(i16),
+    /// The literal of an operate instruction.
     Literal(u8),
-    /// Below 2^14.
+    /// The hint of a jump, below 2^14.
     Hint(u16),
     /// The displacement in words, from the next instruction on, of a branch over a distance.
     Words(i32),
+    /// The number of a field of the image.
     Whole(u64),
+    /// A count of zeroed bytes, at most 2^24.
     Zeroed(u32),
+    /// The power of two of an alignment, at most 13.
     Align(u8),
+    /// A level, 1 or 2.
     Level(u8),
+    /// The PALcode call of a function.
     Call(PalCall),
+    /// The 0 before the base of a prefetch.
     Nothing,
     /// A value of data, modulo 2^64.
     Value(u64),

@@ -26,12 +26,17 @@ pub enum LineFaultKind {
 /// The operands of a statement: each value where its piece puts it, `None` where there is none.
 #[derive(Clone, Copy, Debug)]
 pub struct Operands<'a> {
+    /// The first register.
     pub ra: Option<Reg>,
+    /// The second register, or a base.
     pub rb: Option<Reg>,
+    /// The destination.
     pub rc: Option<Reg>,
+    /// The number, with what it is for.
     pub number: Option<Number>,
     /// The half of the address of a label.
     pub half: Option<Half>,
+    /// The label's name.
     pub label: Option<&'a [u8]>,
     /// The offset behind a label, from -(2^31 - 1) to 2^31 - 1, or 0.
     pub offset: i64,

@@ -6,17 +6,23 @@ use alpha_token::TokenKind;
 /// A piece of a pattern of operands: a token by its form, and where its value goes.
 #[derive(Clone, Copy, Debug, PartialEq, Eq)]
 pub enum Piece {
-    /// A register, the first one, the second and the destination.
+    /// The first register.
     Ra,
+    /// The second register, or a base.
     Rb,
+    /// The register that is the destination.
     Rc,
+    /// A comma.
     Comma,
     /// A comma behind which the operands begin anew.
     Again,
+    /// `(`
     Open,
+    /// `)`
     Close,
-    /// The sign of a number, or of a distance behind `.`.
+    /// The `-` of a number, or of a distance behind `.`.
     Minus,
+    /// The `+` of a distance behind `.`, or between a label and its offset.
     Plus,
     /// The `-` between a label and its offset.
     Less,
@@ -24,9 +30,11 @@ pub enum Piece {
     Dot,
     /// `%hi` or `%lo`.
     Operator,
+    /// A label.
     Label,
     /// A label's offset, 0 to 2^31 - 1.
     Offset,
+    /// A string.
     Text,
     /// A number from -32768 to 32767, of bytes.
     Displacement,
@@ -50,10 +58,13 @@ pub enum Piece {
     Pal,
     /// 0.
     Nothing,
-    /// A value of 1 byte, signed or unsigned, and of 2, 4 and 8.
+    /// A value of 1 byte, signed or unsigned.
     Byte,
+    /// One of 2 bytes.
     Word,
+    /// One of 4 bytes.
     Long,
+    /// One of 8 bytes.
     Quad,
 }
 

@@ -43,10 +43,13 @@ pub enum Shape {
     Zeroed,
     /// A power of two.
     Align,
-    /// Values of 1 byte, and of 2, 4 and 8, where labels may stand too.
+    /// Values of 1 byte.
     Bytes,
+    /// Values of 2 bytes.
     Words,
+    /// Values of 4 bytes.
     Longs,
+    /// Values of 8 bytes, where labels may stand too.
     Quads,
     /// A string.
     Text,

@@ -13,7 +13,9 @@ use alpha_token::{Step, next};
 /// A label with an offset, 0 where none stands behind it.
 #[derive(Clone, Copy, Debug)]
 pub struct Expr<'a> {
+    /// The label's name.
     pub label: &'a [u8],
+    /// From -(2^31 - 1) to 2^31 - 1, in bytes.
     pub offset: i64,
 }
 
@@ -22,6 +24,7 @@ pub struct Expr<'a> {
 pub enum ListValue<'a> {
     /// A number modulo 2^64.
     Number(u64),
+    /// The address of a label with its offset.
     Label(Expr<'a>),
 }
 

@@ -17,6 +17,7 @@ use alpha_token::{Step, Token, TokenKind, next};
 pub struct OperandFault {
     /// How many bytes of the line are left where it stands.
     pub left: usize,
+    /// What is wrong.
     pub kind: LineFaultKind,
 }
 

@@ -28,17 +28,24 @@ pub enum TokenKind {
     Operator,
     /// A string in double quotes.
     Text,
+    /// `,`
     Comma,
+    /// `(`
     Open,
+    /// `)`
     Close,
+    /// `:`
     Colon,
+    /// `+`
     Plus,
+    /// `-`
     Minus,
 }
 
 /// A token of a line.
 #[derive(Clone, Copy, Debug)]
 pub struct Token<'a> {
+    /// What it is by its form.
     pub kind: TokenKind,
     /// The token's bytes, a string's with its quotes.
     pub text: &'a [u8],
@@ -53,6 +60,7 @@ pub enum Step<'a> {
     End(usize),
     /// A byte stands here that begins no token: so many bytes are left.
     Bad(usize),
+    /// A token stands here, the longest that its first byte begins.
     Token(Token<'a>),
 }
 
