@@ -102,7 +102,7 @@ token-digits (b ∷ ds) s h inside stop =
 pub token-num : (n : ℕ) (s : List ℕ) → n < 2 ^ 64 → Stops is_ascii_alphanumeric s → tokens (decimal n ++ s) ≡ Next (record { kind = kinds.Number; text = decimal n; rest = s }) (tokens s)
 token-num n s h stop = token-digits (decimal n) s (decimal-digits n h) (decimal_nonempty n h) stop
 
-append_none : (ds : List ℕ) → ds ++ [] ≡ ds
+pub append_none : (ds : List ℕ) → ds ++ [] ≡ ds
 append_none [] = refl
 append_none (d ∷ ds) = ap (λ t. d ∷ t) (append_none ds)
 
@@ -122,19 +122,29 @@ abbrev pub is_word : List ℕ → Bool
 is_word [] = false
 is_word (b ∷ ds) = is_ascii_alphabetic b && list_all goes_on_name ds
 
-letter_apart : (b : ℕ) → is_ascii_alphabetic b ≡ true → (begins_name b ≡ true) × (is_blank b ≡ false) × (b ≢ 35) × (eqb b 46 ≡ false)
-letter_apart b h = (rw h refl, grind (arith, nat_tests), grind (arith, nat_tests), grind (arith, nat_tests))
+letter_apart : (b : ℕ) → is_ascii_alphabetic b ≡ true → (begins_name b ≡ true) × (eqb b 46 ≡ false)
+letter_apart b h = (rw h refl, grind (arith, nat_tests))
+
+-- what begins a name is no blank and no `#`
+begins_apart : (b : ℕ) → begins_name b ≡ true → (is_blank b ≡ false) × (b ≢ 35)
+begins_apart b h = grind (arith, nat_tests)
 
 name_at : (b : ℕ) (s : List ℕ) → begins_name b ≡ true → eqb b 46 ≡ false → token_at b s ≡ Some (kinds.Name, prefix_len goes_on_name s)
 unfolding token_at
 name_at b s a d = rw (a, d) refl
 
+-- a name that doesn't begin with `.`
+pub token-begun : (b : ℕ) (ds s : List ℕ) → begins_name b ≡ true → eqb b 46 ≡ false → list_all goes_on_name ds ≡ true → Stops goes_on_name s → tokens ((b ∷ ds) ++ s) ≡ Next (record { kind = kinds.Name; text = b ∷ ds; rest = s }) (tokens s)
+token-begun b ds s begins dot rest stop =
+    let (plain, apart) = begins_apart b begins in
+    token-next b ds s kinds.Name plain apart (name_at b (ds ++ s) begins dot ∙ ap (λ n. Some (kinds.Name, n)) (prefix_len-run goes_on_name ds s rest stop))
+
 pub token-name : (name s : List ℕ) → is_word name ≡ true → Stops goes_on_name s → tokens (name ++ s) ≡ Next (record { kind = kinds.Name; text = name; rest = s }) (tokens s)
 token-name [] s h stop = cc
 token-name (b ∷ ds) s h stop =
     let (a, rest) = both (is_ascii_alphabetic b) (list_all goes_on_name ds) h in
-    let (begins, plain, apart, dot) = letter_apart b a in
-    token-next b ds s kinds.Name plain apart (name_at b (ds ++ s) begins dot ∙ ap (λ n. Some (kinds.Name, n)) (prefix_len-run goes_on_name ds s rest stop))
+    let (begins, dot) = letter_apart b a in
+    token-begun b ds s begins dot rest stop
 
 pub tokens-none : tokens [] ≡ End 0
 unfolding tokens

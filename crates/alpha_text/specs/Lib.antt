@@ -2,5 +2,6 @@ pub mod Bounds
 pub mod Canon
 pub mod Grammar
 pub mod Heads
+pub mod Quick
 pub mod Reading
 pub mod Statements

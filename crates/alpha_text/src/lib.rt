@@ -12,18 +12,24 @@
 //! `specs/Heads.antt`. `statement.rt` and `specs/Statements.antt` say what a name and its operands
 //! stand for, `instruction.rt`, `pseudo.rt` and `directive.rt` each for one kind of names.
 //! `reader.rt` and `specs/Reading.antt` read a line, `writer.rt` and `specs/Canon.antt` write one.
+//! `quick.rt` reads lines in canonical form, and `specs/Quick.antt` says what its parts give:
+//! `front.rt` cuts the name off, `rows.rt` finds its row, `words.rt` reads the words behind it.
 //! `specs/Grammar.antt` has the line grammar and the faults apart from reading.
 #![tactic(auto)]
 
 mod directive;
+mod front;
 mod head;
 mod instruction;
 mod laws;
 mod pseudo;
+mod quick;
 mod reader;
+mod rows;
 mod statement;
 #[cfg(test)]
 mod tests;
+mod words;
 mod writer;
 
 pub use alpha_operands::{Expr, LineFaultKind, ListValue, next_value};

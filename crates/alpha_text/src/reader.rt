@@ -7,9 +7,9 @@ ghost use Rattle.alpha_text.specs.Heads.{head_of, shape_of};
 ghost use Rattle.alpha_text.specs.Statements.{said};
 ghost use Rattle.alpha_text.specs.Reading.{item_said, list_in, with_operands, with_head, named, statement_of, is_labelled, labelled, behind_label, line_of, located, read};
 
-use crate::Statement;
 use crate::head::Head;
 use crate::statement::of_head;
+use crate::{Statement, quick};
 use alpha_operands::{LineFaultKind, OperandFault, is_label, stuck_at};
 use alpha_token::{Step, Token, TokenKind, next, without_blanks};
 
@@ -146,6 +146,9 @@ pub fn read_line(line: &[u8]) -> Result<Item<'_>, LineFault>
     requires { length line.now ≤ 1024 }
     ensures value { Gives item_said result (read line.now) }
 {
+    if let Some(item) = quick::item(line) {
+        return Ok(item);
+    }
     match line_of(line) {
         Ok(item) => Ok(item),
         Err(fault) => Err(LineFault {

@@ -1,4 +1,5 @@
 mod bytes;
+mod near;
 
 use crate::{Item, LineBuf, LineFault, LineFaultKind, Statement, read_line, write_line};
 use LineFaultKind::{BadOperands, BadToken, OutOfRange, UnknownName};
