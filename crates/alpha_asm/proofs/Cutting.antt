@@ -1,12 +1,18 @@
 -- A source is its first line and the lines behind it.
-use Rattle.std.proofs.Common.{◌≡◌, ℕ, suc, ◌+◌, ◌<◌, ◌≤◌, List, [], ◌∷◌, length, take, drop, Bool, true, false, cond, not, eqb, nat_lt, Some, None, refl, sym, ◌∙◌, ap, arith}
+use Rattle.std.proofs.Common.{◌≡◌, ℕ, suc, ◌+◌, ◌<◌, ◌≤◌, List, [], ◌∷◌, length, take, drop, Bool, true, false, cond, not, eqb, nat_lt, Option, Some, None, get_or, refl, sym, ◌∙◌, ap, arith}
 use Rattle.std.specs.List.{slice_split, onto_first, position, position_or_len, before_first, after_first}
 use Rattle.std.specs.Str.Lines.{lines, lines_of_parts, strip_carriage_return}
 use Rattle.std.proofs.lemmas.List.Splits.{slice_split_first}
 use Rattle.std.proofs.lemmas.Bool.Decides.{nat_tests}
+use Rattle.std.proofs.lemmas.List.Sums.{position_or_len_is}
+use Rattle.memchr.specs.Find.{IsFirstByte, is_byte}
 
 abbrev feed : ℕ → Bool
 feed b = eqb b 10
+
+no_pass : (b : Bool) → (b ≡ true → ⊥) → b ≡ false
+no_pass true h = absurd (h refl)
+no_pass false h = refl
 
 more_parts : (x : List ℕ) (b : ℕ) (parts : List (List ℕ)) → lines_of_parts (x ∷ onto_first b parts) ≡ strip_carriage_return x ∷ lines_of_parts (onto_first b parts)
 more_parts x b [] = refl
@@ -49,6 +55,18 @@ lines-not_found (b ∷ s) h l =
     λ t. elim t as (λ u. nat_lt (position_or_len feed (b ∷ s)) (length (b ∷ s)) ≡ u → cond u (Some (position_or_len feed (b ∷ s))) None ≡ None → length (b ∷ s) ≤ position_or_len feed (b ∷ s))
     [ true ↦ λ e g. cc | false ↦ λ e g. grind (arith, nat_tests) ] in
     ap lines_of_parts (one_part (b ∷ s) (far (nat_lt (position_or_len feed (b ∷ s)) (length (b ∷ s))) refl h)) ∙ last_part b s
+
+-- the first line feed, as a search over many bytes at a time finds it
+pub first_feed : (s : List ℕ) (r : Option ℕ) → IsFirstByte (is_byte 10) s r → r ≡ position (λ b. eqb b 10) s
+first_feed s None h =
+    let e : position_or_len feed s ≡ length s = position_or_len_is feed s (length s) 0 (omega arith) (λ k l. no_pass (feed (get_or s k 0)) (h k (omega arith) l)) (λ l. absurd (omega arith)) in
+    let t : nat_lt (position_or_len feed s) (length s) ≡ false = grind (arith, nat_tests) in
+    rw t refl
+first_feed s (Some n) h =
+    let l : n < length s = h.0.high in
+    let e : position_or_len feed s ≡ n = position_or_len_is feed s n 0 (omega arith) (λ k b. no_pass (feed (get_or s k 0)) (h.0.before k (omega arith) b)) (λ _. h.1) in
+    let t : nat_lt n (length s) ≡ true = grind (arith, nat_tests) in
+    rw (e, t) refl
 
 -- the same, as slices write the parts
 pub first_found : (s line rest : List ℕ) (n : ℕ) → Some n ≡ position (λ b. eqb b 10) s → line ≡ strip_carriage_return (take n s) → rest ≡ drop (n + 1) s → lines s ≡ line ∷ lines rest

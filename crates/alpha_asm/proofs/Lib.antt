@@ -9,3 +9,5 @@ pub mod Whole
 pub mod Encoding
 pub mod Sound
 pub mod Making
+pub mod Adding
+pub mod Naming

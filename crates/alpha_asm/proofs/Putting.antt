@@ -59,9 +59,9 @@ option_or-assoc (Some x) p q = refl
 
 pub puts : (k : Known) (patches : List Patch) (i : ℕ) (p : Patch) (code0 code code1 : List Form) (bytes0 bytes bytes1 : List ℕ) (unmet : Option ℕ) (fits : Bool)
     → drop i patches ≡ p ∷ drop (i + 1) patches → is_some (k.spots p.to.label.now) ≡ true
-    → fits ≡ is_met k (address_of k (reference_of p.to)) (need_of p.need)
-    → code1 ≡ code_with k (address_of k (reference_of p.to)) (need_of p.need) code
-    → bytes1 ≡ bytes_with k (offset_of p.need) (address_of k (reference_of p.to)) (need_of p.need) bytes
+    → fits ≡ is_met k (address_of k (reference_of p.to)) (need_of p.at p.need)
+    → code1 ≡ code_with k (address_of k (reference_of p.to)) (need_of p.at p.need) code
+    → bytes1 ≡ bytes_with k (offset_of p.at p.need) (address_of k (reference_of p.to)) (need_of p.at p.need) bytes
     → Put k patches i code0 code bytes0 bytes unmet → Put k patches (i + 1) code0 code1 bytes0 bytes1 (option_or unmet (cond fits None (Some p.line)))
 puts k patches i p code0 code code1 bytes0 bytes bytes1 unmet fits e defined f c b u =
     let none : undefined_line k (fix_of p).name ≡ None = rw defined refl in

@@ -1,5 +1,6 @@
 pub mod Statement
 pub mod Layout
+pub mod Labels
 pub mod Program
 pub mod Assembled
 pub mod Patches

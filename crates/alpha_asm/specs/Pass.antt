@@ -1,11 +1,8 @@
 -- What the state of the pass is behind some lines.
-use Rattle.std.specs.Prelude.{◌≡◌, ℕ, ◌+◌, ◌*◌, ◌^◌, ◌≤◌, ◌||◌, false, List, [], ◌∷◌, ◌++◌, length, map, Option, None, Some, if◌then◌else◌}
-use Rattle.std.specs.Ordering.{nat_cmp}
+use Rattle.std.specs.Prelude.{◌≡◌, ℕ, true, ◌+◌, ◌*◌, ◌^◌, ◌≤◌, ◌||◌, false, List, [], ◌∷◌, ◌++◌, length, map, Option, None, Some, if◌then◌else◌}
 use Rattle.std.specs.Option.{option_map}
 use Rattle.std.specs.List.{flat_map}
 use Rattle.std.specs.Str.{bytes_eq}
-use Rattle.std.specs.BTreeMap.{get_by}
-use Rattle.std.specs.Cmp.Lexicographic.{slice_cmp}
 use Rattle.alpha_text.specs.Reading.{LineSaid}
 use Rattle.alpha_asm.specs.declared.fault.AsmFault.{AsmFault}
 use Rattle.alpha_asm.specs.declared.fault.AsmFault.TheVariants as faults
@@ -16,8 +13,11 @@ use Rattle.alpha_asm.specs.declared.place.Section.TheVariants as sections
 use Rattle.alpha_asm.specs.declared.place.Spot.{Spot}
 use Rattle.alpha_asm.specs.declared.fields.FieldsRead.{FieldsRead}
 use Rattle.alpha_asm.specs.declared.pass.Pass.{Pass}
+use Rattle.alpha_asm.specs.Statement.{Coded}
+use Rattle.alpha_asm.specs.Program.{list_of, insn_name}
 use Rattle.alpha_asm.specs.Layout.{Place, Placed, Fields, fields, layout, end, spot, spot_of, behind, with_fields, is_misplaced, repeats_field, repeats_label}
-use Rattle.alpha_asm.specs.Patches.{entry_view, fix_of, raw_insns, raw_bytes, fixes, fixes_in}
+use Rattle.alpha_asm.specs.Patches.{entry_view, fix, fix_of, raw_insns, raw_bytes, fixes, fixes_in}
+use Rattle.alpha_asm.specs.Labels.{spot_named}
 use Rattle.alpha_asm.specs.Place.{seen}
 
 abbrev pub fields_read : FieldsRead → Fields
@@ -33,7 +33,7 @@ place_of p = seen (length p.output.code.items) p.place
 
 -- where a label is defined
 abbrev pub spot_at : Pass → List ℕ → Option Spot
-spot_at p name = get_by (λ k. slice_cmp nat_cmp name k.now) p.labels
+spot_at p name = spot_named p.labels name
 
 -- and where with a further label, if there is one
 abbrev pub with_label : (List ℕ → Option Spot) → Option (List ℕ) → Spot → List ℕ → Option Spot
@@ -44,6 +44,8 @@ with_label spots (Some label) here name = if bytes_eq label name then Some here 
 pub record IsBounded (p : Pass) : Type 0 where
   pub filled : p.place.last.filled ≤ length p.output.bytes.items
   pub zeroed : p.place.last.zeroed ≤ 2 ^ 25 * p.line
+  pub earlier : length p.place.earlier.items ≤ p.line
+  pub code : length p.output.code.items ≤ p.line
 
 -- the item as it stands here
 abbrev pub here : Pass → LineSaid → Placed
@@ -55,6 +57,16 @@ refused_here p i =
     if is_misplaced (place_of p) i.statement then Some (faults.Section (p.line + 1))
     else if repeats_field (fields_read p.fields) i.statement || repeats_label (spot_at p) i.label then Some (faults.Duplicate (p.line + 1))
     else None
+
+-- an instruction was added
+pub record AddsInsn (c : Coded) (old new : Pass) : Type 0 where
+  pub line : new.line ≡ old.line + 1
+  pub place : new.place ≡ record old.place { begun = true }
+  pub code : new.output.code.items ≡ old.output.code.items ++ c.insn ∷ []
+  pub bytes : new.output.bytes ≡ old.output.bytes
+  pub patches : map fix_of new.output.patches.items
+      ≡ map fix_of old.output.patches.items ++ map (fix 0) (list_of (insn_name (old.line + 1) (length old.output.code.items) c))
+  pub fields : new.fields ≡ old.fields
 
 -- a statement was added
 pub record AddsStatement (i : LineSaid) (old new : Pass) : Type 0 where

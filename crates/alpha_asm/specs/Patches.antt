@@ -38,18 +38,19 @@ pub record Fix : Type 0 where
 abbrev pub fix : ℕ → Name → Fix
 fix at n = record { name = n; at = at }
 
-abbrev pub need_of : NeedHere → Need
-need_of (needs.Insn by place) = by_insn by place
-need_of (needs.Quad at) = by_cell
-need_of needs.Entry = by_entry
+-- behind so many instructions or data bytes
+abbrev pub need_of : ℕ → NeedHere → Need
+need_of at (needs.Insn by) = by_insn by at
+need_of at needs.Quad = by_cell
+need_of at needs.Entry = by_entry
 
-abbrev pub offset_of : NeedHere → ℕ
-offset_of (needs.Insn by place) = 0
-offset_of (needs.Quad at) = at
-offset_of needs.Entry = 0
+abbrev pub offset_of : ℕ → NeedHere → ℕ
+offset_of at (needs.Insn by) = 0
+offset_of at needs.Quad = at
+offset_of at needs.Entry = 0
 
 abbrev pub fix_of : Patch → Fix
-fix_of p = fix (offset_of p.need) (name p.line (reference_of p.to) (need_of p.need))
+fix_of p = fix (offset_of p.at p.need) (name p.line (reference_of p.to) (need_of p.at p.need))
 
 -- the instruction of a statement, and its data bytes, before addresses are put in
 abbrev pub raw_insns : Said → List Form

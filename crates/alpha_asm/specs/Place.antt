@@ -1,5 +1,5 @@
 -- The place of an item, as the pass keeps it.
-use Rattle.std.specs.Prelude.{ℕ, ◌<◌, ◌^◌}
+use Rattle.std.specs.Prelude.{ℕ, length, ◌<◌, ◌^◌}
 use Rattle.alpha_asm.specs.declared.place.Place.{Place as PlaceHere}
 use Rattle.alpha_asm.specs.Layout.{Place}
 
@@ -19,3 +19,4 @@ seen words p = record {
 pub record IsSmall (p : PlaceHere) : Type 0 where
   pub filled : p.last.filled < 2 ^ 63
   pub zeroed : p.last.zeroed < 2 ^ 62
+  pub earlier : length p.earlier.items < 2 ^ 32

@@ -36,7 +36,7 @@ fn read_lines(alloc: Global, source: &[u8]) -> Result<Pass<'_>, AsmFault>
     ensures taken { OnOk result (first_refused [] (lines source.now) ≡ None) }
     ensures refused { IfErr result (λ fault. fault ≢ faults.NoMemory → first_refused [] (lines source.now) ≡ Some fault) }
 {
-    let mut pass = Pass::new(alloc);
+    let mut pass = Pass::new(alloc, source);
     let mut rest = source;
     while !rest.is_empty() {
         let (line, more) = first_line(rest);

@@ -8,23 +8,23 @@ ghost use Rattle.alpha_asm.specs.declared.fault.AsmFault.TheVariants as faults;
 
 use crate::AsmFault;
 use crate::fields::Entry;
+use crate::label::Labels;
 use crate::patch::{Displacement, Need, Patch, displaced, quadword_of};
 use crate::place::Spot;
 use crate::statement::Use;
 use alpha_image::Segment;
 use alpha_table::Insn;
 use alpha_text::Expr;
-use std::collections::BTreeMap;
 
 /// What the addresses of labels depend on, behind the last line.
 #[derive(Clone, Copy)]
 pub(crate) struct Bases<'k, 'a> {
     pub code_base: u64,
     pub segments: &'k [Segment],
-    pub labels: &'k BTreeMap<&'a [u8], Spot>,
+    pub labels: &'k Labels<'a>,
 }
 
-impl Bases<'_, '_> {
+impl<'a> Bases<'_, 'a> {
     // The base of a segment.
     fn base(&self, segment: usize) -> u64
         ensures { result ≡ option_map_or (λ s. s.base) (slice_get self.now.segments.now segment) 0 }
@@ -42,24 +42,26 @@ impl Bases<'_, '_> {
     {
         match spot {
             Spot::Code(words) => u128::from(self.code_base) + 4 * u128::from(words),
-            Spot::Data(segment, offset) => u128::from(self.base(segment)) + u128::from(offset),
+            Spot::Data(segment, offset) => {
+                u128::from(self.base(segment as usize)) + u128::from(offset)
+            },
         }
     }
 
     // The address that a statement names, `None` exactly where the label has no definition.
-    fn address(&self, to: &Expr<'_>) -> Option<i128>
+    fn address(&self, to: &Expr<'a>) -> Option<i128>
         ensures found { is_some result ≡ is_some ((known_of self.now).spots to.now.label.now) }
         ensures value { IfSome result (λ a. a ≡ address_of (known_of self.now) (reference_of to.now)) }
         ensures near { IfSome result IsNear }
     {
-        match self.labels.get(to.label) {
-            Some(spot) => Some(self.spot_address(*spot) as i128 + i128::from(to.offset)),
+        match self.labels.spot(to.label) {
+            Some(spot) => Some(self.spot_address(spot) as i128 + i128::from(to.offset)),
             None => None,
         }
     }
 
     /// The address of the entry, the last number of 64 bits where it is outside them.
-    pub(crate) fn entry(&self, entry: &Entry<'_>) -> u64
+    pub(crate) fn entry(&self, entry: &Entry<'a>) -> u64
         ensures { result ≡ entry_number (known_of self.now) (entry_view entry.now) }
     {
         match entry {
@@ -141,40 +143,41 @@ fn put_quad(address: i128, at: usize, bytes: &mut Vec<u8>) -> bool
 fn put(
     bases: &Bases<'_, '_>,
     need: Need,
+    at: usize,
     address: i128,
     code: &mut Vec<Insn>,
     bytes: &mut Vec<u8>,
 ) -> bool
     requires { IsNear address }
-    ensures fits { result ≡ is_met (known_of bases.now) address (need_of need) }
-    ensures code { code.new.items ≡ code_with (known_of bases.now) address (need_of need) code.old.items }
-    ensures bytes { bytes.new.items ≡ bytes_with (known_of bases.now) (offset_of need) address (need_of need) bytes.old.items }
+    ensures fits { result ≡ is_met (known_of bases.now) address (need_of at need) }
+    ensures code { code.new.items ≡ code_with (known_of bases.now) address (need_of at need) code.old.items }
+    ensures bytes { bytes.new.items ≡ bytes_with (known_of bases.now) (offset_of at need) address (need_of at need) bytes.old.items }
 {
     match need {
-        Need::Insn { by, place } => put_insn(bases, by, place, address, code),
-        Need::Quad { at } => put_quad(address, at, bytes),
+        Need::Insn(by) => put_insn(bases, by, at, address, code),
+        Need::Quad => put_quad(address, at, bytes),
         Need::Entry => true,
     }
 }
 
 // Puts in the address that a patch names. Whether it fits, `None` exactly where its label has no
 // definition.
-fn put_patch(
-    bases: &Bases<'_, '_>,
-    patch: &Patch<'_>,
+fn put_patch<'a>(
+    bases: &Bases<'_, 'a>,
+    patch: &Patch<'a>,
     code: &mut Vec<Insn>,
     bytes: &mut Vec<u8>,
 ) -> Option<bool>
     ensures found { is_some result ≡ is_some ((known_of bases.now).spots patch.now.to.label.now) }
     ensures fits { IfSome result (λ fits. fits
-        ≡ is_met (known_of bases.now) (address_of (known_of bases.now) (reference_of patch.now.to)) (need_of patch.now.need)) }
+        ≡ is_met (known_of bases.now) (address_of (known_of bases.now) (reference_of patch.now.to)) (need_of patch.now.at patch.now.need)) }
     ensures code { OnSome result (code.new.items
-        ≡ code_with (known_of bases.now) (address_of (known_of bases.now) (reference_of patch.now.to)) (need_of patch.now.need) code.old.items) }
+        ≡ code_with (known_of bases.now) (address_of (known_of bases.now) (reference_of patch.now.to)) (need_of patch.now.at patch.now.need) code.old.items) }
     ensures bytes { OnSome result (bytes.new.items
-        ≡ bytes_with (known_of bases.now) (offset_of patch.now.need) (address_of (known_of bases.now) (reference_of patch.now.to)) (need_of patch.now.need) bytes.old.items) }
+        ≡ bytes_with (known_of bases.now) (offset_of patch.now.at patch.now.need) (address_of (known_of bases.now) (reference_of patch.now.to)) (need_of patch.now.at patch.now.need) bytes.old.items) }
 {
     match bases.address(&patch.to) {
-        Some(address) => Some(put(bases, patch.need, address, code, bytes)),
+        Some(address) => Some(put(bases, patch.need, patch.at, address, code, bytes)),
         None => None,
     }
 }
@@ -194,9 +197,9 @@ fn first_unmet(unmet: Option<u32>, fits: bool, line: u32) -> Option<u32>
 /// # Errors
 ///
 /// `Undefined` with the line of the first one whose label has no definition.
-pub(crate) fn put_all(
-    bases: &Bases<'_, '_>,
-    patches: &[Patch<'_>],
+pub(crate) fn put_all<'a>(
+    bases: &Bases<'_, 'a>,
+    patches: &[Patch<'a>],
     code: &mut Vec<Insn>,
     bytes: &mut Vec<u8>,
 ) -> Result<Option<u32>, AsmFault>

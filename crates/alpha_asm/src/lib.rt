@@ -8,9 +8,9 @@
 //! (`bases.rt`), and the image is built (`program.rt`).
 //!
 //! `lines.rt` cuts a source into lines; `statement.rt` says what a statement asks, apart from where it
-//! stands; `place.rt` is the place that a line stands at, `fields.rt` the field statements, `output.rt`
-//! the instructions and data bytes, `patch.rt` the addresses that are put in later, and `pass.rt` the
-//! state with the steps that each line takes.
+//! stands; `place.rt` is the place that a line stands at, `fields.rt` the field statements, `label.rt`
+//! the labels, `output.rt` the instructions and data bytes, `patch.rt` the addresses that are put in
+//! later, and `pass.rt` the state with the steps that each line takes.
 //!
 //! `specs/Statement.antt` has what a statement asks, `specs/Layout.antt` where each item stands,
 //! `specs/Program.antt` the program that the items make, and `specs/Assembled.antt` the image of a
@@ -23,6 +23,7 @@ mod bases;
 mod bytes;
 mod fault;
 mod fields;
+mod label;
 mod lines;
 mod output;
 mod pass;

@@ -1,6 +1,8 @@
 ghost use Rattle.std.specs.Prelude.{◌≡◌, ◌<◌, ◌∷◌, ◌==◌, length, position};
 ghost use Rattle.std.specs.Str.Lines.{lines, strip_carriage_return};
 
+use memchr::memchr;
+
 // A line without the one carriage return at its end, if it has one.
 fn without_return(line: &[u8]) -> &[u8]
     ensures { result.now ≡ strip_carriage_return line.now }
@@ -15,7 +17,7 @@ fn without_return(line: &[u8]) -> &[u8]
 fn line_feed(source: &[u8]) -> Option<usize>
     ensures { result ≡ position (λ b. b == 10) source.now }
 {
-    source.iter().position(|b| *b == b'\n')
+    memchr(b'\n', source)
 }
 
 /// The first line of a source that isn't empty, and the source behind it. A line ends with a line

@@ -1,4 +1,4 @@
-ghost use Rattle.std.specs.Prelude.{◌≡◌, ◌+◌, ◌++◌, ◌∷◌, [], length, map, OnOk};
+ghost use Rattle.std.specs.Prelude.{◌≡◌, ◌+◌, ◌≤◌, ◌++◌, ◌∷◌, [], length, map, OnOk};
 ghost use Rattle.alpha_operands.specs.Values.{view};
 ghost use Rattle.alpha_text.specs.Statements.{said};
 ghost use Rattle.alpha_asm.specs.Statement.{cell_of, values_up_to, bytes_up_to};
@@ -31,11 +31,12 @@ fn push_patch<'a>(
     line: u32,
     to: Expr<'a>,
     need: Need,
+    at: usize,
 ) -> Result<(), AllocError>
     ensures { OnOk result (map fix_of patches.new.items ≡ map fix_of patches.old.items
-        ++ fix (offset_of need) (name line (reference_of to.entry) (need_of need)) ∷ []) }
+        ++ fix (offset_of at need) (name line (reference_of to.entry) (need_of at need)) ∷ []) }
 {
-    patches.push(Patch { line, to, need })?;
+    patches.push(Patch { to, at, line, need })?;
     Ok(())
 }
 
@@ -50,7 +51,7 @@ fn push_reach<'a>(
         ++ map (fix 0) (list_of (insn_name line place (coded_of coded.now)))) }
 {
     match coded.reach {
-        Some((by, to)) => push_patch(patches, line, to, Need::Insn { by, place }),
+        Some((by, to)) => push_patch(patches, line, to, Need::Insn(by), place),
         None => Ok(()),
     }
 }
@@ -65,7 +66,7 @@ pub(crate) fn push_entry<'a>(
         ++ map (fix 0) (entry_names line (said statement.now))) }
 {
     match entry_in(statement) {
-        Some(Entry::Of(to)) => push_patch(patches, line, to, Need::Entry),
+        Some(Entry::Of(to)) => push_patch(patches, line, to, Need::Entry, 0),
         Some(Entry::At(_)) | None => Ok(()),
     }
 }
@@ -84,8 +85,8 @@ impl<'a> Output<'a> {
         }
     }
 
-    // Adds an instruction.
-    fn push_coded(&mut self, line: u32, coded: &Coded<'a>) -> Result<(), AllocError>
+    /// Adds an instruction.
+    pub(crate) fn push_coded(&mut self, line: u32, coded: &Coded<'a>) -> Result<(), AllocError>
         ensures code { OnOk result (self.new.code.items ≡ self.old.code.items ++ coded.now.insn ∷ []) }
         ensures bytes { self.new.bytes ≡ self.old.bytes }
         ensures patches { OnOk result (map fix_of self.new.patches.items ≡ map fix_of self.old.patches.items
@@ -103,6 +104,7 @@ impl<'a> Output<'a> {
         statement: &Statement<'a>,
     ) -> Result<(), AllocError>
         ensures code { OnOk result (self.new.code.items ≡ self.old.code.items ++ raw_insns (said statement.now)) }
+        ensures bound { OnOk result (length self.new.code.items ≤ length self.old.code.items + 1) }
         ensures bytes { self.new.bytes ≡ self.old.bytes }
         ensures patches { OnOk result (map fix_of self.new.patches.items ≡ map fix_of self.old.patches.items
             ++ map (fix 0) (insn_names line (length self.old.code.items) (said statement.now))) }
@@ -151,7 +153,7 @@ impl<'a> Output<'a> {
         ensures { OnOk result (AddsCells line (address (reference_of to.entry) ∷ []) self.old self.new) }
     {
         let at = self.bytes.len();
-        push_patch(&mut self.patches, line, to, Need::Quad { at })?;
+        push_patch(&mut self.patches, line, to, Need::Quad, at)?;
         push_number(&mut self.bytes, 8, 0)
     }
 

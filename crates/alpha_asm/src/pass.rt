@@ -1,4 +1,4 @@
-ghost use Rattle.std.specs.Prelude.{◌≡◌, ◌≢◌, ◌+◌, ◌^◌, ◌<◌, ◌++◌, ◌∷◌, ℕ, List, [], length, map, Some, None, OnOk, IfOk, IfErr};
+ghost use Rattle.std.specs.Prelude.{◌≡◌, ◌≢◌, ◌+◌, ◌^◌, ◌<◌, ◌++◌, ◌∷◌, ℕ, false, List, [], length, map, Some, None, OnOk, IfOk, IfErr};
 ghost use Rattle.std.specs.Option.{option_map};
 ghost use Rattle.alpha_text.specs.Statements.{said};
 ghost use Rattle.alpha_text.specs.Bounds.{IsWithin};
@@ -6,18 +6,19 @@ ghost use Rattle.alpha_text.specs.Reading.{item_said};
 ghost use Rattle.alpha_asm.specs.Statement.{cells};
 ghost use Rattle.alpha_asm.specs.Layout.{spot, repeats_label};
 ghost use Rattle.alpha_asm.specs.Assembled.{item_at, refused};
-ghost use Rattle.alpha_asm.specs.Patches.{AddsCells};
-ghost use Rattle.alpha_asm.specs.Pass.{place_of, spot_at, with_label, refused_here, IsBounded, AddsStatement, AddsItem, Stands};
+ghost use Rattle.alpha_asm.specs.Patches.{coded_of, AddsCells};
+ghost use Rattle.alpha_asm.specs.Pass.{place_of, spot_at, with_label, refused_here, IsBounded, AddsInsn, AddsStatement, AddsItem, Stands};
 ghost use Rattle.alpha_asm.specs.declared.fault.AsmFault.TheVariants as faults;
 
 use crate::AsmFault;
 use crate::bytes::push_zeros;
 use crate::fields::FieldsRead;
+use crate::label::Labels;
 use crate::output::{Output, push_entry};
-use crate::place::{Place, Spot};
+use crate::place::Place;
+use crate::statement::{Coded, coded_in, is_statement};
 use alpha_text::{Item, Statement, read_line};
 use std::alloc::{AllocError, Global};
-use std::collections::BTreeMap;
 
 /// The most bytes of a line without its end.
 const LONGEST_LINE: usize = 1024;
@@ -29,13 +30,13 @@ pub(crate) struct Pass<'a> {
     pub line: u32,
     pub place: Place,
     pub output: Output<'a>,
-    pub labels: BTreeMap<&'a [u8], Spot>,
+    pub labels: Labels<'a>,
     pub fields: FieldsRead<'a>,
 }
 
 impl<'a> Pass<'a> {
     /// Before the first line.
-    pub(crate) fn new(alloc: Global) -> Pass<'a>
+    pub(crate) fn new(alloc: Global, source: &[u8]) -> Pass<'a>
         ensures stands { Stands [] result }
         ensures bounded { IsBounded result }
         ensures line { result.line ≡ 0 }
@@ -44,7 +45,7 @@ impl<'a> Pass<'a> {
             line: 0,
             place: Place::start(alloc),
             output: Output::new(alloc),
-            labels: BTreeMap::new(alloc),
+            labels: Labels::new(alloc, source),
             fields: FieldsRead::NONE,
         }
     }
@@ -103,15 +104,14 @@ impl<'a> Pass<'a> {
         requires lines { self.old.line + 1 < 2 ^ 32 }
         ensures value { IfOk result (λ again.
             again ≡ repeats_label (spot_at self.old) (option_map (λ l. l.now) label.entry)) }
-        ensures labels { OnOk result ((name : List ℕ) →
+        ensures labels { IfOk result (λ again. again ≡ false → (name : List ℕ) →
             spot_at self.new name ≡ with_label (spot_at self.old) (option_map (λ l. l.now) label.entry) (spot (place_of self.old)) name) }
         ensures same { self.new ≡ record self.old { labels = self.new.labels } }
     {
         match label {
-            Some(label) => {
+            Some(name) => {
                 let spot = self.place.spot(self.output.code.len());
-                let old = self.labels.insert(label, spot)?;
-                Ok(old.is_some())
+                self.labels.define(name, spot)
             }
             None => Ok(false),
         }
@@ -119,6 +119,38 @@ impl<'a> Pass<'a> {
 
     // Adds the statement of an item.
     fn add(&mut self, item: &Item<'a>) -> Result<(), AllocError>
+        requires bounded { IsBounded self.old }
+        requires lines { self.old.line + 1 < 2 ^ 32 }
+        requires within { IsWithin (said item.now.statement) }
+        ensures ok { OnOk result (AddsStatement (item_said item.now) self.old self.new) }
+        ensures labels { self.new.labels ≡ self.old.labels }
+        ensures bounded { OnOk result (IsBounded self.new) }
+    {
+        match coded_in(&item.statement) {
+            Some(coded) => self.add_insn(&coded),
+            None if is_statement(&item.statement) => self.add_other(item),
+            None => {
+                self.line += 1;
+                Ok(())
+            }
+        }
+    }
+
+    // Adds an instruction, which changes little else.
+    fn add_insn(&mut self, coded: &Coded<'a>) -> Result<(), AllocError>
+        requires lines { self.old.line + 1 < 2 ^ 32 }
+        ensures ok { OnOk result (AddsInsn (coded_of coded.now) self.old self.new) }
+        ensures labels { self.new.labels ≡ self.old.labels }
+    {
+        let line = self.line + 1;
+        self.output.push_coded(line, coded)?;
+        self.place.begun = true;
+        self.line = line;
+        Ok(())
+    }
+
+    // Adds another statement.
+    fn add_other(&mut self, item: &Item<'a>) -> Result<(), AllocError>
         requires bounded { IsBounded self.old }
         requires lines { self.old.line + 1 < 2 ^ 32 }
         requires within { IsWithin (said item.now.statement) }

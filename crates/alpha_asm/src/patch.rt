@@ -20,10 +20,10 @@ pub(crate) enum Displacement {
 /// What an address that a statement names is for.
 #[derive(Clone, Copy, Debug, PartialEq, Eq)]
 pub(crate) enum Need {
-    /// An instruction, behind so many others.
-    Insn { by: Use, place: usize },
-    /// A quadword, behind so many data bytes.
-    Quad { at: usize },
+    /// An instruction.
+    Insn(Use),
+    /// A quadword.
+    Quad,
     /// The entry.
     Entry,
 }
@@ -31,8 +31,10 @@ pub(crate) enum Need {
 /// An address that a statement names, to be put in when all labels are known.
 #[derive(Clone, Copy, Debug)]
 pub(crate) struct Patch<'a> {
-    pub line: u32,
     pub to: Expr<'a>,
+    /// Behind how many instructions, or behind how many data bytes, what needs it stands.
+    pub at: usize,
+    pub line: u32,
     pub need: Need,
 }
 

@@ -1,4 +1,4 @@
-ghost use Rattle.std.specs.Prelude.{◌≡◌, ◌+◌, ◌<◌, ◌≤◌, ◌^◌, ℕ, is_some, not, if◌then◌else◌, OnOk};
+ghost use Rattle.std.specs.Prelude.{◌≡◌, ◌+◌, ◌<◌, ◌≤◌, ◌^◌, ℕ, length, is_some, not, if◌then◌else◌, OnOk};
 ghost use Rattle.alpha_text.specs.Statements.{said};
 ghost use Rattle.alpha_text.specs.Bounds.{IsWithin};
 ghost use Rattle.alpha_image.specs.Rules.{size_of_segment};
@@ -24,9 +24,9 @@ pub(crate) enum Section {
 #[derive(Clone, Copy, Debug, PartialEq, Eq)]
 pub(crate) enum Spot {
     /// Behind so many instructions.
-    Code(u64),
+    Code(u32),
     /// An offset in a segment. Segments are numbered from 0.
-    Data(usize, u64),
+    Data(u32, u64),
 }
 
 /// Where the next item stands, beside how many instructions stand before it.
@@ -94,12 +94,13 @@ impl Place {
 
     /// The address that a label names here, behind so many instructions.
     pub(crate) fn spot(&self, words: usize) -> Spot
-        requires { IsSmall self.now }
+        requires small { IsSmall self.now }
+        requires words { words < 2 ^ 32 }
         ensures { result ≡ spot (seen words self.now) }
     {
         match self.section {
-            Section::Code => Spot::Code(words as u64),
-            Section::Data => Spot::Data(self.earlier.len(), self.size()),
+            Section::Code => Spot::Code(words as u32),
+            Section::Data => Spot::Data(self.earlier.len() as u32, self.size()),
         }
     }
 
@@ -218,6 +219,7 @@ impl Place {
             ≡ behind (seen words self.old) (said statement.now)) }
         ensures filled { OnOk result (self.new.last.filled ≤ self.old.last.filled + added) }
         ensures zeroed { OnOk result (self.new.last.zeroed ≤ self.old.last.zeroed + 2 ^ 25) }
+        ensures earlier { OnOk result (length self.new.earlier.items ≤ length self.old.earlier.items + 1) }
     {
         let last = self.last_behind(statement, added);
         let begins = segment_in(statement).is_some();

@@ -203,7 +203,7 @@ pub(crate) fn made(alloc: Global, pass: Pass<'_>) -> Result<Image, AsmFault>
 }
 
 // The image behind the last line, with an entry.
-fn made_at(alloc: Global, pass: Pass<'_>, entry: &Entry<'_>) -> Result<Image, AsmFault>
+fn made_at<'a>(alloc: Global, pass: Pass<'a>, entry: &Entry<'a>) -> Result<Image, AsmFault>
     requires { Sound (place_of pass) (length pass.output.bytes.items) }
     ensures ok { IfOk result (λ image. (is : _) → Stands is pass.entry →
         made_at is (Some (entry_view entry.now)) ≡ Ok (program_of image)) }
@@ -217,11 +217,11 @@ fn made_at(alloc: Global, pass: Pass<'_>, entry: &Entry<'_>) -> Result<Image, As
 }
 
 // The numbers of the image that its code, data bytes and segments don't give.
-fn fields_of(
-    bases: &Bases<'_, '_>,
+fn fields_of<'a>(
+    bases: &Bases<'_, 'a>,
     read: &FieldsRead<'_>,
     level: Option<u8>,
-    entry: &Entry<'_>,
+    entry: &Entry<'a>,
 ) -> LevelFields
     ensures { result ≡ fields_of (known_of bases.now) (fields_read read.now) level (entry_view entry.now) }
 {
@@ -234,7 +234,7 @@ fn fields_of(
 }
 
 // Puts all addresses in.
-fn finish(pass: Pass<'_>, entry: &Entry<'_>) -> Result<Finished, AsmFault>
+fn finish<'a>(pass: Pass<'a>, entry: &Entry<'a>) -> Result<Finished, AsmFault>
     requires { Sound (place_of pass) (length pass.output.bytes.items) }
     ensures whole { IfOk result IsWhole }
     ensures ok { IfOk result (λ finished. (is : _) → Stands is pass.entry →

@@ -1,11 +1,12 @@
-use Rattle.std.proofs.Common.{length, sym, ap, ◌∙◌}
-use Rattle.alpha_text.specs.Statements.{said}
-use Rattle.alpha_asm.specs.Statement.{cells}
-use Rattle.alpha_asm.proofs.Growing.{added_size}
+use Rattle.std.proofs.Common.{refl, sym, ◌∙◌}
+use Rattle.std.proofs.lemmas.Result.{on_ok_weaker}
+use Rattle.alpha_text.specs.Reading.{item_said}
+use Rattle.alpha_asm.specs.Patches.{coded_of}
+use Rattle.alpha_asm.proofs.Adding.{adds_insn, adds_nothing}
 use Rattle.alpha_asm.proofs.pass.Pass.add.Goals as goal
 
-pub go_on-requires-clause-added : goal.go_on-requires-clause-added
-go_on-requires-clause-added c =
-    added_size _ _ _ (cells (said c.args.item.now.statement)) c.filled_pad.result _ c.len.result c.len-filled.result
-    c.in_ok-push_data.ensures.bytes c.in_ok-push_zeros.ensures (c.len.ensures ∙ c.push_zeros.new.to.ok.0)
-    (c.len-filled.ensures ∙ (c.args.self.now.output.bytes.ok.0 ∙ ap (λ v. length v.items) (sym c.in_ok-push_insn.ensures.bytes))) (c.filled_pad.ensures 0)
+pub returns-in-Some-clause-ok : goal.returns-in-Some-clause-ok
+returns-in-Some-clause-ok c = on_ok_weaker c.add_insn.result (λ a. adds_insn (item_said c.args.item.now) (coded_of c.in-Some.coded) _ _ c.in-Some.ensures a) c.add_insn.ensures.ok
+
+pub returns-in-None-2-clause-ok : goal.returns-in-None-2-clause-ok
+returns-in-None-2-clause-ok c = adds_nothing (item_said c.args.item.now) c.args.self.now _ (sym c.is_statement.ensures ∙ c.if-is_statement.false) refl

@@ -1,8 +1,4 @@
 use Rattle.std.proofs.Common.{◌≡◌, length, refl, ap, ◌∙◌}
-use Rattle.std.specs.Ordering.{nat_cmp}
-use Rattle.std.specs.Map.{lookup}
-use Rattle.std.specs.BTreeMap.{is_at}
-use Rattle.std.specs.Cmp.Lexicographic.{slice_cmp}
 use Rattle.alpha_asm.specs.Layout.{start, layout, end}
 use Rattle.alpha_asm.specs.Place.{seen}
 use Rattle.alpha_asm.proofs.pass.Pass.new.Goals as goal
@@ -15,7 +11,7 @@ returns-clause-stands c = record {
   code = c.new.ensures.code;
   bytes = c.new.ensures.bytes;
   patches = c.new.ensures.patches;
-  labels = λ name. ap (λ es. lookup (is_at (λ k. slice_cmp nat_cmp name k.now)) es) c.new-2.ensures.empty;
+  labels = c.new-2.ensures;
   fields = refl;
   sound = let e : seen (length c.new.result.code.items) c.start.result ≡ start = ap (λ l. seen (length l) c.start.result) c.new.ensures.code ∙ c.start.ensures.place in
       rw (e, c.new.ensures.bytes) (record { filled = (refl, refl); fresh = λ h. (refl, refl, refl) });
