@@ -21,6 +21,7 @@ use alpha_words::Reg;
 
 // The words with a displacement, which load, store or compute an address.
 impl Machine {
+    #[inline(always)]
     pub(crate) fn memory_word(&mut self, op: MemOp, ra: Reg, rb: Reg, disp: i16) -> Executed
         ensures { ExecuteEffect result (class_of (Mem op ra rb disp)) self.old self.new }
     {
@@ -35,6 +36,7 @@ impl Machine {
         }
     }
 
+    #[inline(always)]
     fn load(&mut self, extension: Extension, at: &MemAccess, ra: Reg) -> Executed
         requires { IsSized at.now.bytes }
         ensures { ExecuteEffect result (load extension at.now ra) self.old self.new }
@@ -49,6 +51,7 @@ impl Machine {
         }
     }
 
+    #[inline(never)]
     fn load_locked(&mut self, extension: Extension, at: &MemAccess, ra: Reg) -> Executed
         requires { IsSized at.now.bytes }
         ensures { ExecuteEffect result (load_locked extension at.now ra) self.old self.new }
@@ -64,6 +67,7 @@ impl Machine {
         }
     }
 
+    #[inline(always)]
     fn store(&mut self, at: &MemAccess, ra: Reg) -> Executed
         requires { IsSized at.now.bytes }
         ensures { ExecuteEffect result (store at.now ra) self.old self.new }
@@ -80,6 +84,7 @@ impl Machine {
     }
 
     // It stores where the lock flag has the number of its sixteen bytes, and faults alike where it doesn't.
+    #[inline(never)]
     fn store_conditional(&mut self, at: &MemAccess, ra: Reg) -> Executed
         requires { IsSized at.now.bytes }
         ensures { ExecuteEffect result (store_conditional at.now ra) self.old self.new }
@@ -102,7 +107,8 @@ impl Machine {
         }
     }
 
-    /// The address of an access.
+    /// The address of an access (Architecture Handbook, section 4.2).
+    #[inline(always)]
     pub fn place(&self, at: &MemAccess) -> u64
         ensures { result ≡ place at.now (state_of self.now [] []) }
     {
@@ -110,6 +116,7 @@ impl Machine {
     }
 
     // What a load from an address puts into its register.
+    #[inline(always)]
     fn read(&self, extension: Extension, at: &MemAccess, addr: u64) -> Result<u64, MemFault>
         requires size { IsSized at.now.bytes }
         requires addr { addr ≡ place at.now (state_of self.now [] []) }
@@ -123,7 +130,8 @@ impl Machine {
     }
 }
 
-/// The access of a memory instruction.
+/// The access of a memory instruction (Architecture Handbook, section 4.2).
+#[inline(always)]
 pub fn memory_access(op: MemOp, rb: Reg, disp: i16) -> MemAccess
     ensures { result ≡ row_access op rb disp }
 {
@@ -137,6 +145,7 @@ pub fn memory_access(op: MemOp, rb: Reg, disp: i16) -> MemAccess
 }
 
 /// The size of so many bytes: 1, 2, 4 or 8.
+#[inline(always)]
 pub fn size(bytes: u8) -> Size
     requires { IsSized bytes }
     ensures { size_of result ≡ bytes }
@@ -160,6 +169,7 @@ pub(crate) fn fault_end(fault: MemFault, pc: u64, addr: u64) -> End
 }
 
 // A number as a load fills its register with it. Longwords alone are extended with the sign.
+#[inline(always)]
 fn extended(extension: Extension, number: u64) -> u64
     ensures { result ≡ filled extension number }
 {
@@ -170,6 +180,7 @@ fn extended(extension: Extension, number: u64) -> u64
 }
 
 // The longword in the low 32 bits, extended with its sign.
+#[inline(always)]
 fn sign_extended(number: u64) -> u64
     ensures { result ≡ register_of (signed w32 number) }
 {

@@ -15,6 +15,7 @@ use alpha_words::PalCall;
 
 impl Machine {
     // Makes the PAL call at the PC.
+    #[inline(never)]
     pub(crate) fn call<S: Source, K: Sink>(
         &mut self,
         function: PalCall,

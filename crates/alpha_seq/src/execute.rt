@@ -20,6 +20,7 @@ pub(crate) enum Executed {
 
 impl Machine {
     // Executes an instruction, if it is no barrier.
+    #[inline(always)]
     pub(crate) fn execute(&mut self, insn: &Insn) -> Executed
         ensures { ExecuteEffect result (class_of insn.now) self.old self.new }
     {

@@ -11,6 +11,7 @@ use alpha_io::{Failed, Line, Sink, write_whole};
 use alpha_words::{Reg, RegFile};
 
 /// Appends the line of a logged overflow, or on `Failed` a prefix of it: `overflow A`.
+#[inline(never)]
 pub fn write_overflow<K: Sink>(addr: u64, to: &mut K) -> Result<(), Failed>
     ensures written { OnOk result (Appends (K.written to.old) (K.written to.new)
         (overflow_line addr)) }
@@ -100,6 +101,7 @@ pub fn write_registers<K: Sink>(regs: &RegFile, to: &mut K) -> Result<(), Failed
 /// Appends the lines of a barrier, or on `Failed` a prefix of them: `barrier A`, where A is the PC after it,
 /// and the registers.
 #[tactic(auto, using(crate::proofs::Writing::both_written, crate::proofs::Writing::first_part, crate::proofs::Writing::second_part))]
+#[inline(never)]
 pub fn write_barrier<K: Sink>(pc: u64, regs: &RegFile, to: &mut K) -> Result<(), Failed>
     ensures written { OnOk result (Appends (K.written to.old) (K.written to.new)
         (barrier_lines pc regs.now)) }

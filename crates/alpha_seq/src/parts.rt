@@ -6,20 +6,22 @@ ghost use Rattle.alpha_values.specs.Source.{source_value};
 
 use crate::Machine;
 use alpha_image::code_word;
-use alpha_table::{Insn, Src, decode};
+use alpha_table::{Insn, Src, decode_inline};
 use alpha_words::Reg;
 
 impl Machine {
     /// The instruction at the PC, `None` where the PC is no address of a code word.
+    #[inline(always)]
     pub fn insn(&self) -> Option<Insn>
         ensures { result ≡ next_insn (program_of self.now) self.now.pc }
     {
         let place = self.image.place_of(self.pc)?;
         let word = code_word(&self.image, place)?;
-        decode(word)
+        decode_inline(word)
     }
 
     // The address of the next word.
+    #[inline(always)]
     pub(crate) fn next_pc(&self) -> u64
         ensures { result ≡ (self.now.pc + 4) % 2 ^ 64 }
     {
@@ -27,6 +29,7 @@ impl Machine {
     }
 
     /// Goes on to the next word.
+    #[inline(always)]
     pub fn advance(&mut self)
         ensures { self.new ≡ record self.old { pc = (self.old.pc + 4) % 2 ^ 64 } }
     {
@@ -34,6 +37,7 @@ impl Machine {
     }
 
     /// Writes a register, and goes on to the next word.
+    #[inline(always)]
     pub fn set(&mut self, r: Reg, value: u64)
         ensures { self.new ≡ record self.old {
           regs = put self.old.regs r value;
@@ -44,7 +48,8 @@ impl Machine {
         self.advance();
     }
 
-    /// The value of a second source.
+    /// The value of a second source (Architecture Handbook, section 3.3.3).
+    #[inline(always)]
     pub fn source(&self, src: &Src) -> u64
         ensures { result ≡ source_value self.now.regs src.now }
     {

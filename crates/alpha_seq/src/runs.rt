@@ -14,6 +14,7 @@ use alpha_io::{Sink, Source};
 /// written to the notes. `Lost` never comes. `InputFault` and `SinkFault` come only where that device
 /// failed in this call: the output got a prefix of what the program puts, and the notes a prefix of
 /// the lines.
+#[inline(never)]
 pub fn run<S: Source, K: Sink, N: Sink>(
     machine: &mut Machine,
     input: &mut S,
@@ -56,6 +57,7 @@ pub fn run<S: Source, K: Sink, N: Sink>(
 }
 
 // Makes one step and, where it is a barrier that is watched, writes its lines.
+#[inline(always)]
 fn turn<S: Source, K: Sink, N: Sink>(
     machine: &mut Machine,
     input: &mut S,
@@ -81,6 +83,7 @@ fn turn<S: Source, K: Sink, N: Sink>(
 }
 
 // How the run ends, if this step ends it.
+#[inline(always)]
 fn run_ended_by(step: StepEnd) -> Option<RunEnd>
     ensures { result ≡ run_ended_by step }
 {

@@ -13,11 +13,13 @@ use alpha_io::{Failed, Sink, Source};
 use alpha_table::Insn;
 
 impl Machine {
-    /// Makes one step, in user mode. An overflow is logged, and then its line is written to the notes. `Ended`
-    /// leaves all as it was. `InputFault` comes only where the input failed in this step: the bytes taken so far
-    /// are in memory, and all else but the kernel's frame is as it was. `SinkFault` comes only where the output
-    /// failed in a write, which leaves all but the frame and a prefix of the bytes, or where the notes failed at
-    /// the line of an overflow, which is then made and logged.
+    /// Makes one step, in user mode: the word at the PC does what its instruction does (Architecture Handbook,
+    /// chapter 4; the PAL calls are those of the Reference Manual's OSF/1 PALcode). An overflow is logged, and
+    /// then its line is written to the notes. `Ended` leaves all as it was. `InputFault` comes only where the
+    /// input failed in this step: the bytes taken so far are in memory, and all else but the kernel's frame is as
+    /// it was. `SinkFault` comes only where the output failed in a write, which leaves all but the frame and a
+    /// prefix of the bytes, or where the notes failed at the line of an overflow, which is then made and logged.
+    #[inline(always)]
     pub fn step<S: Source, K: Sink, N: Sink>(
         &mut self,
         input: &mut S,
@@ -39,6 +41,7 @@ impl Machine {
     }
 
     /// The same, by the instruction at the PC, if there is one, for a caller that has looked at it.
+    #[inline(always)]
     pub fn step_by<S: Source, K: Sink, N: Sink>(
         &mut self,
         insn: Option<Insn>,

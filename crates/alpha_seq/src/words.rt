@@ -14,6 +14,7 @@ use alpha_words::{Completion, Reg};
 
 // The words that access no memory, one function a family.
 impl Machine {
+    #[inline(always)]
     pub(crate) fn operate(&mut self, op: Op, ra: Reg, src: &Src, rc: Reg) -> Executed
         ensures { ExecuteEffect result (operate op ra src.now rc) self.old self.new }
     {
@@ -25,6 +26,7 @@ impl Machine {
         Executed::Went
     }
 
+    #[inline(always)]
     pub(crate) fn trigger(&mut self, op: TrapOp, ra: Reg, src: &Src, rc: Reg) -> Executed
         ensures { ExecuteEffect result (trigger op ra src.now rc) self.old self.new }
     {
@@ -39,6 +41,7 @@ impl Machine {
     }
 
     // Ends the program at an overflow, or completes it by this value and logs it.
+    #[inline(never)]
     fn overflow(&mut self, rc: Reg, value: u64) -> Executed
         ensures answer { result ≡ overflow_answer (stops self.old.how) self.old }
         ensures state { self.new ≡ overflow_left (stops self.old.how) self.old rc value }
@@ -54,6 +57,7 @@ impl Machine {
         Executed::Overflowed(at)
     }
 
+    #[inline(always)]
     pub(crate) fn address(&mut self, op: MemOp, ra: Reg, rb: Reg, disp: i16) -> Executed
         ensures { ExecuteEffect result (address op ra rb disp) self.old self.new }
     {
@@ -62,6 +66,7 @@ impl Machine {
         Executed::Went
     }
 
+    #[inline(always)]
     pub(crate) fn branch(&mut self, op: BranchOp, ra: Reg, disp: i32) -> Executed
         ensures { ExecuteEffect result (branch (branch_row op).condition ra disp) self.old self.new }
     {
@@ -77,6 +82,7 @@ impl Machine {
         Executed::Went
     }
 
+    #[inline(always)]
     pub(crate) fn jump(&mut self, ra: Reg, rb: Reg) -> Executed
         ensures { ExecuteEffect result (jump ra rb) self.old self.new }
     {
@@ -86,6 +92,7 @@ impl Machine {
         Executed::Went
     }
 
+    #[inline(always)]
     pub(crate) fn idle(&mut self) -> Executed
         ensures { ExecuteEffect result idle self.old self.new }
     {
@@ -95,6 +102,7 @@ impl Machine {
 }
 
 // What LDA and LDAH compute.
+#[inline(always)]
 fn computed(op: MemOp, base: u64, disp: i16) -> u64
     ensures { result ≡ computed op base disp }
 {
@@ -104,7 +112,8 @@ fn computed(op: MemOp, base: u64, disp: i16) -> u64
     }
 }
 
-/// The target of a branch at this address.
+/// The target of a branch at this address (Architecture Handbook, section 4.3).
+#[inline(always)]
 pub fn branch_target(pc: u64, disp: i32) -> u64
     ensures { result ≡ register_of (pos (pc + 4) +ℤ pos 4 *ℤ disp) }
 {
