@@ -10,9 +10,11 @@ pub mod Making
 pub mod Settling
 pub mod RunSteps
 pub mod RunGoes
+pub mod RunStops
 pub mod RunEnds
 pub mod Growing
 pub mod Prefixes
 pub mod Drawing
+pub mod Nearing
 pub mod Showing
 pub mod Fresh

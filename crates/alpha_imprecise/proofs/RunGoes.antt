@@ -1,21 +1,14 @@
--- A run between two steps, and where a step ends it.
+-- A run between two steps, and how a step goes on with it.
 use Rattle.std.specs.Prelude.{⊤}
-use Rattle.std.proofs.Common.{◌≡◌, ◌<◌, ◌≤◌, ◌+◌, ◌-◌, ◌*◌, ℕ, zero, suc, Bool, true, false, cond, ◌||◌, List, [], ◌++◌, Option, Some, None, is_none, IfSome, refl, sym, ap, subst, ◌∙◌, inl, inr, ⊎_elim, append-nil, add-one, arith}
-use Rattle.std.proofs.Math.Nat.{eq-or-lt_of_le}
+use Rattle.std.proofs.Common.{◌≡◌, ◌<◌, ◌≤◌, ◌+◌, ◌-◌, ◌*◌, ℕ, zero, suc, Bool, true, false, cond, ◌||◌, List, [], ◌++◌, Option, Some, None, is_none, IfSome, refl, sym, ap, subst, ◌∙◌, append-nil, add-one, arith}
 use Rattle.std.proofs.lemmas.Grind.{flat_map-append}
-use Rattle.alpha_io.specs.Faults.{Rose}
-use Rattle.alpha_io.specs.Sunk.{Sunk, Puts, Partly, HasFailed}
-use Rattle.alpha_io.proofs.Sinks.{Puts-none, Puts-then, Partly-then, Partly-more}
-use Rattle.alpha_seq.specs.declared.end.RunEnd.{RunEnd}
-use Rattle.alpha_seq.specs.declared.end.RunEnd.TheVariants as runs
-use Rattle.alpha_seq.specs.declared.machine.Machine.{Machine}
-use Rattle.alpha_seq.specs.State.{Program, State, Event, Went, Barriered, Overflowed, Ends}
+use Rattle.alpha_io.specs.Sunk.{Sunk, Puts}
+use Rattle.alpha_io.proofs.Sinks.{Puts-none, Puts-then}
+use Rattle.alpha_seq.specs.State.{Program, State, Went}
 use Rattle.alpha_seq.specs.Step.{next_class}
-use Rattle.alpha_seq.specs.Notes.{overflow_line, barrier_lines}
-use Rattle.alpha_seq.specs.Run.{Mark, is_over, mark_lines, notes_of}
+use Rattle.alpha_seq.specs.Run.{Mark, mark_lines, notes_of}
 use Rattle.alpha_seq.specs.Machine.{program_of, state_of}
-use Rattle.alpha_seq.specs.Devices.{Drawn, Draws, Idles}
-use Rattle.alpha_seq.specs.StepEffect.{InputFails, OutputFails}
+use Rattle.alpha_seq.specs.Devices.{Drawn, Draws}
 use Rattle.alpha_seq.proofs.RunSteps.{Times, drawn_before, drawn_after, drawn_over, sunk_before, sunk_after, sunk_over}
 use Rattle.alpha_imprecise.specs.declared.end.WildEnd.{WildEnd}
 use Rattle.alpha_imprecise.specs.declared.end.WildEnd.TheVariants as ends
@@ -24,19 +17,19 @@ use Rattle.alpha_imprecise.specs.Moment.{Trap, Happening, Precisely, Triggered, 
 use Rattle.alpha_imprecise.specs.Step.{triggers}
 use Rattle.alpha_imprecise.specs.Run.{WildRun, wild_marks, finished, resumed, unit_of}
 use Rattle.alpha_imprecise.specs.Chosen.{most_waited, chosen, waited_after}
-use Rattle.alpha_imprecise.specs.Made.{Making, advance_making, is_settled, settled_within, settled, made, wild_end}
+use Rattle.alpha_imprecise.specs.Made.{Making, advance_making, is_settled, settled_within, settled, made}
 use Rattle.alpha_imprecise.specs.Telling.{Telling}
 use Rattle.alpha_imprecise.specs.Wild.{WildState, bare, trap_of, trap_in, waited_in}
-use Rattle.alpha_imprecise.specs.WildEffect.{WildSteps, CallFails, ReportFails, WildEffect}
-use Rattle.alpha_imprecise.specs.WildTurn.{WildTurns, WatchFails, WildTurnEffect, run_ended_by}
-use Rattle.alpha_imprecise.specs.WildRunEffect.{begun_at, Leads, Makes, run_answer, answer_of, IsMade, IsCut, IsUnnoted, WildRunEffect}
+use Rattle.alpha_imprecise.specs.WildEffect.{WildSteps}
+use Rattle.alpha_imprecise.specs.WildTurn.{WildTurns, WildTurnEffect, run_ended_by}
+use Rattle.alpha_imprecise.specs.WildRunEffect.{begun_at, Leads}
 use Rattle.alpha_imprecise.proofs.Choosing.{Moves-none}
 use Rattle.alpha_imprecise.proofs.Making.{Settles, none, over, longer, chosen_settles}
-use Rattle.alpha_imprecise.proofs.Settling.{stays_settled, none_settled, over_settled, advance-over}
-use Rattle.alpha_imprecise.proofs.RunSteps.{onto, Leads-more, Leads-as}
+use Rattle.alpha_imprecise.proofs.Settling.{stays_settled, none_settled}
+use Rattle.alpha_imprecise.proofs.RunSteps.{onto, Leads-more}
 
 -- the run of so many units, which is these steps at most from here
-abbrev Nears : Program → ℕ → ℕ → Making → Making → Type 0
+abbrev pub Nears : Program → ℕ → ℕ → Making → Making → Type 0
 Nears g n fuel from to = made g from n ≡ settled_within fuel g to
 
 -- so many steps are enough to report what is pending
@@ -88,21 +81,8 @@ no_trap None e = refl
 no_trap (Some p) e = absurd cc
 
 -- a run at which nothing is pending has used its units
-used : (g : Program) (n fuel : ℕ) (from k : Making) → is_settled k ≡ true → Nears g n fuel from k → made g from n ≡ k
+pub used : (g : Program) (n fuel : ℕ) (from k : Making) → is_settled k ≡ true → Nears g n fuel from k → made g from n ≡ k
 used g n fuel from k e near = near ∙ stays_settled fuel g k e
-
--- a run that is over is that of more units too
-made-over : (g : Program) (k : Making) (m n : ℕ) → n ≤ m → finished (made g k n).run.last ≡ true → made g k m ≡ made g k n
-made-over g k zero n h e = let same : 0 ≡ n = omega (arith, h) in ap (made g k) same
-made-over g k (suc m) n h e =
-    ⊎_elim
-    (λ (same : n ≡ suc m). ap (made g k) (sym same))
-    (λ (below : n < suc m).
-    let there : n ≤ m = omega (arith, below) in
-    let l = made g k n in
-    ap (λ (j : Making). settled g (advance_making g j)) (made-over g k m n there e)
-    ∙ (ap (settled g) (advance-over g l e) ∙ stays_settled (most_waited + 1) g l (over_settled l e)))
-    (eq-or-lt_of_le h)
 
 -- one step more, with nothing pending
 lift_none : (g : Program) (n fuel : ℕ) (from k : Making) → k.run.pending ≡ None → Nears g n fuel from k → Nears g (n + 1) (most_waited + 1) from (advance_making g k)
@@ -120,7 +100,7 @@ lift_some g n fuel t from k some going near =
 -- ---- what is pending behind a step
 
 -- whether a trap may be pending behind such a step
-abbrev keeps : Happening → Bool
+abbrev pub keeps : Happening → Bool
 keeps (Precisely event) = false
 keeps Triggered = true
 keeps Waited = true
@@ -158,7 +138,7 @@ waits_more p q h mid new before after input out some still going did = by (settl
     )
 
 -- nothing is pending behind a report, or behind a word that is executed with nothing pending and doesn't overflow
-calm_after : (h : Happening) (mid new : WildState) (before after : Telling) (input : Drawn) (out : Sunk)
+pub calm_after : (h : Happening) (mid new : WildState) (before after : Telling) (input : Drawn) (out : Sunk)
     → finished h ≡ false → keeps h ≡ false → WildSteps h mid new before after input out → new.pending ≡ None
 calm_after h mid new before after input out going calm did = no_trap new.pending (by (trap_in mid.pending) refl)
   where
@@ -222,16 +202,16 @@ turn_shortens left watch ends.SinkFault mid new before after input out notes som
 -- ---- one step more
 
 -- a run and one step more, which may have ended it
-record Came (n : ℕ) (h : Happening) (run : WildRun) (old new : WildState) (before after : Telling) (input : Drawn) (out : Sunk) : Type 0 where
-  fuel : ℕ
-  enough : finished h ≡ false → Enough new.pending fuel
-  steps : Leads (Nears (program_of old.machine) n fuel) run old new before after input out
+pub record Came (n : ℕ) (h : Happening) (run : WildRun) (old new : WildState) (before after : Telling) (input : Drawn) (out : Sunk) : Type 0 where
+  pub fuel : ℕ
+  pub enough : finished h ≡ false → Enough new.pending fuel
+  pub steps : Leads (Nears (program_of old.machine) n fuel) run old new before after input out
 
 ample : (p : Option Pending) → Enough p (most_waited + 1)
 ample None = tt
 ample (Some p) = omega arith
 
-came : (xs : List ℕ) (n : ℕ) (watch : Bool) (h : Happening) (old mid new : WildState) (before told after : Telling) (input out : Times) (lines : Sunk)
+pub came : (xs : List ℕ) (n : ℕ) (watch : Bool) (h : Happening) (old mid new : WildState) (before told after : Telling) (input out : Times) (lines : Sunk)
     → input.first ≡ Some xs → IfSome mid.pending (λ p. p.waited ≤ most_waited)
     → (one : Goes n watch old mid before told (drawn_before input) (sunk_before out) lines)
     → WildSteps h mid new told after (drawn_after input) (sunk_after out)
@@ -278,11 +258,11 @@ came xs n watch h old mid new before told after input out lines tells few one tw
     }
     by (Some p) e = at_some p one.fuel e (subst (λ (o : Option Pending). Enough o one.fuel) e one.enough) (subst (λ (o : Option Pending). IfSome o (λ q. q.waited ≤ most_waited)) e few) one.steps
 
-notes-more : (watch : Bool) (trace marks : List Mark) → notes_of watch (trace ++ marks) ≡ notes_of watch trace ++ notes_of watch marks
+pub notes-more : (watch : Bool) (trace marks : List Mark) → notes_of watch (trace ++ marks) ≡ notes_of watch trace ++ notes_of watch marks
 notes-more watch trace marks = flat_map-append (mark_lines watch) trace marks
 
 -- the lines of a run and of one step more
-lines_more : (watch : Bool) (h : Happening) (run : WildRun) (mid new : WildState) (notes : Times)
+pub lines_more : (watch : Bool) (h : Happening) (run : WildRun) (mid new : WildState) (notes : Times)
     → Puts (sunk_before notes) (notes_of watch run.trace) → Puts (sunk_after notes) (notes_of watch (wild_marks h (bare new.machine)))
     → Puts (sunk_over notes) (notes_of watch (onto run h mid new).trace)
 lines_more watch h run mid new notes one two =
@@ -306,120 +286,6 @@ goes_more xs n watch h old mid new before told after input out notes tells few g
       lines = lines_more watch h one.run mid new notes one.lines two.lines;
     }
 
--- a run that is over is that of all units
-made_over : (n units : ℕ) (watch : Bool) (h : Happening) (run : WildRun) (old new : WildState) (before after : Telling) (input : Drawn) (out : Sunk)
-    → n ≤ units → run.last ≡ h → finished h ≡ true → Came n h run old new before after input out
-    → Makes units run old new before after input out
-made_over n units watch h run old new before after input out most last stops one =
-    let g = program_of old.machine in
-    Leads-as (Nears g n one.fuel) (λ from to. made g from units ≡ to) run old new before after input out
-    (λ from k pending same near.
-    let final : finished k.run.last ≡ true = ap finished (same ∙ last) ∙ stops in
-    let there = used g n one.fuel from k (over_settled k final) near in
-    made-over g from units n most (ap (λ (j : Making). finished j.run.last) there ∙ final) ∙ there)
-    one.steps
-
-ended : (xs : List ℕ) (n units : ℕ) (watch : Bool) (h : Happening) (answer : RunEnd) (old mid new : WildState) (before told after : Telling) (input out notes : Times)
-    → input.first ≡ Some xs → IfSome mid.pending (λ p. p.waited ≤ most_waited) → n + unit_of (trap_in mid.pending) ≤ units
-    → finished h ≡ true → answer_of h ≡ answer
-    → Goes n watch old mid before told (drawn_before input) (sunk_before out) (sunk_before notes)
-    → WildTurns watch h mid new told after (drawn_after input) (sunk_after out) (sunk_after notes)
-    → IsMade units watch answer old new before after (drawn_over input) (sunk_over out) (sunk_over notes)
-ended xs n units watch h answer old mid new before told after input out notes tells few most stops is one two =
-    let more = came xs n watch h old mid new before told after input out (sunk_before notes) tells few one two.made in
-    record {
-      run = onto one.run h mid new;
-      steps = made_over (n + unit_of (trap_in mid.pending)) units watch h (onto one.run h mid new) old new before after (drawn_over input) (sunk_over out) most refl stops more;
-      answer_is = is;
-      lines = lines_more watch h one.run mid new notes one.lines two.lines;
-    }
-
--- a run at which nothing is pending is that of its units
-made_calm : (n fuel : ℕ) (run : WildRun) (old new : WildState) (before after : Telling) (input : Drawn) (out : Sunk)
-    → new.pending ≡ None → Leads (Nears (program_of old.machine) n fuel) run old new before after input out
-    → Makes n run old new before after input out
-made_calm n fuel run old new before after input out calm one =
-    let g = program_of old.machine in
-    Leads-as (Nears g n fuel) (λ from to. made g from n ≡ to) run old new before after input out
-    (λ from k pending same near. used g n fuel from k (none_settled k (pending ∙ ap trap_in calm)) near)
-    one
-
-spent_event : (event : Event) → is_over event ≡ false → run_answer (wild_end (Precisely event)) None ≡ runs.Spent
-spent_event Went e = refl
-spent_event Barriered e = refl
-spent_event (Overflowed at) e = refl
-spent_event (Ends end) e = absurd cc
-
-spent : (h : Happening) → finished h ≡ false → answer_of h ≡ runs.Spent
-spent (Precisely event) e = spent_event event e
-spent Triggered e = refl
-spent Waited e = refl
-spent (Reported at) e = refl
-spent (Lost pc mask) e = absurd cc
-
-pub goes_calm : (n : ℕ) (watch : Bool) (old new : WildState) (before after : Telling) (input : Drawn) (out notes : Sunk)
-    → new.pending ≡ None → Goes n watch old new before after input out notes
-    → IsMade n watch runs.Spent old new before after input out notes
-goes_calm n watch old new before after input out notes calm one = record {
-  run = one.run;
-  steps = made_calm n one.fuel one.run old new before after input out calm one.steps;
-  answer_is = spent one.run.last one.going;
-  lines = one.lines;
-}
-
--- ---- a step that failed
-
-cut : (n units : ℕ) (watch : Bool) (Fails : Machine → Machine → Drawn → Sunk → Type 0) (old mid new : WildState) (before told after : Telling) (input out notes : Times)
-    → input.faults_mid ≡ input.faults_first → out.faults_mid ≡ out.faults_first
-    → n + unit_of (trap_in mid.pending) ≤ units
-    → Goes n watch old mid before told (drawn_before input) (sunk_before out) (sunk_before notes)
-    → CallFails (Fails mid.machine new.machine (drawn_after input) (sunk_after out)) mid new told after → Idles (sunk_after notes)
-    → IsCut units watch Fails old new before after (drawn_over input) (sunk_over out) (sunk_over notes)
-cut n units watch Fails old mid new before told after input out notes source sink most one two quiet =
-    let unit : n + unit_of (trap_in mid.pending) ≡ n + 1 = ap (λ (o : Option Pending). n + unit_of (trap_in o)) two.calm in
-    record {
-      made = n;
-      less = omega arith;
-      mid = mid;
-      told = told;
-      left = input.mid;
-      written = out.mid;
-      first =
-          subst (λ a. IsMade n watch runs.Spent old mid before told (record { old = input.first; new = input.mid; before = input.faults_first; now = a }) (record { old = out.first; new = out.mid; before = out.faults_first; now = out.faults_first }) (sunk_over notes)) source
-          (subst (λ b. IsMade n watch runs.Spent old mid before told (drawn_before input) (record { old = out.first; new = out.mid; before = out.faults_first; now = b }) (sunk_over notes)) sink
-          (subst (λ l. IsMade n watch runs.Spent old mid before told (drawn_before input) (sunk_before out) (record { old = notes.first; new = l; before = notes.faults_first; now = notes.faults_last })) (sym quiet.written)
-          (subst (λ k. IsMade n watch runs.Spent old mid before told (drawn_before input) (sunk_before out) (record { old = notes.first; new = notes.mid; before = notes.faults_first; now = k })) (sym quiet.same)
-          (goes_calm n watch old mid before told (drawn_before input) (sunk_before out) (sunk_before notes) two.calm one))));
-      last =
-          subst (λ a. CallFails (Fails mid.machine new.machine (record { old = input.mid; new = input.last; before = a; now = input.faults_last }) (record { old = out.mid; new = out.last; before = out.faults_first; now = out.faults_last })) mid new told after) source
-          (subst (λ b. CallFails (Fails mid.machine new.machine (drawn_after input) (record { old = out.mid; new = out.last; before = b; now = out.faults_last })) mid new told after) sink two);
-    }
-
-unnoted : (xs : List ℕ) (n units : ℕ) (watch : Bool) (h : Happening) (old mid new : WildState) (before told after : Telling) (input out notes : Times)
-    → input.first ≡ Some xs → IfSome mid.pending (λ p. p.waited ≤ most_waited) → n + unit_of (trap_in mid.pending) ≤ units
-    → finished h ≡ false → keeps h ≡ false
-    → Goes n watch old mid before told (drawn_before input) (sunk_before out) (sunk_before notes)
-    → WildSteps h mid new told after (drawn_after input) (sunk_after out)
-    → Partly (sunk_after notes) (notes_of watch (wild_marks h (bare new.machine)))
-    → HasFailed (sunk_after notes)
-    → IsUnnoted units watch old new before after (drawn_over input) (sunk_over out) (sunk_over notes)
-unnoted xs n units watch h old mid new before told after input out notes tells few most going calm one two part failed =
-    let marks = wild_marks h (bare new.machine) in
-    let more = came xs n watch h old mid new before told after input out (sunk_before notes) tells few one two in
-    let both = Partly-then notes.first notes.mid notes.last notes.faults_first notes.faults_mid notes.faults_last (notes_of watch one.run.trace) (notes_of watch marks) one.lines part in
-    record {
-      made = n + unit_of (trap_in mid.pending);
-      most = most;
-      run = onto one.run h mid new;
-      steps = made_calm (n + unit_of (trap_in mid.pending)) more.fuel (onto one.run h mid new) old new before after (drawn_over input) (sunk_over out) (calm_after h mid new told after (drawn_after input) (sunk_after out) going calm two) more.steps;
-      part = subst (Partly (sunk_over notes)) (sym (notes-more watch one.run.trace marks)) both;
-      cause = subst (λ k. Rose k notes.faults_last) one.lines.same failed;
-    }
-
-barrier_part : (watch : Bool) (notes : Sunk) (m : Machine) → watch ≡ true → Partly notes (barrier_lines m.pc m.regs)
-    → Partly notes (notes_of watch (wild_marks (Precisely Barriered) (bare m)))
-barrier_part watch notes m watched part = rw watched (Partly-more notes (barrier_lines m.pc m.regs) [] part)
-
 -- ---- one turn of the run
 
 pub turn_goes_on : (xs : List ℕ) (n : ℕ) (watch : Bool) (answer : WildEnd) (old mid new : WildState) (before told after : Telling) (input out notes : Times)
@@ -437,43 +303,7 @@ turn_goes_on xs n watch (ends.Lost pc mask) old mid new before told after input 
 turn_goes_on xs n watch ends.InputFault old mid new before told after input out notes tells few goes one two = absurd cc
 turn_goes_on xs n watch ends.SinkFault old mid new before told after input out notes tells few goes one two = absurd cc
 
--- a step that ends the run
-pub turn_stops : (xs : List ℕ) (n units : ℕ) (watch : Bool) (answer : WildEnd) (end : RunEnd) (old mid new : WildState) (before told after : Telling) (input out notes : Times)
-    → input.first ≡ Some xs → IfSome mid.pending (λ p. p.waited ≤ most_waited) → n + unit_of (trap_in mid.pending) ≤ units → run_ended_by answer ≡ Some end
-    → Goes n watch old mid before told (drawn_before input) (sunk_before out) (sunk_before notes)
-    → WildTurnEffect watch answer mid new told after (drawn_after input) (sunk_after out) (sunk_after notes)
-    → WildRunEffect end units watch old new before after (drawn_over input) (sunk_over out) (sunk_over notes)
-turn_stops xs n units watch ends.Went end old mid new before told after input out notes tells few most stops one two = absurd cc
-turn_stops xs n units watch ends.Barrier end old mid new before told after input out notes tells few most stops one two = absurd cc
-turn_stops xs n units watch ends.Triggered end old mid new before told after input out notes tells few most stops one two = absurd cc
-turn_stops xs n units watch ends.Waited end old mid new before told after input out notes tells few most stops one two = absurd cc
-turn_stops xs n units watch (ends.Reported at) end old mid new before told after input out notes tells few most stops one two = absurd cc
-turn_stops xs n units watch (ends.Ended e) end old mid new before told after input out notes tells few most stops one two =
-    let same : runs.Ended e ≡ end = cc in
-    subst (λ r. WildRunEffect r units watch old new before after (drawn_over input) (sunk_over out) (sunk_over notes)) same
-    (ended xs n units watch (Precisely (Ends e)) (runs.Ended e) old mid new before told after input out notes tells few most refl refl one two)
-turn_stops xs n units watch (ends.Lost pc mask) end old mid new before told after input out notes tells few most stops one two =
-    let same : runs.Lost pc mask ≡ end = cc in
-    subst (λ r. WildRunEffect r units watch old new before after (drawn_over input) (sunk_over out) (sunk_over notes)) same
-    (ended xs n units watch (Lost pc mask) (runs.Lost pc mask) old mid new before told after input out notes tells few most refl refl one two)
-turn_stops xs n units watch ends.InputFault end old mid new before told after input out notes tells few most stops one two =
-    let same : runs.InputFault ≡ end = cc in
-    subst (λ r. WildRunEffect r units watch old new before after (drawn_over input) (sunk_over out) (sunk_over notes)) same
-    (cut n units watch InputFails old mid new before told after input out notes one.steps.took.same one.steps.wrote.same most one two.0 two.1)
-turn_stops xs n units watch ends.SinkFault end old mid new before told after input out notes tells few most stops one two =
-    let same : runs.SinkFault ≡ end = cc in
-    subst (λ r. WildRunEffect r units watch old new before after (drawn_over input) (sunk_over out) (sunk_over notes)) same
-    (⊎_elim
-    (λ (failed : WildEffect ends.SinkFault mid new told after (drawn_after input) (sunk_after out) (sunk_after notes)).
-    ⊎_elim
-    (λ (call : CallFails (OutputFails mid.machine new.machine (drawn_after input) (sunk_after out)) mid new told after × Idles (sunk_after notes)).
-    inl (cut n units watch OutputFails old mid new before told after input out notes one.steps.took.same one.steps.wrote.same most one call.0 call.1))
-    (λ (line : ReportFails mid new told after (drawn_after input) (sunk_after out) (sunk_after notes)).
-    inr (unnoted xs n units watch (Reported line.at) old mid new before told after input out notes tells few most refl refl one line.made (Partly-more (sunk_after notes) (overflow_line line.at) [] line.part) line.cause))
-    failed)
-    (λ (lines : WatchFails watch mid new told after (drawn_after input) (sunk_after out) (sunk_after notes)).
-    inr (unnoted xs n units watch (Precisely Barriered) old mid new before told after input out notes tells few most refl refl one lines.made (barrier_part watch (sunk_after notes) new.machine lines.watched lines.part) lines.cause))
-    two)
+-- ---- the units that are left
 
 -- a run that has no unit for its next step has used them all, and nothing is pending
 pub all_used : (left : ℕ) (p : Option Pending) → left < unit_of (trap_in p) → (p ≡ None) × (left ≡ 0)

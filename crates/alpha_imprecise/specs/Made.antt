@@ -1,5 +1,5 @@
 -- The runs that coming words make.
-use Rattle.std.specs.Prelude.{ℕ, zero, suc, ◌+◌, ◌*◌, Bool, ◌||◌, if◌then◌else◌, List, [], ◌∷◌, drop, Option, Some, None, is_none}
+use Rattle.std.specs.Prelude.{◌≡◌, ◌<◌, ◌≤◌, ℕ, zero, suc, ◌+◌, ◌*◌, Bool, true, ◌||◌, if◌then◌else◌, List, [], ◌∷◌, drop, Option, Some, None, is_none}
 use Rattle.alpha_seq.specs.declared.end.End.{End}
 use Rattle.alpha_seq.specs.State.{Program, State}
 use Rattle.alpha_seq.specs.Start.{start}
@@ -58,6 +58,27 @@ settled g k = settled_within (most_waited + 1) g k
 abbrev pub made : Program → Making → ℕ → Making
 made g k zero = settled g k
 made g k (suc n) = settled g (advance_making g (made g k n))
+
+-- ---- how many steps such a run takes
+
+-- The most steps that so many units take with nothing pending at the beginning. A unit is a step that may trigger a trap,
+-- then one step for each word that is executed while it is pending, and its report.
+abbrev pub most_steps : ℕ → ℕ
+most_steps n = 1026 * n
+
+-- so many steps at most lead from a run to another one
+pub record IsWithin (most : ℕ) (g : Program) (from to : Making) : Type 0 where
+  pub steps : ℕ
+  pub bound : steps ≤ most
+  pub reached : steps_making g from steps ≡ to
+
+-- How a step that a run makes brings it to its end: it uses a unit; or it executes one word more while a trap is pending,
+-- for which fewer than the most had been executed; or nothing is pending behind it; or the run is over behind it.
+pub data Nearer (old new : Making) : Type 0 where
+  Used : new.run.units ≡ old.run.units + 1 → Nearer old new
+  Waiting : old.waited < most_waited → new.waited ≡ old.waited + 1 → Nearer old new
+  Settled : new.run.pending ≡ None → Nearer old new
+  Finished : finished new.run.last ≡ true → Nearer old new
 
 -- ---- what such a run shows
 

@@ -6,6 +6,8 @@
 //!   trap is lost or a number of units is used up.
 //! - A [`Chooser`] answers the words of 64 bits by which a step chooses: [`ListChooser`] has them from bytes,
 //!   [`PcgChooser`] from a seeded generator. A [`CountingChooser`] counts the words of another one.
+//! - [`laws_of_chosen_runs`]: a run by such words uses its units or is over before, and takes 1,026 steps a unit at
+//!   most.
 //!
 //! `specs/Moment.antt` has what the machine is at a moment and what it is free to choose, `specs/Step.antt` the
 //! step, `specs/Run.antt` the runs, `specs/Chosen.antt` the choices that are made by words of 64 bits,
@@ -16,12 +18,13 @@
 //!
 //! `src/step.rt` has the step by what it is, `src/look.rt` what the word at the PC would do, `src/spoil.rt` the words
 //! that are executed while a trap is pending, `src/report.rt` the report, through the kernel's frame and the
-//! handler, and `src/runs.rt` the run.
+//! handler, `src/runs.rt` the run, and `src/laws.rt` the laws.
 #![tactic(auto)]
 
 mod chooser;
 mod counting;
 mod end;
+mod laws;
 mod list;
 mod look;
 mod pcg;
@@ -35,6 +38,7 @@ mod wild;
 pub use chooser::Chooser;
 pub use counting::CountingChooser;
 pub use end::WildEnd;
+pub use laws::laws_of_chosen_runs;
 pub use list::ListChooser;
 pub use pcg::PcgChooser;
 pub use pending::Pending;

@@ -1,7 +1,8 @@
 ghost use Rattle.std.specs.Prelude.{◌≡◌, ◌≤◌, ◌*◌, Some, None, IfOk, length};
-ghost use Rattle.alpha_words.specs.Digits.{little, little_at};
+ghost use Rattle.alpha_words.specs.Digits.{little_at};
 
 use crate::Chooser;
+use alpha_mem::number_of;
 use alpha_words::NoMemory;
 use std::alloc::Global;
 use std::marker::Model;
@@ -46,14 +47,4 @@ impl Chooser for ListChooser {
         self.at += count;
         word
     }
-}
-
-// The number whose bytes these are, the lowest first.
-fn number_of(bytes: &[u8]) -> u64
-    requires { length bytes.now ≤ 8 }
-    ensures { result ≡ little bytes.now }
-{
-    let mut whole = [0; 8];
-    whole[..bytes.len()].copy_from_slice(bytes);
-    u64::from_le_bytes(whole)
 }

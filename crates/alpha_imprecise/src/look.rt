@@ -22,6 +22,7 @@ pub(crate) struct Overflow {
 }
 
 /// The word at the PC, by its instruction, if it overflows.
+#[inline(always)]
 pub(crate) fn overflow_of(machine: &Machine, insn: &Insn) -> Option<Overflow>
     requires { Some insn.now ≡ next_insn (program_of machine.now) machine.now.pc }
     ensures found { IfSome result (λ o. OverflowsAt machine.now o.place o.rc) }
@@ -33,6 +34,7 @@ pub(crate) fn overflow_of(machine: &Machine, insn: &Insn) -> Option<Overflow>
 }
 
 // The destination of an instruction that overflows.
+#[inline(always)]
 fn overflowing(machine: &Machine, insn: &Insn) -> Option<Reg>
     ensures found { IfSome result (λ rc. triggers (Some (class_of insn.now)) (bare machine.now) ≡ true) }
     ensures into { IfSome result (λ rc. destination (Some (class_of insn.now)) ≡ rc) }
@@ -52,6 +54,7 @@ fn overflowing(machine: &Machine, insn: &Insn) -> Option<Reg>
 
 /// The word at the PC, if it can be executed while a trap waits: it is no barrier, and an access of
 /// it doesn't fault.
+#[inline(never)]
 pub(crate) fn waits_here(machine: &Machine) -> Option<Insn>
     ensures found { IfSome result (λ insn. WaitsAt machine.now (class_of insn)) }
     ensures none { IfNone result (can_wait (class_here machine.now) (bare machine.now) ≡ false) }

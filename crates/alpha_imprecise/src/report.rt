@@ -23,6 +23,7 @@ pub(crate) enum Landing {
 }
 
 /// Reports a trap with this mask, in user mode.
+#[inline(never)]
 pub(crate) fn report(machine: &mut Machine, mask: RegSet) -> Landing
     requires { IsTrue machine.old.kernel.user }
     ensures { (place : ℕ)

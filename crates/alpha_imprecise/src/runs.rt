@@ -26,6 +26,7 @@ use alpha_seq::{RunEnd, write_barrier};
 /// From a machine at the start and with nothing pending it is the run that the chooser's words make,
 /// where they are told. If the image can be restarted, it is the sequential run whatever the chooser
 /// answers, and `Lost` never comes.
+#[inline(never)]
 pub fn run<C: Chooser, S: Source, K: Sink, N: Sink>(
     wild: &mut Wild,
     chooser: &mut C,
@@ -85,6 +86,7 @@ pub fn run<C: Chooser, S: Source, K: Sink, N: Sink>(
 }
 
 // The units that the next step uses: one with nothing pending, else none.
+#[inline(always)]
 fn unit(wild: &Wild) -> u64
     ensures value { result ≡ unit_of (trap_in wild.now.pending) }
     ensures bound { IfSome wild.now.pending (λ p. p.waited ≤ 1024) }
@@ -96,6 +98,7 @@ fn unit(wild: &Wild) -> u64
 }
 
 // Makes one step and, where it is a barrier that is watched, writes its lines.
+#[inline(always)]
 fn turn<C: Chooser, S: Source, K: Sink, N: Sink>(
     wild: &mut Wild,
     chooser: &mut C,
@@ -124,6 +127,7 @@ fn turn<C: Chooser, S: Source, K: Sink, N: Sink>(
 }
 
 // How the run ends, if this step ends it.
+#[inline(always)]
 fn run_ended_by(step: WildEnd) -> Option<RunEnd>
     ensures { result ≡ run_ended_by step }
 {

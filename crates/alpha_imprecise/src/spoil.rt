@@ -15,6 +15,7 @@ use alpha_words::Reg;
 
 /// Executes an instruction that is no barrier and doesn't fault, by this value for its destination
 /// and the bytes that it stores.
+#[inline(never)]
 pub(crate) fn spoil(machine: &mut Machine, insn: &Insn, value: u64)
     requires { can_wait (Some (class_of insn.now)) (bare machine.old) ≡ true }
     ensures { Spoils (class_of insn.now) value machine.old machine.new }

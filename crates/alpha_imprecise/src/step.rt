@@ -26,6 +26,7 @@ use alpha_words::{Reg, RegSet};
 const MOST_WAITED: u32 = 1024;
 
 /// Makes a step of a machine in user mode, with a trap that may be pending.
+#[inline(always)]
 pub(crate) fn step<C: Chooser, S: Source, K: Sink, N: Sink>(
     machine: &mut Machine,
     pending: &mut Option<Pending>,
@@ -53,6 +54,7 @@ pub(crate) fn step<C: Chooser, S: Source, K: Sink, N: Sink>(
 }
 
 // Makes a step with nothing pending.
+#[inline(always)]
 fn with_none<C: Chooser, S: Source, K: Sink, N: Sink>(
     machine: &mut Machine,
     pending: &mut Option<Pending>,
@@ -86,6 +88,7 @@ fn with_none<C: Chooser, S: Source, K: Sink, N: Sink>(
 }
 
 // Makes a step while a trap is pending.
+#[inline(always)]
 fn with_trap<C: Chooser, N: Sink>(
     machine: &mut Machine,
     pending: &mut Option<Pending>,
@@ -120,6 +123,7 @@ fn with_trap<C: Chooser, N: Sink>(
 }
 
 // The word at the PC, if the trap may wait for its execution.
+#[inline(always)]
 fn waiting_insn(machine: &Machine, trap: &Pending) -> Option<Insn>
     ensures found { IfSome result (λ insn. WaitsAt machine.now (class_of insn)) }
     ensures few { IfSome result (λ insn. trap.now.waited < 1024) }
@@ -134,6 +138,7 @@ fn waiting_insn(machine: &Machine, trap: &Pending) -> Option<Insn>
 }
 
 // Makes a precise step, at a word that doesn't overflow.
+#[inline(always)]
 fn precise<S: Source, K: Sink, N: Sink>(
     machine: &mut Machine,
     insn: Option<Insn>,
@@ -162,6 +167,7 @@ fn precise<S: Source, K: Sink, N: Sink>(
 }
 
 // Executes a word that overflows by this value for its destination. Its trap is pending then.
+#[inline(never)]
 fn trigger(machine: &mut Machine, pending: &mut Option<Pending>, overflow: &Overflow, value: u64)
     requires none { pending.old ≡ None }
     requires overflows { OverflowsAt machine.old overflow.now.place overflow.now.rc }
@@ -179,6 +185,7 @@ fn trigger(machine: &mut Machine, pending: &mut Option<Pending>, overflow: &Over
 }
 
 // Executes a word while a trap waits, by its two words.
+#[inline(always)]
 fn wait(
     machine: &mut Machine,
     pending: &mut Option<Pending>,
@@ -205,6 +212,7 @@ fn wait(
 }
 
 // The mask after an instruction, which adds its destination to it where that is asked for.
+#[inline(always)]
 fn mask_after(insn: &Insn, mask: RegSet, adds: bool) -> RegSet
     ensures { result ≡ mask_after (Some (class_of insn.now)) mask adds }
 {
@@ -216,6 +224,7 @@ fn mask_after(insn: &Insn, mask: RegSet, adds: bool) -> RegSet
 }
 
 // The destination of an instruction that may trap, R31 for every other one.
+#[inline(always)]
 fn destination(insn: &Insn) -> Reg
     ensures { result ≡ destination (Some (class_of insn.now)) }
 {
@@ -236,6 +245,7 @@ fn mask_with(mask: RegSet, r: Reg) -> RegSet
 }
 
 // Reports the pending trap, and writes the line of what is logged.
+#[inline(always)]
 fn report_pending<N: Sink>(
     machine: &mut Machine,
     pending: &mut Option<Pending>,

@@ -44,6 +44,7 @@ impl Wild {
     }
 
     /// The machine.
+    #[inline(always)]
     pub fn machine(&self) -> &Machine
         ensures { result.now ≡ self.now.machine }
     {
@@ -51,6 +52,7 @@ impl Wild {
     }
 
     /// The trap that is pending.
+    #[inline(always)]
     pub fn pending(&self) -> Option<Pending>
         ensures value { result ≡ self.now.pending }
         ensures bound { IfSome result (λ p. p.waited ≤ 1024) }
@@ -68,6 +70,7 @@ impl Wild {
     /// A report that logs writes its line after the handler has returned. `InputFault` comes only
     /// where the input failed in this step, and `SinkFault` where the output did, or the notes at the
     /// line of a report, which is then made and logged.
+    #[inline(always)]
     pub fn step<C: Chooser, S: Source, K: Sink, N: Sink>(
         &mut self,
         chooser: &mut C,

@@ -24,8 +24,9 @@ pub struct Lost {
     pub mask: RegSet,
 }
 
-/// Handles the trap for which the kernel was entered, in kernel mode: its PC is in the frame, and its mask
-/// is the bits 0 to 30 of R17. By wrap and by saturate the instruction that made the trap is completed
+/// Handles the trap for which the kernel was entered, in kernel mode (Architecture Handbook, arithmetic trap
+/// completion): its PC is in the frame, and its mask is the bits 0 to 30 of R17 (Reference Manual, OSF/1
+/// entry entArith). By wrap and by saturate the instruction that made the trap is completed
 /// from the user's registers, the value goes to the user's destination, and the answer is the address
 /// behind it. By stop no register of the user changes, and the answer is the instruction's own address.
 /// The mode is user again, and the frame has the answer as its PC and the registers as they are then.

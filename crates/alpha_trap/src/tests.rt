@@ -1,8 +1,8 @@
 ghost use Rattle.std.specs.Prelude.{◌≡◌, false, IfOk};
 
 use crate::{Lost, handle, scan_back};
-use alpha_image::{Fields, Image};
 use alpha_pal::Kernel;
+use alpha_samples::sample;
 use alpha_words::{Completion, NoMemory, Reg, RegFile, RegSet};
 use std::alloc::Global;
 use std::test::Fail;
@@ -57,25 +57,6 @@ const DESTINATIONS: [u32; 12] = [
     0x63ff_0000,
 ];
 
-// An image with this code from 0x10000 on.
-fn image(alloc: Global, words: &[u32]) -> Result<Image, Fail> {
-    let mut code = Vec::new(alloc);
-    for word in words {
-        code.extend_from_slice(&word.to_le_bytes())?;
-    }
-    if code.len() % 4 != 0 {
-        return Err("the code has no whole words")?;
-    }
-    let fields = Fields {
-        code_base: 0x1_0000,
-        data_base: 0x1000_0000,
-        entry: 0x1_0000,
-        zeroed: 0,
-        stack: 65_536,
-    };
-    Ok(Image::build(alloc, &fields, &code, &[])?)
-}
-
 // A kernel that was entered for a trap at an address with a mask.
 fn entered(alloc: Global, regs: &mut RegFile, pc: u64, mask: u32) -> Result<Kernel, NoMemory>
     ensures { IfOk result (λ kernel. kernel.user ≡ false) }
@@ -109,7 +90,7 @@ fn are_same(left: &RegFile, right: &RegFile) -> bool {
 
 #[test]
 fn the_scan_finds_the_greatest_place_that_fits(rt: HostRuntime) -> Result<(), Fail> {
-    let sums = image(rt.alloc(), &SUMS)?;
+    let sums = sample(rt.alloc(), &SUMS, 0)?;
     for (pc, mask, want) in [
         (0x1_0014, 0b1_1000, Some(3)),
         (0x1_0014, 0b1_0000, Some(4)),
@@ -124,7 +105,7 @@ fn the_scan_finds_the_greatest_place_that_fits(rt: HostRuntime) -> Result<(), Fa
         let found = scan_back(&sums, pc, RegSet::of_bits(mask));
         assert_eq!(rt; found, want, "at {pc:x} {mask:x}");
     }
-    let turn = image(rt.alloc(), &TURN)?;
+    let turn = sample(rt.alloc(), &TURN, 0)?;
     for (pc, mask, want) in [
         (0x1_0018, 0b1000, Some(5)),
         (0x1_0018, 0b1_1000, Some(2)),
@@ -142,7 +123,7 @@ fn the_scan_finds_the_greatest_place_that_fits(rt: HostRuntime) -> Result<(), Fa
 
 #[test]
 fn sources_come_from_the_frame_and_the_value_goes_there(rt: HostRuntime) -> Result<(), Fail> {
-    let saved = image(rt.alloc(), &SAVED)?;
+    let saved = sample(rt.alloc(), &SAVED, 0)?;
     for (how, want, next) in [
         (
             Completion::Wrap,
@@ -174,7 +155,7 @@ fn sources_come_from_the_frame_and_the_value_goes_there(rt: HostRuntime) -> Resu
 
 #[test]
 fn each_destination_gets_its_value_alone(rt: HostRuntime) -> Result<(), Fail> {
-    let destinations = image(rt.alloc(), &DESTINATIONS)?;
+    let destinations = sample(rt.alloc(), &DESTINATIONS, 0)?;
     let most = u64::MAX >> 1;
     for (n, pc) in [
         (3, 0x1_0004),
@@ -204,7 +185,7 @@ fn each_destination_gets_its_value_alone(rt: HostRuntime) -> Result<(), Fail> {
 
 #[test]
 fn a_return_after_a_lost_trap_gives_everything_back(rt: HostRuntime) -> Result<(), Fail> {
-    let sums = image(rt.alloc(), &SUMS)?;
+    let sums = sample(rt.alloc(), &SUMS, 0)?;
     for (pc, mask) in [(0x1_0014, 1 << 5), (0x1_0018, 1 << 4), (0x1_0014, 0)] {
         let old = registers(&[]);
         let mut new = old;

@@ -9,7 +9,8 @@ use Rattle.alpha_imprecise.specs.Run.{unit_of}
 use Rattle.alpha_imprecise.specs.Wild.{trap_in}
 use Rattle.alpha_imprecise.specs.WildRunEffect.{IsMade}
 use Rattle.alpha_imprecise.proofs.Causes.{stays_then}
-use Rattle.alpha_imprecise.proofs.RunGoes.{Goes, Goes-none, goes_calm, turn_goes_on, turn_stops, turn_shortens, wait_left, all_used, room, room_less, none_left, fewer_left}
+use Rattle.alpha_imprecise.proofs.RunGoes.{Goes, Goes-none, turn_goes_on, turn_shortens, wait_left, all_used, room, room_less, none_left, fewer_left}
+use Rattle.alpha_imprecise.proofs.RunStops.{goes_calm, turn_stops}
 use Rattle.alpha_imprecise.proofs.RunEnds.{counts_go_on, counts_stop, grown_more, run_shows}
 use Rattle.alpha_imprecise.proofs.Prefixes.{run_shows_part}
 use Rattle.alpha_imprecise.proofs.Fresh.{run_told, run_sequential}

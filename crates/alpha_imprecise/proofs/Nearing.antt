@@ -1,0 +1,91 @@
+-- How many steps a run by coming words takes at most.
+use Rattle.std.proofs.Common.{◌≡◌, ◌≤◌, ◌+◌, ◌*◌, ℕ, zero, suc, Bool, true, false, cond, Option, Some, None, refl, sym, ap, subst, ◌∙◌, arith}
+use Rattle.alpha_seq.specs.State.{Program}
+use Rattle.alpha_imprecise.specs.Moment.{Trap, Happening}
+use Rattle.alpha_imprecise.specs.Run.{finished, unit_of}
+use Rattle.alpha_imprecise.specs.Chosen.{most_waited, chosen, waited_after}
+use Rattle.alpha_imprecise.specs.Made.{Making, advance_making, steps_making, is_settled, settled_within, settled, made, most_steps, IsWithin, Nearer, Used, Waiting, Settled, Finished}
+use Rattle.alpha_imprecise.proofs.Making.{Settles, none, over, longer, chosen_settles}
+use Rattle.alpha_imprecise.proofs.Settling.{stepped_making, advance-going, stays_settled, none_settled}
+
+module _ (g : Program) where
+  -- a step before so many is one behind them
+  steps-first : (k : Making) (n : ℕ) → steps_making g (advance_making g k) n ≡ advance_making g (steps_making g k n)
+  steps-first k zero = refl
+  steps-first k (suc n) = ap (advance_making g) (steps-first k n)
+
+  steps-then : (k : Making) (n m : ℕ) → steps_making g (steps_making g k n) m ≡ steps_making g k (m + n)
+  steps-then k n zero = let same : n ≡ 0 + n = omega arith in ap (steps_making g k) same
+  steps-then k n (suc m) =
+      let same : suc (m + n) ≡ suc m + n = omega arith in
+      ap (advance_making g) (steps-then k n m) ∙ ap (steps_making g k) same
+
+  none_more : (most : ℕ) (k : Making) → IsWithin most g k k
+  none_more most k = record { steps = 0; bound = omega arith; reached = refl }
+
+  one_more : (k : Making) → IsWithin 1 g k (advance_making g k)
+  one_more k = record { steps = 1; bound = omega arith; reached = refl }
+
+  joined : (a b : ℕ) (j k l : Making) → IsWithin a g j k → IsWithin b g k l → IsWithin (a + b) g j l
+  joined a b j k l one two =
+      let low = one.bound in
+      let high = two.bound in
+      record {
+        steps = two.steps + one.steps;
+        bound = omega arith;
+        reached = sym (steps-then j one.steps two.steps) ∙ (ap (λ (i : Making). steps_making g i two.steps) one.reached ∙ two.reached);
+      }
+
+  -- ---- until nothing is pending
+
+  either : (most : ℕ) (b : Bool) (k l : Making) → IsWithin most g k l → IsWithin most g k (cond b k l)
+  either most true k l h = none_more most k
+  either most false k l h = h
+
+  settles : (fuel : ℕ) (k : Making) → IsWithin fuel g k (settled_within fuel g k)
+  settles zero k = none_more 0 k
+  settles (suc fuel) k =
+      let next = advance_making g k in
+      let same : 1 + fuel ≡ suc fuel = omega arith in
+      either (suc fuel) (is_settled k) k (settled_within fuel g next)
+      (subst (λ m. IsWithin m g k (settled_within fuel g next)) same
+      (joined 1 fuel k next (settled_within fuel g next) (one_more k) (settles fuel next)))
+
+  -- ---- runs of so many units
+
+  unit_takes : (k : Making) → IsWithin 1026 g k (settled g (advance_making g k))
+  unit_takes k = joined 1 1025 k (advance_making g k) (settled g (advance_making g k)) (one_more k) (settles 1025 (advance_making g k))
+
+  -- by how many steps settle what is pending at the beginning
+  made_takes : (first : ℕ) (k : Making) → IsWithin first g k (settled g k) → (n : ℕ) → IsWithin (first + most_steps n) g k (made g k n)
+  made_takes first k h zero =
+      let same : first ≡ first + most_steps 0 = omega arith in
+      subst (λ m. IsWithin m g k (settled g k)) same h
+  made_takes first k h (suc n) =
+      let more : first + most_steps n + 1026 ≡ first + most_steps (suc n) = omega arith in
+      subst (λ m. IsWithin m g k (made g k (suc n))) more
+      (joined (first + most_steps n) 1026 k (made g k n) (made g k (suc n)) (made_takes first k h n) (unit_takes (made g k n)))
+
+  pub pending_takes : (k : Making) (n : ℕ) → IsWithin (most_waited + 1 + most_steps n) g k (made g k n)
+  pending_takes k n = made_takes (most_waited + 1) k (settles (most_waited + 1) k) n
+
+  pub calm_takes : (k : Making) (n : ℕ) → k.run.pending ≡ None → IsWithin (most_steps n) g k (made g k n)
+  calm_takes k n calm =
+      let start = subst (IsWithin 0 g k) (sym (stays_settled (most_waited + 1) g k (none_settled k calm))) (none_more 0 k) in
+      let same : 0 + most_steps n ≡ most_steps n = omega arith in
+      subst (λ m. IsWithin m g k (made g k n)) same (made_takes 0 k start n)
+
+  -- ---- one step
+
+  pub comes_nearer : (k : Making) → finished k.run.last ≡ false → Nearer k (advance_making g k)
+  comes_nearer k going = subst (Nearer k) (sym (advance-going g k going)) (by k.run.pending refl)
+    where
+      waits : Settles k.waited (chosen g k.run.state k.run.pending k.waited k.words) → Nearer k (stepped_making g k)
+      waits (none e) = Settled e
+      waits (over e) = Finished e
+      waits (longer e low) = Waiting low (ap (λ (x : Happening). waited_after x k.waited) e)
+
+      by : (p : Option Trap) → k.run.pending ≡ p → Nearer k (stepped_making g k)
+      by None e = Used (ap (λ (p : Option Trap). k.run.units + unit_of p) e)
+      by (Some t) e =
+          waits (subst (λ (p : Option Trap). Settles k.waited (chosen g k.run.state p k.waited k.words)) (sym e) (chosen_settles g k.run.state t k.waited k.words))
