@@ -1,27 +1,8 @@
 use crate::{DebugEnd, debug};
-use alpha_image::{Fields, Image};
 use alpha_io::{MemorySink, MemorySource, SureSource};
+use alpha_samples::sample;
 use std::alloc::Global;
 use std::test::Fail;
-
-// The image of these words with the default fields, and 32 zeroed bytes of data.
-fn image(alloc: Global, words: &[u32]) -> Result<Image, Fail> {
-    let fields = Fields {
-        code_base: 0x1_0000,
-        data_base: 0x1000_0000,
-        entry: 0x1_0000,
-        zeroed: 32,
-        stack: 65_536,
-    };
-    let mut code = Vec::new(alloc);
-    for word in words {
-        code.extend_from_slice(&word.to_le_bytes())?;
-    }
-    if code.len() % 4 != 0 {
-        return Err(Fail::from("whole words"));
-    }
-    Ok(Image::build(alloc, &fields, code.as_slice(), &[])?)
-}
 
 /// How a session ended, and what it wrote.
 #[derive(Drop)]
@@ -34,7 +15,7 @@ struct Outcome {
 fn session(alloc: Global, words: &[u32], script: &[u8]) -> Result<Outcome, Fail> {
     let mut input = MemorySource::new(script.to_vec(alloc)?, 7, Vec::new(alloc));
     let mut out = MemorySink::new(alloc, 65_536, Vec::new(alloc))?;
-    let end = debug(alloc, image(alloc, words)?, &mut input, &mut out);
+    let end = debug(alloc, sample(alloc, words, 32)?, &mut input, &mut out);
     Ok(Outcome {
         end,
         out: out.bytes().to_vec(alloc)?,
@@ -275,7 +256,7 @@ fn a_script_has_1048576_bytes_at_most(rt: HostRuntime) -> Result<(), Fail> {
         script.extend_from_slice(tail)?;
         let mut input = SureSource::new(script);
         let mut out = MemorySink::new(alloc, 64, Vec::new(alloc))?;
-        let found = debug(alloc, image(alloc, &OVERFLOWS)?, &mut input, &mut out);
+        let found = debug(alloc, sample(alloc, &OVERFLOWS, 32)?, &mut input, &mut out);
         assert_eq!(rt; found, end);
         assert_eq!(rt; out.bytes(), want);
     }
@@ -306,7 +287,7 @@ fn says_which_device_failed(rt: HostRuntime) -> Result<(), Fail> {
         let script = b"step 3\ngo    \nlog   \n".to_vec(alloc)?;
         let mut input = MemorySource::new(script, 7, takes);
         let mut out = MemorySink::new(alloc, 128, puts)?;
-        let found = debug(alloc, image(alloc, &OVERFLOWS)?, &mut input, &mut out);
+        let found = debug(alloc, sample(alloc, &OVERFLOWS, 32)?, &mut input, &mut out);
         assert_eq!(rt; found, end);
         assert_eq!(rt; out.bytes().len(), len);
     }
