@@ -2,7 +2,7 @@
 use Rattle.std.proofs.Common.{◌≡◌, ◌≢◌, ◌⊎◌, ◌∙◌, ℕ, List, [], Option, None, Some, IfSome, Result, Ok, Err, refl, sym, subst, inl, inr, ⊎_elim, arith}
 use Rattle.alpha_io.specs.declared.Failed.{Failed}
 use Rattle.alpha_io.specs.Shelved.{Shelved}
-use Rattle.alpha_io.specs.Sunk.{Sunk, sunk, Puts, Partly, HasFailed, IsCalm}
+use Rattle.alpha_io.specs.Sunk.{Sunk, sunk_by, Puts, Partly, HasFailed, IsCalm}
 use Rattle.alpha_io.proofs.Counts.{Rose-earlier}
 use Rattle.alpha_io.proofs.Sinks.{Puts-none, Puts-then, Partly-then, HasFailed-not_calm}
 use Rattle.alpha_cmd.specs.declared.decision.Decision.{Decision}
@@ -77,9 +77,9 @@ Leaves-not_sink shelf input words w rest s out notes h e = tried_not_sink shelf 
 
 module _ {K N : Type 0} (out-written : K → Option (List ℕ)) (out-faults : K → ℕ) (notes-written : N → Option (List ℕ)) (notes-faults : N → ℕ)
     (o p q : K) (x y z : N) (s : Shelved) (P : Answer → Type 0) (rest : Answer)
-    (so_far : Leaves P rest s (sunk out-written out-faults o p) (sunk notes-written notes-faults x y)) where
-  pub whole : (status : Status) → status ≡ rest.status → Puts (sunk out-written out-faults p q) rest.output → Puts (sunk notes-written notes-faults y z) (notes_of rest)
-      → Ends P status rest.left s (sunk out-written out-faults o q) (sunk notes-written notes-faults x z)
+    (so_far : Leaves P rest s (sunk_by out-written out-faults o p) (sunk_by notes-written notes-faults x y)) where
+  pub whole : (status : Status) → status ≡ rest.status → Puts (sunk_by out-written out-faults p q) rest.output → Puts (sunk_by notes-written notes-faults y z) (notes_of rest)
+      → Ends P status rest.left s (sunk_by out-written out-faults o q) (sunk_by notes-written notes-faults x z)
   whole status is output line = record {
     tried = so_far.tried;
     is = so_far.is;
@@ -87,30 +87,30 @@ module _ {K N : Type 0} (out-written : K → Option (List ℕ)) (out-faults : K 
     left_is = so_far.left_is;
     files = so_far.files;
     output =
-        subst (Puts (sunk out-written out-faults o q)) so_far.output_is
+        subst (Puts (sunk_by out-written out-faults o q)) so_far.output_is
         (Puts-then (out-written o) (out-written p) (out-written q) (out-faults o) (out-faults p) (out-faults q) so_far.output rest.output so_far.put output);
     line =
-        subst (Puts (sunk notes-written notes-faults x z)) so_far.notes_are
+        subst (Puts (sunk_by notes-written notes-faults x z)) so_far.notes_are
         (Puts-then (notes-written x) (notes-written y) (notes-written z) (notes-faults x) (notes-faults y) (notes-faults z) so_far.trace (notes_of rest) so_far.noted line);
   }
 
-  failed : HasFailed (sunk out-written out-faults p q) ⊎ HasFailed (sunk notes-written notes-faults y z)
-      → HasFailed (sunk out-written out-faults o q) ⊎ HasFailed (sunk notes-written notes-faults x z)
+  failed : HasFailed (sunk_by out-written out-faults p q) ⊎ HasFailed (sunk_by notes-written notes-faults y z)
+      → HasFailed (sunk_by out-written out-faults o q) ⊎ HasFailed (sunk_by notes-written notes-faults x z)
   failed (inl h) = inl (Rose-earlier (out-faults o) (out-faults p) (out-faults q) (omega (arith, so_far.put.same)) h)
   failed (inr h) = inr (Rose-earlier (notes-faults x) (notes-faults y) (notes-faults z) (omega (arith, so_far.noted.same)) h)
 
-  pub part : Partly (sunk out-written out-faults p q) rest.output → Partly (sunk notes-written notes-faults y z) (notes_of rest)
-      → HasFailed (sunk out-written out-faults p q) ⊎ HasFailed (sunk notes-written notes-faults y z)
-      → EndsPart P s (sunk out-written out-faults o q) (sunk notes-written notes-faults x z)
+  pub part : Partly (sunk_by out-written out-faults p q) rest.output → Partly (sunk_by notes-written notes-faults y z) (notes_of rest)
+      → HasFailed (sunk_by out-written out-faults p q) ⊎ HasFailed (sunk_by notes-written notes-faults y z)
+      → EndsPart P s (sunk_by out-written out-faults o q) (sunk_by notes-written notes-faults x z)
   part output line h = record {
     tried = so_far.tried;
     is = so_far.is;
     files = so_far.files;
     output =
-        subst (Partly (sunk out-written out-faults o q)) so_far.output_is
+        subst (Partly (sunk_by out-written out-faults o q)) so_far.output_is
         (Partly-then (out-written o) (out-written p) (out-written q) (out-faults o) (out-faults p) (out-faults q) so_far.output rest.output so_far.put output);
     line =
-        subst (Partly (sunk notes-written notes-faults x z)) so_far.notes_are
+        subst (Partly (sunk_by notes-written notes-faults x z)) so_far.notes_are
         (Partly-then (notes-written x) (notes-written y) (notes-written z) (notes-faults x) (notes-faults y) (notes-faults z) so_far.trace (notes_of rest) so_far.noted line);
     failed = failed h;
   }

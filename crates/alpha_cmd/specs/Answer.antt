@@ -1,5 +1,7 @@
 -- What a list of words has as its answer, where no device fails and memory lasts.
 use Rattle.std.specs.Prelude.{◌≡◌, ◌⊎◌, ℕ, ◌%◌, ◌^◌, List, [], ◌∷◌, ◌++◌, length, Bool, codes, All, Option, Some, None, IfSome, IsSome, option_map}
+use Rattle.alpha_io.specs.declared.shelf.Shelf as shelves
+use Rattle.alpha_io.specs.declared.source.Source as sources
 use Rattle.alpha_io.specs.Files.{Files, Refuses}
 use Rattle.alpha_io.specs.Shelved.{Shelved}
 use Rattle.alpha_io.specs.Sunk.{Sunk, Puts}
@@ -32,8 +34,8 @@ pub record World : Type 0 where
   pub input : Option (List ℕ)
 
 -- by `Shelf.files`, `Shelf.takes` and `Source.left`
-abbrev pub world : {H S : Type 0} → (H → Files) → (H → List ℕ → ℕ → Bool) → (S → Option (List ℕ)) → H → S → World
-world files takes left shelf input = record { files = files shelf; takes = takes shelf; input = left input }
+abbrev pub world : {H S : Type 0} → shelves.Ghosts H → sources.Ghosts S → H → S → World
+world h s shelf input = record { files = h.files shelf; takes = h.takes shelf; input = s.left input }
 
 -- over devices that never fail
 abbrev pub sure_world : SureShelfState → List ℕ → World

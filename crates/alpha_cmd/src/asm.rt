@@ -32,8 +32,8 @@ pub(crate) fn asm<H: Shelf>(alloc: Global, file: &str, out: &str, shelf: &mut H)
         (Rose input.before input.now) (commands.asm file.now out.now)
         (record { files = H.files shelf.old; takes = H.takes shelf.old; input = input.old }))
         (answer_in input.old result)
-        (shelved H.files H.takes H.faults shelf.old shelf.new) }
-    ensures shelf { Serves (shelved H.files H.takes H.faults shelf.old shelf.new)
+        (shelved H.Shelf shelf.old shelf.new) }
+    ensures shelf { Serves (shelved H.Shelf shelf.old shelf.new)
         (result.status ≢ Status.ShelfFault) }
     ensures files { Spares (commands.asm file.now out.now) result.status
         (H.files shelf.old) (H.files shelf.new) }
@@ -53,7 +53,7 @@ fn made<H: Shelf>(alloc: Global, shelf: &mut H, name: &str) -> Result<Vec<u8>, S
     ensures refused { IfErr result (λ status.
         Makes (H.files shelf.old) name.now (stops status (status_line status))
         ⊎ CutBy (Rose (H.faults shelf.old) (H.faults shelf.new)) status) }
-    ensures shelf { OnlyReads (shelved H.files H.takes H.faults shelf.old shelf.new)
+    ensures shelf { OnlyReads (shelved H.Shelf shelf.old shelf.new)
         (result ≢ Err Status.ShelfFault) }
 {
     match read_file(alloc, shelf, name, SOURCE_LIMIT) {

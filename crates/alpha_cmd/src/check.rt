@@ -22,7 +22,7 @@ pub(crate) fn check<H: Shelf>(alloc: Global, file: &str, shelf: &mut H) -> Decis
         (Rose input.before input.now) (commands.check file.now)
         (record { files = H.files shelf.old; takes = H.takes shelf.old; input = input.old })
         (answer_in input.old result) }
-    ensures shelf { OnlyReads (shelved H.files H.takes H.faults shelf.old shelf.new)
+    ensures shelf { OnlyReads (shelved H.Shelf shelf.old shelf.new)
         (result.status ≢ Status.ShelfFault) }
 {
     match load(alloc, shelf, file) {

@@ -54,7 +54,7 @@ pub(crate) fn chooser_of<H: Shelf>(
     ensures refused { IfErr result (λ status.
         ChoicesOf (H.files shelf.old) (drawn_from choices.now) (stops status (status_line status))
         ⊎ CutBy (Rose (H.faults shelf.old) (H.faults shelf.new)) status) }
-    ensures shelf { OnlyReads (shelved H.files H.takes H.faults shelf.old shelf.new)
+    ensures shelf { OnlyReads (shelved H.Shelf shelf.old shelf.new)
         (result ≢ Err Status.ShelfFault) }
 {
     match *choices {
@@ -70,7 +70,7 @@ fn listed<H: Shelf>(alloc: Global, name: &str, shelf: &mut H) -> Result<Choosing
     ensures refused { IfErr result (λ status.
         ChoicesOf (H.files shelf.old) (choices.file name.now) (stops status (status_line status))
         ⊎ CutBy (Rose (H.faults shelf.old) (H.faults shelf.new)) status) }
-    ensures shelf { OnlyReads (shelved H.files H.takes H.faults shelf.old shelf.new)
+    ensures shelf { OnlyReads (shelved H.Shelf shelf.old shelf.new)
         (result ≢ Err Status.ShelfFault) }
 {
     match read_file(alloc, shelf, name, CHOICES_LIMIT) {

@@ -30,14 +30,14 @@ pub(crate) fn debug<H: Shelf, S: Source, K: Sink>(
     ensures tried { (told : Option (List ℕ)) (count : ℕ)
         → Decides (TriedOf (Rose (H.faults shelf.old) (H.faults shelf.new))
         (Rose (S.faults input.old) (S.faults input.new)) (commands.debug file.now)
-        (world H.files H.takes S.left shelf.old input.old)) result (S.left input.new)
-        (shelved H.files H.takes H.faults shelf.old shelf.new)
-        (sunk K.written K.faults out.old out.new) (still told count) }
-    ensures shelf { OnlyReads (shelved H.files H.takes H.faults shelf.old shelf.new)
+        (world H.Shelf S.Source shelf.old input.old)) result (S.left input.new)
+        (shelved H.Shelf shelf.old shelf.new)
+        (sunk K.Sink out.old out.new) (still told count) }
+    ensures shelf { OnlyReads (shelved H.Shelf shelf.old shelf.new)
         (IfOk result (λ decision. decision.status ≢ Status.ShelfFault)) }
     ensures input { (input.new ≡ input.old)
         ⊎ MayTake (commands.debug file.now) (status_in result) }
-    ensures source { CountStays (drawn S.left S.faults input.old input.new)
+    ensures source { CountStays (drawn S.Source input.old input.new)
         (IfOk result (λ decision. decision.status ≢ Status.InputFault)) }
     ensures script { LeavesTail script_most (S.left input.old) (S.left input.new) }
 {

@@ -95,14 +95,14 @@ impl Decision {
         requires { self.now.status ≢ Status.SinkFault }
         ensures status { result ≢ Status.SinkFault → result ≡ self.now.status }
         ensures output { result ≢ Status.SinkFault
-            → Puts (sunk K.written K.faults out.old out.new) self.now.output }
+            → Puts (sunk K.Sink out.old out.new) self.now.output }
         ensures notes { result ≢ Status.SinkFault
-            → Puts (sunk N.written N.faults notes.old notes.new) self.now.line }
-        ensures output_part { Partly (sunk K.written K.faults out.old out.new) self.now.output }
-        ensures notes_part { Partly (sunk N.written N.faults notes.old notes.new) self.now.line }
+            → Puts (sunk N.Sink notes.old notes.new) self.now.line }
+        ensures output_part { Partly (sunk K.Sink out.old out.new) self.now.output }
+        ensures notes_part { Partly (sunk N.Sink notes.old notes.new) self.now.line }
         ensures failed { result ≡ Status.SinkFault
-            → HasFailed (sunk K.written K.faults out.old out.new)
-            ⊎ HasFailed (sunk N.written N.faults notes.old notes.new) }
+            → HasFailed (sunk K.Sink out.old out.new)
+            ⊎ HasFailed (sunk N.Sink notes.old notes.new) }
     {
         match put(out, &self.output) {
             Ok(()) => match put(notes, &self.line) {
@@ -136,9 +136,9 @@ fn drawn_status_of(end: &End, drawn: u64) -> Status
 
 // Writes a line.
 fn put<K: Sink>(sink: &mut K, line: &Line) -> Result<(), Failed>
-    ensures ok { OnOk result (Puts (sunk K.written K.faults sink.old sink.new) line.now) }
-    ensures part { Partly (sunk K.written K.faults sink.old sink.new) line.now }
-    ensures failed { OnErr result (HasFailed (sunk K.written K.faults sink.old sink.new)) }
+    ensures ok { OnOk result (Puts (sunk K.Sink sink.old sink.new) line.now) }
+    ensures part { Partly (sunk K.Sink sink.old sink.new) line.now }
+    ensures failed { OnErr result (HasFailed (sunk K.Sink sink.old sink.new)) }
 {
     write_whole(sink, line.as_bytes())
 }

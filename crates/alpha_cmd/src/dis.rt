@@ -27,9 +27,9 @@ pub(crate) fn dis<H: Shelf, K: Sink>(
         → Decides (TriedOf (Rose (H.faults shelf.old) (H.faults shelf.new))
         (Rose input.before input.now) (commands.dis file.now)
         (record { files = H.files shelf.old; takes = H.takes shelf.old; input = input.old }))
-        result input.old (shelved H.files H.takes H.faults shelf.old shelf.new)
-        (sunk K.written K.faults out.old out.new) (still told count) }
-    ensures shelf { OnlyReads (shelved H.files H.takes H.faults shelf.old shelf.new)
+        result input.old (shelved H.Shelf shelf.old shelf.new)
+        (sunk K.Sink out.old out.new) (still told count) }
+    ensures shelf { OnlyReads (shelved H.Shelf shelf.old shelf.new)
         (IfOk result (λ decision. decision.status ≢ Status.ShelfFault)) }
 {
     match load(alloc, shelf, file) {

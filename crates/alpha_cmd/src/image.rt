@@ -46,7 +46,7 @@ pub(crate) fn read_file<H: Shelf>(
     ensures refused { IfErr result (λ status.
         Reads (H.files shelf.old) name.now limit (stops status (status_line status))
         ⊎ CutBy (Rose (H.faults shelf.old) (H.faults shelf.new)) status) }
-    ensures shelf { OnlyReads (shelved H.files H.takes H.faults shelf.old shelf.new)
+    ensures shelf { OnlyReads (shelved H.Shelf shelf.old shelf.new)
         (result ≢ Err Status.ShelfFault) }
 {
     match read_whole(alloc, shelf, name, limit) {
@@ -63,7 +63,7 @@ pub(crate) fn load<H: Shelf>(alloc: Global, shelf: &mut H, name: &str) -> Result
     ensures refused { IfErr result (λ status.
         ImageOf (H.files shelf.old) name.now (stops status (status_line status))
         ⊎ CutBy (Rose (H.faults shelf.old) (H.faults shelf.new)) status) }
-    ensures shelf { OnlyReads (shelved H.files H.takes H.faults shelf.old shelf.new)
+    ensures shelf { OnlyReads (shelved H.Shelf shelf.old shelf.new)
         (result ≢ Err Status.ShelfFault) }
 {
     match read_file(alloc, shelf, name, IMAGE_LIMIT) {

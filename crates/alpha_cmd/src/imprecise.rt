@@ -65,17 +65,17 @@ pub(crate) fn imprecise<H: Shelf, S: Source, K: Sink, N: Sink>(
         (Rose (S.faults input.old) (S.faults input.new))
         (commands.imprecise asked.entry.options (drawn_from asked.entry.choices) asked.entry.force
         asked.entry.file.now)
-        (world H.files H.takes S.left shelf.old input.old)) result (S.left input.new)
-        (shelved H.files H.takes H.faults shelf.old shelf.new)
-        (sunk K.written K.faults out.old out.new) (sunk N.written N.faults notes.old notes.new) }
-    ensures shelf { OnlyReads (shelved H.files H.takes H.faults shelf.old shelf.new)
+        (world H.Shelf S.Source shelf.old input.old)) result (S.left input.new)
+        (shelved H.Shelf shelf.old shelf.new)
+        (sunk K.Sink out.old out.new) (sunk N.Sink notes.old notes.new) }
+    ensures shelf { OnlyReads (shelved H.Shelf shelf.old shelf.new)
         (IfOk result (λ decision. decision.status ≢ Status.ShelfFault)) }
     ensures input { (input.new ≡ input.old)
         ⊎ MayTake
         (commands.imprecise asked.entry.options (drawn_from asked.entry.choices) asked.entry.force
         asked.entry.file.now)
         (status_in result) }
-    ensures source { CountStays (drawn S.left S.faults input.old input.new)
+    ensures source { CountStays (drawn S.Source input.old input.new)
         (IfOk result (λ decision. decision.status ≢ Status.InputFault)) }
 {
     match planned(alloc, asked.file, &asked.choices, shelf) {
@@ -101,7 +101,7 @@ fn planned<H: Shelf>(
         PlanOf (H.files shelf.old) file.now (drawn_from choices.now)
         (stops status (status_line status))
         ⊎ CutBy (Rose (H.faults shelf.old) (H.faults shelf.new)) status) }
-    ensures shelf { OnlyReads (shelved H.files H.takes H.faults shelf.old shelf.new)
+    ensures shelf { OnlyReads (shelved H.Shelf shelf.old shelf.new)
         (result ≢ Err Status.ShelfFault) }
 {
     match load(alloc, shelf, file) {
@@ -143,12 +143,12 @@ fn run_plan<S: Source, K: Sink, N: Sink>(
         (commands.imprecise options choices force file)
         (record { files = shelf.old; takes = shelf.took; input = S.left input.old }))
         result (S.left input.new) shelf
-        (sunk K.written K.faults out.old out.new) (sunk N.written N.faults notes.old notes.new) }
+        (sunk K.Sink out.old out.new) (sunk N.Sink notes.old notes.new) }
     ensures status { IfOk result (λ decision. decision.status ≢ Status.ShelfFault) }
     ensures input { (input.new ≡ input.old)
         ⊎ ((choices : Drawn) (force : Bool) (file : List ℕ)
         → MayTake (commands.imprecise options choices force file) (status_in result)) }
-    ensures source { CountStays (drawn S.left S.faults input.old input.new)
+    ensures source { CountStays (drawn S.Source input.old input.new)
         (IfOk result (λ decision. decision.status ≢ Status.InputFault)) }
 {
     match Machine::new(alloc, plan.image, options.complete) {
@@ -183,11 +183,11 @@ fn run_wild<S: Source, K: Sink, N: Sink>(
         (commands.imprecise options choices force file)
         (record { files = shelf.old; takes = shelf.took; input = S.left input.old }))
         result (S.left input.new) shelf
-        (sunk K.written K.faults out.old out.new) (sunk N.written N.faults notes.old notes.new) }
+        (sunk K.Sink out.old out.new) (sunk N.Sink notes.old notes.new) }
     ensures status { IfOk result (λ decision. decision.status ≢ Status.ShelfFault) }
     ensures input { (choices : Drawn) (force : Bool) (file : List ℕ)
         → MayTake (commands.imprecise options choices force file) (status_in result) }
-    ensures source { CountStays (drawn S.left S.faults input.old input.new)
+    ensures source { CountStays (drawn S.Source input.old input.new)
         (IfOk result (λ decision. decision.status ≢ Status.InputFault)) }
 {
     let (steps, watch) = (options.steps, options.watch);

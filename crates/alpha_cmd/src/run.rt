@@ -37,14 +37,14 @@ pub(crate) fn run<H: Shelf, S: Source, K: Sink, N: Sink>(
 ) -> Result<Decision, Failed>
     ensures tried { Decides (TriedOf (Rose (H.faults shelf.old) (H.faults shelf.new))
         (Rose (S.faults input.old) (S.faults input.new)) (commands.run options file.now)
-        (world H.files H.takes S.left shelf.old input.old)) result (S.left input.new)
-        (shelved H.files H.takes H.faults shelf.old shelf.new)
-        (sunk K.written K.faults out.old out.new) (sunk N.written N.faults notes.old notes.new) }
-    ensures shelf { OnlyReads (shelved H.files H.takes H.faults shelf.old shelf.new)
+        (world H.Shelf S.Source shelf.old input.old)) result (S.left input.new)
+        (shelved H.Shelf shelf.old shelf.new)
+        (sunk K.Sink out.old out.new) (sunk N.Sink notes.old notes.new) }
+    ensures shelf { OnlyReads (shelved H.Shelf shelf.old shelf.new)
         (IfOk result (λ decision. decision.status ≢ Status.ShelfFault)) }
     ensures input { (input.new ≡ input.old)
         ⊎ MayTake (commands.run options file.now) (status_in result) }
-    ensures source { CountStays (drawn S.left S.faults input.old input.new)
+    ensures source { CountStays (drawn S.Source input.old input.new)
         (IfOk result (λ decision. decision.status ≢ Status.InputFault)) }
 {
     match load(alloc, shelf, file) {
@@ -74,10 +74,10 @@ fn run_machine<S: Source, K: Sink, N: Sink>(
         (Rose (S.faults input.old) (S.faults input.new)) (commands.run options file)
         (record { files = shelf.old; takes = shelf.took; input = S.left input.old }))
         result (S.left input.new) shelf
-        (sunk K.written K.faults out.old out.new) (sunk N.written N.faults notes.old notes.new) }
+        (sunk K.Sink out.old out.new) (sunk N.Sink notes.old notes.new) }
     ensures status { IfOk result (λ decision. decision.status ≢ Status.ShelfFault) }
     ensures input { (file : List ℕ) → MayTake (commands.run options file) (status_in result) }
-    ensures source { CountStays (drawn S.left S.faults input.old input.new)
+    ensures source { CountStays (drawn S.Source input.old input.new)
         (IfOk result (λ decision. decision.status ≢ Status.InputFault)) }
 {
     match alpha_seq::run(machine, input, out, notes, options.steps, options.watch) {

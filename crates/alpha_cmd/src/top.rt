@@ -56,21 +56,21 @@ pub fn alpha_top<H: Shelf, S: Source, K: Sink, N: Sink>(
     ensures whole { result ≢ Status.SinkFault
         → Ends (TriedBy (Rose (H.faults shelf.old) (H.faults shelf.new))
         (Rose (S.faults input.old) (S.faults input.new)) words.now
-        (world H.files H.takes S.left shelf.old input.old)) result (S.left input.new)
-        (shelved H.files H.takes H.faults shelf.old shelf.new)
-        (sunk K.written K.faults out.old out.new) (sunk N.written N.faults notes.old notes.new) }
+        (world H.Shelf S.Source shelf.old input.old)) result (S.left input.new)
+        (shelved H.Shelf shelf.old shelf.new)
+        (sunk K.Sink out.old out.new) (sunk N.Sink notes.old notes.new) }
 
     // Where something couldn't be written, a sink failed, and a prefix of that was written.
     ensures part { result ≡ Status.SinkFault
         → EndsPart (TriedBy (Rose (H.faults shelf.old) (H.faults shelf.new))
         (Rose (S.faults input.old) (S.faults input.new)) words.now
-        (world H.files H.takes S.left shelf.old input.old))
-        (shelved H.files H.takes H.faults shelf.old shelf.new)
-        (sunk K.written K.faults out.old out.new) (sunk N.written N.faults notes.old notes.new) }
+        (world H.Shelf S.Source shelf.old input.old))
+        (shelved H.Shelf shelf.old shelf.new)
+        (sunk K.Sink out.old out.new) (sunk N.Sink notes.old notes.new) }
 
     // The shelf fails only under its status, or under that of a sink. Told files stay, but for the
     // one that an assembly keeps.
-    ensures shelf { Serves (shelved H.files H.takes H.faults shelf.old shelf.new)
+    ensures shelf { Serves (shelved H.Shelf shelf.old shelf.new)
         ((result ≢ Status.ShelfFault) × (result ≢ Status.SinkFault)) }
     ensures files { KeepsFiles (H.files shelf.old) (H.files shelf.new)
         ⊎ ((command : Command) × Asks words.now command
@@ -80,7 +80,7 @@ pub fn alpha_top<H: Shelf, S: Source, K: Sink, N: Sink>(
     // status, or under that of a sink.
     ensures input { (input.new ≡ input.old)
         ⊎ ((command : Command) × Asks words.now command × MayTake command result) }
-    ensures source { CountStays (drawn S.left S.faults input.old input.new)
+    ensures source { CountStays (drawn S.Source input.old input.new)
         ((result ≢ Status.InputFault) × (result ≢ Status.SinkFault)) }
 
     // Of a script no more is taken than the bytes that count and one.
@@ -90,16 +90,16 @@ pub fn alpha_top<H: Shelf, S: Source, K: Sink, N: Sink>(
     // Where what the words' command reads is told and no device fails, the words' answer is given,
     // or memory ran out.
     ensures exact { (a : Answer)
-        → AreTold words.now (world H.files H.takes S.left shelf.old input.old)
+        → AreTold words.now (world H.Shelf S.Source shelf.old input.old)
         → Calm (H.faults shelf.old) (H.faults shelf.new)
         → Calm (S.faults input.old) (S.faults input.new)
-        → IsCalm (sunk K.written K.faults out.old out.new)
-        → IsCalm (sunk N.written N.faults notes.old notes.new)
-        → IsAnswer words.now (world H.files H.takes S.left shelf.old input.old) a
+        → IsCalm (sunk K.Sink out.old out.new)
+        → IsCalm (sunk N.Sink notes.old notes.new)
+        → IsAnswer words.now (world H.Shelf S.Source shelf.old input.old) a
         → IsAnswered a result (S.left input.new)
-        (shelved H.files H.takes H.faults shelf.old shelf.new)
-        (sunk K.written K.faults out.old out.new)
-        (sunk N.written N.faults notes.old notes.new) ⊎ (result ≡ Status.NoMemory) }
+        (shelved H.Shelf shelf.old shelf.new)
+        (sunk K.Sink out.old out.new)
+        (sunk N.Sink notes.old notes.new) ⊎ (result ≡ Status.NoMemory) }
 
     // Where a check is done, the image of its file can be restarted after each late trap.
     ensures restarts { (file : List ℕ) → Asks words.now (commands.check file)
@@ -111,17 +111,17 @@ pub fn alpha_top<H: Shelf, S: Source, K: Sink, N: Sink>(
     // the number of words, which the status carries where the program has exited, is its own.
     ensures alike { (options : RunOptions) (choices : Drawn) (force : Bool) (file : List ℕ)
         (a : Answer) → Asks words.now (commands.imprecise options choices force file)
-        → let w = world H.files H.takes S.left shelf.old input.old in
+        → let w = world H.Shelf S.Source shelf.old input.old in
         IsTold (commands.run options file) w → HasWords w.files choices → IsChecked file w
         → AnswerOf (commands.run options file) w a
         → Calm (H.faults shelf.old) (H.faults shelf.new)
         → Calm (S.faults input.old) (S.faults input.new)
-        → IsCalm (sunk K.written K.faults out.old out.new)
-        → IsCalm (sunk N.written N.faults notes.old notes.new)
+        → IsCalm (sunk K.Sink out.old out.new)
+        → IsCalm (sunk N.Sink notes.old notes.new)
         → IsAnswered a (but_drawn result) (S.left input.new)
-        (shelved H.files H.takes H.faults shelf.old shelf.new)
-        (sunk K.written K.faults out.old out.new)
-        (sunk N.written N.faults notes.old notes.new) ⊎ (result ≡ Status.NoMemory) }
+        (shelved H.Shelf shelf.old shelf.new)
+        (sunk K.Sink out.old out.new)
+        (sunk N.Sink notes.old notes.new) ⊎ (result ≡ Status.NoMemory) }
 {
     match decide(alloc, words, shelf, input, out, notes) {
         Ok(decision) => decision.deliver(out, notes),
@@ -141,17 +141,17 @@ fn decide<H: Shelf, S: Source, K: Sink, N: Sink>(
 ) -> Result<Decision, Failed>
     ensures tried { Decides (TriedBy (Rose (H.faults shelf.old) (H.faults shelf.new))
         (Rose (S.faults input.old) (S.faults input.new)) words.now
-        (world H.files H.takes S.left shelf.old input.old)) result (S.left input.new)
-        (shelved H.files H.takes H.faults shelf.old shelf.new)
-        (sunk K.written K.faults out.old out.new) (sunk N.written N.faults notes.old notes.new) }
-    ensures shelf { Serves (shelved H.files H.takes H.faults shelf.old shelf.new)
+        (world H.Shelf S.Source shelf.old input.old)) result (S.left input.new)
+        (shelved H.Shelf shelf.old shelf.new)
+        (sunk K.Sink out.old out.new) (sunk N.Sink notes.old notes.new) }
+    ensures shelf { Serves (shelved H.Shelf shelf.old shelf.new)
         (IfOk result (λ decision. decision.status ≢ Status.ShelfFault)) }
     ensures files { KeepsFiles (H.files shelf.old) (H.files shelf.new)
         ⊎ ((command : Command) × Asks words.now command
         × Spares command (status_in result) (H.files shelf.old) (H.files shelf.new)) }
     ensures input { (input.new ≡ input.old)
         ⊎ ((command : Command) × Asks words.now command × MayTake command (status_in result)) }
-    ensures source { CountStays (drawn S.left S.faults input.old input.new)
+    ensures source { CountStays (drawn S.Source input.old input.new)
         (IfOk result (λ decision. decision.status ≢ Status.InputFault)) }
     ensures script { (file : List ℕ) → Asks words.now (commands.debug file)
         → LeavesTail script_most (S.left input.old) (S.left input.new) }
@@ -176,16 +176,16 @@ fn perform<H: Shelf, S: Source, K: Sink, N: Sink>(
         → (0 < n) × (n ≤ 20000) }
     ensures tried { Decides (TriedOf (Rose (H.faults shelf.old) (H.faults shelf.new))
         (Rose (S.faults input.old) (S.faults input.new)) (command_of request.entry)
-        (world H.files H.takes S.left shelf.old input.old)) result (S.left input.new)
-        (shelved H.files H.takes H.faults shelf.old shelf.new)
-        (sunk K.written K.faults out.old out.new) (sunk N.written N.faults notes.old notes.new) }
-    ensures shelf { Serves (shelved H.files H.takes H.faults shelf.old shelf.new)
+        (world H.Shelf S.Source shelf.old input.old)) result (S.left input.new)
+        (shelved H.Shelf shelf.old shelf.new)
+        (sunk K.Sink out.old out.new) (sunk N.Sink notes.old notes.new) }
+    ensures shelf { Serves (shelved H.Shelf shelf.old shelf.new)
         (IfOk result (λ decision. decision.status ≢ Status.ShelfFault)) }
     ensures files { Spares (command_of request.entry) (status_in result)
         (H.files shelf.old) (H.files shelf.new) }
     ensures input { (input.new ≡ input.old)
         ⊎ MayTake (command_of request.entry) (status_in result) }
-    ensures source { CountStays (drawn S.left S.faults input.old input.new)
+    ensures source { CountStays (drawn S.Source input.old input.new)
         (IfOk result (λ decision. decision.status ≢ Status.InputFault)) }
     ensures script { (file : List ℕ) → command_of request.entry ≡ commands.debug file
         → LeavesTail script_most (S.left input.old) (S.left input.new) }

@@ -25,7 +25,7 @@ pub(crate) fn trial<K: Sink>(alloc: Global, blocks: u32, out: &mut K) -> Result<
         → Decides (TriedOf (Rose shelf.before shelf.now) (Rose input.before input.now)
         (commands.trial blocks)
         (record { files = shelf.old; takes = shelf.took; input = input.old }))
-        result input.old shelf (sunk K.written K.faults out.old out.new) (still told count) }
+        result input.old shelf (sunk K.Sink out.old out.new) (still told count) }
     ensures shelf { IfOk result (λ decision. decision.status ≢ Status.ShelfFault) }
     ensures input { IfOk result (λ decision. decision.status ≢ Status.InputFault) }
 {

@@ -5,7 +5,7 @@ use Rattle.std.proofs.Math.Seq.{take-suc}
 use Rattle.std.proofs.lemmas.List.{length-append, length-take, take_all, take-append-le}
 use Rattle.std.proofs.lemmas.List.Elements.{All-append, All-cons}
 use Rattle.std.specs.Str.Lines.{strip_carriage_return}
-use Rattle.alpha_io.specs.Sunk.{Sunk, sunk, Puts}
+use Rattle.alpha_io.specs.Sunk.{Sunk, sunk_by, Puts}
 use Rattle.alpha_debug.specs.declared.command.Command.{Command}
 use Rattle.alpha_debug.specs.declared.debugger.Debugger.{Debugger}
 use Rattle.alpha_debug.specs.declared.debugger.Talk.{Talk}
@@ -109,7 +109,7 @@ kept_full b begun held front full =
 
 -- ---- bytes behind bytes
 
-module _ {K : Type 0} (written : K → Option (List ℕ)) (faults : K → ℕ) (o p q : K) (xs ys begun : List ℕ) (a b c : Debugger) (held_b : List ℕ) (first : Hears xs begun GoesOn a b held_b (sunk written faults o p)) where
+module _ {K : Type 0} (written : K → Option (List ℕ)) (faults : K → ℕ) (o p q : K) (xs ys begun : List ℕ) (a b c : Debugger) (held_b : List ℕ) (first : Hears xs begun GoesOn a b held_b (sunk_by written faults o p)) where
   -- the transcript behind the first bytes
   behind : (text : List ℕ) (most : ℕ) (rest : List ℕ) → length (xs ++ ys) ≤ most
       → told_from a text most begun ((xs ++ ys) ++ rest) ≡ told_from b (text ++ first.put) (most - length xs) first.line (ys ++ rest)
@@ -117,7 +117,7 @@ module _ {K : Type 0} (written : K → Option (List ℕ)) (faults : K → ℕ) (
       ap (λ (s : List ℕ). told_from a text most begun s) (append_assoc xs ys rest)
       ∙ first.is text most (ys ++ rest) (omega (arith, l, length-append xs ys))
 
-  pub hears_then : (talk : Talk) (held_c : List ℕ) → Hears ys first.line talk b c held_c (sunk written faults p q) → Hears (xs ++ ys) begun talk a c held_c (sunk written faults o q)
+  pub hears_then : (talk : Talk) (held_c : List ℕ) → Hears ys first.line talk b c held_c (sunk_by written faults p q) → Hears (xs ++ ys) begun talk a c held_c (sunk_by written faults o q)
   hears_then talk held_c second = record {
     put = first.put ++ second.put;
     line = second.line;
@@ -131,9 +131,9 @@ module _ {K : Type 0} (written : K → Option (List ℕ)) (faults : K → ℕ) (
         ∙ ap (λ (t : List ℕ). told_after talk c t (most - length (xs ++ ys)) second.line rest) (append_assoc text first.put second.put)));
   }
 
-  pub hear_fails_then : HearFails ys first.line b (sunk written faults p q) → HearFails (xs ++ ys) begun a (sunk written faults o q)
+  pub hear_fails_then : HearFails ys first.line b (sunk_by written faults p q) → HearFails (xs ++ ys) begun a (sunk_by written faults o q)
   hear_fails_then fails text most rest l =
-      subst (λ (t : Transcript). Breaks (sunk written faults o q) text t.text) (sym (behind text most rest l))
+      subst (λ (t : Transcript). Breaks (sunk_by written faults o q) text t.text) (sym (behind text most rest l))
       (Breaks-after written faults o p q first.put text (told_from b (text ++ first.put) (most - length xs) first.line (ys ++ rest)).text first.wrote
       (fails (text ++ first.put) (most - length xs) rest (omega (arith, l, length-append xs ys))))
 

@@ -1,7 +1,7 @@
 -- What commands do to a session, one after another.
 use Rattle.std.specs.Prelude.{◌==◌}
 use Rattle.std.proofs.Common.{◌≡◌, ◌∙◌, ℕ, codes, length, Bool, true, false, cond, List, [], ◌∷◌, ◌++◌, Option, Some, None, refl, ap, append_assoc}
-use Rattle.alpha_io.specs.Sunk.{Sunk, sunk, Puts}
+use Rattle.alpha_io.specs.Sunk.{Sunk, sunk_by, Puts}
 use Rattle.alpha_seq.specs.declared.end.End.{End}
 use Rattle.alpha_seq.specs.declared.machine.Machine.{Machine}
 use Rattle.alpha_seq.specs.State.{State}
@@ -77,8 +77,8 @@ answer-grows g Unknown s = Grows-by (text_of s) _
 -- ---- steps, and the place
 
 module _ {K : Type 0} (written : K → Option (List ℕ)) (faults : K → ℕ) (o p q : K) (becomes : Session → Session) (old new : Debugger) where
-  pub placed : Makes becomes old new (sunk written faults o p) → Puts (sunk written faults p q) (place_line new.end new.machine.pc)
-      → Makes (λ s. placing (becomes s)) old new (sunk written faults o q)
+  pub placed : Makes becomes old new (sunk_by written faults o p) → Puts (sunk_by written faults p q) (place_line new.end new.machine.pc)
+      → Makes (λ s. placing (becomes s)) old new (sunk_by written faults o q)
   placed makes wrote = record {
     bytes = makes.bytes ++ place_line new.end new.machine.pc;
     wrote = Puts-both written faults o p q makes.bytes (place_line new.end new.machine.pc) makes.wrote wrote;
@@ -87,8 +87,8 @@ module _ {K : Type 0} (written : K → Option (List ℕ)) (faults : K → ℕ) (
         ∙ ap (λ (l : List ℕ). session_of new l) (append_assoc text makes.bytes (place_line new.end new.machine.pc));
   }
 
-  pub place_fails : Makes becomes old new (sunk written faults o p) → Stops (sunk written faults p q) (place_line new.end new.machine.pc)
-      → Fails (λ s. placing (becomes s)) old (sunk written faults o q)
+  pub place_fails : Makes becomes old new (sunk_by written faults o p) → Stops (sunk_by written faults p q) (place_line new.end new.machine.pc)
+      → Fails (λ s. placing (becomes s)) old (sunk_by written faults o q)
   place_fails makes stops text =
       Breaks-after written faults o p q makes.bytes text (text_of (placing (becomes (session_of old text)))) makes.wrote
       (record { bytes = place_line new.end new.machine.pc; is = ap (λ (s : Session). text_of (placing s)) (makes.is text); stops = stops })

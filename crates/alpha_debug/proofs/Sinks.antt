@@ -1,7 +1,7 @@
 -- What calls in a row did to one sink. `written` is what the sink tells and `faults` its count; o, p and q are the sink at
 -- one moment after another.
 use Rattle.std.proofs.Common.{◌∙◌, ℕ, List, [], ◌++◌, Option, Result, Ok, Err, OnOk, OnErr, refl, sym, ap, append_assoc, append-nil, arith}
-use Rattle.alpha_io.specs.Sunk.{Sunk, sunk, Puts}
+use Rattle.alpha_io.specs.Sunk.{Sunk, sunk_by, Puts}
 use Rattle.alpha_io.proofs.Counts.{Rose-earlier}
 use Rattle.alpha_io.proofs.Sinks.{Puts-then, Partly-then, Partly-more}
 use Rattle.alpha_debug.specs.Effects.{Stops, Grows, Breaks}
@@ -45,17 +45,17 @@ Breaks-more s front text whole breaks more = record {
 
 module _ {K : Type 0} (written : K → Option (List ℕ)) (faults : K → ℕ) (o p q : K) (xs : List ℕ) where
   -- first these bytes, then those
-  pub Puts-both : (ys : List ℕ) → Puts (sunk written faults o p) xs → Puts (sunk written faults p q) ys → Puts (sunk written faults o q) (xs ++ ys)
+  pub Puts-both : (ys : List ℕ) → Puts (sunk_by written faults o p) xs → Puts (sunk_by written faults p q) ys → Puts (sunk_by written faults o q) (xs ++ ys)
   Puts-both ys first second = Puts-then (written o) (written p) (written q) (faults o) (faults p) (faults q) xs ys first second
 
   -- first these bytes, then the sink failed
-  pub Stops-after : (ys : List ℕ) → Puts (sunk written faults o p) xs → Stops (sunk written faults p q) ys → Stops (sunk written faults o q) (xs ++ ys)
+  pub Stops-after : (ys : List ℕ) → Puts (sunk_by written faults o p) xs → Stops (sunk_by written faults p q) ys → Stops (sunk_by written faults o q) (xs ++ ys)
   Stops-after ys first second = record {
     part = Partly-then (written o) (written p) (written q) (faults o) (faults p) (faults q) xs ys first second.part;
     failed = Rose-earlier (faults o) (faults p) (faults q) (omega (arith, first.same)) second.failed;
   }
 
-  pub Breaks-after : (front text : List ℕ) → Puts (sunk written faults o p) xs → Breaks (sunk written faults p q) (front ++ xs) text → Breaks (sunk written faults o q) front text
+  pub Breaks-after : (front text : List ℕ) → Puts (sunk_by written faults o p) xs → Breaks (sunk_by written faults p q) (front ++ xs) text → Breaks (sunk_by written faults o q) front text
   Breaks-after front text first second = record {
     bytes = xs ++ second.bytes;
     is = second.is ∙ append_assoc front xs second.bytes;

@@ -1,7 +1,7 @@
 -- Steps of the machine over an empty input.
 use Rattle.std.proofs.Common.{◌≡◌, ◌∙◌, ℕ, zero, suc, ◌⊎◌, Bool, true, false, cond, List, [], ◌++◌, Option, None, refl, sym, ap, subst, append_assoc, append-nil, ⊎_elim, arith}
 use Rattle.alpha_words.specs.Regs.{reg}
-use Rattle.alpha_io.specs.Sunk.{Sunk, sunk, Puts}
+use Rattle.alpha_io.specs.Sunk.{Sunk, sunk_by, Puts}
 use Rattle.alpha_mem.specs.Memory.{bytes_at}
 use Rattle.alpha_seq.specs.declared.machine.Machine.{Machine}
 use Rattle.alpha_seq.specs.State.{Program, State, Event, Stepped, stepped}
@@ -105,7 +105,7 @@ walking_start wanted points most left m out e none = record {
 
 module _ {K : Type 0} (written : K → Option (List ℕ)) (faults : K → ℕ) (o p q : K) (wanted : Until) (points : List ℕ) (most left : ℕ) (old mid new : Machine) (event : Event) where
   -- one step more, and how the walk goes on behind it
-  pub walked : Stays old mid → (move : Moves event mid new (sunk written faults p q)) → (walking : Walking wanted points most (suc left) old mid (sunk written faults o p)) → (text : List ℕ)
+  pub walked : Stays old mid → (move : Moves event mid new (sunk_by written faults p q)) → (walking : Walking wanted points most (suc left) old mid (sunk_by written faults o p)) → (text : List ℕ)
       → walk (program_of old) wanted points most (state_of old [] text)
       ≡ walk-by (is_last wanted points event new.pc) (program_of old) wanted points left (stepped (state_of new [] (text ++ (walking.bytes ++ move.bytes))) event)
   walked same move walking text =
@@ -114,8 +114,8 @@ module _ {K : Type 0} (written : K → Option (List ℕ)) (faults : K → ℕ) (
       (ap (λ (g : Program). step_from g (state_of mid [] (text ++ walking.bytes))) (sym same.program)
       ∙ (move.is (text ++ walking.bytes) ∙ ap (λ (l : List ℕ). stepped (state_of new [] l) event) (append_assoc text walking.bytes move.bytes)))
 
-  pub walking_on : Stays old mid → Walking wanted points most (suc left) old mid (sunk written faults o p) → Moves event mid new (sunk written faults p q)
-      → is_last wanted points event new.pc ≡ false → Walking wanted points most left old new (sunk written faults o q)
+  pub walking_on : Stays old mid → Walking wanted points most (suc left) old mid (sunk_by written faults o p) → Moves event mid new (sunk_by written faults p q)
+      → is_last wanted points event new.pc ≡ false → Walking wanted points most left old new (sunk_by written faults o q)
   walking_on same walking move goes = record {
     bytes = walking.bytes ++ move.bytes;
     wrote = Puts-both written faults o p q walking.bytes move.bytes walking.wrote move.wrote;
@@ -124,8 +124,8 @@ module _ {K : Type 0} (written : K → Option (List ℕ)) (faults : K → ℕ) (
         ∙ ap (λ (b : Bool). walk-by b (program_of old) wanted points left (stepped (state_of new [] (text ++ (walking.bytes ++ move.bytes))) event)) goes;
   }
 
-  pub walking_ends : Stays old mid → Walking wanted points most (suc left) old mid (sunk written faults o p) → Moves event mid new (sunk written faults p q)
-      → is_last wanted points event new.pc ≡ true → Walks wanted points most (end_of event) old new (sunk written faults o q)
+  pub walking_ends : Stays old mid → Walking wanted points most (suc left) old mid (sunk_by written faults o p) → Moves event mid new (sunk_by written faults p q)
+      → is_last wanted points event new.pc ≡ true → Walks wanted points most (end_of event) old new (sunk_by written faults o q)
   walking_ends same walking move ends = record {
     bytes = walking.bytes ++ move.bytes;
     wrote = Puts-both written faults o p q walking.bytes move.bytes walking.wrote move.wrote;
@@ -136,15 +136,15 @@ module _ {K : Type 0} (written : K → Option (List ℕ)) (faults : K → ℕ) (
 
 module _ {K : Type 0} (written : K → Option (List ℕ)) (faults : K → ℕ) (o p q : K) (wanted : Until) (points : List ℕ) (most left : ℕ) (old mid : Machine) where
   -- the sink failed in the next step
-  pub walking_breaks : Stays old mid → Walking wanted points most (suc left) old mid (sunk written faults o p) → MoveBreaks mid (sunk written faults p q)
-      → WalkBreaks wanted points most old (sunk written faults o q)
+  pub walking_breaks : Stays old mid → Walking wanted points most (suc left) old mid (sunk_by written faults o p) → MoveBreaks mid (sunk_by written faults p q)
+      → WalkBreaks wanted points most old (sunk_by written faults o q)
   walking_breaks same walking breaks text =
       let s : State = state_of mid [] (text ++ walking.bytes) in
       let g : Program = program_of old in
-      let step : Breaks (sunk written faults p q) (text ++ walking.bytes) (step_from g s).state.outside.output =
-      subst (λ (h : Program). Breaks (sunk written faults p q) (text ++ walking.bytes) (step_from h s).state.outside.output) same.program (breaks (text ++ walking.bytes)) in
-      let more = Breaks-more (sunk written faults p q) (text ++ walking.bytes) (step_from g s).state.outside.output (walk g wanted points (suc left) s).state.outside.output step (first-grows g wanted points left s) in
-      subst (λ (w : Walked). Breaks (sunk written faults o q) text w.state.outside.output) (sym (walking.is text))
+      let step : Breaks (sunk_by written faults p q) (text ++ walking.bytes) (step_from g s).state.outside.output =
+      subst (λ (h : Program). Breaks (sunk_by written faults p q) (text ++ walking.bytes) (step_from h s).state.outside.output) same.program (breaks (text ++ walking.bytes)) in
+      let more = Breaks-more (sunk_by written faults p q) (text ++ walking.bytes) (step_from g s).state.outside.output (walk g wanted points (suc left) s).state.outside.output step (first-grows g wanted points left s) in
+      subst (λ (w : Walked). Breaks (sunk_by written faults o q) text w.state.outside.output) (sym (walking.is text))
       (Breaks-after written faults o p q walking.bytes text (walk g wanted points (suc left) s).state.outside.output walking.wrote more)
 
 -- no step is left

@@ -4,10 +4,10 @@ use Rattle.std.proofs.lemmas.List.{length-append}
 use Rattle.std.specs.Io.KnownBytes.{Consumes, Keeps, IsAtEnd}
 use Rattle.std.proofs.KnownBytes.{Consumes-trans, Consumes-kept}
 use Rattle.alpha_io.specs.Faults.{Rose}
-use Rattle.alpha_io.specs.Sunk.{Sunk, sunk, Puts}
+use Rattle.alpha_io.specs.Sunk.{Sunk, sunk_by, Puts}
 use Rattle.alpha_io.proofs.Counts.{Rose-earlier}
 use Rattle.alpha_pal.specs.CallEffect.{Takes}
-use Rattle.alpha_seq.specs.Devices.{Drawn, drawn}
+use Rattle.alpha_seq.specs.Devices.{Drawn, drawn_by}
 use Rattle.alpha_debug.specs.declared.command.Command.{Command}
 use Rattle.alpha_debug.specs.declared.debugger.Debugger.{Debugger}
 use Rattle.alpha_debug.specs.declared.debugger.Talk.{Talk}
@@ -95,7 +95,7 @@ underway_start d held script out empty took same none = record {
 }
 
 module _ {S K : Type 0} (left : S → Option (List ℕ)) (counts : S → ℕ) (written : K → Option (List ℕ)) (faults : K → ℕ) (r s t : S) (o p q : K)
-    (first d : Debugger) (held : List ℕ) (most : ℕ) (u : Underway first d held most (drawn left counts r s) (sunk written faults o p)) where
+    (first d : Debugger) (held : List ℕ) (most : ℕ) (u : Underway first d held most (drawn_by left counts r s) (sunk_by written faults o p)) where
   -- the transcript behind a piece of the script
   behind : (bytes text rest : List ℕ) → told_from first text 1048576 [] ((u.taken ++ bytes) ++ rest) ≡ told_from d (text ++ u.put) most u.line (bytes ++ rest)
   behind bytes text rest = ap (λ (l : List ℕ). told_from first text 1048576 [] l) (append_assoc u.taken bytes rest) ∙ u.is text (bytes ++ rest)
@@ -103,11 +103,11 @@ module _ {S K : Type 0} (left : S → Option (List ℕ)) (counts : S → ℕ) (w
   took-more : (bytes : List ℕ) → Consumes (left s) (left t) bytes → Consumes (left r) (left t) (u.taken ++ bytes)
   took-more bytes took = Consumes-trans (left r) (left s) (left t) u.taken bytes u.took took
 
-  reads-more : (bytes : List ℕ) → Consumes (left s) (left t) bytes → length bytes ≤ most + 1 → (l : Left (left r) (left t) (u.taken ++ bytes)) → Reads (drawn left counts r t) (u.taken ++ bytes) l.rest
+  reads-more : (bytes : List ℕ) → Consumes (left s) (left t) bytes → length bytes ≤ most + 1 → (l : Left (left r) (left t) (u.taken ++ bytes)) → Reads (drawn_by left counts r t) (u.taken ++ bytes) l.rest
   reads-more bytes took fits l = record { took = l.took; most = omega (arith, u.count, length-append u.taken bytes) }
 
   pub underway_more : (bytes : List ℕ) (new : Debugger) (held_new : List ℕ) (less : ℕ) → Consumes (left s) (left t) bytes → counts t ≡ counts s → length bytes ≤ most → less ≡ most - length bytes
-      → Hears bytes u.line GoesOn d new held_new (sunk written faults p q) → Remains d new → Underway first new held_new less (drawn left counts r t) (sunk written faults o q)
+      → Hears bytes u.line GoesOn d new held_new (sunk_by written faults p q) → Remains d new → Underway first new held_new less (drawn_by left counts r t) (sunk_by written faults o q)
   underway_more bytes new held_new less took same fits e hears remains = record {
     taken = u.taken ++ bytes;
     put = u.put ++ hears.put;
@@ -127,7 +127,7 @@ module _ {S K : Type 0} (left : S → Option (List ℕ)) (counts : S → ℕ) (w
 
   -- `quit` came
   pub underway_quit : (bytes : List ℕ) (new : Debugger) (held_new : List ℕ) → Consumes (left s) (left t) bytes → counts t ≡ counts s → length bytes ≤ most
-      → Hears bytes u.line Quits d new held_new (sunk written faults p q) → Tells first Done (drawn left counts r t) (sunk written faults o q)
+      → Hears bytes u.line Quits d new held_new (sunk_by written faults p q) → Tells first Done (drawn_by left counts r t) (sunk_by written faults o q)
   underway_quit bytes new held_new took same fits hears =
       let l = left_of (left r) (left t) (u.taken ++ bytes) (took-more bytes took) in
       record {
@@ -145,7 +145,7 @@ module _ {S K : Type 0} (left : S → Option (List ℕ)) (counts : S → ℕ) (w
 
   -- the sink failed
   pub underway_fails : (bytes : List ℕ) → Consumes (left s) (left t) bytes → counts t ≡ counts s → length bytes ≤ most
-      → HearFails bytes u.line d (sunk written faults p q) → TellingFails first (drawn left counts r t) (sunk written faults o q)
+      → HearFails bytes u.line d (sunk_by written faults p q) → TellingFails first (drawn_by left counts r t) (sunk_by written faults o q)
   underway_fails bytes took same fits fails =
       let l = left_of (left r) (left t) (u.taken ++ bytes) (took-more bytes took) in
       record {
@@ -155,11 +155,11 @@ module _ {S K : Type 0} (left : S → Option (List ℕ)) (counts : S → ℕ) (w
         same = same ∙ u.same;
         breaks = λ text.
             Breaks-after written faults o p q u.put text (told_from first text 1048576 [] ((u.taken ++ bytes) ++ l.rest)).text u.wrote
-            (subst (λ (x : Transcript). Breaks (sunk written faults p q) (text ++ u.put) x.text) (sym (behind bytes text l.rest)) (fails (text ++ u.put) most l.rest fits));
+            (subst (λ (x : Transcript). Breaks (sunk_by written faults p q) (text ++ u.put) x.text) (sym (behind bytes text l.rest)) (fails (text ++ u.put) most l.rest fits));
       }
 
   -- the script failed
-  pub underway_unread : Keeps (left s) (left t) → counts s ≤ counts t → Rose (counts s) (counts t) → ReadingFails first (drawn left counts r t) (sunk written faults o p)
+  pub underway_unread : Keeps (left s) (left t) → counts s ≤ counts t → Rose (counts s) (counts t) → ReadingFails first (drawn_by left counts r t) (sunk_by written faults o p)
   underway_unread kept later cause =
       let took : Consumes (left r) (left t) u.taken = Consumes-kept (left r) (left s) (left t) u.taken u.took kept in
       let l = left_of (left r) (left t) u.taken took in
@@ -176,8 +176,8 @@ module _ {S K : Type 0} (left : S → Option (List ℕ)) (counts : S → ℕ) (w
       }
 
   -- the script has ended
-  pub underway_end : Consumes (left s) (left t) [] → IsAtEnd (left s) → counts t ≡ counts s → Closes u.line d (sunk written faults p q)
-      → Tells first Done (drawn left counts r t) (sunk written faults o q)
+  pub underway_end : Consumes (left s) (left t) [] → IsAtEnd (left s) → counts t ≡ counts s → Closes u.line d (sunk_by written faults p q)
+      → Tells first Done (drawn_by left counts r t) (sunk_by written faults o q)
   underway_end took ended same closes = record {
     taken = u.taken;
     rest = [];
@@ -191,8 +191,8 @@ module _ {S K : Type 0} (left : S → Option (List ℕ)) (counts : S → ℕ) (w
         ∙ ap (λ (x : List ℕ). record { text = x; end = Done }) (append_assoc text u.put closes.put));
   }
 
-  pub underway_end_fails : Consumes (left s) (left t) [] → IsAtEnd (left s) → counts t ≡ counts s → CloseFails u.line d (sunk written faults p q)
-      → TellingFails first (drawn left counts r t) (sunk written faults o q)
+  pub underway_end_fails : Consumes (left s) (left t) [] → IsAtEnd (left s) → counts t ≡ counts s → CloseFails u.line d (sunk_by written faults p q)
+      → TellingFails first (drawn_by left counts r t) (sunk_by written faults o q)
   underway_end_fails took ended same fails = record {
     taken = u.taken;
     rest = [];
@@ -200,12 +200,12 @@ module _ {S K : Type 0} (left : S → Option (List ℕ)) (counts : S → ℕ) (w
     same = same ∙ u.same;
     breaks = λ text.
         Breaks-after written faults o p q u.put text (told_from first text 1048576 [] (u.taken ++ [])).text u.wrote
-        (subst (λ (x : Transcript). Breaks (sunk written faults p q) (text ++ u.put) x.text) (sym (u.is text [])) (fails (text ++ u.put) most));
+        (subst (λ (x : Transcript). Breaks (sunk_by written faults p q) (text ++ u.put) x.text) (sym (u.is text [])) (fails (text ++ u.put) most));
   }
 
   -- the end of the script, by the answer
-  pub underway_closed : (end : DebugEnd) → Consumes (left s) (left t) [] → IsAtEnd (left s) → counts t ≡ counts s → CloseEffect end u.line d (sunk written faults p q)
-      → TellEffect end first (drawn left counts r t) (sunk written faults o q)
+  pub underway_closed : (end : DebugEnd) → Consumes (left s) (left t) [] → IsAtEnd (left s) → counts t ≡ counts s → CloseEffect end u.line d (sunk_by written faults p q)
+      → TellEffect end first (drawn_by left counts r t) (sunk_by written faults o q)
   underway_closed Done took ended same did = underway_end took ended same did
   underway_closed SinkFault took ended same did = underway_end_fails took ended same did
   underway_closed InputFault took ended same did = absurd did
@@ -213,7 +213,7 @@ module _ {S K : Type 0} (left : S → Option (List ℕ)) (counts : S → ℕ) (w
   underway_closed NoMemory took ended same did = absurd did
 
   -- the script goes on past the bytes that count
-  pub underway_large : (b : ℕ) → most ≡ 0 → Consumes (left s) (left t) (b ∷ []) → counts t ≡ counts s → Tells first TooLarge (drawn left counts r t) (sunk written faults o p)
+  pub underway_large : (b : ℕ) → most ≡ 0 → Consumes (left s) (left t) (b ∷ []) → counts t ≡ counts s → Tells first TooLarge (drawn_by left counts r t) (sunk_by written faults o p)
   underway_large b none took same =
       let l = left_of (left r) (left t) (u.taken ++ b ∷ []) (took-more (b ∷ []) took) in
       record {

@@ -57,9 +57,9 @@ impl Debugger {
     pub fn answer<K: Sink>(&mut self, command: Command, out: &mut K) -> Result<Talk, Failed>
         requires { IsTrue self.old.machine.kernel.user }
         ensures ok { IfOk result (λ talk. Answers command talk self.old self.new
-            (sunk K.written K.faults out.old out.new)) }
+            (sunk K.Sink out.old out.new)) }
         ensures refused { OnErr result (AnswerFails command self.old
-            (sunk K.written K.faults out.old out.new)) }
+            (sunk K.Sink out.old out.new)) }
         ensures same { Remains self.old self.new }
     {
         match command {
@@ -79,9 +79,9 @@ impl Debugger {
     fn travel<K: Sink>(&mut self, until: Until, most: u64, out: &mut K) -> Result<(), Failed>
         requires { IsTrue self.old.machine.kernel.user }
         ensures ok { OnOk result (Makes (travel (setting_of self.old) until most) self.old self.new
-            (sunk K.written K.faults out.old out.new)) }
+            (sunk K.Sink out.old out.new)) }
         ensures refused { OnErr result (Fails (travel (setting_of self.old) until most) self.old
-            (sunk K.written K.faults out.old out.new)) }
+            (sunk K.Sink out.old out.new)) }
         ensures same { Remains self.old self.new }
     {
         self.make_steps(until, most, out)?;
@@ -92,9 +92,9 @@ impl Debugger {
     fn make_steps<K: Sink>(&mut self, until: Until, most: u64, out: &mut K) -> Result<(), Failed>
         requires { IsTrue self.old.machine.kernel.user }
         ensures ok { OnOk result (Makes (going (setting_of self.old) until most) self.old self.new
-            (sunk K.written K.faults out.old out.new)) }
+            (sunk K.Sink out.old out.new)) }
         ensures refused { OnErr result (Fails (going (setting_of self.old) until most) self.old
-            (sunk K.written K.faults out.old out.new)) }
+            (sunk K.Sink out.old out.new)) }
         ensures same { Remains self.old self.new }
     {
         if self.end.is_some() {
@@ -107,9 +107,9 @@ impl Debugger {
     // Adds a breakpoint.
     fn add<K: Sink>(&mut self, at: u64, out: &mut K) -> Result<(), Failed>
         ensures ok { OnOk result (Makes (λ s. adding s at) self.old self.new
-            (sunk K.written K.faults out.old out.new)) }
+            (sunk K.Sink out.old out.new)) }
         ensures refused { OnErr result (Fails (λ s. adding s at) self.old
-            (sunk K.written K.faults out.old out.new)) }
+            (sunk K.Sink out.old out.new)) }
         ensures same { Remains self.old self.new }
     {
         if has_point(self.points.as_slice(), at) {
@@ -125,9 +125,9 @@ impl Debugger {
     // Removes a breakpoint.
     fn clear<K: Sink>(&mut self, at: u64, out: &mut K) -> Result<(), Failed>
         ensures ok { OnOk result (Makes (λ s. clearing s at) self.old self.new
-            (sunk K.written K.faults out.old out.new)) }
+            (sunk K.Sink out.old out.new)) }
         ensures refused { OnErr result (Fails (λ s. clearing s at) self.old
-            (sunk K.written K.faults out.old out.new)) }
+            (sunk K.Sink out.old out.new)) }
         ensures same { Remains self.old self.new }
     {
         remove_point(&mut self.points, at);
@@ -137,9 +137,9 @@ impl Debugger {
     // Answers a command that changes nothing but what is written.
     fn show<K: Sink>(&self, command: Command, out: &mut K) -> Result<(), Failed>
         requires { IsTrue (is_shown command) }
-        ensures ok { OnOk result (Puts (sunk K.written K.faults out.old out.new)
+        ensures ok { OnOk result (Puts (sunk K.Sink out.old out.new)
             (shown (setting_of self.now) command (state_of self.now.machine [] []))) }
-        ensures refused { OnErr result (Stops (sunk K.written K.faults out.old out.new)
+        ensures refused { OnErr result (Stops (sunk K.Sink out.old out.new)
             (shown (setting_of self.now) command (state_of self.now.machine [] []))) }
     {
         match command {

@@ -21,8 +21,8 @@ const ROW: usize = 16;
 
 /// Appends bytes.
 pub(crate) fn say<K: Sink>(bytes: &[u8], out: &mut K) -> Result<(), Failed>
-    ensures ok { OnOk result (Puts (sunk K.written K.faults out.old out.new) bytes.now) }
-    ensures refused { OnErr result (Stops (sunk K.written K.faults out.old out.new) bytes.now) }
+    ensures ok { OnOk result (Puts (sunk K.Sink out.old out.new) bytes.now) }
+    ensures refused { OnErr result (Stops (sunk K.Sink out.old out.new) bytes.now) }
 {
     write_whole(out, bytes)
 }
@@ -79,9 +79,9 @@ pub(crate) fn print_memory<K: Sink>(
     count: u64,
     out: &mut K,
 ) -> Result<(), Failed>
-    ensures ok { OnOk result (Puts (sunk K.written K.faults out.old out.new)
+    ensures ok { OnOk result (Puts (sunk K.Sink out.old out.new)
         (memory_lines memory.now at count)) }
-    ensures refused { OnErr result (Stops (sunk K.written K.faults out.old out.new)
+    ensures refused { OnErr result (Stops (sunk K.Sink out.old out.new)
         (memory_lines memory.now at count)) }
 {
     match memory.bytes(at, count) {
@@ -93,9 +93,9 @@ pub(crate) fn print_memory<K: Sink>(
 // Appends bytes in lines of sixteen, the first of which stand at an address.
 fn print_bytes<K: Sink>(at: u64, bytes: &[u8], out: &mut K) -> Result<(), Failed>
     requires { at + length bytes.now < 2 ^ 64 }
-    ensures ok { OnOk result (Puts (sunk K.written K.faults out.old out.new)
+    ensures ok { OnOk result (Puts (sunk K.Sink out.old out.new)
         (bytes_lines at bytes.now)) }
-    ensures refused { OnErr result (Stops (sunk K.written K.faults out.old out.new)
+    ensures refused { OnErr result (Stops (sunk K.Sink out.old out.new)
         (bytes_lines at bytes.now)) }
 {
     for k in 0..bytes.len().div_ceil(ROW) {
@@ -129,9 +129,9 @@ pub(crate) fn print_code<K: Sink>(
     count: u64,
     out: &mut K,
 ) -> Result<(), Failed>
-    ensures ok { OnOk result (Puts (sunk K.written K.faults out.old out.new)
+    ensures ok { OnOk result (Puts (sunk K.Sink out.old out.new)
         (code_lines image.now (place_of image.now at) count)) }
-    ensures refused { OnErr result (Stops (sunk K.written K.faults out.old out.new)
+    ensures refused { OnErr result (Stops (sunk K.Sink out.old out.new)
         (code_lines image.now (place_of image.now at) count)) }
 {
     match image.place_of(at) {
@@ -143,9 +143,9 @@ pub(crate) fn print_code<K: Sink>(
 // Appends the lines of code words from a place on.
 fn print_words<K: Sink>(image: &Image, place: u32, count: u64, out: &mut K) -> Result<(), Failed>
     requires { place < length image.now.words }
-    ensures ok { OnOk result (Puts (sunk K.written K.faults out.old out.new)
+    ensures ok { OnOk result (Puts (sunk K.Sink out.old out.new)
         (code_lines image.now (Some place) count)) }
-    ensures refused { OnErr result (Stops (sunk K.written K.faults out.old out.new)
+    ensures refused { OnErr result (Stops (sunk K.Sink out.old out.new)
         (code_lines image.now (Some place) count)) }
 {
     let count = count.min(u64::from(image.words() - place));

@@ -25,10 +25,10 @@ pub(crate) fn hear<K: Sink>(
     requires { IsTrue debugger.old.machine.kernel.user }
     ensures ok { (begun : List ℕ) → IsHeld begun held.old.items
         → IfOk result (λ talk. Hears bytes.now begun talk debugger.old debugger.new held.new.items
-        (sunk K.written K.faults out.old out.new)) }
+        (sunk K.Sink out.old out.new)) }
     ensures refused { (begun : List ℕ) → IsHeld begun held.old.items
         → OnErr result (HearFails bytes.now begun debugger.old
-        (sunk K.written K.faults out.old out.new)) }
+        (sunk K.Sink out.old out.new)) }
     ensures same { Remains debugger.old debugger.new }
 {
     for byte in bytes {
@@ -50,10 +50,10 @@ fn hear_byte<K: Sink>(
     requires { IsTrue debugger.old.machine.kernel.user }
     ensures ok { (begun : List ℕ) → IsHeld begun held.old.items
         → IfOk result (λ talk. Hears (byte ∷ []) begun talk debugger.old debugger.new held.new.items
-        (sunk K.written K.faults out.old out.new)) }
+        (sunk K.Sink out.old out.new)) }
     ensures refused { (begun : List ℕ) → IsHeld begun held.old.items
         → OnErr result (HearFails (byte ∷ []) begun debugger.old
-        (sunk K.written K.faults out.old out.new)) }
+        (sunk K.Sink out.old out.new)) }
     ensures same { Remains debugger.old debugger.new }
 {
     if byte == b'\n' {
@@ -76,9 +76,9 @@ pub(crate) fn answer_line<K: Sink>(
 ) -> Result<Talk, Failed>
     requires { IsTrue debugger.old.machine.kernel.user }
     ensures ok { IfOk result (λ talk. Answers (command_of line.now) talk debugger.old debugger.new
-        (sunk K.written K.faults out.old out.new)) }
+        (sunk K.Sink out.old out.new)) }
     ensures refused { OnErr result (AnswerFails (command_of line.now) debugger.old
-        (sunk K.written K.faults out.old out.new)) }
+        (sunk K.Sink out.old out.new)) }
     ensures same { Remains debugger.old debugger.new }
 {
     debugger.answer(command_of(line), out)

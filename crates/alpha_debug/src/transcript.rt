@@ -34,8 +34,8 @@ pub fn debug<S: Source, K: Sink>(
     out: &mut K,
 ) -> DebugEnd
     ensures effect { DebugEffect result image
-        (drawn S.left S.faults script.old script.new)
-        (sunk K.written K.faults out.old out.new) }
+        (drawn S.Source script.old script.new)
+        (sunk K.Sink out.old out.new) }
     ensures same { result ≡ DebugEnd.NoMemory → (script.new ≡ script.old) × (out.new ≡ out.old) }
 {
     match Debugger::new(alloc, image) {
@@ -48,8 +48,8 @@ pub fn debug<S: Source, K: Sink>(
 fn converse<S: Source, K: Sink>(debugger: &mut Debugger, script: &mut S, out: &mut K) -> DebugEnd
     requires { IsTrue debugger.old.machine.kernel.user }
     ensures { TellEffect result debugger.old
-        (drawn S.left S.faults script.old script.new)
-        (sunk K.written K.faults out.old out.new) }
+        (drawn S.Source script.old script.new)
+        (sunk K.Sink out.old out.new) }
 {
     let mut held = ArrayVec::new();
     let mut space = [0; PIECE];
@@ -82,7 +82,7 @@ fn converse<S: Source, K: Sink>(debugger: &mut Debugger, script: &mut S, out: &m
 fn close<K: Sink>(debugger: &mut Debugger, held: &Held, out: &mut K) -> DebugEnd
     requires { IsTrue debugger.old.machine.kernel.user }
     ensures { (begun : List ℕ) → IsHeld begun held.now.items → CloseEffect result begun debugger.old
-        (sunk K.written K.faults out.old out.new) }
+        (sunk K.Sink out.old out.new) }
 {
     match answer_line(debugger, held.as_slice(), out) {
         Ok(_) => DebugEnd::Done,

@@ -44,9 +44,9 @@ pub(crate) fn walk<K: Sink>(
 ) -> Result<Option<End>, Failed>
     requires { IsTrue machine.old.kernel.user }
     ensures ok { IfOk result (λ end. Walks until points.now most end machine.old machine.new
-        (sunk K.written K.faults out.old out.new)) }
+        (sunk K.Sink out.old out.new)) }
     ensures refused { OnErr result (WalkBreaks until points.now most machine.old
-        (sunk K.written K.faults out.old out.new)) }
+        (sunk K.Sink out.old out.new)) }
     ensures same { Stays machine.old machine.new }
 {
     for _ in 0..most {
@@ -62,9 +62,9 @@ pub(crate) fn walk<K: Sink>(
 fn step<K: Sink>(machine: &mut Machine, out: &mut K) -> Result<Moved, Failed>
     requires { IsTrue machine.old.kernel.user }
     ensures ok { IfOk result (λ moved. Moves (event_of moved) machine.old machine.new
-        (sunk K.written K.faults out.old out.new)) }
+        (sunk K.Sink out.old out.new)) }
     ensures refused { OnErr result (MoveBreaks machine.old
-        (sunk K.written K.faults out.old out.new)) }
+        (sunk K.Sink out.old out.new)) }
     ensures same { Stays machine.old machine.new }
 {
     match machine.step(&mut NoInput, out, &mut NullSink::new()) {

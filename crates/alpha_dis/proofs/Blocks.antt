@@ -1,7 +1,7 @@
 -- What a block takes in a row, and what is written where the sink fails. `written` is what the sink tells and `faults` its
 -- count; o, p, q and r are the sink at one moment after another.
 use Rattle.std.proofs.Common.{◌≡◌, ℕ, ◌≤◌, List, [], ◌++◌, Option, Result, Ok, Err, OnOk, OnErr, refl, sym, ap, subst, ◌∙◌, append_assoc, append-nil, arith}
-use Rattle.alpha_io.specs.Sunk.{Sunk, sunk, Puts, Partly, HasFailed}
+use Rattle.alpha_io.specs.Sunk.{Sunk, sunk_by, Puts, Partly, HasFailed}
 use Rattle.alpha_io.proofs.Counts.{Rose-earlier}
 use Rattle.alpha_io.proofs.Sinks.{Puts-none, Puts-then, Partly-whole, Partly-then, Partly-more}
 use Rattle.alpha_dis.specs.Taken.{Takes, Stops}
@@ -38,7 +38,7 @@ Stops-more s xs ys stops = record { part = Partly-more s xs ys stops.part; faile
 
 module _ {K : Type 0} (written : K → Option (List ℕ)) (faults : K → ℕ) (o p q : K) (a b xs : List ℕ) where
   -- first these bytes, then those
-  pub Takes-then : (c ys : List ℕ) → Takes (sunk written faults o p) a b xs → Takes (sunk written faults p q) b c ys → Takes (sunk written faults o q) a c (xs ++ ys)
+  pub Takes-then : (c ys : List ℕ) → Takes (sunk_by written faults o p) a b xs → Takes (sunk_by written faults p q) b c ys → Takes (sunk_by written faults o q) a c (xs ++ ys)
   Takes-then c ys one two = record {
     sent = one.sent ++ two.sent;
     puts = Puts-then (written o) (written p) (written q) (faults o) (faults p) (faults q) one.sent two.sent one.puts two.puts;
@@ -51,39 +51,39 @@ module _ {K : Type 0} (written : K → Option (List ℕ)) (faults : K → ℕ) (
   }
 
   -- first these bytes, and then all that the block held was put
-  pub Puts-held : Takes (sunk written faults o p) a b xs → Puts (sunk written faults p q) b → Puts (sunk written faults o q) (a ++ xs)
+  pub Puts-held : Takes (sunk_by written faults o p) a b xs → Puts (sunk_by written faults p q) b → Puts (sunk_by written faults o q) (a ++ xs)
   Puts-held one two =
-      subst (Puts (sunk written faults o q)) (sym one.whole)
+      subst (Puts (sunk_by written faults o q)) (sym one.whole)
       (Puts-then (written o) (written p) (written q) (faults o) (faults p) (faults q) one.sent b one.puts two)
 
   -- first these bytes, then the sink failed
-  pub Stops-then : (ys : List ℕ) → Takes (sunk written faults o p) a b xs → Stops (sunk written faults p q) (b ++ ys) → Stops (sunk written faults o q) (a ++ (xs ++ ys))
+  pub Stops-then : (ys : List ℕ) → Takes (sunk_by written faults o p) a b xs → Stops (sunk_by written faults p q) (b ++ ys) → Stops (sunk_by written faults o q) (a ++ (xs ++ ys))
   Stops-then ys one two = record {
     part =
-        subst (Partly (sunk written faults o q))
+        subst (Partly (sunk_by written faults o q))
         (sym (append_assoc one.sent b ys) ∙ (ap (λ (l : List ℕ). l ++ ys) (sym one.whole) ∙ append_assoc a xs ys))
         (Partly-then (written o) (written p) (written q) (faults o) (faults p) (faults q) one.sent (b ++ ys) one.puts two.part);
     failed = Rose-earlier (faults o) (faults p) (faults q) (omega (arith, one.puts.same)) two.failed;
   }
 
   -- the same, where it failed on what the block held
-  pub Stops-held : (ys : List ℕ) → Takes (sunk written faults o p) a b xs → Stops (sunk written faults p q) b → Stops (sunk written faults o q) (a ++ (xs ++ ys))
-  Stops-held ys one two = Stops-then ys one (Stops-more (sunk written faults p q) b ys two)
+  pub Stops-held : (ys : List ℕ) → Takes (sunk_by written faults o p) a b xs → Stops (sunk_by written faults p q) b → Stops (sunk_by written faults o q) (a ++ (xs ++ ys))
+  Stops-held ys one two = Stops-then ys one (Stops-more (sunk_by written faults p q) b ys two)
 
 -- ---- three parts in a row
 
 module _ {K : Type 0} (written : K → Option (List ℕ)) (faults : K → ℕ) (o p q r : K) (a b c d xs ys zs : List ℕ) where
-  pub Takes-three : Takes (sunk written faults o p) a b xs → Takes (sunk written faults p q) b c ys → Takes (sunk written faults q r) c d zs
-      → Takes (sunk written faults o r) a d (xs ++ (ys ++ zs))
+  pub Takes-three : Takes (sunk_by written faults o p) a b xs → Takes (sunk_by written faults p q) b c ys → Takes (sunk_by written faults q r) c d zs
+      → Takes (sunk_by written faults o r) a d (xs ++ (ys ++ zs))
   Takes-three one two three =
       Takes-then written faults o p r a b xs d (ys ++ zs) one (Takes-then written faults p q r b c ys d zs two three)
 
-  pub Stops-second : Takes (sunk written faults o p) a b xs → Stops (sunk written faults p q) (b ++ ys) → Stops (sunk written faults o q) (a ++ (xs ++ (ys ++ zs)))
+  pub Stops-second : Takes (sunk_by written faults o p) a b xs → Stops (sunk_by written faults p q) (b ++ ys) → Stops (sunk_by written faults o q) (a ++ (xs ++ (ys ++ zs)))
   Stops-second one two =
       Stops-then written faults o p q a b xs (ys ++ zs) one
-      (subst (Stops (sunk written faults p q)) (append_assoc b ys zs) (Stops-more (sunk written faults p q) (b ++ ys) zs two))
+      (subst (Stops (sunk_by written faults p q)) (append_assoc b ys zs) (Stops-more (sunk_by written faults p q) (b ++ ys) zs two))
 
-  pub Stops-third : Takes (sunk written faults o p) a b xs → Takes (sunk written faults p q) b c ys → Stops (sunk written faults q r) (c ++ zs)
-      → Stops (sunk written faults o r) (a ++ (xs ++ (ys ++ zs)))
+  pub Stops-third : Takes (sunk_by written faults o p) a b xs → Takes (sunk_by written faults p q) b c ys → Stops (sunk_by written faults q r) (c ++ zs)
+      → Stops (sunk_by written faults o r) (a ++ (xs ++ (ys ++ zs)))
   Stops-third one two three =
       Stops-then written faults o p r a b xs (ys ++ zs) one (Stops-then written faults p q r b c ys zs two three)

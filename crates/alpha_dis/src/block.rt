@@ -45,9 +45,9 @@ impl Block {
 
     /// Puts all bytes, without which the block is empty.
     pub fn flush<K: Sink>(&mut self, out: &mut K) -> Result<(), Failed>
-        ensures ok { OnOk result (Puts (sunk K.written K.faults out.old out.new) self.old) }
+        ensures ok { OnOk result (Puts (sunk K.Sink out.old out.new) self.old) }
         ensures empty { OnOk result (self.new ≡ []) }
-        ensures refused { OnErr result (Stops (sunk K.written K.faults out.old out.new) self.old) }
+        ensures refused { OnErr result (Stops (sunk K.Sink out.old out.new) self.old) }
     {
         write_whole(out, &self.bytes[..self.len])?;
         self.len = 0;
@@ -57,9 +57,9 @@ impl Block {
     /// Puts all bytes where the block has less room than [`ROOM`].
     pub fn make_room<K: Sink>(&mut self, out: &mut K) -> Result<(), Failed>
         ensures ok { OnOk result
-            (Takes (sunk K.written K.faults out.old out.new) self.old self.new []) }
+            (Takes (sunk K.Sink out.old out.new) self.old self.new []) }
         ensures room { OnOk result (length self.new + ROOM ≤ BLOCK_ROOM) }
-        ensures refused { OnErr result (Stops (sunk K.written K.faults out.old out.new) self.old) }
+        ensures refused { OnErr result (Stops (sunk K.Sink out.old out.new) self.old) }
     {
         if self.len + ROOM <= BLOCK_ROOM {
             Ok(())

@@ -39,39 +39,39 @@ pub fn run<C: Chooser, S: Source, K: Sink, N: Sink>(
     ensures effect { (bytes : List ℕ) → S.left input.old ≡ Some bytes
         → WildRunEffect result units watch wild.old wild.new
         (telling C.ahead C.drawn chooser.old) (telling C.ahead C.drawn chooser.new)
-        (drawn S.left S.faults input.old input.new)
-        (sunk K.written K.faults out.old out.new)
-        (sunk N.written N.faults notes.old notes.new) }
-    ensures shown { let from = drawn S.left S.faults input.old input.new in
-        let to = sunk K.written K.faults out.old out.new in
-        let lines = sunk N.written N.faults notes.old notes.new in
+        (drawn S.Source input.old input.new)
+        (sunk K.Sink out.old out.new)
+        (sunk N.Sink notes.old notes.new) }
+    ensures shown { let from = drawn S.Source input.old input.new in
+        let to = sunk K.Sink out.old out.new in
+        let lines = sunk N.Sink notes.old notes.new in
         (bytes : List ℕ) → S.left input.old ≡ Some bytes → AreCalm from to lines
         → ShowsMade units watch bytes result wild.old
         (telling C.ahead C.drawn chooser.old) (telling C.ahead C.drawn chooser.new) from to lines }
     ensures prefix { (bytes : List ℕ) → S.left input.old ≡ Some bytes
         → ShowsMadePart units watch bytes wild.old
         (telling C.ahead C.drawn chooser.old) (telling C.ahead C.drawn chooser.new)
-        (sunk K.written K.faults out.old out.new)
-        (sunk N.written N.faults notes.old notes.new) }
+        (sunk K.Sink out.old out.new)
+        (sunk N.Sink notes.old notes.new) }
     ensures told { (bytes : List ℕ) (ahead : ℕ → ℕ) → S.left input.old ≡ Some bytes
         → C.ahead chooser.old ≡ Some ahead → IsFresh wild.old
         → ShowsTold units watch bytes ahead result wild.old.machine
         (telling C.ahead C.drawn chooser.old) (telling C.ahead C.drawn chooser.new)
-        (drawn S.left S.faults input.old input.new)
-        (sunk K.written K.faults out.old out.new)
-        (sunk N.written N.faults notes.old notes.new) }
+        (drawn S.Source input.old input.new)
+        (sunk K.Sink out.old out.new)
+        (sunk N.Sink notes.old notes.new) }
     ensures restarted { (bytes : List ℕ) → S.left input.old ≡ Some bytes
         → IsFresh wild.old → IsRestartable wild.old.machine.image
         → ShowsSequential units watch bytes result wild.old.machine
-        (drawn S.left S.faults input.old input.new)
-        (sunk K.written K.faults out.old out.new)
-        (sunk N.written N.faults notes.old notes.new) }
+        (drawn S.Source input.old input.new)
+        (sunk K.Sink out.old out.new)
+        (sunk N.Sink notes.old notes.new) }
     ensures cause { WildRunCause result
-        (drawn S.left S.faults input.old input.new)
-        (sunk K.written K.faults out.old out.new)
-        (sunk N.written N.faults notes.old notes.new) }
-    ensures output { HasGrown (sunk K.written K.faults out.old out.new) }
-    ensures notes { HasGrown (sunk N.written N.faults notes.old notes.new) }
+        (drawn S.Source input.old input.new)
+        (sunk K.Sink out.old out.new)
+        (sunk N.Sink notes.old notes.new) }
+    ensures output { HasGrown (sunk K.Sink out.old out.new) }
+    ensures notes { HasGrown (sunk N.Sink notes.old notes.new) }
     ensures same { Stays wild.old.machine wild.new.machine }
 {
     let mut left = units;
@@ -109,9 +109,9 @@ fn turn<C: Chooser, S: Source, K: Sink, N: Sink>(
 ) -> WildEnd
     ensures effect { WildTurnEffect watch result wild.old wild.new
         (telling C.ahead C.drawn chooser.old) (telling C.ahead C.drawn chooser.new)
-        (drawn S.left S.faults input.old input.new)
-        (sunk K.written K.faults out.old out.new)
-        (sunk N.written N.faults notes.old notes.new) }
+        (drawn S.Source input.old input.new)
+        (sunk K.Sink out.old out.new)
+        (sunk N.Sink notes.old notes.new) }
     ensures same { Stays wild.old.machine wild.new.machine }
 {
     match wild.step(chooser, input, out, notes) {

@@ -40,9 +40,9 @@ pub(crate) fn step<C: Chooser, S: Source, K: Sink, N: Sink>(
     ensures effect { WildEffect result
         (wild_state machine.old pending.old) (wild_state machine.new pending.new)
         (telling C.ahead C.drawn chooser.old) (telling C.ahead C.drawn chooser.new)
-        (drawn S.left S.faults input.old input.new)
-        (sunk K.written K.faults out.old out.new)
-        (sunk N.written N.faults notes.old notes.new) }
+        (drawn S.Source input.old input.new)
+        (sunk K.Sink out.old out.new)
+        (sunk N.Sink notes.old notes.new) }
     ensures frame { Framed pending.old result machine.new }
     ensures user { IsTrue machine.new.kernel.user }
     ensures bound { IfSome pending.new (λ p. p.waited ≤ 1024) }
@@ -68,9 +68,9 @@ fn with_none<C: Chooser, S: Source, K: Sink, N: Sink>(
     ensures effect { WildEffect result
         (wild_state machine.old pending.old) (wild_state machine.new pending.new)
         (telling C.ahead C.drawn chooser.old) (telling C.ahead C.drawn chooser.new)
-        (drawn S.left S.faults input.old input.new)
-        (sunk K.written K.faults out.old out.new)
-        (sunk N.written N.faults notes.old notes.new) }
+        (drawn S.Source input.old input.new)
+        (sunk K.Sink out.old out.new)
+        (sunk N.Sink notes.old notes.new) }
     ensures user { IsTrue machine.new.kernel.user }
     ensures bound { IfSome pending.new (λ p. p.waited ≤ 1024) }
 {
@@ -102,7 +102,7 @@ fn with_trap<C: Chooser, N: Sink>(
     ensures effect { StepsAlone result
         (wild_state machine.old pending.old) (wild_state machine.new pending.new)
         (telling C.ahead C.drawn chooser.old) (telling C.ahead C.drawn chooser.new)
-        (sunk N.written N.faults notes.old notes.new) }
+        (sunk N.Sink notes.old notes.new) }
     ensures frame { Framed (Some trap.now) result machine.new }
     ensures user { IsTrue machine.new.kernel.user }
     ensures bound { IfSome pending.new (λ p. p.waited ≤ 1024) }
@@ -151,9 +151,9 @@ fn precise<S: Source, K: Sink, N: Sink>(
     requires exact { triggers (class_here machine.old) (bare machine.old) ≡ false }
     ensures effect { (chooser : Telling) → WildEffect result
         (wild_state machine.old None) (wild_state machine.new None) chooser chooser
-        (drawn S.left S.faults input.old input.new)
-        (sunk K.written K.faults out.old out.new)
-        (sunk N.written N.faults notes.old notes.new) }
+        (drawn S.Source input.old input.new)
+        (sunk K.Sink out.old out.new)
+        (sunk N.Sink notes.old notes.new) }
     ensures user { IsTrue machine.new.kernel.user }
 {
     match machine.step_by(insn, input, out, notes) {
@@ -258,7 +258,7 @@ fn report_pending<N: Sink>(
     ensures effect { (words : List ℕ)
         → ChoosesReport (wild_state machine.old pending.old) words
         → AloneEffect result (wild_state machine.old pending.old)
-        (wild_state machine.new pending.new) words (sunk N.written N.faults notes.old notes.new) }
+        (wild_state machine.new pending.new) words (sunk N.Sink notes.old notes.new) }
     ensures frame { IsFramed machine.new }
     ensures user { IsTrue machine.new.kernel.user }
     ensures bound { IfSome pending.new (λ p. p.waited ≤ 1024) }

@@ -80,14 +80,14 @@ impl Wild {
     ) -> WildEnd
         ensures effect { WildEffect result self.old self.new
             (telling C.ahead C.drawn chooser.old) (telling C.ahead C.drawn chooser.new)
-            (drawn S.left S.faults input.old input.new)
-            (sunk K.written K.faults out.old out.new)
-            (sunk N.written N.faults notes.old notes.new) }
+            (drawn S.Source input.old input.new)
+            (sunk K.Sink out.old out.new)
+            (sunk N.Sink notes.old notes.new) }
         ensures frame { Framed self.old.pending result self.new.machine }
         ensures cause { WildCause result
-            (drawn S.left S.faults input.old input.new)
-            (sunk K.written K.faults out.old out.new)
-            (sunk N.written N.faults notes.old notes.new) }
+            (drawn S.Source input.old input.new)
+            (sunk K.Sink out.old out.new)
+            (sunk N.Sink notes.old notes.new) }
         ensures same { Stays self.old.machine self.new.machine }
     {
         step(

@@ -1,5 +1,6 @@
 -- What a call did to a shelf: what it tells and its count of faults, before the call and after it.
 use Rattle.std.specs.Prelude.{◌≡◌, ℕ, ◌≤◌, List, Bool}
+use Rattle.alpha_io.specs.declared.shelf.Shelf.{Ghosts}
 use Rattle.alpha_io.specs.Files.{Files, KeepsFiles}
 
 pub record Shelved : Type 0 where
@@ -10,15 +11,15 @@ pub record Shelved : Type 0 where
   pub before : ℕ
   pub now : ℕ
 
--- by what the shelf tells, `Shelf.files` and `Shelf.takes`, and its count, `Shelf.faults`
-abbrev pub shelved : {H : Type 0} → (H → Files) → (H → List ℕ → ℕ → Bool) → (H → ℕ) → H → H → Shelved
-shelved files takes faults old new = record {
-  old = files old;
-  new = files new;
-  took = takes old;
-  takes = takes new;
-  before = faults old;
-  now = faults new;
+-- by the ghosts of the shelf's type, `Shelf.files`, `Shelf.takes` and `Shelf.faults`
+abbrev pub shelved : {H : Type 0} → Ghosts H → H → H → Shelved
+shelved g old new = record {
+  old = g.files old;
+  new = g.files new;
+  took = g.takes old;
+  takes = g.takes new;
+  before = g.faults old;
+  now = g.faults new;
 }
 
 -- no file was kept: told files and what the shelf takes stay, and the count of faults doesn't fall. It stays where the fact holds.

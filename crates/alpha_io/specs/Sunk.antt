@@ -2,6 +2,7 @@
 use Rattle.std.specs.Prelude.{◌≡◌, ℕ, ◌≤◌, List, Option}
 use Rattle.std.specs.Io.KnownBytes.{Appends}
 use Rattle.alpha_io.specs.Faults.{Rose, Calm}
+use Rattle.alpha_io.specs.declared.sink.Sink.{Ghosts}
 use Rattle.alpha_io.specs.Written.{WritesPrefix}
 
 pub record Sunk : Type 0 where
@@ -10,9 +11,13 @@ pub record Sunk : Type 0 where
   pub before : ℕ
   pub now : ℕ
 
--- by what the sink tells, `Sink.written`, and its count, `Sink.faults`
-abbrev pub sunk : {K : Type 0} → (K → Option (List ℕ)) → (K → ℕ) → K → K → Sunk
-sunk written faults old new = record { old = written old; new = written new; before = faults old; now = faults new }
+-- by what the sink tells and its count
+abbrev pub sunk_by : {K : Type 0} → (K → Option (List ℕ)) → (K → ℕ) → K → K → Sunk
+sunk_by written faults old new = record { old = written old; new = written new; before = faults old; now = faults new }
+
+-- by the ghosts of the sink's type, `Sink.written` and `Sink.faults`
+abbrev pub sunk : {K : Type 0} → Ghosts K → K → K → Sunk
+sunk g = sunk_by g.written g.faults
 
 -- these bytes were written, all of them, without a fault
 pub record Puts (s : Sunk) (bytes : List ℕ) : Type 0 where

@@ -1,5 +1,6 @@
 -- What a step or a run did to its devices, which may tell nothing.
 use Rattle.std.specs.Prelude.{◌≡◌, ℕ, List, Option}
+use Rattle.alpha_io.specs.declared.source.Source.{Ghosts}
 use Rattle.alpha_io.specs.Faults.{Calm}
 use Rattle.alpha_io.specs.Sunk.{Sunk, IsCalm}
 use Rattle.alpha_pal.specs.CallEffect.{Takes}
@@ -11,9 +12,13 @@ pub record Drawn : Type 0 where
   pub before : ℕ
   pub now : ℕ
 
--- by what the source tells, `Source.left`, and its count, `Source.faults`
-abbrev pub drawn : {S : Type 0} → (S → Option (List ℕ)) → (S → ℕ) → S → S → Drawn
-drawn left faults old new = record { old = left old; new = left new; before = faults old; now = faults new }
+-- by what the source tells and its count
+abbrev pub drawn_by : {S : Type 0} → (S → Option (List ℕ)) → (S → ℕ) → S → S → Drawn
+drawn_by left faults old new = record { old = left old; new = left new; before = faults old; now = faults new }
+
+-- by the ghosts of the source's type, `Source.left` and `Source.faults`
+abbrev pub drawn : {S : Type 0} → Ghosts S → S → S → Drawn
+drawn g = drawn_by g.left g.faults
 
 -- these bytes were taken, and the rest is left, without a fault
 pub record Draws (d : Drawn) (taken rest : List ℕ) : Type 0 where

@@ -25,8 +25,8 @@ impl Machine {
         requires user { IsTrue self.old.kernel.user }
         requires class { class_here self.old ≡ Some (barrier (Some function)) }
         ensures effect { (notes : Sunk) → Idles notes → StepEffect result self.old self.new
-            (drawn S.left S.faults input.old input.new)
-            (sunk K.written K.faults out.old out.new) notes }
+            (drawn S.Source input.old input.new)
+            (sunk K.Sink out.old out.new) notes }
         ensures kernel { self.new.kernel ≡ kernel_after function
             (next_pc (state_of self.old [] [])) self.old.regs self.old.kernel }
         ensures shapes { shapes self.new.memory ≡ shapes self.old.memory }

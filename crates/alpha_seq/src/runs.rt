@@ -26,24 +26,24 @@ pub fn run<S: Source, K: Sink, N: Sink>(
     requires { IsTrue machine.old.kernel.user }
     ensures effect { (bytes : List ℕ) → S.left input.old ≡ Some bytes
         → RunEffect result units watch machine.old machine.new
-        (drawn S.left S.faults input.old input.new)
-        (sunk K.written K.faults out.old out.new)
-        (sunk N.written N.faults notes.old notes.new) }
-    ensures shown { let from = drawn S.left S.faults input.old input.new in
-        let to = sunk K.written K.faults out.old out.new in
-        let lines = sunk N.written N.faults notes.old notes.new in
+        (drawn S.Source input.old input.new)
+        (sunk K.Sink out.old out.new)
+        (sunk N.Sink notes.old notes.new) }
+    ensures shown { let from = drawn S.Source input.old input.new in
+        let to = sunk K.Sink out.old out.new in
+        let lines = sunk N.Sink notes.old notes.new in
         (bytes : List ℕ) → S.left input.old ≡ Some bytes → AreCalm from to lines
         → Shows (shown_from machine.old bytes units watch) result from to lines }
     ensures prefix { (bytes : List ℕ) → S.left input.old ≡ Some bytes
         → ShowsPart (shown_from machine.old bytes units watch)
-        (sunk K.written K.faults out.old out.new)
-        (sunk N.written N.faults notes.old notes.new) }
+        (sunk K.Sink out.old out.new)
+        (sunk N.Sink notes.old notes.new) }
     ensures cause { RunCause result
-        (drawn S.left S.faults input.old input.new)
-        (sunk K.written K.faults out.old out.new)
-        (sunk N.written N.faults notes.old notes.new) }
-    ensures output { HasGrown (sunk K.written K.faults out.old out.new) }
-    ensures notes { HasGrown (sunk N.written N.faults notes.old notes.new) }
+        (drawn S.Source input.old input.new)
+        (sunk K.Sink out.old out.new)
+        (sunk N.Sink notes.old notes.new) }
+    ensures output { HasGrown (sunk K.Sink out.old out.new) }
+    ensures notes { HasGrown (sunk N.Sink notes.old notes.new) }
     ensures shapes { shapes machine.new.memory ≡ shapes machine.old.memory }
     ensures same { Stays machine.old machine.new }
 {
@@ -67,9 +67,9 @@ fn turn<S: Source, K: Sink, N: Sink>(
 ) -> StepEnd
     requires { IsTrue machine.old.kernel.user }
     ensures effect { TurnEffect watch result machine.old machine.new
-        (drawn S.left S.faults input.old input.new)
-        (sunk K.written K.faults out.old out.new)
-        (sunk N.written N.faults notes.old notes.new) }
+        (drawn S.Source input.old input.new)
+        (sunk K.Sink out.old out.new)
+        (sunk N.Sink notes.old notes.new) }
     ensures shapes { shapes machine.new.memory ≡ shapes machine.old.memory }
     ensures same { Stays machine.old machine.new }
 {

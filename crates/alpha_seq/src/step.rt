@@ -28,9 +28,9 @@ impl Machine {
     ) -> StepEnd
         requires { IsTrue self.old.kernel.user }
         ensures effect { StepEffect result self.old self.new
-            (drawn S.left S.faults input.old input.new)
-            (sunk K.written K.faults out.old out.new)
-            (sunk N.written N.faults notes.old notes.new) }
+            (drawn S.Source input.old input.new)
+            (sunk K.Sink out.old out.new)
+            (sunk N.Sink notes.old notes.new) }
         ensures kernel { self.new.kernel ≡ kernel_left (class_here self.old)
             (next_pc (state_of self.old [] [])) self.old.regs self.old.kernel }
         ensures shapes { shapes self.new.memory ≡ shapes self.old.memory }
@@ -52,9 +52,9 @@ impl Machine {
         requires here { insn ≡ next_insn (program_of self.old) self.old.pc }
         requires user { IsTrue self.old.kernel.user }
         ensures effect { StepEffect result self.old self.new
-            (drawn S.left S.faults input.old input.new)
-            (sunk K.written K.faults out.old out.new)
-            (sunk N.written N.faults notes.old notes.new) }
+            (drawn S.Source input.old input.new)
+            (sunk K.Sink out.old out.new)
+            (sunk N.Sink notes.old notes.new) }
         ensures kernel { self.new.kernel ≡ kernel_left (class_here self.old)
             (next_pc (state_of self.old [] [])) self.old.regs self.old.kernel }
         ensures shapes { shapes self.new.memory ≡ shapes self.old.memory }

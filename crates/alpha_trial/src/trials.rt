@@ -42,12 +42,12 @@ pub enum TrialFault {
 pub fn trial<K: Sink>(alloc: Global, n: u32, out: &mut K) -> Result<(), TrialFault>
     requires some { 0 < n }
     requires bound { n ≤ 20000 }
-    ensures ok { OnOk result (Puts (sunk K.written K.faults out.old out.new) (trial_text n)) }
+    ensures ok { OnOk result (Puts (sunk K.Sink out.old out.new) (trial_text n)) }
     ensures memory { result ≡ Err TrialFault.NoMemory
-        → Puts (sunk K.written K.faults out.old out.new) [] }
+        → Puts (sunk K.Sink out.old out.new) [] }
     ensures sink { result ≡ Err TrialFault.Sink
-        → HasFailed (sunk K.written K.faults out.old out.new) }
-    ensures prefix { Partly (sunk K.written K.faults out.old out.new) (trial_text n) }
+        → HasFailed (sunk K.Sink out.old out.new) }
+    ensures prefix { Partly (sunk K.Sink out.old out.new) (trial_text n) }
 {
     match text(alloc, n) {
         Ok(text) => match write_whole(out, &text) {

@@ -61,7 +61,7 @@ returns-in-Ok-clause-tried g c = λ input.
     let told_before : refusal → Refuses middle (w.takes out (length bytes)) =
     λ h. subst (λ (b : List ℕ). Refuses middle (w.takes out (length b))) whole
     (subst (λ (t : List ℕ → ℕ → Bool). Refuses middle (t out (length c.as_slice.result.now))) read.takes h) in
-    let all = shelved g.H.Shelf.files g.H.Shelf.takes g.H.Shelf.faults c.args.shelf.now c.keep.new.self in
+    let all = shelved g.H.Shelf c.args.shelf.now c.keep.new.self in
     let P = TriedOf shelf fed (commands.asm c.args.file.now out) w in
     let failed : Rose (g.H.Shelf.faults c.made.new.shelf) (g.H.Shelf.faults c.keep.new.self) → Settles P t all =
     λ rose. (

@@ -16,57 +16,57 @@ use Rattle.alpha_cmd.proofs.debug.debug.Goals as goal
 
 pub returns-in-Done-clause-tried : goal.returns-in-Done-clause-tried
 returns-in-Done-clause-tried g c = λ told count.
-    let w = world g.H.Shelf.files g.H.Shelf.takes g.S.Source.left c.args.shelf.now c.args.input.now in
+    let w = world g.H.Shelf g.S.Source c.args.shelf.now c.args.input.now in
     let shelf = Rose (g.H.Shelf.faults c.args.shelf.now) (g.H.Shelf.faults c.load.new.shelf) in
     let input = Rose (g.S.Source.faults c.args.input.now) (g.S.Source.faults c.debug.new.script) in
-    let s = shelved g.H.Shelf.files g.H.Shelf.takes g.H.Shelf.faults c.args.shelf.now c.load.new.shelf in
-    let d = drawn g.S.Source.left g.S.Source.faults c.args.input.now c.debug.new.script in
-    let out = sunk g.K.Sink.written g.K.Sink.faults c.args.out.now c.debug.new.out in
+    let s = shelved g.H.Shelf c.args.shelf.now c.load.new.shelf in
+    let d = drawn g.S.Source c.args.input.now c.debug.new.script in
+    let out = sunk g.K.Sink c.args.out.now c.debug.new.out in
     subst (λ (rest : Answer). Leaves (TriedOf shelf input (commands.debug c.args.file.now) w) rest s out (still told count)) (sym (c.said.ensures.answer d.new))
     (whole_tried c.args.file.now w c.in-Ok.image shelf input c.in-Ok.ensures.ok s c.in-Ok.ensures.shelf.files d out told count refl ends.Done c.in-Done.ensures.effect)
 
 pub returns-in-TooLarge-clause-tried : goal.returns-in-TooLarge-clause-tried
 returns-in-TooLarge-clause-tried g c = λ told count.
-    let w = world g.H.Shelf.files g.H.Shelf.takes g.S.Source.left c.args.shelf.now c.args.input.now in
+    let w = world g.H.Shelf g.S.Source c.args.shelf.now c.args.input.now in
     let shelf = Rose (g.H.Shelf.faults c.args.shelf.now) (g.H.Shelf.faults c.load.new.shelf) in
     let input = Rose (g.S.Source.faults c.args.input.now) (g.S.Source.faults c.debug.new.script) in
-    let s = shelved g.H.Shelf.files g.H.Shelf.takes g.H.Shelf.faults c.args.shelf.now c.load.new.shelf in
-    let d = drawn g.S.Source.left g.S.Source.faults c.args.input.now c.debug.new.script in
-    let out = sunk g.K.Sink.written g.K.Sink.faults c.args.out.now c.debug.new.out in
+    let s = shelved g.H.Shelf c.args.shelf.now c.load.new.shelf in
+    let d = drawn g.S.Source c.args.input.now c.debug.new.script in
+    let out = sunk g.K.Sink c.args.out.now c.debug.new.out in
     subst (λ (rest : Answer). Leaves (TriedOf shelf input (commands.debug c.args.file.now) w) rest s out (still told count)) (sym (c.said-in-TooLarge.ensures.answer d.new))
     (whole_tried c.args.file.now w c.in-Ok.image shelf input c.in-Ok.ensures.ok s c.in-Ok.ensures.shelf.files d out told count refl ends.TooLarge c.in-TooLarge.ensures.effect)
 
 pub returns-in-InputFault-clause-tried : goal.returns-in-InputFault-clause-tried
 returns-in-InputFault-clause-tried g c = λ told count.
-    let w = world g.H.Shelf.files g.H.Shelf.takes g.S.Source.left c.args.shelf.now c.args.input.now in
+    let w = world g.H.Shelf g.S.Source c.args.shelf.now c.args.input.now in
     let shelf = Rose (g.H.Shelf.faults c.args.shelf.now) (g.H.Shelf.faults c.load.new.shelf) in
     let input = Rose (g.S.Source.faults c.args.input.now) (g.S.Source.faults c.debug.new.script) in
-    let s = shelved g.H.Shelf.files g.H.Shelf.takes g.H.Shelf.faults c.args.shelf.now c.load.new.shelf in
-    let d = drawn g.S.Source.left g.S.Source.faults c.args.input.now c.debug.new.script in
-    let out = sunk g.K.Sink.written g.K.Sink.faults c.args.out.now c.debug.new.out in
+    let s = shelved g.H.Shelf c.args.shelf.now c.load.new.shelf in
+    let d = drawn g.S.Source c.args.input.now c.debug.new.script in
+    let out = sunk g.K.Sink c.args.out.now c.debug.new.out in
     subst (λ (rest : Answer). Leaves (TriedOf shelf input (commands.debug c.args.file.now) w) rest s out (still told count)) (sym (c.said-in-InputFault.ensures.answer d.new))
     (unread_tried c.args.file.now w c.in-Ok.image shelf input c.in-Ok.ensures.ok s c.in-Ok.ensures.shelf.files d out told count refl (λ rose. rose) c.in-InputFault.ensures.effect)
 
 pub returns-in-SinkFault-clause-tried : goal.returns-in-SinkFault-clause-tried
 returns-in-SinkFault-clause-tried g c = λ told count.
-    let w = world g.H.Shelf.files g.H.Shelf.takes g.S.Source.left c.args.shelf.now c.args.input.now in
+    let w = world g.H.Shelf g.S.Source c.args.shelf.now c.args.input.now in
     let shelf = Rose (g.H.Shelf.faults c.args.shelf.now) (g.H.Shelf.faults c.load.new.shelf) in
     let input = Rose (g.S.Source.faults c.args.input.now) (g.S.Source.faults c.debug.new.script) in
-    let s = shelved g.H.Shelf.files g.H.Shelf.takes g.H.Shelf.faults c.args.shelf.now c.load.new.shelf in
+    let s = shelved g.H.Shelf c.args.shelf.now c.load.new.shelf in
     unwritten_tried c.args.file.now w c.in-Ok.image shelf input c.in-Ok.ensures.ok s c.in-Ok.ensures.shelf.files
-    (drawn g.S.Source.left g.S.Source.faults c.args.input.now c.debug.new.script) (sunk g.K.Sink.written g.K.Sink.faults c.args.out.now c.debug.new.out) told count refl c.in-SinkFault.ensures.effect
+    (drawn g.S.Source c.args.input.now c.debug.new.script) (sunk g.K.Sink c.args.out.now c.debug.new.out) told count refl c.in-SinkFault.ensures.effect
 
 -- neither device was called
 pub returns-in-NoMemory-clause-tried : goal.returns-in-NoMemory-clause-tried
 returns-in-NoMemory-clause-tried g c = λ told count.
-    let w = world g.H.Shelf.files g.H.Shelf.takes g.S.Source.left c.args.shelf.now c.args.input.now in
+    let w = world g.H.Shelf g.S.Source c.args.shelf.now c.args.input.now in
     let shelf = Rose (g.H.Shelf.faults c.args.shelf.now) (g.H.Shelf.faults c.load.new.shelf) in
     let input = Rose (g.S.Source.faults c.args.input.now) (g.S.Source.faults c.debug.new.script) in
-    let s = shelved g.H.Shelf.files g.H.Shelf.takes g.H.Shelf.faults c.args.shelf.now c.load.new.shelf in
+    let s = shelved g.H.Shelf c.args.shelf.now c.load.new.shelf in
     let P = TriedOf shelf input (commands.debug c.args.file.now) w in
     let (quiet, calm) = c.in-NoMemory.ensures.same refl in
-    subst (λ script. Leaves P (answer_in (g.S.Source.left script) c.said-in-NoMemory.result) s (sunk g.K.Sink.written g.K.Sink.faults c.args.out.now c.debug.new.out) (still told count)) (sym quiet)
-    (subst (λ out. Leaves P (answer_in w.input c.said-in-NoMemory.result) s (sunk g.K.Sink.written g.K.Sink.faults c.args.out.now out) (still told count)) (sym calm)
+    subst (λ script. Leaves P (answer_in (g.S.Source.left script) c.said-in-NoMemory.result) s (sunk g.K.Sink c.args.out.now c.debug.new.out) (still told count)) (sym quiet)
+    (subst (λ out. Leaves P (answer_in w.input c.said-in-NoMemory.result) s (sunk g.K.Sink c.args.out.now out) (still told count)) (sym calm)
     (Leaves-all P (answer_in w.input c.said-in-NoMemory.result) s (g.K.Sink.written c.args.out.now) told (g.K.Sink.faults c.args.out.now) count
     (inr (inl (cut_short shelf (commands.debug c.args.file.now) w _ _ tt (c.said-in-NoMemory.ensures.answer w.input))))
     c.in-Ok.ensures.shelf.files))
@@ -76,11 +76,11 @@ returns-in-NoMemory-clause-script g c = tail_same (g.S.Source.left c.args.input.
 
 pub returns-in-Err-clause-tried : goal.returns-in-Err-clause-tried
 returns-in-Err-clause-tried g c = λ told count.
-    let w = world g.H.Shelf.files g.H.Shelf.takes g.S.Source.left c.args.shelf.now c.args.input.now in
+    let w = world g.H.Shelf g.S.Source c.args.shelf.now c.args.input.now in
     let shelf = Rose (g.H.Shelf.faults c.args.shelf.now) (g.H.Shelf.faults c.load.new.shelf) in
     let input = Rose (g.S.Source.faults c.args.input.now) (g.S.Source.faults c.args.input.now) in
     Leaves-all (TriedOf shelf input (commands.debug c.args.file.now) w) (answer_in w.input c.said-in-Err.result)
-    (shelved g.H.Shelf.files g.H.Shelf.takes g.H.Shelf.faults c.args.shelf.now c.load.new.shelf)
+    (shelved g.H.Shelf c.args.shelf.now c.load.new.shelf)
     (g.K.Sink.written c.args.out.now) told (g.K.Sink.faults c.args.out.now) count
     (unloaded_debug shelf input w c.args.file.now c.in-Err.status (answer_in w.input c.said-in-Err.result) c.in-Err.ensures.refused (c.said-in-Err.ensures.answer w.input))
     c.in-Err.ensures.shelf.files

@@ -17,8 +17,8 @@ pub returns-in-Ok-list-clause-tried : goal.returns-in-Ok-list-clause-tried
 returns-in-Ok-list-clause-tried g c = λ input told count.
     let w : World = record { files = g.H.Shelf.files c.args.shelf.now; takes = g.H.Shelf.takes c.args.shelf.now; input = input.old } in
     let shelf = Rose (g.H.Shelf.faults c.args.shelf.now) (g.H.Shelf.faults c.load.new.shelf) in
-    let s = shelved g.H.Shelf.files g.H.Shelf.takes g.H.Shelf.faults c.args.shelf.now c.load.new.shelf in
-    let out = sunk g.K.Sink.written g.K.Sink.faults c.args.out.now c.list.new.out in
+    let s = shelved g.H.Shelf c.args.shelf.now c.load.new.shelf in
+    let out = sunk g.K.Sink c.args.out.now c.list.new.out in
     let text = listing c.in-Ok.image in
     subst (λ (rest : Answer). Leaves (TriedOf shelf (Rose input.before input.now) (commands.dis c.args.file.now) w) rest s out (still told count)) (sym (c.said.ensures.answer input.old))
     (record {
@@ -52,7 +52,7 @@ returns-clause-tried g c = λ input told count.
     let w : World = record { files = g.H.Shelf.files c.args.shelf.now; takes = g.H.Shelf.takes c.args.shelf.now; input = input.old } in
     let shelf = Rose (g.H.Shelf.faults c.args.shelf.now) (g.H.Shelf.faults c.load.new.shelf) in
     Leaves-all (TriedOf shelf (Rose input.before input.now) (commands.dis c.args.file.now) w) (answer_in input.old c.said-in-Err.result)
-    (shelved g.H.Shelf.files g.H.Shelf.takes g.H.Shelf.faults c.args.shelf.now c.load.new.shelf)
+    (shelved g.H.Shelf c.args.shelf.now c.load.new.shelf)
     (g.K.Sink.written c.args.out.now) told (g.K.Sink.faults c.args.out.now) count
     (unloaded_dis shelf (Rose input.before input.now) w c.args.file.now c.in-Err.status (answer_in input.old c.said-in-Err.result) c.in-Err.ensures.refused (c.said-in-Err.ensures.answer input.old))
     c.in-Err.ensures.shelf.files

@@ -17,7 +17,7 @@ use Rattle.alpha_cmd.proofs.imprecise.imprecise.Goals as goal
 pub returns-in-Ok-judged-clause-tried : goal.returns-in-Ok-judged-clause-tried
 returns-in-Ok-judged-clause-tried g c =
     let a = c.args.asked in
-    let shelf = shelved g.H.Shelf.files g.H.Shelf.takes g.H.Shelf.faults c.args.shelf.now c.planned.new.shelf in
+    let shelf = shelved g.H.Shelf c.args.shelf.now c.planned.new.shelf in
     c.run_plan.ensures.tried shelf a.file.now (drawn_from a.choices) a.force c.in-Ok.ensures.ok c.in-Ok-judged.ensures.ok c.in-Ok.ensures.shelf.files
 
 pub returns-in-Ok-judged-clause-input : goal.returns-in-Ok-judged-clause-input
@@ -31,12 +31,12 @@ returns-in-Ok-judged-clause-input g c =
 pub returns-in-Err-judged-clause-tried : goal.returns-in-Err-judged-clause-tried
 returns-in-Err-judged-clause-tried g c =
     let a = c.args.asked in
-    let w = world g.H.Shelf.files g.H.Shelf.takes g.S.Source.left c.args.shelf.now c.args.input.now in
+    let w = world g.H.Shelf g.S.Source c.args.shelf.now c.args.input.now in
     let failed = Rose (g.H.Shelf.faults c.args.shelf.now) (g.H.Shelf.faults c.planned.new.shelf) in
     let input = Rose (g.S.Source.faults c.args.input.now) (g.S.Source.faults c.args.input.now) in
     let place = c.in-Err-judged.broken in
     Leaves-all (TriedOf failed input (commands.imprecise a.options (drawn_from a.choices) a.force a.file.now) w) (answer_in w.input c.broken.result)
-    (shelved g.H.Shelf.files g.H.Shelf.takes g.H.Shelf.faults c.args.shelf.now c.planned.new.shelf)
+    (shelved g.H.Shelf c.args.shelf.now c.planned.new.shelf)
     (g.K.Sink.written c.args.out.now) (g.N.Sink.written c.args.notes.now) (g.K.Sink.faults c.args.out.now) (g.N.Sink.faults c.args.notes.now)
     (inl (broken_answer w a.options (drawn_from a.choices) a.force a.file.now (plan_by c.in-Ok.plan.image (ahead_in c.in-Ok.plan.chooser)) (NotRestartable place)
     (broken_line place c.code_base.result) (answer_in w.input c.broken.result) c.in-Ok.ensures.ok c.in-Err-judged.ensures.refused.0
@@ -46,11 +46,11 @@ returns-in-Err-judged-clause-tried g c =
 pub returns-in-Err-clause-tried : goal.returns-in-Err-clause-tried
 returns-in-Err-clause-tried g c =
     let a = c.args.asked in
-    let w = world g.H.Shelf.files g.H.Shelf.takes g.S.Source.left c.args.shelf.now c.args.input.now in
+    let w = world g.H.Shelf g.S.Source c.args.shelf.now c.args.input.now in
     let failed = Rose (g.H.Shelf.faults c.args.shelf.now) (g.H.Shelf.faults c.planned.new.shelf) in
     let input = Rose (g.S.Source.faults c.args.input.now) (g.S.Source.faults c.args.input.now) in
     Leaves-all (TriedOf failed input (commands.imprecise a.options (drawn_from a.choices) a.force a.file.now) w) (answer_in w.input c.said.result)
-    (shelved g.H.Shelf.files g.H.Shelf.takes g.H.Shelf.faults c.args.shelf.now c.planned.new.shelf)
+    (shelved g.H.Shelf c.args.shelf.now c.planned.new.shelf)
     (g.K.Sink.written c.args.out.now) (g.N.Sink.written c.args.notes.now) (g.K.Sink.faults c.args.out.now) (g.N.Sink.faults c.args.notes.now)
     (unplanned failed input w a.options (drawn_from a.choices) a.force a.file.now c.in-Err.status (answer_in w.input c.said.result) c.in-Err.ensures.refused (c.said.ensures.answer w.input))
     c.in-Err.ensures.shelf.files

@@ -18,9 +18,9 @@ use Rattle.alpha_cmd.proofs.imprecise.run_wild.Goals as goal
 pub returns-in-Ended-clause-tried : goal.returns-in-Ended-clause-tried
 returns-in-Ended-clause-tried g c = λ shelf file choices force found good same.
     let w : World = record { files = shelf.old; takes = shelf.took; input = g.S.Source.left c.args.input.now } in
-    let input = drawn g.S.Source.left g.S.Source.faults c.args.input.now c.run.new.input in
-    let out = sunk g.K.Sink.written g.K.Sink.faults c.args.out.now c.run.new.out in
-    let notes = sunk g.N.Sink.written g.N.Sink.faults c.args.notes.now c.run.new.notes in
+    let input = drawn g.S.Source c.args.input.now c.run.new.input in
+    let out = sunk g.K.Sink c.args.out.now c.run.new.out in
+    let notes = sunk g.N.Sink c.args.notes.now c.run.new.notes in
     let m = c.args.wild.now.machine in
     let ahead = ahead_in c.args.chooser.now.chooser in
     let did = c.in-Ended.ensures in
@@ -37,9 +37,9 @@ returns-in-Ended-clause-tried g c = λ shelf file choices force found good same.
 pub returns-in-Spent-clause-tried : goal.returns-in-Spent-clause-tried
 returns-in-Spent-clause-tried g c = λ shelf file choices force found good same.
     let w : World = record { files = shelf.old; takes = shelf.took; input = g.S.Source.left c.args.input.now } in
-    let input = drawn g.S.Source.left g.S.Source.faults c.args.input.now c.run.new.input in
-    let out = sunk g.K.Sink.written g.K.Sink.faults c.args.out.now c.run.new.out in
-    let notes = sunk g.N.Sink.written g.N.Sink.faults c.args.notes.now c.run.new.notes in
+    let input = drawn g.S.Source c.args.input.now c.run.new.input in
+    let out = sunk g.K.Sink c.args.out.now c.run.new.out in
+    let notes = sunk g.N.Sink c.args.notes.now c.run.new.notes in
     let m = c.args.wild.now.machine in
     let ahead = ahead_in c.args.chooser.now.chooser in
     let did = c.in-Spent.ensures in
@@ -56,9 +56,9 @@ returns-in-Spent-clause-tried g c = λ shelf file choices force found good same.
 pub returns-in-Lost-clause-tried : goal.returns-in-Lost-clause-tried
 returns-in-Lost-clause-tried g c = λ shelf file choices force found good same.
     let w : World = record { files = shelf.old; takes = shelf.took; input = g.S.Source.left c.args.input.now } in
-    let input = drawn g.S.Source.left g.S.Source.faults c.args.input.now c.run.new.input in
-    let out = sunk g.K.Sink.written g.K.Sink.faults c.args.out.now c.run.new.out in
-    let notes = sunk g.N.Sink.written g.N.Sink.faults c.args.notes.now c.run.new.notes in
+    let input = drawn g.S.Source c.args.input.now c.run.new.input in
+    let out = sunk g.K.Sink c.args.out.now c.run.new.out in
+    let notes = sunk g.N.Sink c.args.notes.now c.run.new.notes in
     let m = c.args.wild.now.machine in
     let ahead = ahead_in c.args.chooser.now.chooser in
     let did = c.in-Lost.ensures in
@@ -75,9 +75,9 @@ returns-in-Lost-clause-tried g c = λ shelf file choices force found good same.
 pub returns-in-InputFault-clause-tried : goal.returns-in-InputFault-clause-tried
 returns-in-InputFault-clause-tried g c = λ shelf file choices force found good same.
     let w : World = record { files = shelf.old; takes = shelf.took; input = g.S.Source.left c.args.input.now } in
-    let input = drawn g.S.Source.left g.S.Source.faults c.args.input.now c.run.new.input in
-    let out = sunk g.K.Sink.written g.K.Sink.faults c.args.out.now c.run.new.out in
-    let notes = sunk g.N.Sink.written g.N.Sink.faults c.args.notes.now c.run.new.notes in
+    let input = drawn g.S.Source c.args.input.now c.run.new.input in
+    let out = sunk g.K.Sink c.args.out.now c.run.new.out in
+    let notes = sunk g.N.Sink c.args.notes.now c.run.new.notes in
     let m = c.args.wild.now.machine in
     let ahead = ahead_in c.args.chooser.now.chooser in
     let did = c.in-InputFault.ensures in
@@ -93,9 +93,9 @@ returns-in-InputFault-clause-tried g c = λ shelf file choices force found good 
 pub returns-in-SinkFault-clause-tried : goal.returns-in-SinkFault-clause-tried
 returns-in-SinkFault-clause-tried g c = λ shelf file choices force found good same.
     let w : World = record { files = shelf.old; takes = shelf.took; input = g.S.Source.left c.args.input.now } in
-    let input = drawn g.S.Source.left g.S.Source.faults c.args.input.now c.run.new.input in
-    let out = sunk g.K.Sink.written g.K.Sink.faults c.args.out.now c.run.new.out in
-    let notes = sunk g.N.Sink.written g.N.Sink.faults c.args.notes.now c.run.new.notes in
+    let input = drawn g.S.Source c.args.input.now c.run.new.input in
+    let out = sunk g.K.Sink c.args.out.now c.run.new.out in
+    let notes = sunk g.N.Sink c.args.notes.now c.run.new.notes in
     let m = c.args.wild.now.machine in
     let ahead = ahead_in c.args.chooser.now.chooser in
     let did = c.in-SinkFault.ensures in

@@ -14,7 +14,7 @@ use Rattle.alpha_cmd.proofs.run.run.Goals as goal
 
 pub returns-in-Ok-new-clause-tried : goal.returns-in-Ok-new-clause-tried
 returns-in-Ok-new-clause-tried g c =
-    let shelf = shelved g.H.Shelf.files g.H.Shelf.takes g.H.Shelf.faults c.args.shelf.now c.load.new.shelf in
+    let shelf = shelved g.H.Shelf c.args.shelf.now c.load.new.shelf in
     let same : c.in-Ok-new.machine.image ≡ c.in-Ok.image = ap (λ (p : Program). p.image) c.in-Ok-new.ensures.program in
     c.run_machine.ensures.tried shelf c.args.file.now (subst (λ image. ImageOf shelf.old c.args.file.now (goes image)) (sym same) c.in-Ok.ensures.ok) c.in-Ok.ensures.shelf.files
 
@@ -23,22 +23,22 @@ returns-in-Ok-new-clause-input g c = inr (c.run_machine.ensures.input c.args.fil
 
 pub returns-in-Err-new-clause-tried : goal.returns-in-Err-new-clause-tried
 returns-in-Err-new-clause-tried g c =
-    let w = world g.H.Shelf.files g.H.Shelf.takes g.S.Source.left c.args.shelf.now c.args.input.now in
+    let w = world g.H.Shelf g.S.Source c.args.shelf.now c.args.input.now in
     let shelf = Rose (g.H.Shelf.faults c.args.shelf.now) (g.H.Shelf.faults c.load.new.shelf) in
     let input = Rose (g.S.Source.faults c.args.input.now) (g.S.Source.faults c.args.input.now) in
     Leaves-all (TriedOf shelf input (commands.run c.args.options c.args.file.now) w) (answer_in w.input c.said.result)
-    (shelved g.H.Shelf.files g.H.Shelf.takes g.H.Shelf.faults c.args.shelf.now c.load.new.shelf)
+    (shelved g.H.Shelf c.args.shelf.now c.load.new.shelf)
     (g.K.Sink.written c.args.out.now) (g.N.Sink.written c.args.notes.now) (g.K.Sink.faults c.args.out.now) (g.N.Sink.faults c.args.notes.now)
     (inr (inl (cut_short shelf (commands.run c.args.options c.args.file.now) w _ _ tt (c.said.ensures.answer w.input))))
     c.in-Ok.ensures.shelf.files
 
 pub returns-in-Err-clause-tried : goal.returns-in-Err-clause-tried
 returns-in-Err-clause-tried g c =
-    let w = world g.H.Shelf.files g.H.Shelf.takes g.S.Source.left c.args.shelf.now c.args.input.now in
+    let w = world g.H.Shelf g.S.Source c.args.shelf.now c.args.input.now in
     let shelf = Rose (g.H.Shelf.faults c.args.shelf.now) (g.H.Shelf.faults c.load.new.shelf) in
     let input = Rose (g.S.Source.faults c.args.input.now) (g.S.Source.faults c.args.input.now) in
     Leaves-all (TriedOf shelf input (commands.run c.args.options c.args.file.now) w) (answer_in w.input c.said-in-Err.result)
-    (shelved g.H.Shelf.files g.H.Shelf.takes g.H.Shelf.faults c.args.shelf.now c.load.new.shelf)
+    (shelved g.H.Shelf c.args.shelf.now c.load.new.shelf)
     (g.K.Sink.written c.args.out.now) (g.N.Sink.written c.args.notes.now) (g.K.Sink.faults c.args.out.now) (g.N.Sink.faults c.args.notes.now)
     (unloaded_run shelf input w c.args.options c.args.file.now c.in-Err.status (answer_in w.input c.said-in-Err.result) c.in-Err.ensures.refused (c.said-in-Err.ensures.answer w.input))
     c.in-Err.ensures.shelf.files

@@ -13,9 +13,9 @@ use Rattle.alpha_cmd.proofs.run.run_machine.Goals as goal
 pub returns-in-Ended-clause-tried : goal.returns-in-Ended-clause-tried
 returns-in-Ended-clause-tried g c = λ shelf file found same.
     let w : World = record { files = shelf.old; takes = shelf.took; input = g.S.Source.left c.args.input.now } in
-    let input = drawn g.S.Source.left g.S.Source.faults c.args.input.now c.run.new.input in
-    let out = sunk g.K.Sink.written g.K.Sink.faults c.args.out.now c.run.new.out in
-    let notes = sunk g.N.Sink.written g.N.Sink.faults c.args.notes.now c.run.new.notes in
+    let input = drawn g.S.Source c.args.input.now c.run.new.input in
+    let out = sunk g.K.Sink c.args.out.now c.run.new.out in
+    let notes = sunk g.N.Sink c.args.notes.now c.run.new.notes in
     let did = c.in-Ended.ensures in
     subst (λ (rest : Answer). Leaves (TriedOf (Rose shelf.before shelf.now) (Rose input.before input.now) (commands.run c.args.options file) w) rest shelf out notes)
     (sym (c.ended.ensures.answer input.new))
@@ -33,9 +33,9 @@ returns-in-Ended-clause-input g c = λ file.
 pub returns-in-Spent-clause-tried : goal.returns-in-Spent-clause-tried
 returns-in-Spent-clause-tried g c = λ shelf file found same.
     let w : World = record { files = shelf.old; takes = shelf.took; input = g.S.Source.left c.args.input.now } in
-    let input = drawn g.S.Source.left g.S.Source.faults c.args.input.now c.run.new.input in
-    let out = sunk g.K.Sink.written g.K.Sink.faults c.args.out.now c.run.new.out in
-    let notes = sunk g.N.Sink.written g.N.Sink.faults c.args.notes.now c.run.new.notes in
+    let input = drawn g.S.Source c.args.input.now c.run.new.input in
+    let out = sunk g.K.Sink c.args.out.now c.run.new.out in
+    let notes = sunk g.N.Sink c.args.notes.now c.run.new.notes in
     let did = c.in-Spent.ensures in
     subst (λ (rest : Answer). Leaves (TriedOf (Rose shelf.before shelf.now) (Rose input.before input.now) (commands.run c.args.options file) w) rest shelf out notes)
     (sym (c.said.ensures.answer input.new))
@@ -50,9 +50,9 @@ returns-in-Spent-clause-input g c = λ file.
 pub returns-in-InputFault-clause-tried : goal.returns-in-InputFault-clause-tried
 returns-in-InputFault-clause-tried g c = λ shelf file found same.
     let w : World = record { files = shelf.old; takes = shelf.took; input = g.S.Source.left c.args.input.now } in
-    let input = drawn g.S.Source.left g.S.Source.faults c.args.input.now c.run.new.input in
-    let out = sunk g.K.Sink.written g.K.Sink.faults c.args.out.now c.run.new.out in
-    let notes = sunk g.N.Sink.written g.N.Sink.faults c.args.notes.now c.run.new.notes in
+    let input = drawn g.S.Source c.args.input.now c.run.new.input in
+    let out = sunk g.K.Sink c.args.out.now c.run.new.out in
+    let notes = sunk g.N.Sink c.args.notes.now c.run.new.notes in
     let did = c.in-InputFault.ensures in
     subst (λ (rest : Answer). Leaves (TriedOf (Rose shelf.before shelf.now) (Rose input.before input.now) (commands.run c.args.options file) w) rest shelf out notes)
     (sym (c.said-in-InputFault.ensures.answer input.new))
@@ -70,9 +70,9 @@ returns-in-InputFault-clause-source g c =
 pub returns-in-SinkFault-clause-tried : goal.returns-in-SinkFault-clause-tried
 returns-in-SinkFault-clause-tried g c = λ shelf file found same.
     let w : World = record { files = shelf.old; takes = shelf.took; input = g.S.Source.left c.args.input.now } in
-    let input = drawn g.S.Source.left g.S.Source.faults c.args.input.now c.run.new.input in
-    let out = sunk g.K.Sink.written g.K.Sink.faults c.args.out.now c.run.new.out in
-    let notes = sunk g.N.Sink.written g.N.Sink.faults c.args.notes.now c.run.new.notes in
+    let input = drawn g.S.Source c.args.input.now c.run.new.input in
+    let out = sunk g.K.Sink c.args.out.now c.run.new.out in
+    let notes = sunk g.N.Sink c.args.notes.now c.run.new.notes in
     let did = c.in-SinkFault.ensures in
     unwritten_tried c.args.options file w c.args.machine.now (Rose shelf.before shelf.now) (Rose input.before input.now) found shelf same input out notes did.cause
     (run_begins c.args.options c.args.machine.now w.input out notes (record { how = c.requires.how; state = c.requires.start }) did.prefix did.output did.notes)

@@ -17,33 +17,33 @@ use Rattle.alpha_cmd.proofs.top.alpha_top.Goals as goal
 
 pub deliver-requires : goal.deliver-requires
 deliver-requires g c =
-    let w = world g.H.Shelf.files g.H.Shelf.takes g.S.Source.left c.args.shelf.now c.args.input.now in
+    let w = world g.H.Shelf g.S.Source c.args.shelf.now c.args.input.now in
     let shelf = Rose (g.H.Shelf.faults c.args.shelf.now) (g.H.Shelf.faults c.decide.new.shelf) in
     let input = Rose (g.S.Source.faults c.args.input.now) (g.S.Source.faults c.decide.new.input) in
     Leaves-not_sink shelf input c.args.words.now w (answer_in (g.S.Source.left c.decide.new.input) c.in-Ok.decision)
-    (shelved g.H.Shelf.files g.H.Shelf.takes g.H.Shelf.faults c.args.shelf.now c.decide.new.shelf)
-    (sunk g.K.Sink.written g.K.Sink.faults c.args.out.now c.decide.new.out) (sunk g.N.Sink.written g.N.Sink.faults c.args.notes.now c.decide.new.notes)
+    (shelved g.H.Shelf c.args.shelf.now c.decide.new.shelf)
+    (sunk g.K.Sink c.args.out.now c.decide.new.out) (sunk g.N.Sink c.args.notes.now c.decide.new.notes)
     c.in-Ok.ensures.tried
 
 pub returns-in-Ok-clause-whole : goal.returns-in-Ok-clause-whole
 returns-in-Ok-clause-whole g c = λ calm.
-    let w = world g.H.Shelf.files g.H.Shelf.takes g.S.Source.left c.args.shelf.now c.args.input.now in
+    let w = world g.H.Shelf g.S.Source c.args.shelf.now c.args.input.now in
     let shelf = Rose (g.H.Shelf.faults c.args.shelf.now) (g.H.Shelf.faults c.decide.new.shelf) in
     let input = Rose (g.S.Source.faults c.args.input.now) (g.S.Source.faults c.decide.new.input) in
     whole g.K.Sink.written g.K.Sink.faults g.N.Sink.written g.N.Sink.faults
     c.args.out.now c.decide.new.out c.deliver.new.out c.args.notes.now c.decide.new.notes c.deliver.new.notes
-    (shelved g.H.Shelf.files g.H.Shelf.takes g.H.Shelf.faults c.args.shelf.now c.decide.new.shelf)
+    (shelved g.H.Shelf c.args.shelf.now c.decide.new.shelf)
     (TriedBy shelf input c.args.words.now w) (answer_in (g.S.Source.left c.decide.new.input) c.in-Ok.decision) c.in-Ok.ensures.tried
     c.deliver.result (c.deliver.ensures.status calm) (c.deliver.ensures.output calm) (c.deliver.ensures.notes calm)
 
 pub returns-in-Ok-clause-part : goal.returns-in-Ok-clause-part
 returns-in-Ok-clause-part g c = λ e.
-    let w = world g.H.Shelf.files g.H.Shelf.takes g.S.Source.left c.args.shelf.now c.args.input.now in
+    let w = world g.H.Shelf g.S.Source c.args.shelf.now c.args.input.now in
     let shelf = Rose (g.H.Shelf.faults c.args.shelf.now) (g.H.Shelf.faults c.decide.new.shelf) in
     let input = Rose (g.S.Source.faults c.args.input.now) (g.S.Source.faults c.decide.new.input) in
     part g.K.Sink.written g.K.Sink.faults g.N.Sink.written g.N.Sink.faults
     c.args.out.now c.decide.new.out c.deliver.new.out c.args.notes.now c.decide.new.notes c.deliver.new.notes
-    (shelved g.H.Shelf.files g.H.Shelf.takes g.H.Shelf.faults c.args.shelf.now c.decide.new.shelf)
+    (shelved g.H.Shelf c.args.shelf.now c.decide.new.shelf)
     (TriedBy shelf input c.args.words.now w) (answer_in (g.S.Source.left c.decide.new.input) c.in-Ok.decision) c.in-Ok.ensures.tried
     c.deliver.ensures.output_part c.deliver.ensures.notes_part (c.deliver.ensures.failed e)
 
@@ -81,12 +81,12 @@ returns-in-Ok-clause-input g c =
 
 pub returns-in-Ok-clause-exact : goal.returns-in-Ok-clause-exact
 returns-in-Ok-clause-exact g c = λ a told quiet fed out notes is.
-    let w = world g.H.Shelf.files g.H.Shelf.takes g.S.Source.left c.args.shelf.now c.args.input.now in
+    let w = world g.H.Shelf g.S.Source c.args.shelf.now c.args.input.now in
     let shelf = Rose (g.H.Shelf.faults c.args.shelf.now) (g.H.Shelf.faults c.decide.new.shelf) in
     let input = Rose (g.S.Source.faults c.args.input.now) (g.S.Source.faults c.decide.new.input) in
-    let O = sunk g.K.Sink.written g.K.Sink.faults c.args.out.now c.deliver.new.out in
-    let N = sunk g.N.Sink.written g.N.Sink.faults c.args.notes.now c.deliver.new.notes in
-    let s = shelved g.H.Shelf.files g.H.Shelf.takes g.H.Shelf.faults c.args.shelf.now c.decide.new.shelf in
+    let O = sunk g.K.Sink c.args.out.now c.deliver.new.out in
+    let N = sunk g.N.Sink c.args.notes.now c.deliver.new.notes in
+    let s = shelved g.H.Shelf c.args.shelf.now c.decide.new.shelf in
     ⊎_elim
     (λ (e : c.deliver.result ≡ SinkFault). absurd (calm_part (TriedBy shelf input c.args.words.now w) s O N (returns-in-Ok-clause-part g c e) out notes))
     (λ (e : c.deliver.result ≢ SinkFault).
@@ -96,17 +96,17 @@ returns-in-Ok-clause-exact g c = λ a told quiet fed out notes is.
 
 pub returns-in-Err-clause-exact : goal.returns-in-Err-clause-exact
 returns-in-Err-clause-exact g c = λ a told quiet fed out notes is.
-    let w = world g.H.Shelf.files g.H.Shelf.takes g.S.Source.left c.args.shelf.now c.args.input.now in
+    let w = world g.H.Shelf g.S.Source c.args.shelf.now c.args.input.now in
     let shelf = Rose (g.H.Shelf.faults c.args.shelf.now) (g.H.Shelf.faults c.decide.new.shelf) in
     let input = Rose (g.S.Source.faults c.args.input.now) (g.S.Source.faults c.decide.new.input) in
     absurd (calm_part (TriedBy shelf input c.args.words.now w)
-    (shelved g.H.Shelf.files g.H.Shelf.takes g.H.Shelf.faults c.args.shelf.now c.decide.new.shelf)
-    (sunk g.K.Sink.written g.K.Sink.faults c.args.out.now c.decide.new.out) (sunk g.N.Sink.written g.N.Sink.faults c.args.notes.now c.decide.new.notes)
+    (shelved g.H.Shelf c.args.shelf.now c.decide.new.shelf)
+    (sunk g.K.Sink c.args.out.now c.decide.new.out) (sunk g.N.Sink c.args.notes.now c.decide.new.notes)
     c.in-Err.ensures.tried out notes)
 
 pub returns-in-Ok-clause-restarts : goal.returns-in-Ok-clause-restarts
 returns-in-Ok-clause-restarts g c = λ file asks e.
-    let w = world g.H.Shelf.files g.H.Shelf.takes g.S.Source.left c.args.shelf.now c.args.input.now in
+    let w = world g.H.Shelf g.S.Source c.args.shelf.now c.args.input.now in
     let shelf = Rose (g.H.Shelf.faults c.args.shelf.now) (g.H.Shelf.faults c.decide.new.shelf) in
     let input = Rose (g.S.Source.faults c.args.input.now) (g.S.Source.faults c.decide.new.input) in
     let ends = returns-in-Ok-clause-whole g c (λ failed. let x : Done 0 ≡ SinkFault = sym e ∙ failed in cc) in
@@ -114,10 +114,10 @@ returns-in-Ok-clause-restarts g c = λ file asks e.
 
 pub returns-in-Ok-clause-alike : goal.returns-in-Ok-clause-alike
 returns-in-Ok-clause-alike g c = λ options choices force file a asks told has checked is quiet fed out notes.
-    let w = world g.H.Shelf.files g.H.Shelf.takes g.S.Source.left c.args.shelf.now c.args.input.now in
+    let w = world g.H.Shelf g.S.Source c.args.shelf.now c.args.input.now in
     alike_call c.args.words.now options choices force file w a c.deliver.result (g.S.Source.left c.decide.new.input)
-    (shelved g.H.Shelf.files g.H.Shelf.takes g.H.Shelf.faults c.args.shelf.now c.decide.new.shelf)
-    (sunk g.K.Sink.written g.K.Sink.faults c.args.out.now c.deliver.new.out) (sunk g.N.Sink.written g.N.Sink.faults c.args.notes.now c.deliver.new.notes)
+    (shelved g.H.Shelf c.args.shelf.now c.decide.new.shelf)
+    (sunk g.K.Sink c.args.out.now c.deliver.new.out) (sunk g.N.Sink c.args.notes.now c.deliver.new.notes)
     asks told has checked is (λ b read answer. returns-in-Ok-clause-exact g c b read quiet fed out notes answer)
 
 pub returns-in-Err-clause-restarts : goal.returns-in-Err-clause-restarts
@@ -125,8 +125,8 @@ returns-in-Err-clause-restarts g c = λ file asks e. absurd (let x : SinkFault �
 
 pub returns-in-Err-clause-alike : goal.returns-in-Err-clause-alike
 returns-in-Err-clause-alike g c = λ options choices force file a asks told has checked is quiet fed out notes.
-    let w = world g.H.Shelf.files g.H.Shelf.takes g.S.Source.left c.args.shelf.now c.args.input.now in
+    let w = world g.H.Shelf g.S.Source c.args.shelf.now c.args.input.now in
     alike_call c.args.words.now options choices force file w a SinkFault (g.S.Source.left c.decide.new.input)
-    (shelved g.H.Shelf.files g.H.Shelf.takes g.H.Shelf.faults c.args.shelf.now c.decide.new.shelf)
-    (sunk g.K.Sink.written g.K.Sink.faults c.args.out.now c.decide.new.out) (sunk g.N.Sink.written g.N.Sink.faults c.args.notes.now c.decide.new.notes)
+    (shelved g.H.Shelf c.args.shelf.now c.decide.new.shelf)
+    (sunk g.K.Sink c.args.out.now c.decide.new.out) (sunk g.N.Sink c.args.notes.now c.decide.new.notes)
     asks told has checked is (λ b read answer. returns-in-Err-clause-exact g c b read quiet fed out notes answer)

@@ -18,13 +18,13 @@ pub returns-in-Ok-clause-tried : goal.returns-in-Ok-clause-tried
 returns-in-Ok-clause-tried g c =
     let shelf = Rose (g.H.Shelf.faults c.args.shelf.now) (g.H.Shelf.faults c.perform.new.shelf) in
     let input = Rose (g.S.Source.faults c.args.input.now) (g.S.Source.faults c.perform.new.input) in
-    let w = world g.H.Shelf.files g.H.Shelf.takes g.S.Source.left c.args.shelf.now c.args.input.now in
+    let w = world g.H.Shelf g.S.Source c.args.shelf.now c.args.input.now in
     let command = command_of c.in-Ok.request in
     Decides-map (TriedOf shelf input command w) (TriedBy shelf input c.args.words.now w)
     (λ t. asked_tried shelf input c.args.words.now command w t c.in-Ok.ensures)
     c.perform.result (g.S.Source.left c.perform.new.input)
-    (shelved g.H.Shelf.files g.H.Shelf.takes g.H.Shelf.faults c.args.shelf.now c.perform.new.shelf) (sunk g.K.Sink.written g.K.Sink.faults c.args.out.now c.perform.new.out)
-    (sunk g.N.Sink.written g.N.Sink.faults c.args.notes.now c.perform.new.notes) c.perform.ensures.tried
+    (shelved g.H.Shelf c.args.shelf.now c.perform.new.shelf) (sunk g.K.Sink c.args.out.now c.perform.new.out)
+    (sunk g.N.Sink c.args.notes.now c.perform.new.notes) c.perform.ensures.tried
 
 pub returns-in-Ok-clause-input : goal.returns-in-Ok-clause-input
 returns-in-Ok-clause-input g c =
@@ -41,9 +41,9 @@ returns-in-Err-BadWords-clause-tried g c =
     let shelf = Rose (g.H.Shelf.faults c.args.shelf.now) (g.H.Shelf.faults c.args.shelf.now) in
     let input = Rose (g.S.Source.faults c.args.input.now) (g.S.Source.faults c.args.input.now) in
     let left = g.S.Source.left c.args.input.now in
-    let w = world g.H.Shelf.files g.H.Shelf.takes g.S.Source.left c.args.shelf.now c.args.input.now in
+    let w = world g.H.Shelf g.S.Source c.args.shelf.now c.args.input.now in
     Leaves-all (TriedBy shelf input c.args.words.now w) (answer_in left c.said.result)
-    (shelved g.H.Shelf.files g.H.Shelf.takes g.H.Shelf.faults c.args.shelf.now c.args.shelf.now)
+    (shelved g.H.Shelf c.args.shelf.now c.args.shelf.now)
     (g.K.Sink.written c.args.out.now) (g.N.Sink.written c.args.notes.now) (g.K.Sink.faults c.args.out.now) (g.N.Sink.faults c.args.notes.now)
     (inl (inl (rw c.in-Err-BadWords.field-0-is at c.in-Err-BadWords.ensures, c.said.ensures.answer left)))
     (KeepsFiles-refl w.files)
@@ -53,9 +53,9 @@ returns-in-Err-NoMemory-clause-tried g c =
     let shelf = Rose (g.H.Shelf.faults c.args.shelf.now) (g.H.Shelf.faults c.args.shelf.now) in
     let input = Rose (g.S.Source.faults c.args.input.now) (g.S.Source.faults c.args.input.now) in
     let left = g.S.Source.left c.args.input.now in
-    let w = world g.H.Shelf.files g.H.Shelf.takes g.S.Source.left c.args.shelf.now c.args.input.now in
+    let w = world g.H.Shelf g.S.Source c.args.shelf.now c.args.input.now in
     Leaves-all (TriedBy shelf input c.args.words.now w) (answer_in left c.said-in-Err-NoMemory.result)
-    (shelved g.H.Shelf.files g.H.Shelf.takes g.H.Shelf.faults c.args.shelf.now c.args.shelf.now)
+    (shelved g.H.Shelf c.args.shelf.now c.args.shelf.now)
     (g.K.Sink.written c.args.out.now) (g.N.Sink.written c.args.notes.now) (g.K.Sink.faults c.args.out.now) (g.N.Sink.faults c.args.notes.now)
     (inr (inr (c.said-in-Err-NoMemory.ensures.answer left)))
     (KeepsFiles-refl w.files)

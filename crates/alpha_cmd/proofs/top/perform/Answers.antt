@@ -13,29 +13,29 @@ use Rattle.alpha_cmd.proofs.top.perform.Goals as goal
 
 pub returns-in-Check-clause-tried : goal.returns-in-Check-clause-tried
 returns-in-Check-clause-tried g c =
-    let w = world g.H.Shelf.files g.H.Shelf.takes g.S.Source.left c.args.shelf.now c.args.input.now in
+    let w = world g.H.Shelf g.S.Source c.args.shelf.now c.args.input.now in
     let shelf = Rose (g.H.Shelf.faults c.args.shelf.now) (g.H.Shelf.faults c.check.new.shelf) in
     let input = Rose (g.S.Source.faults c.args.input.now) (g.S.Source.faults c.args.input.now) in
     rw c.in-Check.is
     (Leaves-all (TriedOf shelf input (commands.check c.in-Check.file.now) w) (answer_in (g.S.Source.left c.args.input.now) c.check.result)
-    (shelved g.H.Shelf.files g.H.Shelf.takes g.H.Shelf.faults c.args.shelf.now c.check.new.shelf)
+    (shelved g.H.Shelf c.args.shelf.now c.check.new.shelf)
     (g.K.Sink.written c.args.out.now) (g.N.Sink.written c.args.notes.now) (g.K.Sink.faults c.args.out.now) (g.N.Sink.faults c.args.notes.now)
-    (c.check.ensures.tried (drawn g.S.Source.left g.S.Source.faults c.args.input.now c.args.input.now)) c.check.ensures.shelf.files)
+    (c.check.ensures.tried (drawn g.S.Source c.args.input.now c.args.input.now)) c.check.ensures.shelf.files)
 
 pub returns-in-Dis-clause-tried : goal.returns-in-Dis-clause-tried
 returns-in-Dis-clause-tried g c =
     rw c.in-Dis.is
-    (c.dis.ensures.tried (drawn g.S.Source.left g.S.Source.faults c.args.input.now c.args.input.now) (g.N.Sink.written c.args.notes.now) (g.N.Sink.faults c.args.notes.now))
+    (c.dis.ensures.tried (drawn g.S.Source c.args.input.now c.args.input.now) (g.N.Sink.written c.args.notes.now) (g.N.Sink.faults c.args.notes.now))
 
 pub returns-in-Asm-clause-tried : goal.returns-in-Asm-clause-tried
 returns-in-Asm-clause-tried g c =
-    let w = world g.H.Shelf.files g.H.Shelf.takes g.S.Source.left c.args.shelf.now c.args.input.now in
+    let w = world g.H.Shelf g.S.Source c.args.shelf.now c.args.input.now in
     let shelf = Rose (g.H.Shelf.faults c.args.shelf.now) (g.H.Shelf.faults c.asm.new.shelf) in
     let input = Rose (g.S.Source.faults c.args.input.now) (g.S.Source.faults c.args.input.now) in
-    let settled = c.asm.ensures.tried (drawn g.S.Source.left g.S.Source.faults c.args.input.now c.args.input.now) in
+    let settled = c.asm.ensures.tried (drawn g.S.Source c.args.input.now c.args.input.now) in
     rw c.in-Asm.is
     (Leaves-kept (TriedOf shelf input (commands.asm c.in-Asm.file.now c.in-Asm.out.now) w) (answer_in (g.S.Source.left c.args.input.now) c.asm.result) settled.0
-    (shelved g.H.Shelf.files g.H.Shelf.takes g.H.Shelf.faults c.args.shelf.now c.asm.new.shelf)
+    (shelved g.H.Shelf c.args.shelf.now c.asm.new.shelf)
     (g.K.Sink.written c.args.out.now) (g.N.Sink.written c.args.notes.now) (g.K.Sink.faults c.args.out.now) (g.N.Sink.faults c.args.notes.now)
     settled.1 settled.2)
 
@@ -48,6 +48,6 @@ trial-requires-clause-bound g c = (c.requires.blocks c.in-Trial.blocks (ap comma
 pub returns-in-Trial-clause-tried : goal.returns-in-Trial-clause-tried
 returns-in-Trial-clause-tried g c =
     rw c.in-Trial.is
-    (c.trial.ensures.tried (shelved g.H.Shelf.files g.H.Shelf.takes g.H.Shelf.faults c.args.shelf.now c.args.shelf.now)
-    (drawn g.S.Source.left g.S.Source.faults c.args.input.now c.args.input.now) (g.N.Sink.written c.args.notes.now) (g.N.Sink.faults c.args.notes.now)
+    (c.trial.ensures.tried (shelved g.H.Shelf c.args.shelf.now c.args.shelf.now)
+    (drawn g.S.Source c.args.input.now c.args.input.now) (g.N.Sink.written c.args.notes.now) (g.N.Sink.faults c.args.notes.now)
     (KeepsFiles-refl (g.H.Shelf.files c.args.shelf.now)))

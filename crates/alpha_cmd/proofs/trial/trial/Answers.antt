@@ -11,7 +11,7 @@ use Rattle.alpha_cmd.proofs.trial.trial.Goals as goal
 pub returns-in-Ok-clause-tried : goal.returns-in-Ok-clause-tried
 returns-in-Ok-clause-tried g c = λ shelf input told count same.
     let w : World = record { files = shelf.old; takes = shelf.took; input = input.old } in
-    let out = sunk g.K.Sink.written g.K.Sink.faults c.args.out.now c.trial.new.out in
+    let out = sunk g.K.Sink c.args.out.now c.trial.new.out in
     subst (λ (rest : Answer). Leaves (TriedOf (Rose shelf.before shelf.now) (Rose input.before input.now) (commands.trial c.args.blocks) w) rest shelf out (still told count))
     (sym (c.said.ensures.answer input.old))
     (text_tried c.args.blocks w (Rose shelf.before shelf.now) (Rose input.before input.now) shelf same out told count c.in-Ok.ensures.ok)
@@ -19,7 +19,7 @@ returns-in-Ok-clause-tried g c = λ shelf input told count same.
 pub returns-in-Err-NoMemory-clause-tried : goal.returns-in-Err-NoMemory-clause-tried
 returns-in-Err-NoMemory-clause-tried g c = λ shelf input told count same.
     let w : World = record { files = shelf.old; takes = shelf.took; input = input.old } in
-    let out = sunk g.K.Sink.written g.K.Sink.faults c.args.out.now c.trial.new.out in
+    let out = sunk g.K.Sink c.args.out.now c.trial.new.out in
     subst (λ (rest : Answer). Leaves (TriedOf (Rose shelf.before shelf.now) (Rose input.before input.now) (commands.trial c.args.blocks) w) rest shelf out (still told count))
     (sym (c.said-in-Err-NoMemory.ensures.answer input.old))
     (nothing_tried c.args.blocks w (Rose shelf.before shelf.now) (Rose input.before input.now) shelf same out told count (c.in-Err-NoMemory.ensures.memory (ap Err c.in-Err-NoMemory.field-0-is)))
@@ -28,4 +28,4 @@ pub returns-in-Err-Sink-clause-tried : goal.returns-in-Err-Sink-clause-tried
 returns-in-Err-Sink-clause-tried g c = λ shelf input told count same.
     let w : World = record { files = shelf.old; takes = shelf.took; input = input.old } in
     part_tried c.args.blocks w (Rose shelf.before shelf.now) (Rose input.before input.now) shelf same
-    (sunk g.K.Sink.written g.K.Sink.faults c.args.out.now c.trial.new.out) told count c.in-Err-Sink.ensures.prefix (c.in-Err-Sink.ensures.sink (ap Err c.in-Err-Sink.field-0-is))
+    (sunk g.K.Sink c.args.out.now c.trial.new.out) told count c.in-Err-Sink.ensures.prefix (c.in-Err-Sink.ensures.sink (ap Err c.in-Err-Sink.field-0-is))

@@ -4,4 +4,4 @@ use Rattle.alpha_debug.proofs.print.print_bytes.Given as goal
 
 -- the lines of the first rows were put
 abbrev pub invariant-loop-k : goal.invariant-loop-k
-invariant-loop-k g l = Puts (sunk g.K.Sink.written g.K.Sink.faults l.initial.out l.out) (rows (memory_row l.at l.bytes) l.k)
+invariant-loop-k g l = Puts (sunk g.K.Sink l.initial.out l.out) (rows (memory_row l.at l.bytes) l.k)

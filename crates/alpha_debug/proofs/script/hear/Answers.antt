@@ -1,7 +1,7 @@
 use Rattle.std.proofs.Common.{◌≡◌, ◌∙◌, ◌+◌, ◌<◌, ◌≤◌, ◌++◌, ℕ, suc, List, [], ◌∷◌, length, get_or, take, drop, refl, sym, ap, subst, add-one, arith}
 use Rattle.std.proofs.Math.Seq.{take-suc}
 use Rattle.std.proofs.lemmas.List.{take_all}
-use Rattle.alpha_io.specs.Sunk.{sunk}
+use Rattle.alpha_io.specs.Sunk.{sunk, sunk_by}
 use Rattle.alpha_io.proofs.Sinks.{Puts-none}
 use Rattle.alpha_debug.specs.declared.debugger.Talk.{Talk}
 use Rattle.alpha_debug.specs.declared.debugger.Talk.TheVariants.{GoesOn, Quits}
@@ -14,7 +14,7 @@ pub loop-byte-init : goal.loop-byte-init
 loop-byte-init g c = record {
   same = record { setting = refl; mode = refl };
   hears = λ begun is_held.
-      hears_none begun c.args.held.now.items c.args.debugger.now (sunk g.K.Sink.written g.K.Sink.faults c.args.out.now c.args.out.now) is_held
+      hears_none begun c.args.held.now.items c.args.debugger.now (sunk g.K.Sink c.args.out.now c.args.out.now) is_held
       (Puts-none (g.K.Sink.written c.args.out.now) (g.K.Sink.faults c.args.out.now));
 }
 
@@ -27,7 +27,7 @@ returns-in_err-hear_byte-clause-refused g c =
     let b : ℕ = get_or bytes i 0 in
     let less : i < length bytes = omega arith in
     let old = c.args.debugger.now in
-    let out = sunk written faults c.args.out.now c.hear_byte.new.out in
+    let out = sunk_by written faults c.args.out.now c.hear_byte.new.out in
     λ begun is_held.
     let first = c.loop-byte.invariant.hears begun is_held in
     OnErr-any c.from_residual.result
@@ -47,11 +47,11 @@ returns-in-Quits-clause-ok g c =
     let old = c.args.debugger.now in
     let new = c.hear_byte.new.debugger in
     let held = c.hear_byte.new.held.items in
-    let out = sunk written faults c.args.out.now c.hear_byte.new.out in
+    let out = sunk_by written faults c.args.out.now c.hear_byte.new.out in
     λ begun is_held.
     let first = c.loop-byte.invariant.hears begun is_held in
-    let second : Hears (b ∷ []) first.line Quits c.loop-byte.debugger new held (sunk written faults c.loop-byte.out c.hear_byte.new.out) =
-    subst (λ (talk : Talk). Hears (b ∷ []) first.line talk c.loop-byte.debugger new held (sunk written faults c.loop-byte.out c.hear_byte.new.out)) c.in-Quits.is
+    let second : Hears (b ∷ []) first.line Quits c.loop-byte.debugger new held (sunk_by written faults c.loop-byte.out c.hear_byte.new.out) =
+    subst (λ (talk : Talk). Hears (b ∷ []) first.line talk c.loop-byte.debugger new held (sunk_by written faults c.loop-byte.out c.hear_byte.new.out)) c.in-Quits.is
     (c.in_ok-hear_byte.ensures.ok first.line first.held_is) in
     subst (λ (l : List ℕ). Hears l begun Quits old new held out) (through bytes i less)
     (hears_quit (take i bytes ++ b ∷ []) (drop (suc i) bytes) begun old new held out
@@ -68,7 +68,7 @@ loop-byte-preserved g c =
     let old = c.args.debugger.now in
     let new = c.hear_byte.new.debugger in
     let held = c.hear_byte.new.held.items in
-    let out = sunk written faults c.args.out.now c.hear_byte.new.out in
+    let out = sunk_by written faults c.args.out.now c.hear_byte.new.out in
     let more : take (i + 1) bytes ≡ take i bytes ++ b ∷ [] = ap (λ (n : ℕ). take n bytes) (add-one i) ∙ take-suc bytes i 0 less in
     record {
       same = record {
@@ -77,8 +77,8 @@ loop-byte-preserved g c =
       };
       hears = λ begun is_held.
           let first = c.loop-byte.invariant.hears begun is_held in
-          let second : Hears (b ∷ []) first.line GoesOn c.loop-byte.debugger new held (sunk written faults c.loop-byte.out c.hear_byte.new.out) =
-          subst (λ (talk : Talk). Hears (b ∷ []) first.line talk c.loop-byte.debugger new held (sunk written faults c.loop-byte.out c.hear_byte.new.out)) c.in-GoesOn.is
+          let second : Hears (b ∷ []) first.line GoesOn c.loop-byte.debugger new held (sunk_by written faults c.loop-byte.out c.hear_byte.new.out) =
+          subst (λ (talk : Talk). Hears (b ∷ []) first.line talk c.loop-byte.debugger new held (sunk_by written faults c.loop-byte.out c.hear_byte.new.out)) c.in-GoesOn.is
           (c.in_ok-hear_byte.ensures.ok first.line first.held_is) in
           subst (λ (l : List ℕ). Hears l begun GoesOn old new held out) (sym more)
           (hears_then written faults c.args.out.now c.loop-byte.out c.hear_byte.new.out (take i bytes) (b ∷ []) begun old c.loop-byte.debugger new c.loop-byte.held.items first GoesOn held second);
@@ -90,5 +90,5 @@ returns-clause-ok g c =
     let i = c.loop-byte.byte-index in
     let end : length bytes ≤ i = omega arith in
     λ begun is_held.
-    subst (λ (l : List ℕ). Hears l begun GoesOn c.args.debugger.now c.loop-byte.debugger c.loop-byte.held.items (sunk g.K.Sink.written g.K.Sink.faults c.args.out.now c.loop-byte.out))
+    subst (λ (l : List ℕ). Hears l begun GoesOn c.args.debugger.now c.loop-byte.debugger c.loop-byte.held.items (sunk g.K.Sink c.args.out.now c.loop-byte.out))
     (take_all i bytes end) (c.loop-byte.invariant.hears begun is_held)

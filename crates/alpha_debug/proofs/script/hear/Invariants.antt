@@ -10,5 +10,5 @@ invariant-loop-byte g l = record {
   same : Remains l.initial.debugger l.debugger;
   hears : (begun : List ℕ) → IsHeld begun l.initial.held.items
       → Hears (take l.byte-index l.bytes) begun GoesOn l.initial.debugger l.debugger l.held.items
-      (sunk g.K.Sink.written g.K.Sink.faults l.initial.out l.out);
+      (sunk g.K.Sink l.initial.out l.out);
 }

@@ -12,7 +12,7 @@ use Rattle.alpha_debug.proofs.script.hear_byte.Goals as goal
 
 pub returns-in_err-talk-clause-refused : goal.returns-in_err-talk-clause-refused
 returns-in_err-talk-clause-refused g c =
-    let out = sunk g.K.Sink.written g.K.Sink.faults c.args.out.now c.answer_line.new.out in
+    let out = sunk g.K.Sink c.args.out.now c.answer_line.new.out in
     let held = c.args.held.now.items in
     let line : c.without_return.result.now ≡ strip_carriage_return held = c.without_return.ensures ∙ ap strip_carriage_return c.as_slice.ensures.value in
     let feed : c.args.byte ≡ 10 = omega (arith, c.if-byte-eq10.true) in
@@ -23,7 +23,7 @@ returns-in_err-talk-clause-refused g c =
 
 pub returns-in_ok-talk-clause-ok : goal.returns-in_ok-talk-clause-ok
 returns-in_ok-talk-clause-ok g c =
-    let out = sunk g.K.Sink.written g.K.Sink.faults c.args.out.now c.answer_line.new.out in
+    let out = sunk g.K.Sink c.args.out.now c.answer_line.new.out in
     let held = c.args.held.now.items in
     let old = c.args.debugger.now in
     let new = c.answer_line.new.debugger in
@@ -37,7 +37,7 @@ returns-in_ok-talk-clause-ok g c =
 
 pub returns-then-not-is_full-clause-ok : goal.returns-then-not-is_full-clause-ok
 returns-then-not-is_full-clause-ok g c =
-    let out = sunk g.K.Sink.written g.K.Sink.faults c.args.out.now c.args.out.now in
+    let out = sunk g.K.Sink c.args.out.now c.args.out.now in
     let held = c.args.held.now.items in
     let other : (c.args.byte == 10) ≡ false = ne_eqb c.args.byte 10 (λ e. omega (arith, c.if-byte-eq10.false)) in
     let room : length held < 1026 = grind (arith, nat_tests) in
@@ -48,7 +48,7 @@ returns-then-not-is_full-clause-ok g c =
 
 pub returns-else-not-is_full-clause-ok : goal.returns-else-not-is_full-clause-ok
 returns-else-not-is_full-clause-ok g c =
-    let out = sunk g.K.Sink.written g.K.Sink.faults c.args.out.now c.args.out.now in
+    let out = sunk g.K.Sink c.args.out.now c.args.out.now in
     let held = c.args.held.now.items in
     let other : (c.args.byte == 10) ≡ false = ne_eqb c.args.byte 10 (λ e. omega (arith, c.if-byte-eq10.false)) in
     let full : length held ≡ 1026 = grind (arith, nat_tests) in

@@ -14,7 +14,7 @@ use Rattle.alpha_debug.proofs.transcript.converse.Goals as goal
 
 pub loop-most-init : goal.loop-most-init
 loop-most-init g c =
-    underway_start c.args.debugger.now c.new-held.result.items (drawn g.S.Source.left g.S.Source.faults c.args.script.now c.args.script.now) (sunk g.K.Sink.written g.K.Sink.faults c.args.out.now c.args.out.now)
+    underway_start c.args.debugger.now c.new-held.result.items (drawn g.S.Source c.args.script.now c.args.script.now) (sunk g.K.Sink c.args.out.now c.args.out.now)
     c.new-held.ensures (Consumes-nil (g.S.Source.left c.args.script.now)) refl (Puts-none (g.K.Sink.written c.args.out.now) (g.K.Sink.faults c.args.out.now))
 
 pub returns-in-Err : goal.returns-in-Err
@@ -37,8 +37,8 @@ returns-in-Ok-Quits g c =
     let l = c.loop-most in
     let bytes : List ℕ = take c.in-Ok.count c.take.new.buf in
     let fits : length bytes ≤ l.most = omega (arith, length-take c.in-Ok.count c.take.new.buf, c.in-Ok.ensures.bound, c.take.auto.buf, length-take c.min.result c.loop-most.space, c.min.ensures) in
-    let hears : Hears bytes l.invariant.line Quits l.debugger c.hear.new.debugger c.hear.new.held.items (sunk g.K.Sink.written g.K.Sink.faults l.out c.hear.new.out) =
-    subst (λ (talk : Talk). Hears bytes l.invariant.line talk l.debugger c.hear.new.debugger c.hear.new.held.items (sunk g.K.Sink.written g.K.Sink.faults l.out c.hear.new.out)) c.in-Ok-Quits.field-0-is
+    let hears : Hears bytes l.invariant.line Quits l.debugger c.hear.new.debugger c.hear.new.held.items (sunk g.K.Sink l.out c.hear.new.out) =
+    subst (λ (talk : Talk). Hears bytes l.invariant.line talk l.debugger c.hear.new.debugger c.hear.new.held.items (sunk g.K.Sink l.out c.hear.new.out)) c.in-Ok-Quits.field-0-is
     (c.in-Ok-Quits.ensures.ok l.invariant.line l.invariant.held_is) in
     underway_quit g.S.Source.left g.S.Source.faults g.K.Sink.written g.K.Sink.faults c.args.script.now l.script c.take.new.self c.args.out.now l.out c.hear.new.out c.args.debugger.now l.debugger l.held.items l.most l.invariant
     bytes c.hear.new.debugger c.hear.new.held.items c.in-Ok.ensures.bytes c.in-Ok.ensures.cause.ok fits hears
@@ -57,8 +57,8 @@ loop-most-preserved g c =
     let bytes : List ℕ = take c.in-Ok.count c.take.new.buf in
     let fits : length bytes ≤ l.most = omega (arith, length-take c.in-Ok.count c.take.new.buf, c.in-Ok.ensures.bound, c.take.auto.buf, length-take c.min.result c.loop-most.space, c.min.ensures) in
     let left : l.most - c.in-Ok.count ≡ l.most - length bytes = omega (arith, length-take c.in-Ok.count c.take.new.buf, c.in-Ok.ensures.bound) in
-    let hears : Hears bytes l.invariant.line GoesOn l.debugger c.hear.new.debugger c.hear.new.held.items (sunk g.K.Sink.written g.K.Sink.faults l.out c.hear.new.out) =
-    subst (λ (talk : Talk). Hears bytes l.invariant.line talk l.debugger c.hear.new.debugger c.hear.new.held.items (sunk g.K.Sink.written g.K.Sink.faults l.out c.hear.new.out)) c.in-Ok-GoesOn.field-0-is
+    let hears : Hears bytes l.invariant.line GoesOn l.debugger c.hear.new.debugger c.hear.new.held.items (sunk g.K.Sink l.out c.hear.new.out) =
+    subst (λ (talk : Talk). Hears bytes l.invariant.line talk l.debugger c.hear.new.debugger c.hear.new.held.items (sunk g.K.Sink l.out c.hear.new.out)) c.in-Ok-GoesOn.field-0-is
     (c.in-Ok-GoesOn.ensures.ok l.invariant.line l.invariant.held_is) in
     underway_more g.S.Source.left g.S.Source.faults g.K.Sink.written g.K.Sink.faults c.args.script.now l.script c.take.new.self c.args.out.now l.out c.hear.new.out c.args.debugger.now l.debugger l.held.items l.most l.invariant
     bytes c.hear.new.debugger c.hear.new.held.items (l.most - c.in-Ok.count) c.in-Ok.ensures.bytes c.in-Ok.ensures.cause.ok fits left hears c.hear.ensures.same

@@ -6,8 +6,8 @@ use Rattle.alpha_debug.proofs.transcript.converse.Given as goal
 abbrev pub invariant-loop-most : goal.invariant-loop-most
 invariant-loop-most g l =
     Underway l.initial.debugger l.debugger l.held.items l.most
-    (drawn g.S.Source.left g.S.Source.faults l.initial.script l.script)
-    (sunk g.K.Sink.written g.K.Sink.faults l.initial.out l.out)
+    (drawn g.S.Source l.initial.script l.script)
+    (sunk g.K.Sink l.initial.out l.out)
 
 abbrev pub decreases-loop-most : goal.decreases-loop-most
 decreases-loop-most g l = l.most

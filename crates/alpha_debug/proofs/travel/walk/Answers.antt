@@ -10,7 +10,7 @@ use Rattle.alpha_debug.proofs.travel.walk.Goals as goal
 pub loop-init : goal.loop-init
 loop-init g c = record {
   same = record { program = refl; mode = refl };
-  walking = walking_start c.args.until c.args.points.now c.args.most (c.args.most - 0) c.args.machine.now (sunk g.K.Sink.written g.K.Sink.faults c.args.out.now c.args.out.now) (omega arith)
+  walking = walking_start c.args.until c.args.points.now c.args.most (c.args.most - 0) c.args.machine.now (sunk g.K.Sink c.args.out.now c.args.out.now) (omega arith)
       (Puts-none (g.K.Sink.written c.args.out.now) (g.K.Sink.faults c.args.out.now));
 }
 
@@ -18,8 +18,8 @@ pub returns-in_err-moved-clause-refused : goal.returns-in_err-moved-clause-refus
 returns-in_err-moved-clause-refused g c =
     let left : ℕ = c.args.most - (c.loop.counter + 1) in
     let next : c.args.most - c.loop.counter ≡ suc left = omega arith in
-    let walking : Walking c.args.until c.args.points.now c.args.most (suc left) c.args.machine.now c.loop.machine (sunk g.K.Sink.written g.K.Sink.faults c.args.out.now c.loop.out) =
-    subst (λ (n : ℕ). Walking c.args.until c.args.points.now c.args.most n c.args.machine.now c.loop.machine (sunk g.K.Sink.written g.K.Sink.faults c.args.out.now c.loop.out)) next c.loop.invariant.walking in
+    let walking : Walking c.args.until c.args.points.now c.args.most (suc left) c.args.machine.now c.loop.machine (sunk g.K.Sink c.args.out.now c.loop.out) =
+    subst (λ (n : ℕ). Walking c.args.until c.args.points.now c.args.most n c.args.machine.now c.loop.machine (sunk g.K.Sink c.args.out.now c.loop.out)) next c.loop.invariant.walking in
     OnErr-any c.from_residual.result
     (walking_breaks g.K.Sink.written g.K.Sink.faults c.args.out.now c.loop.out c.step.new.out c.args.until c.args.points.now c.args.most left c.args.machine.now c.loop.machine
     c.loop.invariant.same walking c.in_err-moved.ensures.refused)
@@ -28,22 +28,22 @@ pub returns-then-is_last-clause-ok : goal.returns-then-is_last-clause-ok
 returns-then-is_last-clause-ok g c =
     let left : ℕ = c.args.most - (c.loop.counter + 1) in
     let next : c.args.most - c.loop.counter ≡ suc left = omega arith in
-    let walking : Walking c.args.until c.args.points.now c.args.most (suc left) c.args.machine.now c.loop.machine (sunk g.K.Sink.written g.K.Sink.faults c.args.out.now c.loop.out) =
-    subst (λ (n : ℕ). Walking c.args.until c.args.points.now c.args.most n c.args.machine.now c.loop.machine (sunk g.K.Sink.written g.K.Sink.faults c.args.out.now c.loop.out)) next c.loop.invariant.walking in
-    subst (λ (end : Option End). Walks c.args.until c.args.points.now c.args.most end c.args.machine.now c.step.new.machine (sunk g.K.Sink.written g.K.Sink.faults c.args.out.now c.step.new.out)) (sym c.end_of.ensures)
+    let walking : Walking c.args.until c.args.points.now c.args.most (suc left) c.args.machine.now c.loop.machine (sunk g.K.Sink c.args.out.now c.loop.out) =
+    subst (λ (n : ℕ). Walking c.args.until c.args.points.now c.args.most n c.args.machine.now c.loop.machine (sunk g.K.Sink c.args.out.now c.loop.out)) next c.loop.invariant.walking in
+    subst (λ (end : Option End). Walks c.args.until c.args.points.now c.args.most end c.args.machine.now c.step.new.machine (sunk g.K.Sink c.args.out.now c.step.new.out)) (sym c.end_of.ensures)
     (walking_ends g.K.Sink.written g.K.Sink.faults c.args.out.now c.loop.out c.step.new.out c.args.until c.args.points.now c.args.most left c.args.machine.now c.loop.machine c.step.new.machine (event_of c.in_ok-moved.moved)
     c.loop.invariant.same walking c.in_ok-moved.ensures.ok (sym c.is_last.ensures ∙ c.if-is_last.true))
 
 pub returns-clause-ok : goal.returns-clause-ok
 returns-clause-ok g c =
-    walking_spent c.args.until c.args.points.now c.args.most (c.args.most - c.loop.counter) c.args.machine.now c.loop.machine (sunk g.K.Sink.written g.K.Sink.faults c.args.out.now c.loop.out) (omega arith) c.loop.invariant.walking
+    walking_spent c.args.until c.args.points.now c.args.most (c.args.most - c.loop.counter) c.args.machine.now c.loop.machine (sunk g.K.Sink c.args.out.now c.loop.out) (omega arith) c.loop.invariant.walking
 
 pub loop-preserved : goal.loop-preserved
 loop-preserved g c =
     let left : ℕ = c.args.most - (c.loop.counter + 1) in
     let next : c.args.most - c.loop.counter ≡ suc left = omega arith in
-    let walking : Walking c.args.until c.args.points.now c.args.most (suc left) c.args.machine.now c.loop.machine (sunk g.K.Sink.written g.K.Sink.faults c.args.out.now c.loop.out) =
-    subst (λ (n : ℕ). Walking c.args.until c.args.points.now c.args.most n c.args.machine.now c.loop.machine (sunk g.K.Sink.written g.K.Sink.faults c.args.out.now c.loop.out)) next c.loop.invariant.walking in
+    let walking : Walking c.args.until c.args.points.now c.args.most (suc left) c.args.machine.now c.loop.machine (sunk g.K.Sink c.args.out.now c.loop.out) =
+    subst (λ (n : ℕ). Walking c.args.until c.args.points.now c.args.most n c.args.machine.now c.loop.machine (sunk g.K.Sink c.args.out.now c.loop.out)) next c.loop.invariant.walking in
     let same = c.step.ensures.same in
     record {
       same = record { program = same.program ∙ c.loop.invariant.same.program; mode = same.mode ∙ c.loop.invariant.same.mode };

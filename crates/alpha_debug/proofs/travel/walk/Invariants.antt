@@ -9,5 +9,5 @@ abbrev pub invariant-loop : goal.invariant-loop
 invariant-loop g l = record {
   same : Stays l.initial.machine l.machine;
   walking : Walking l.until l.points l.most (l.most - l.counter) l.initial.machine l.machine
-      (sunk g.K.Sink.written g.K.Sink.faults l.initial.out l.out);
+      (sunk g.K.Sink l.initial.out l.out);
 }

@@ -1,6 +1,6 @@
 use Rattle.std.proofs.Common.{◌≡◌, ◌+◌, ◌<◌, ◌++◌, ℕ, List, [], length, get_or, map, take, drop, sym, ap, subst, ◌∙◌, arith}
 use Rattle.std.specs.Option.{option_map_or}
-use Rattle.alpha_io.specs.Sunk.{sunk}
+use Rattle.alpha_io.specs.Sunk.{sunk_by}
 use Rattle.alpha_text.specs.Canon.{canon}
 use Rattle.alpha_dis.specs.Taken.{Takes, Stops}
 use Rattle.alpha_dis.specs.Listing.{ended, text, code_line}
@@ -16,7 +16,7 @@ returns-in_err-push_line-clause-refused g c =
     let words = c.args.image.now.words in
     let rest = text (map code_line (drop l.place words)) in
     OnErr-any c.from_residual.result
-    (subst (λ (t : List ℕ). Stops (sunk written faults c.args.out.now c.push_line.new.out) (c.args.block.now ++ t)) (sym (text-map-split code_line words l.place))
+    (subst (λ (t : List ℕ). Stops (sunk_by written faults c.args.out.now c.push_line.new.out) (c.args.block.now ++ t)) (sym (text-map-split code_line words l.place))
     (Stops-held written faults c.args.out.now l.out c.push_line.new.out c.args.block.now l.block (text (map code_line (take l.place words))) rest l.invariant c.in_err-push_line.ensures.refused))
 
 pub loop-place-preserved : goal.loop-place-preserved
@@ -27,7 +27,7 @@ loop-place-preserved g c =
     let words = c.args.image.now.words in
     let within : l.place < length words = omega arith in
     let line : c.write_line.new.to ≡ code_line (get_or words l.place 0) = c.write_line.ensures ∙ ap (λ o. option_map_or canon o []) (sym c.instruction.ensures) in
-    subst (Takes (sunk written faults c.args.out.now c.push_line.new.out) c.args.block.now c.push_line.new.block)
+    subst (Takes (sunk_by written faults c.args.out.now c.push_line.new.out) c.args.block.now c.push_line.new.block)
     (ap (λ (t : List ℕ). text (map code_line (take l.place words)) ++ ended t) line ∙ sym (text-map-more code_line words l.place 0 within))
     (Takes-then written faults c.args.out.now l.out c.push_line.new.out c.args.block.now l.block (text (map code_line (take l.place words))) c.push_line.new.block (ended c.write_line.new.to)
     l.invariant c.in_ok-push_line.ensures.ok)

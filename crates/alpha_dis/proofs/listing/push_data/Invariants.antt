@@ -9,5 +9,5 @@ use Rattle.alpha_dis.proofs.listing.push_data.Given as goal
 -- the lines of the first segments were taken
 abbrev pub invariant-loop-n : goal.invariant-loop-n
 invariant-loop-n g l =
-    Takes (sunk g.K.Sink.written g.K.Sink.faults l.initial.out l.out) l.initial.block l.block
+    Takes (sunk g.K.Sink l.initial.out l.out) l.initial.block l.block
     (text (flat_map (piece_lines l.image.version) (take l.n (pieces l.image))))

@@ -8,7 +8,7 @@ use Rattle.alpha_dis.proofs.listing.push_rows.Given as goal
 abbrev pub invariant-loop-rest : goal.invariant-loop-rest
 invariant-loop-rest g l = record {
   done : List ℕ;
-  taken : Takes (sunk g.K.Sink.written g.K.Sink.faults l.initial.out l.out) l.initial.block l.block done;
+  taken : Takes (sunk g.K.Sink l.initial.out l.out) l.initial.block l.block done;
   whole : text (map byte_line (rows l.bytes)) ≡ done ++ text (map byte_line (rows l.rest));
 }
 

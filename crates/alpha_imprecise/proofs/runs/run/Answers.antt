@@ -24,9 +24,9 @@ steps-init g c = record {
       let started = Goes-none c.args.watch c.args.wild.now (telling g.C.Chooser.ahead g.C.Chooser.drawn c.args.chooser.now) (g.S.Source.left c.args.input.now) (g.K.Sink.written c.args.out.now) (g.N.Sink.written c.args.notes.now) bytes (g.S.Source.faults c.args.input.now) (g.K.Sink.faults c.args.out.now) (g.N.Sink.faults c.args.notes.now) told in
       subst (λ n. Goes n c.args.watch c.args.wild.now c.args.wild.now
       (telling g.C.Chooser.ahead g.C.Chooser.drawn c.args.chooser.now) (telling g.C.Chooser.ahead g.C.Chooser.drawn c.args.chooser.now)
-      (drawn g.S.Source.left g.S.Source.faults c.args.input.now c.args.input.now)
-      (sunk g.K.Sink.written g.K.Sink.faults c.args.out.now c.args.out.now)
-      (sunk g.N.Sink.written g.N.Sink.faults c.args.notes.now c.args.notes.now)) none started;
+      (drawn g.S.Source c.args.input.now c.args.input.now)
+      (sunk g.K.Sink c.args.out.now c.args.out.now)
+      (sunk g.N.Sink c.args.notes.now c.args.notes.now)) none started;
   calm = record { source = refl; sink = refl; lines = refl };
   grown = (HasGrown-none (g.K.Sink.written c.args.out.now) (g.K.Sink.faults c.args.out.now), HasGrown-none (g.N.Sink.written c.args.notes.now) (g.N.Sink.faults c.args.notes.now));
   same = record { program = refl; mode = refl };
@@ -158,9 +158,9 @@ pub returns-clause-effect : goal.returns-clause-effect
 returns-clause-effect g c =
     let before = telling g.C.Chooser.ahead g.C.Chooser.drawn c.args.chooser.now in
     let after = telling g.C.Chooser.ahead g.C.Chooser.drawn c.steps.chooser in
-    let input = drawn g.S.Source.left g.S.Source.faults c.args.input.now c.steps.input in
-    let out = sunk g.K.Sink.written g.K.Sink.faults c.args.out.now c.steps.out in
-    let notes = sunk g.N.Sink.written g.N.Sink.faults c.args.notes.now c.steps.notes in
+    let input = drawn g.S.Source c.args.input.now c.steps.input in
+    let out = sunk g.K.Sink c.args.out.now c.steps.out in
+    let notes = sunk g.N.Sink c.args.notes.now c.steps.notes in
     let none = all_used c.steps.left c.steps.wild.pending (subst (λ n. c.steps.left < n) c.unit.ensures.value c.steps-test.false) in
     λ bytes told.
     subst (λ n. IsMade n c.args.watch runs.Spent c.args.wild.now c.steps.wild before after input out notes) (none_left c.args.units c.steps.left none.1)
@@ -170,9 +170,9 @@ pub returns-clause-shown : goal.returns-clause-shown
 returns-clause-shown g c =
     let before = telling g.C.Chooser.ahead g.C.Chooser.drawn c.args.chooser.now in
     let after = telling g.C.Chooser.ahead g.C.Chooser.drawn c.steps.chooser in
-    let input = drawn g.S.Source.left g.S.Source.faults c.args.input.now c.steps.input in
-    let out = sunk g.K.Sink.written g.K.Sink.faults c.args.out.now c.steps.out in
-    let notes = sunk g.N.Sink.written g.N.Sink.faults c.args.notes.now c.steps.notes in
+    let input = drawn g.S.Source c.args.input.now c.steps.input in
+    let out = sunk g.K.Sink c.args.out.now c.steps.out in
+    let notes = sunk g.N.Sink c.args.notes.now c.steps.notes in
     λ bytes told calm.
     run_shows c.args.units c.args.watch runs.Spent c.args.wild.now c.steps.wild before after input out notes bytes told (returns-clause-effect g c bytes told) c.steps.invariant.calm calm
 
@@ -180,9 +180,9 @@ pub returns-clause-prefix : goal.returns-clause-prefix
 returns-clause-prefix g c =
     let before = telling g.C.Chooser.ahead g.C.Chooser.drawn c.args.chooser.now in
     let after = telling g.C.Chooser.ahead g.C.Chooser.drawn c.steps.chooser in
-    let input = drawn g.S.Source.left g.S.Source.faults c.args.input.now c.steps.input in
-    let out = sunk g.K.Sink.written g.K.Sink.faults c.args.out.now c.steps.out in
-    let notes = sunk g.N.Sink.written g.N.Sink.faults c.args.notes.now c.steps.notes in
+    let input = drawn g.S.Source c.args.input.now c.steps.input in
+    let out = sunk g.K.Sink c.args.out.now c.steps.out in
+    let notes = sunk g.N.Sink c.args.notes.now c.steps.notes in
     λ bytes told.
     run_shows_part c.args.units c.args.watch runs.Spent c.args.wild.now c.steps.wild before after input out notes bytes told (returns-clause-effect g c bytes told)
 
@@ -190,9 +190,9 @@ pub returns-clause-told : goal.returns-clause-told
 returns-clause-told g c =
     let before = telling g.C.Chooser.ahead g.C.Chooser.drawn c.args.chooser.now in
     let after = telling g.C.Chooser.ahead g.C.Chooser.drawn c.steps.chooser in
-    let input = drawn g.S.Source.left g.S.Source.faults c.args.input.now c.steps.input in
-    let out = sunk g.K.Sink.written g.K.Sink.faults c.args.out.now c.steps.out in
-    let notes = sunk g.N.Sink.written g.N.Sink.faults c.args.notes.now c.steps.notes in
+    let input = drawn g.S.Source c.args.input.now c.steps.input in
+    let out = sunk g.K.Sink c.args.out.now c.steps.out in
+    let notes = sunk g.N.Sink c.args.notes.now c.steps.notes in
     λ bytes ahead told words fresh.
     run_told c.args.units c.args.watch runs.Spent c.args.wild.now c.steps.wild before after input out notes bytes told fresh (returns-clause-effect g c bytes told) ahead words
 
@@ -200,8 +200,8 @@ pub returns-clause-restarted : goal.returns-clause-restarted
 returns-clause-restarted g c =
     let before = telling g.C.Chooser.ahead g.C.Chooser.drawn c.args.chooser.now in
     let after = telling g.C.Chooser.ahead g.C.Chooser.drawn c.steps.chooser in
-    let input = drawn g.S.Source.left g.S.Source.faults c.args.input.now c.steps.input in
-    let out = sunk g.K.Sink.written g.K.Sink.faults c.args.out.now c.steps.out in
-    let notes = sunk g.N.Sink.written g.N.Sink.faults c.args.notes.now c.steps.notes in
+    let input = drawn g.S.Source c.args.input.now c.steps.input in
+    let out = sunk g.K.Sink c.args.out.now c.steps.out in
+    let notes = sunk g.N.Sink c.args.notes.now c.steps.notes in
     λ bytes told fresh restartable.
     run_sequential c.args.units c.args.watch runs.Spent c.args.wild.now c.steps.wild before after input out notes bytes told fresh (returns-clause-effect g c bytes told) restartable

@@ -14,15 +14,15 @@ invariant-steps g l = record {
       → Goes (l.units - l.left) l.watch l.initial.wild l.wild
       (telling g.C.Chooser.ahead g.C.Chooser.drawn l.initial.chooser)
       (telling g.C.Chooser.ahead g.C.Chooser.drawn l.chooser)
-      (drawn g.S.Source.left g.S.Source.faults l.initial.input l.input)
-      (sunk g.K.Sink.written g.K.Sink.faults l.initial.out l.out)
-      (sunk g.N.Sink.written g.N.Sink.faults l.initial.notes l.notes);
+      (drawn g.S.Source l.initial.input l.input)
+      (sunk g.K.Sink l.initial.out l.out)
+      (sunk g.N.Sink l.initial.notes l.notes);
   calm : HasNoFault
-      (drawn g.S.Source.left g.S.Source.faults l.initial.input l.input)
-      (sunk g.K.Sink.written g.K.Sink.faults l.initial.out l.out)
-      (sunk g.N.Sink.written g.N.Sink.faults l.initial.notes l.notes);
-  grown : HasGrown (sunk g.K.Sink.written g.K.Sink.faults l.initial.out l.out)
-      × HasGrown (sunk g.N.Sink.written g.N.Sink.faults l.initial.notes l.notes);
+      (drawn g.S.Source l.initial.input l.input)
+      (sunk g.K.Sink l.initial.out l.out)
+      (sunk g.N.Sink l.initial.notes l.notes);
+  grown : HasGrown (sunk g.K.Sink l.initial.out l.out)
+      × HasGrown (sunk g.N.Sink l.initial.notes l.notes);
   same : Stays l.initial.wild.machine l.wild.machine;
 }
 

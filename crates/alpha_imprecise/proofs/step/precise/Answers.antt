@@ -9,7 +9,7 @@ use Rattle.alpha_imprecise.proofs.step.precise.Goals as goal
 pub unreachable-requires : goal.unreachable-requires
 unreachable-requires g c =
     never_overflows c.in-Overflow.field-0 c.args.machine.now c.step_by.new.self
-    (drawn g.S.Source.left g.S.Source.faults c.args.input.now c.step_by.new.input) (sunk g.K.Sink.written g.K.Sink.faults c.args.out.now c.step_by.new.out)
+    (drawn g.S.Source c.args.input.now c.step_by.new.input) (sunk g.K.Sink c.args.out.now c.step_by.new.out)
     c.requires.exact c.in-Overflow.ensures.effect.0
 
 pub returns-in-Went-clause-effect : goal.returns-in-Went-clause-effect
@@ -32,6 +32,6 @@ pub returns-in-SinkFault-clause-effect : goal.returns-in-SinkFault-clause-effect
 returns-in-SinkFault-clause-effect g c = λ chooser.
     ⊎_elim
     (λ (fails, idle). inl (record { fails = fails; calm = refl; still = refl; drew = Moves-none chooser }, idle))
-    (λ (line : LineFails c.args.machine.now c.step_by.new.self (drawn g.S.Source.left g.S.Source.faults c.args.input.now c.step_by.new.input) (sunk g.K.Sink.written g.K.Sink.faults c.args.out.now c.step_by.new.out) (sunk g.N.Sink.written g.N.Sink.faults c.args.notes.now c.step_by.new.notes)).
+    (λ (line : LineFails c.args.machine.now c.step_by.new.self (drawn g.S.Source c.args.input.now c.step_by.new.input) (sunk g.K.Sink c.args.out.now c.step_by.new.out) (sunk g.N.Sink c.args.notes.now c.step_by.new.notes)).
     absurd (never_overflows line.at c.args.machine.now c.step_by.new.self _ _ c.requires.exact line.made))
     c.in-SinkFault.ensures.effect

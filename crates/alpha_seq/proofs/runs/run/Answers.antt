@@ -67,9 +67,9 @@ returns-in-Some-clause-notes g c =
 
 pub returns-clause-prefix : goal.returns-clause-prefix
 returns-clause-prefix g c =
-    let input = drawn g.S.Source.left g.S.Source.faults c.args.input.now c.loop.input in
-    let out = sunk g.K.Sink.written g.K.Sink.faults c.args.out.now c.loop.out in
-    let notes = sunk g.N.Sink.written g.N.Sink.faults c.args.notes.now c.loop.notes in
+    let input = drawn g.S.Source c.args.input.now c.loop.input in
+    let out = sunk g.K.Sink c.args.out.now c.loop.out in
+    let notes = sunk g.N.Sink c.args.notes.now c.loop.notes in
     λ bytes told. made_part bytes c.loop.counter c.args.units c.args.watch None c.args.machine.now c.loop.machine input out notes told (omega arith) (c.loop.invariant.made bytes told)
 
 pub loop-preserved : goal.loop-preserved

@@ -10,15 +10,15 @@ abbrev pub invariant-loop : goal.invariant-loop
 invariant-loop g l = record {
   made : (bytes : List ℕ) → g.S.Source.left l.initial.input ≡ Some bytes
       → IsMade l.counter l.watch None l.initial.machine l.machine
-      (drawn g.S.Source.left g.S.Source.faults l.initial.input l.input)
-      (sunk g.K.Sink.written g.K.Sink.faults l.initial.out l.out)
-      (sunk g.N.Sink.written g.N.Sink.faults l.initial.notes l.notes);
+      (drawn g.S.Source l.initial.input l.input)
+      (sunk g.K.Sink l.initial.out l.out)
+      (sunk g.N.Sink l.initial.notes l.notes);
   calm : HasNoFault
-      (drawn g.S.Source.left g.S.Source.faults l.initial.input l.input)
-      (sunk g.K.Sink.written g.K.Sink.faults l.initial.out l.out)
-      (sunk g.N.Sink.written g.N.Sink.faults l.initial.notes l.notes);
-  grown : HasGrown (sunk g.K.Sink.written g.K.Sink.faults l.initial.out l.out)
-      × HasGrown (sunk g.N.Sink.written g.N.Sink.faults l.initial.notes l.notes);
+      (drawn g.S.Source l.initial.input l.input)
+      (sunk g.K.Sink l.initial.out l.out)
+      (sunk g.N.Sink l.initial.notes l.notes);
+  grown : HasGrown (sunk g.K.Sink l.initial.out l.out)
+      × HasGrown (sunk g.N.Sink l.initial.notes l.notes);
   shapes : shapes l.machine.memory ≡ shapes l.initial.machine.memory;
   same : Stays l.initial.machine l.machine;
 }

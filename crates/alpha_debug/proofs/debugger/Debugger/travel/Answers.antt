@@ -1,5 +1,5 @@
 use Rattle.std.proofs.Common.{◌≡◌, ◌∙◌, subst}
-use Rattle.alpha_io.specs.Sunk.{sunk, Puts}
+use Rattle.alpha_io.specs.Sunk.{sunk_by, Puts}
 use Rattle.alpha_debug.specs.Session.{going}
 use Rattle.alpha_debug.specs.Lines.{place_line}
 use Rattle.alpha_debug.specs.Effects.{setting_of, Stops}
@@ -13,9 +13,9 @@ returns-clause-ok g c =
     let faults = g.K.Sink.faults in
     let line : c.as_bytes.result.now ≡ place_line c.make_steps.new.self.end c.make_steps.new.self.machine.pc = c.as_bytes.ensures ∙ c.place_line.ensures in
     OnOk-map c.say.result
-    (λ (wrote : Puts (sunk written faults c.make_steps.new.out c.say.new.out) c.as_bytes.result.now).
+    (λ (wrote : Puts (sunk_by written faults c.make_steps.new.out c.say.new.out) c.as_bytes.result.now).
     placed written faults c.args.out.now c.make_steps.new.out c.say.new.out (going (setting_of c.args.self.now) c.args.until c.args.most) c.args.self.now c.make_steps.new.self c.in_ok-make_steps.ensures.ok
-    (subst (Puts (sunk written faults c.make_steps.new.out c.say.new.out)) line wrote))
+    (subst (Puts (sunk_by written faults c.make_steps.new.out c.say.new.out)) line wrote))
     c.say.ensures.ok
 
 pub returns-clause-refused : goal.returns-clause-refused
@@ -24,7 +24,7 @@ returns-clause-refused g c =
     let faults = g.K.Sink.faults in
     let line : c.as_bytes.result.now ≡ place_line c.make_steps.new.self.end c.make_steps.new.self.machine.pc = c.as_bytes.ensures ∙ c.place_line.ensures in
     OnErr-map c.say.result
-    (λ (stops : Stops (sunk written faults c.make_steps.new.out c.say.new.out) c.as_bytes.result.now).
+    (λ (stops : Stops (sunk_by written faults c.make_steps.new.out c.say.new.out) c.as_bytes.result.now).
     place_fails written faults c.args.out.now c.make_steps.new.out c.say.new.out (going (setting_of c.args.self.now) c.args.until c.args.most) c.args.self.now c.make_steps.new.self c.in_ok-make_steps.ensures.ok
-    (subst (Stops (sunk written faults c.make_steps.new.out c.say.new.out)) line stops))
+    (subst (Stops (sunk_by written faults c.make_steps.new.out c.say.new.out)) line stops))
     c.say.ensures.refused

@@ -9,18 +9,18 @@ use Rattle.alpha_imprecise.proofs.wild.Wild.step.Goals as goal
 pub returns-clause-cause : goal.returns-clause-cause
 returns-clause-cause g c =
     step_cause c.step.result _ _ _ _
-    (drawn g.S.Source.left g.S.Source.faults c.args.input.now c.step.new.input)
-    (sunk g.K.Sink.written g.K.Sink.faults c.args.out.now c.step.new.out)
-    (sunk g.N.Sink.written g.N.Sink.faults c.args.notes.now c.step.new.notes)
+    (drawn g.S.Source c.args.input.now c.step.new.input)
+    (sunk g.K.Sink c.args.out.now c.step.new.out)
+    (sunk g.N.Sink c.args.notes.now c.step.new.notes)
     c.step.ensures.effect
 
 pub returns-clause-same : goal.returns-clause-same
 returns-clause-same g c = record {
   program =
       step_program c.step.result _ _ _ _
-      (drawn g.S.Source.left g.S.Source.faults c.args.input.now c.step.new.input)
-      (sunk g.K.Sink.written g.K.Sink.faults c.args.out.now c.step.new.out)
-      (sunk g.N.Sink.written g.N.Sink.faults c.args.notes.now c.step.new.notes)
+      (drawn g.S.Source c.args.input.now c.step.new.input)
+      (sunk g.K.Sink c.args.out.now c.step.new.out)
+      (sunk g.N.Sink c.args.notes.now c.step.new.notes)
       c.step.ensures.effect
       ∙ ap (λ (w : WildState). program_of w.machine) c.self.view_is;
   mode = c.step.ensures.user ∙ (sym c.self.invariant.0 ∙ ap (λ (w : WildState). w.machine.kernel.user) c.self.view_is);
