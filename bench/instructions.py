@@ -1,0 +1,229 @@
+#!/usr/bin/env python3
+"""Holds docs/instructions.md to the instruction table and to the built program, or writes it anew.
+
+    bench/instructions.py [PROGRAM]     the page is what the table's rows make, and each worked value is the program's
+    bench/instructions.py --write       writes the page
+
+The page's tables are made here; what stands before the first of them is kept as it is. Names, opcodes, functions and
+levels are read from the table's rows, in crates/alpha_table/src. What each instruction
+gives is said here, in words and as a function of Python, which is held against the measured results of
+crates/alpha_vectors/data/values.tsv. The worked values are those of these functions.
+"""
+import os
+import re
+import struct
+import subprocess
+import sys
+import tempfile
+
+from worked import BRANCHES, COUNTING, JUMPS, MEMORY, MISC, OPERATES, OPERATE_WORDS, PAL, PLACE, SECTIONS, number_text
+
+TOP = os.path.dirname(os.path.dirname(os.path.abspath(__file__)))
+PAGE = os.path.join(TOP, "docs/instructions.md")
+LEVELS = {"One": 1, "Two": 2}
+
+
+def table_file(name):
+    with open(os.path.join(TOP, "crates/alpha_table/src", name)) as file:
+        return file.read()
+
+
+def operate_rows():
+    """Name to opcode, function, and level."""
+    row = re.compile(r'^ +\w+ b"(\S+)" 0x(..) 0x(..) \w+(?:\(\w+\))? \w+ (One|Two),$', re.M)
+    return {name: (code.upper() + "." + function.upper(), LEVELS[level])
+            for name, code, function, level in row.findall(table_file("operate.rt"))}
+
+
+def other_rows(macro):
+    """The names of one macro of formats.rt with their numbers."""
+    text = table_file("formats.rt").split("macro_rules! " + macro, 1)[1].split("macro_rules!", 1)[0]
+    row = re.compile(r'^ +[\w:]+ b"(\S+)" (0x[0-9a-f]+|\d+) \(.*\),$', re.M)
+    return {name: int(number, 0) for name, number in row.findall(text)}
+
+
+def table():
+    """Name to format, opcode with function, and level, of all instructions."""
+    rows = {name: ("operate", code, level) for name, (code, level) in operate_rows().items()}
+    for macro, kind, spelling in (
+            ("memory_rows", "memory", "{:02X}"), ("branch_rows", "branch", "{:02X}"), ("jump_rows", "jump", "1A.{:X}"),
+            ("misc_rows", "misc", "18.{:04X}"), ("fetch_rows", "misc", "18.{:04X}"), ("pal_rows", "PALcode", "00.{:02X}")):
+        for name, number in other_rows(macro).items():
+            rows[name] = (kind, spelling.format(number), 1)
+    return rows
+
+
+class Worked:
+    """A line at 0x10000, what registers and memory have before it, and what is there behind it."""
+
+    def __init__(self, line, before, after, pc=PLACE + 4, memory=None, first=(), end=None, saturated=None):
+        self.line, self.before, self.after, self.pc = line, before, after, pc
+        self.memory, self.first, self.end, self.saturated = memory, first, end, saturated
+
+
+def operate_worked(name):
+    result, a, b, old = OPERATES[name][0], *OPERATES[name][1:4]
+    level = 2 if name in ("ctlz", "ctpop", "cttz") else 1
+    line = f"{name} " + ("$3" if name == "implver" else "$2,$3" if a is None else "$1,$2,$3")
+    before = {1: a, 2: b, 3: old}
+    before = {n: value for n, value in before.items() if value is not None}
+    value = result(a or 0, b or 0, old or 0, level)
+    saturated = None
+    if name.endswith("/v"):
+        value, saturated, overflowed = value
+        assert overflowed, name
+    return Worked(line, before, {3: value}, saturated=saturated)
+
+
+def all_worked():
+    worked = {name: operate_worked(name) for name in OPERATES}
+    for rows in (MEMORY, BRANCHES, JUMPS, MISC, PAL):
+        for name, (_, line, before, after, more) in rows.items():
+            worked[name] = Worked(line, before, after, **more)
+    return worked
+
+
+def registers_text(name, values):
+    counts = COUNTING.match(name) is not None
+    return ", ".join(f"${n} = {number_text(value, counts)}" for n, value in values.items())
+
+
+def worked_text(name, w):
+    before = registers_text(name, w.before)
+    first = "".join(f"`{line}`, then " for line in w.first)
+    after = []
+    if w.after:
+        after.append(registers_text(name, w.after))
+    if w.saturated is not None:
+        after[-1] += f" by `wrap`, {number_text(w.saturated, False)} by `saturate`"
+    if w.memory:
+        after.append(f"bytes from {w.memory[0]:#x} on: {' '.join(w.memory[1][n:n + 2] for n in range(0, len(w.memory[1]), 2))}")
+    if w.end:
+        after.append(f"`{w.end}`")
+    elif w.pc != PLACE + 4 or not after or "on at" in OTHER_WORDS.get(name, ""):
+        after.append(f"PC = {w.pc:#x}")
+    return f"{first}`{w.line}`" + (f" with {before}" if before else "") + ": " + ", ".join(after)
+
+
+OTHER_WORDS = {name: row[0] for rows in (MEMORY, BRANCHES, JUMPS, MISC, PAL) for name, row in rows.items()}
+
+
+def page():
+    """The page as it should be: the text before the first table as it is, and the tables."""
+    rows, worked = table(), all_worked()
+    said = {**OTHER_WORDS, **OPERATE_WORDS}
+    if set(rows) != set(said) or set(rows) != set(worked):
+        sys.exit(f"not in both: {sorted(set(rows) ^ set(said) | set(rows) ^ set(worked))}")
+    with open(PAGE) as file:
+        parts = [file.read().split(f"## {SECTIONS[0][0]}\n")[0]]
+    listed = []
+    for title, note, names in SECTIONS:
+        parts.append(("\n" if listed else "") + f"## {title}\n\n" + (note + "\n\n" if note else "")
+                     + "| Name | Format | Opcode | Gives | Worked value | `/V` | Level |\n|---|---|---|---|---|---|---|\n")
+        for name in names:
+            kind, code, level = rows[name]
+            trap = "yes" if name.endswith("/v") else "no"
+            parts.append(f"| `{name}` | {kind} | {code} | {said[name]} | {worked_text(name, worked[name])} | {trap} | {level} |\n")
+            listed.append(name)
+    if sorted(listed) != sorted(rows):
+        sys.exit(f"listed twice or not at all: {sorted(set(rows) ^ set(listed))}")
+    return "".join(parts)
+
+
+def source(w, level):
+    """The line at 0x10000; the registers are filled from data before it."""
+    cells = list(w.before.items())
+    load = [f"ldq ${n},{0x100 + 8 * k}($28)" for k, (n, _) in enumerate(cells)]
+    start = ["ldah $28,0x1000($31)"] + load + ["clr $28"] + list(w.first) + ["br here"]
+    data = [".byte " + ",".join(str(0x80 + n) for n in range(16)), ".align 8"] + [f".quad {value}" for _, value in cells]
+    head = [".level 2", ".segment 0x10000000"] if level == 2 else [".data"]
+    code = [".code", "here: " + w.line] + ["nop"] * 15 + ["start: " + start[0]] + start[1:] + [".entry start"]
+    return "\n".join(head + data + code) + "\n"
+
+
+def run_program(program, *words, script=""):
+    done = subprocess.run([program, *words], input=script, capture_output=True, text=True)
+    return done.stdout, done.stderr
+
+
+def field_of(word):
+    """The opcode, with the function where the format has one."""
+    opcode = word >> 26
+    if 0x10 <= opcode <= 0x13 or opcode == 0x1C:
+        return f"{opcode:02X}.{word >> 5 & 0x7F:02X}"
+    if opcode == 0x1A:
+        return f"1A.{word >> 14 & 3:X}"
+    if opcode == 0x18:
+        return f"18.{word & 0xFFFF:04X}"
+    return f"00.{word & 0x3FFFFFF:02X}" if opcode == 0 else f"{opcode:02X}"
+
+
+def faults_of(program, folder, name, w, row):
+    """What of a row isn't as the program has it."""
+    text, image = os.path.join(folder, "row.s"), os.path.join(folder, "row.img")
+    with open(text, "w") as file:
+        file.write(source(w, row[2]))
+    _, notes = run_program(program, "asm", text, image)
+    if notes:
+        return [notes.strip()]
+    with open(image, "rb") as file:
+        contents = file.read()
+    word = struct.unpack_from("<I", contents, 48 if row[2] == 1 else 56)[0]
+    faults = [f"opcode {field_of(word)}"] if field_of(word) != row[1] else []
+    script = f"break {PLACE}\ngo\nstep\nregs\n" + (f"mem {w.memory[0]} {len(w.memory[1]) // 2}\n" if w.memory else "")
+    answers = run_program(program, "debug", image, script=script)[0].split("\n")
+    if answers[2] != (w.end or f"pc {w.pc:016x}"):
+        faults.append(answers[2])
+    registers = [int(value, 16) for line in answers[3:11] for value in line.split()]
+    faults += [f"${n} = {registers[n]:#x}" for n, value in {**w.before, **w.after}.items() if registers[n] != value]
+    if w.memory and answers[11].split()[1] != w.memory[1]:
+        faults.append(answers[11])
+    if w.saturated is not None:
+        with open(text, "w") as file:
+            file.write(source(w, row[2]).replace("here: " + w.line + "\n" + "nop\n" * 5,
+                                                 "here: " + w.line + "\ntrapb\nmov $3,$16\nlda $0,1\ncallsys\nnop\n"))
+        run_program(program, "asm", text, image)
+        notes = run_program(program, "run", "--complete", "saturate", image)[1].split("\n")
+        if f"exit {w.saturated}" not in notes:
+            faults.append(f"saturate: {notes}")
+    return faults
+
+
+def measured_faults():
+    """The measured results that the functions of the operate instructions don't give."""
+    with open(os.path.join(TOP, "crates/alpha_vectors/data/values.tsv")) as file:
+        rows = [line.split("\t") for line in file.read().splitlines() if line and not line.startswith("#")]
+    for name, *numbers, overflowed in rows:
+        a, b, old, wanted = (int(text, 16) for text in numbers)
+        level = 2 if name in ("ctlz", "ctpop", "cttz") else 1
+        value = OPERATES[name][0](a, b, old, level)
+        if name.endswith("/v"):
+            if (value[0], value[2]) != (wanted, overflowed == "yes"):
+                yield f"{name} {a:x} {b:x}: {value[0]:x}"
+        elif value != wanted:
+            yield f"{name} {a:x} {b:x}: {value:x}"
+
+
+def main():
+    if sys.argv[1:] == ["--write"]:
+        made = page()
+        with open(PAGE, "w") as file:
+            file.write(made)
+        return
+    program = sys.argv[1] if len(sys.argv) > 1 else os.path.join(TOP, "crates/alpha_tool/out/alpha_tool")
+    if not os.access(program, os.X_OK):
+        sys.exit(f"{program} is not built: run ./alpha once")
+    faults = list(measured_faults())
+    with open(PAGE) as file:
+        if file.read() != page():
+            faults.append("docs/instructions.md isn't what the table makes: bench/instructions.py --write")
+    rows, worked = table(), all_worked()
+    with tempfile.TemporaryDirectory() as folder:
+        for name, w in worked.items():
+            faults += [f"{name}: {fault}" for fault in faults_of(program, folder, name, w, rows[name])]
+    print("\n".join(faults) if faults else f"{len(rows)} instructions are as the page says")
+    sys.exit(1 if faults else 0)
+
+
+if __name__ == "__main__":
+    main()
