@@ -5,8 +5,8 @@
     bench/instructions.py --write       writes the page
 
 The page's tables are made here; what stands before the first of them is kept as it is. Names, opcodes, functions and
-levels are read from the table's rows, in crates/alpha_table/src. What each instruction
-gives is said here, in words and as a function of Python, which is held against the measured results of
+levels are read from the table's rows, in crates/alpha_table/src. What each instruction gives is said in bench/worked.py,
+in words and as a function of Python, which is held against the measured results of
 crates/alpha_vectors/data/values.tsv. The worked values are those of these functions.
 """
 import os
@@ -16,7 +16,8 @@ import subprocess
 import sys
 import tempfile
 
-from worked import BRANCHES, COUNTING, JUMPS, MEMORY, MISC, OPERATES, OPERATE_WORDS, PAL, PLACE, SECTIONS, number_text
+from worked import (BRANCHES, COUNTING, FEATURES, JUMPS, MEMORY, MISC, OPERATES, OPERATE_WORDS, PAL, PLACE, SECTIONS,
+                    number_text)
 
 TOP = os.path.dirname(os.path.dirname(os.path.abspath(__file__)))
 PAGE = os.path.join(TOP, "docs/instructions.md")
@@ -61,9 +62,8 @@ class Worked:
         self.memory, self.first, self.end, self.saturated = memory, first, end, saturated
 
 
-def operate_worked(name):
-    result, a, b, old = OPERATES[name][0], *OPERATES[name][1:4]
-    level = 2 if name in ("ctlz", "ctpop", "cttz") else 1
+def operate_worked(name, level):
+    result, a, b, old = OPERATES[name]
     line = f"{name} " + ("$3" if name == "implver" else "$2,$3" if a is None else "$1,$2,$3")
     before = {1: a, 2: b, 3: old}
     before = {n: value for n, value in before.items() if value is not None}
@@ -75,10 +75,10 @@ def operate_worked(name):
     return Worked(line, before, {3: value}, saturated=saturated)
 
 
-def all_worked():
-    worked = {name: operate_worked(name) for name in OPERATES}
-    for rows in (MEMORY, BRANCHES, JUMPS, MISC, PAL):
-        for name, (_, line, before, after, more) in rows.items():
+def all_worked(rows):
+    worked = {name: operate_worked(name, rows[name][2]) for name in OPERATES}
+    for others in (MEMORY, BRANCHES, JUMPS, MISC, PAL):
+        for name, (_, line, before, after, more) in others.items():
             worked[name] = Worked(line, before, after, **more)
     return worked
 
@@ -97,10 +97,11 @@ def worked_text(name, w):
     if w.saturated is not None:
         after[-1] += f" by `wrap`, {number_text(w.saturated, False)} by `saturate`"
     if w.memory:
-        after.append(f"bytes from {w.memory[0]:#x} on: {' '.join(w.memory[1][n:n + 2] for n in range(0, len(w.memory[1]), 2))}")
+        at, digits = w.memory
+        after.append(f"bytes from {at:#x} on: " + " ".join(digits[n:n + 2] for n in range(0, len(digits), 2)))
     if w.end:
         after.append(f"`{w.end}`")
-    elif w.pc != PLACE + 4 or not after or "on at" in OTHER_WORDS.get(name, ""):
+    elif name in BRANCHES or name in JUMPS or not after:
         after.append(f"PC = {w.pc:#x}")
     return f"{first}`{w.line}`" + (f" with {before}" if before else "") + ": " + ", ".join(after)
 
@@ -110,7 +111,8 @@ OTHER_WORDS = {name: row[0] for rows in (MEMORY, BRANCHES, JUMPS, MISC, PAL) for
 
 def page():
     """The page as it should be: the text before the first table as it is, and the tables."""
-    rows, worked = table(), all_worked()
+    rows = table()
+    worked = all_worked(rows)
     said = {**OTHER_WORDS, **OPERATE_WORDS}
     if set(rows) != set(said) or set(rows) != set(worked):
         sys.exit(f"not in both: {sorted(set(rows) ^ set(said) | set(rows) ^ set(worked))}")
@@ -128,6 +130,13 @@ def page():
     if sorted(listed) != sorted(rows):
         sys.exit(f"listed twice or not at all: {sorted(set(rows) ^ set(listed))}")
     return "".join(parts)
+
+
+def level_rows():
+    """How the page's table of levels begins its rows, by the features that the worked values know."""
+    for level, features in FEATURES.items():
+        bits = [str(k) for k in range(64) if features >> k & 1]
+        yield f"| {level} | {'bit' if len(bits) == 1 else 'bits'} {' and '.join(bits)} | {level} |"
 
 
 def source(w, level):
@@ -158,7 +167,7 @@ def field_of(word):
     return f"00.{word & 0x3FFFFFF:02X}" if opcode == 0 else f"{opcode:02X}"
 
 
-def faults_of(program, folder, name, w, row):
+def faults_of(program, folder, w, row):
     """What of a row isn't as the program has it."""
     text, image = os.path.join(folder, "row.s"), os.path.join(folder, "row.img")
     with open(text, "w") as file:
@@ -215,12 +224,18 @@ def main():
         sys.exit(f"{program} is not built: run ./alpha once")
     faults = list(measured_faults())
     with open(PAGE) as file:
-        if file.read() != page():
+        text = file.read()
+        faults += [f"the page doesn't have: {row}" for row in level_rows() if row not in text]
+        if text != page():
             faults.append("docs/instructions.md isn't what the table makes: bench/instructions.py --write")
-    rows, worked = table(), all_worked()
+    rows = table()
+    worked = all_worked(rows)
     with tempfile.TemporaryDirectory() as folder:
         for name, w in worked.items():
-            faults += [f"{name}: {fault}" for fault in faults_of(program, folder, name, w, rows[name])]
+            faults += [f"{name}: {fault}" for fault in faults_of(program, folder, w, rows[name])]
+        for name in "amask", "implver":
+            at_two = rows[name][:2] + (2,)
+            faults += [f"{name} at level 2: {fault}" for fault in faults_of(program, folder, operate_worked(name, 2), at_two)]
     print("\n".join(faults) if faults else f"{len(rows)} instructions are as the page says")
     sys.exit(1 if faults else 0)
 
