@@ -7,14 +7,14 @@ counter:
         .code
 start:  ldah $9,%hi(counter)($31)
         lda $9,%lo(counter)($9)
-        clr $10                 # what is added
-next:   addq/v $10,1,$11
+        clr $10
+next:   addq/v $10,1,$11        # what is added
         trapb                   # no locked access in a shadow
-        mov $11,$10
 again:  ldq_l $1,0($9)
-        addq $1,$10,$1
+        addq $1,$11,$1
         stq_c $1,0($9)
-        beq $1,again            # 0: somebody else was there
+        beq $1,again            # 0: it was not made
+        mov $11,$10
         cmplt $10,10,$2
         bne $2,next
         ldq $16,0($9)           # exit(counter)
