@@ -1,0 +1,117 @@
+#!/usr/bin/env python3
+"""Holds the pages against the sources that they quote.
+
+- A block whose fence says `rattle FILE` stands in FILE word for word.
+- Each law, a function `laws_of_..` or `limits_of_..`, is in the index of docs/theorems.md with its crate, each law of
+  the index is one, and the section of its crate names each of its clauses.
+- Each must-fail edit that a table of docs/theorems.md names is there.
+- Each file of a reading order has as many lines as the table says.
+
+    bench/quotes.py [--write]
+
+With `--write` the tables get the numbers of lines, and a block whose first words are `ensures NAME` the clause as it
+stands in its file; whoever does so reads the words beside it again. It ends with 1 where something is wrong.
+"""
+import pathlib
+import re
+import sys
+
+TOP = pathlib.Path(__file__).resolve().parent.parent
+THEOREMS = TOP / "docs" / "theorems.md"
+BLOCK = re.compile(r"^```rattle (\S+)\n(.*?)^```$", re.M | re.S)
+LAW = re.compile(r"^pub fn ((?:laws|limits)_of_\w+)\(\)(.*?)^\{\}$", re.M | re.S)
+INDEXED = re.compile(r"^\| `((?:laws|limits)_of_\w+)` \| `(alpha_\w+)` \|", re.M)
+EDIT = re.compile(r"^\| `(alpha_\w+)` \| `(\w+)` \|", re.M)
+COUNTED = re.compile(r"^\| `(crates/\S+\.(?:antt|rt))` \| ([\d,]+) \|", re.M)
+CLAUSE = re.compile(r"ensures (\w+) \{")
+
+
+def words(text):
+    return " ".join(text.split())
+
+
+def clause(source, name):
+    """The first clause of that name, to its last brace, with its lines moved to the left."""
+    at = source.find(f"ensures {name} {{")
+    if at < 0:
+        return None
+    depth, end = 0, at
+    for end in range(at, len(source)):
+        depth += {"{": 1, "}": -1}.get(source[end], 0)
+        if depth == 0 and source[end] == "}":
+            break
+    return source[at:end + 1].replace("\n    ", "\n") + "\n"
+
+
+def check_blocks(page, text, write, wrong):
+    def checked(found):
+        path, block = found.groups()
+        file = TOP / path
+        if not file.exists():
+            wrong.append(f"{page}: {path} isn't there")
+            return found.group()
+        source = file.read_text()
+        if words(block) in words(source):
+            return found.group()
+        name = CLAUSE.match(block)
+        now = clause(source, name.group(1)) if write and name else None
+        wrong.append(f"{page}: {'changed' if now else 'not'} in {path}: {words(block)[:60]}")
+        return f"```rattle {path}\n{now}```" if now else found.group()
+
+    return BLOCK.sub(checked, text)
+
+
+def check_counts(text, write, wrong):
+    def checked(found):
+        path, said = found.groups()
+        file = TOP / path
+        count = f"{len(file.read_text().splitlines()):,}" if file.exists() else "none"
+        if count == said:
+            return found.group()
+        if not write or count == "none":
+            wrong.append(f"{path} has {count} lines, not {said}")
+            return found.group()
+        return f"| `{path}` | {count} |"
+
+    return COUNTED.sub(checked, text)
+
+
+def laws():
+    """The clauses of each law, by its name and its crate."""
+    for file in sorted(TOP.glob("crates/*/src/**/*.rt")):
+        crate = file.relative_to(TOP / "crates").parts[0]
+        for name, body in LAW.findall(file.read_text()):
+            yield name, crate, CLAUSE.findall(body)
+
+
+def check_laws(text, wrong):
+    indexed, there = set(INDEXED.findall(text)), set()
+    for name, crate, clauses in laws():
+        there.add((name, crate))
+        if (name, crate) not in indexed:
+            wrong.append(f"the index lacks {name} of {crate}")
+        section = re.search(rf"^### `{crate}`$(.*?)(?=^##|\Z)", text, re.M | re.S)
+        own = re.search(rf"\*\*`{name}`\*\*(.*?)(?=\*\*`|\Z)", section.group(1) if section else "", re.S)
+        for missing in [c for c in clauses if f"`{c}`" not in (own.group(1) if own else "")]:
+            wrong.append(f"the section of {crate} lacks the clause {missing} of {name}")
+    wrong.extend(f"there is no {name} of {crate}" for name, crate in sorted(indexed - there))
+
+
+def main():
+    write, wrong = "--write" in sys.argv[1:], []
+    for page in [TOP / "README.md", *sorted(TOP.glob("docs/*.md"))]:
+        text = page.read_text()
+        new = check_blocks(page.relative_to(TOP), text, write, wrong)
+        if page == THEOREMS:
+            new = check_counts(new, write, wrong)
+            check_laws(new, wrong)
+            wrong.extend(f"there is no edit {edit} of {crate}" for crate, edit in EDIT.findall(new)
+                         if not (TOP / "crates" / crate / "must-fail" / f"{edit}.edit").exists())
+        if new != text:
+            page.write_text(new)
+    print("\n".join(wrong) or "the pages say what the sources say")
+    sys.exit(1 if wrong else 0)
+
+
+if __name__ == "__main__":
+    main()
