@@ -5,7 +5,7 @@
 - Each law, a function `laws_of_..` or `limits_of_..`, is in the index of docs/theorems.md with its crate, each law of
   the index is one, and the section of its crate names each of its clauses.
 - Each must-fail edit that a table of docs/theorems.md names is there.
-- Each file of a reading order has as many lines as the table says.
+- Each file of a reading order has as many lines as the table says, and each name of a table of names stands in its file.
 
     bench/quotes.py [--write]
 
@@ -23,6 +23,7 @@ LAW = re.compile(r"^pub fn ((?:laws|limits)_of_\w+)\(\)(.*?)^\{\}$", re.M | re.S
 INDEXED = re.compile(r"^\| `((?:laws|limits)_of_\w+)` \| `(alpha_\w+)` \|", re.M)
 EDIT = re.compile(r"^\| `(alpha_\w+)` \| `(\w+)` \|", re.M)
 COUNTED = re.compile(r"^\| `(crates/\S+\.(?:antt|rt))` \| ([\d,]+) \|", re.M)
+NAMED = re.compile(r"^\| `(crates/\S+\.(?:antt|rt))` \| (`[^|]*) \|$", re.M)
 CLAUSE = re.compile(r"ensures (\w+) \{")
 
 
@@ -76,6 +77,13 @@ def check_counts(text, write, wrong):
     return COUNTED.sub(checked, text)
 
 
+def check_names(text, wrong):
+    for path, names in NAMED.findall(text):
+        file = TOP / path
+        there = set(re.findall(r"\w+", file.read_text())) if file.exists() else set()
+        wrong.extend(f"{path} has no {name}" for name in re.findall(r"`(\w+)`", names) if name not in there)
+
+
 def laws():
     """The clauses of each law, by its name and its crate."""
     for file in sorted(TOP.glob("crates/*/src/**/*.rt")):
@@ -104,6 +112,7 @@ def main():
         new = check_blocks(page.relative_to(TOP), text, write, wrong)
         if page == THEOREMS:
             new = check_counts(new, write, wrong)
+            check_names(new, wrong)
             check_laws(new, wrong)
             wrong.extend(f"there is no edit {edit} of {crate}" for crate, edit in EDIT.findall(new)
                          if not (TOP / "crates" / crate / "must-fail" / f"{edit}.edit").exists())
