@@ -1,7 +1,7 @@
 #!/usr/bin/env python3
 """Holds the pages against the sources that they quote.
 
-- A block whose fence says `rattle FILE` stands in FILE word for word.
+- A block whose fence says `rattle:FILE` stands in FILE word for word.
 - Each law, a function `laws_of_..` or `limits_of_..`, is in the index of docs/theorems.md with its crate, each law of
   the index is one, and the section of its crate names each of its clauses.
 - Each must-fail edit that a table of docs/theorems.md names is there.
@@ -18,7 +18,7 @@ import sys
 
 TOP = pathlib.Path(__file__).resolve().parent.parent
 THEOREMS = TOP / "docs" / "theorems.md"
-BLOCK = re.compile(r"^```rattle (\S+)\n(.*?)^```$", re.M | re.S)
+BLOCK = re.compile(r"^```rattle:(\S+)\n(.*?)^```$", re.M | re.S)
 LAW = re.compile(r"^pub fn ((?:laws|limits)_of_\w+)\(\)(.*?)^\{\}$", re.M | re.S)
 INDEXED = re.compile(r"^\| `((?:laws|limits)_of_\w+)` \| `(alpha_\w+)` \|", re.M)
 EDIT = re.compile(r"^\| `(alpha_\w+)` \| `(\w+)` \|", re.M)
@@ -57,7 +57,7 @@ def check_blocks(page, text, write, wrong):
         name = CLAUSE.match(block)
         now = clause(source, name.group(1)) if write and name else None
         wrong.append(f"{page}: {'changed' if now else 'not'} in {path}: {words(block)[:60]}")
-        return f"```rattle {path}\n{now}```" if now else found.group()
+        return f"```rattle:{path}\n{now}```" if now else found.group()
 
     return BLOCK.sub(checked, text)
 
