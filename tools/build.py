@@ -1,0 +1,185 @@
+#!/usr/bin/env python3
+"""Proves every crate that the program stands on, builds the program, and runs it with the words given. ./alpha calls this
+where the program is missing or older than its sources.
+
+    tools/build.py [WORDS]
+
+Crates that don't stand on one another are proved side by side, by as many processors as memory allows (RT_JOBS=N: by N),
+those with the longest chain of others behind them first; processors that are left over share a crate's functions. What is
+proved is kept: after an interruption the next build goes on from there, and so do `rt check` and `rt lib`. The new program
+replaces the old one once it is whole. The log is .alpha-build.log, which holds all of a build, its interruptions too.
+
+Where the program can't be built the status is 70, and the program that was there before stays.
+"""
+import functools
+import os
+import shutil
+import signal
+import sys
+import threading
+import time
+
+sys.dont_write_bytecode = True
+import kit
+
+FAILED = 70
+LOG = os.path.join(kit.TOP, ".alpha-build.log")
+PROGRAM = os.path.join(kit.TOP, "crates/alpha_tool/out/alpha_tool")
+# How the last line of a whole build begins.
+BUILT = "built"
+# As measured of all crates from nothing. A program's check loads all libraries, which is as much work as a part of their lines.
+SECONDS_A_LINE, MEGABYTES_A_LINE, PART_OF_A_LIBRARY = 0.04, 0.09, 1 / 20
+
+
+def say(text, log=None):
+    for to in filter(None, (log, sys.stderr)):
+        print(f"alpha: {text}", file=to, flush=True)
+
+
+def give_up(text, log=None):
+    """Ends at once, with all that was started: what is proved is kept."""
+    say(text, log)
+    os._exit(FAILED)
+
+
+class Named:
+    """What the check of one crate prints, line by line in the log that all share."""
+
+    def __init__(self, log, name):
+        self.log, self.name, self.part, self.last = log, name, "", []
+
+    def write(self, text):
+        *lines, self.part = (self.part + text).split("\n")
+        for line in lines:
+            self.log.write(f"{self.name}: {line}\n")
+        self.last = [*self.last, *filter(None, lines)][-8:]
+
+    def flush(self):
+        self.log.flush()
+
+
+def look_at(rt, tool):
+    """A sum of all that the program is made from, and the crates whose kept work is that of their sources and of all
+    below. Each source is read once for it."""
+    stamp = rt.Crate.stamp
+    rt.Crate.stamp = functools.lru_cache(maxsize=None)(stamp)
+    try:
+        return tool.stamp(), {it for it in tool.below() if it.is_built()}
+    finally:
+        rt.Crate.stamp = stamp
+
+
+def open_log():
+    """The log, emptied where the build before it was whole."""
+    try:
+        with open(LOG, encoding="utf-8", errors="replace") as log:
+            is_whole = log.read().rpartition("\n")[0].rpartition("\n")[2].startswith(f"alpha: {BUILT} ")
+    except FileNotFoundError:
+        is_whole = True
+    return open(LOG, "w" if is_whole else "a", encoding="utf-8")
+
+
+def tell_beforehand(rt, crates, left, log):
+    """Says how long what is left takes, and how much disk."""
+    number = os.environ.get("RT_JOBS", "")
+    lanes = int(number) if number.isdigit() else rt.processors()
+    lines = {it: kit.lines_of(it) for it in crates}
+    lines[crates[-1]] += int(PART_OF_A_LIBRARY * sum(lines.values()))
+    lines.update({it: 0 for it in crates if it not in left})
+    chain, whole = sum(map(lines.get, kit.longest_chain(crates, lines.get))), sum(lines.values())
+    minutes = 1 + int(SECONDS_A_LINE * max(chain, whole / lanes) // 60)
+    needed = 1 + int(MEGABYTES_A_LINE * whole)
+    free = shutil.disk_usage(kit.TOP).free // 1_000_000
+    done = f", {len(crates) - len(left)} of them proved already" if len(left) < len(crates) else ""
+    say(f"proving the program: {len(crates)} crates{done}; about {minutes} min on {lanes} idle processors"
+        f" and {needed} MB of disk, of which {free} MB are free", log)
+    if needed > free:
+        say("there may be too little disk", log)
+
+
+class Build:
+    def __init__(self, rt, tool, log):
+        self.rt, self.tool, self.log = rt, tool, log
+        self.crates = [*tool.below(), tool]
+        self.seconds, self.counting = {}, threading.Lock()
+
+    def run(self, start, stamp, done):
+        left = [it for it in self.crates if it not in done]
+        tell_beforehand(self.rt, self.crates, left, self.log)
+        self.count = len(done)
+        tasks = {}
+        for crate in left:
+            waits = [(it.name, "proof") for it in crate.below() if it not in done]
+            work = functools.partial(self.prove, crate)
+            tasks[crate.name, "proof"] = waits, kit.lines_of(crate), self.rt.need(crate), work
+        self.rt.in_lanes(tasks)
+        self.replace(start, stamp)
+        chain = kit.longest_chain(self.crates, lambda it: self.seconds.get(it, 0))
+        chain = [it for it in chain if it in self.seconds]
+        say(f"the longest chain: {', '.join(f'{it.name} {self.seconds[it]:.0f}' for it in chain)};"
+            f" {sum(map(self.seconds.get, chain)):.0f} seconds of {sum(self.seconds.values()):.0f} in all", self.log)
+        say(f"{BUILT} in {time.time() - start:.0f} seconds", self.log)
+
+    def prove(self, crate, _given, jobs):
+        start = time.time()
+        crate.out = Named(self.log, crate.name)
+        try:
+            os.makedirs(f"{crate.folder}/out", exist_ok=True)
+            flags = ["--jobs", str(jobs)]
+            status = self.link(flags) if crate is self.tool else crate.build_rlib(flags, anew=False)
+        except (SystemExit, OSError) as error:
+            crate.out.write(f"{error}\n")
+            status = FAILED
+        with self.counting:
+            if status:
+                print("\n".join(crate.out.last), file=sys.stderr)
+                give_up(f"the build failed at {crate.name}: .alpha-build.log has all that it said", self.log)
+            self.count += 1
+            self.seconds[crate] = time.time() - start
+            say(f"{self.count} of {len(self.crates)}: {crate.name} is proved, {self.seconds[crate]:.0f} seconds", self.log)
+
+    def link(self, flags):
+        """Proves `main`, and makes the new program beside the old one."""
+        made = f"{PROGRAM}.new"
+        return self.tool.compile(flags, f"{made}.o") or self.tool.link(f"{made}.o", os.path.relpath(made, self.tool.folder))
+
+    def replace(self, start, stamp):
+        """Puts the new program in the place of the old one. It is as old as this build, so that sources that were
+        changed meanwhile are newer; where none was, `rt run` takes it as its own."""
+        os.remove(f"{PROGRAM}.new.o")
+        os.utime(f"{PROGRAM}.new", (start, start))
+        os.replace(f"{PROGRAM}.new", PROGRAM)
+        if look_at(self.rt, self.tool) == (stamp, set(self.tool.below())):
+            with open(f"{PROGRAM}.stamp", "w", encoding="utf-8") as file:
+                file.write(stamp + self.rt.rtlib.sum_of(PROGRAM))
+
+
+def main(words):
+    # As the kit's commands: an interruption ends all that was started.
+    signal.signal(signal.SIGINT, signal.SIG_DFL)
+    try:
+        rt = kit.load()
+        if rt is None:
+            give_up("the Rattle kit is missing, without which nothing can be proved: its command rt isn't on the path")
+        rt.rtlib.guarded()
+        tool = rt.Crate(f"{kit.TOP}/crates/alpha_tool", kit.TOP, {})
+        rt.read_files(tool)
+        _locks = rt.rtlib.lock([*tool.below(), tool])
+        start = time.time()
+        stamp, done = look_at(rt, tool)
+        if rt.rtlib.text_of(f"{PROGRAM}.stamp") == stamp + rt.rtlib.sum_of(PROGRAM):
+            # Its sources have a later date and the same text.
+            os.utime(PROGRAM, (start, start))
+        else:
+            with open_log() as log:
+                Build(rt, tool, log).run(start, stamp, done)
+    except (SystemExit, OSError) as error:
+        give_up(f"the build failed: {error}")
+    # Python ignores these two, which the program would inherit.
+    for it in (signal.SIGPIPE, signal.SIGXFSZ):
+        signal.signal(it, signal.SIG_DFL)
+    os.execv(PROGRAM, [PROGRAM, *words])
+
+
+if __name__ == "__main__":
+    main(sys.argv[1:])

@@ -1,0 +1,38 @@
+"""The kit's command `rt` as a module: its crates, its stamps and its lanes, by which scripts here prove crates side by
+side and measure the gate."""
+import importlib.machinery
+import importlib.util
+import os
+import pathlib
+import shutil
+
+TOP = os.path.dirname(os.path.dirname(os.path.realpath(__file__)))
+
+
+def load():
+    """The module, or None where there is no kit on the path."""
+    command = os.path.realpath(shutil.which("rt") or "")
+    if not os.path.isfile(os.path.join(os.path.dirname(command), "rtlib.py")):
+        return None
+    loader = importlib.machinery.SourceFileLoader("rt", command)
+    rt = importlib.util.module_from_spec(importlib.util.spec_from_loader("rt", loader))
+    loader.exec_module(rt)
+    # Its crates can be linked, and are held to the file HANDLES.
+    rt.rtlib.Crate = rt.Crate
+    rt.Crate.allowed = rt.handles_of(TOP)
+    return rt
+
+
+def lines_of(crate):
+    """How many lines of code, definitions and proofs a crate has."""
+    files = (file for part in ("src", "specs", "proofs") for file in pathlib.Path(crate.folder, part).rglob("*"))
+    return sum(file.read_bytes().count(b"\n") for file in files if file.suffix in (".rt", ".antt"))
+
+
+def longest_chain(crates, cost):
+    """The row of crates, each standing on the one before it, whose costs have the greatest sum."""
+    rows = {}
+    for crate in crates:
+        below = max((rows[it] for it in crate.below()), key=lambda row: sum(map(cost, row)), default=[])
+        rows[crate] = [*below, crate]
+    return max(rows.values(), key=lambda row: sum(map(cost, row)))
