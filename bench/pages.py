@@ -5,8 +5,7 @@
   with `$ ` is a command, one with `> ` goes on with it, all others are what it writes, standard error among it; `..` alone
   on a line stands for any lines. A command ends with status 0, or with that of its last line, as `broken ..` has 1, unless
   `$ echo $?` follows, which shows it. The commands of a page share a folder that has the repository's files, so that a page
-  may write files and go on with them. A block with a file's name behind its language is written there first, as one that
-  begins with ```alpha lost.s.
+  may write files and go on with them.
 - Each link leads to a file, and to a heading of it. Each path, file name and law in a code span exists.
 
 Blocks that can't be run, as builds, have another language (`sh`, or none).
@@ -37,6 +36,14 @@ TOLD = [
     (9, r"input$"),
     (11, r"too large "),
     (12, r"no memory$"),
+    (13, r"unfixable trigger "),
+    (14, r"fixed line "),
+    (15, r"far kind "),
+    (16, r"module \d+ kind "),
+    (17, r"link kind "),
+    (18, r"journal kind "),
+    (19, r"norun kind "),
+    (20, r"journal full$"),
 ]
 ENDS = re.compile(r"\x1e(\d+)\n")
 LAW = re.compile(r"(?:laws|limits)_of_\w+")
@@ -142,12 +149,8 @@ def hold_blocks(page, program, counts):
                 os.symlink(f"{TOP}/{name}", f"{folder}/{name}")
         os.symlink(program, f"{folder}/alpha")
         for block in page.blocks:
-            _, words, lines = block
-            if words[:1] == ["console"]:
+            if block[1][:1] == ["console"]:
                 hold_block(page, block, folder, counts)
-            elif len(words) == 2:
-                with open(f"{folder}/{words[1]}", "w", encoding="utf-8") as file:
-                    file.write("".join(f"{line}\n" for line in lines))
 
 
 def hold_links(page, pages, counts):
