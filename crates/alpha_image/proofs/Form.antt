@@ -16,7 +16,7 @@ use Rattle.alpha_image.specs.Numbers.{Numbers}
 use Rattle.alpha_image.specs.Layout.{magic, longword, words_of, front, front_size, version_of, numbers_in, numbers_of, size_of, filled_size, behind_front, words_in, data_in}
 use Rattle.alpha_image.specs.Rules.{unless, FieldsFit, LevelFits, least_bad_field}
 use Rattle.alpha_words.specs.Levels.{level_number}
-use Rattle.alpha_image.specs.Parts.{Parts, SuitsVersion, numbers, numbered_level, parts_with, parts_of, IsImage, IsByte, spelling, HasForm}
+use Rattle.alpha_image.specs.Parts.{Parts, SuitsVersion, numbers, numbered_level, parts_with, parts_of, IsImage, IsCodeWord, IsByte, spelling, HasForm}
 use Rattle.alpha_image.specs.ImageFault.{word_fault, field_fault, front_fault, form_fault, first_fault, parts_fault, Refuses}
 use Rattle.alpha_image.proofs.Numbers.{IsBytes, IsBytes-take, IsBytes-drop}
 use Rattle.alpha_image.proofs.Fronts.{front-numbers_in}
@@ -70,18 +70,23 @@ same_number n fits = ⊎_elim (λ (e : n.level ≡ 1). rw e refl) (λ (e : n.lev
 pub numbers-parts_with : (v : Version) (n : Numbers) (words bytes : List ℕ) → FieldsFit n → length words ≡ n.words → numbers (parts_with v n words bytes) ≡ n
 numbers-parts_with v n words bytes fit len = rw (same_number n fit.level, len) refl
 
--- parts with numbers that fit, with as many words and data bytes as they say, are a good image
-pub IsImage-parts_with : (v : Version) (n : Numbers) (code bytes : List ℕ) → FieldsFit n → SuitsVersion v n → length code ≡ 4 * n.words → length bytes ≡ filled_size n.segments → IsBytes code → IsBytes bytes → word_fault (numbered_level n.level) (words_of code) ≡ None → IsImage (parts_with v n (words_of code) bytes)
-IsImage-parts_with v n code bytes fit suits len1 len2 bytes1 bytes2 none =
-    let words : length (words_of code) ≡ n.words = omega (arith, length-words_of code) in
-    let same = sym (numbers-parts_with v n (words_of code) bytes fit words) in
+-- parts with numbers that fit, with as many code words and data bytes as they say, are a good image
+pub IsImage-of_words : (v : Version) (n : Numbers) (words bytes : List ℕ) → FieldsFit n → SuitsVersion v n → length words ≡ n.words → length bytes ≡ filled_size n.segments → All (IsCodeWord (numbered_level n.level)) words → All IsByte bytes → IsImage (parts_with v n words bytes)
+IsImage-of_words v n words bytes fit suits len1 len2 known bytes2 =
+    let same = sym (numbers-parts_with v n words bytes fit len1) in
     record {
       version = subst (λ (m : Numbers). SuitsVersion v m) same suits;
       fields = subst (λ (m : Numbers). FieldsFit m) same fit;
-      words = All-word_fault (numbered_level n.level) (words_of code) (words_of-lt code bytes1) none;
-      bytes = All-from_get_or IsByte bytes 0 (λ i _. bytes2 i);
+      words = known;
+      bytes = bytes2;
       filled = len2;
     }
+
+-- the same of words that have no fault
+pub IsImage-parts_with : (v : Version) (n : Numbers) (code bytes : List ℕ) → FieldsFit n → SuitsVersion v n → length code ≡ 4 * n.words → length bytes ≡ filled_size n.segments → IsBytes code → IsBytes bytes → word_fault (numbered_level n.level) (words_of code) ≡ None → IsImage (parts_with v n (words_of code) bytes)
+IsImage-parts_with v n code bytes fit suits len1 len2 bytes1 bytes2 none =
+    IsImage-of_words v n (words_of code) bytes fit suits (omega (arith, length-words_of code)) len2
+    (All-word_fault (numbered_level n.level) (words_of code) (words_of-lt code bytes1) none) (All-from_get_or IsByte bytes 0 (λ i _. bytes2 i))
 
 pub suits-numbers_in : (v : Version) (bytes : List ℕ) → SuitsVersion v (numbers_in v bytes)
 suits-numbers_in One bytes = (refl, refl)

@@ -3,6 +3,7 @@ pub mod FieldRules
 pub mod Apart
 pub mod SegmentLists
 pub mod CodeWords
+pub mod CodeInsns
 pub mod Fronts
 pub mod Spelled
 pub mod Form

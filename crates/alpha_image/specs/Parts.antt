@@ -4,6 +4,8 @@ use Rattle.std.specs.List.{flat_map}
 use Rattle.alpha_words.specs.declared.Level.{Level}
 use Rattle.alpha_words.specs.declared.Level.TheVariants as levels
 use Rattle.alpha_words.specs.Levels.{level_number}
+use Rattle.alpha_table.specs.declared.form.Form.{Form}
+use Rattle.alpha_table.specs.Row.{IsInsn}
 use Rattle.alpha_table.specs.Decoded.{decoded}
 use Rattle.alpha_table.specs.Columns.{level_of}
 use Rattle.alpha_image.specs.declared.segment.Segment.{Segment}
@@ -56,6 +58,10 @@ IsWithin own level = level_number own ≤ level_number level
 -- a word of the table whose instruction is there at the level
 abbrev pub IsCodeWord : Level → ℕ → Type 0
 IsCodeWord level word = (word < 2 ^ 32) × IsSomeAnd (decoded word) (λ i. IsWithin (level_of i) level)
+
+-- an instruction of the table that is there at the level
+abbrev pub IsCodeInsn : Level → Form → Type 0
+IsCodeInsn level i = IsInsn i × IsWithin (level_of i) level
 
 abbrev pub IsByte : ℕ → Type 0
 IsByte byte = byte < 256

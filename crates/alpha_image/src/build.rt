@@ -1,14 +1,17 @@
 //! Images that are made of their parts.
 
-ghost use Rattle.std.specs.Prelude.{◌≡◌, ◌%◌, ◌/◌, ◌≤◌, length, IfOk};
+ghost use Rattle.std.specs.Prelude.{◌≡◌, ◌%◌, ◌/◌, ◌≤◌, length, map, All, Some, IfOk};
+ghost use Rattle.alpha_table.specs.Decoded.{decoded};
 ghost use Rattle.alpha_image.specs.Numbers.{level_numbers, first_numbers};
 ghost use Rattle.alpha_image.specs.Layout.{words_of, filled_size};
-ghost use Rattle.alpha_image.specs.Parts.{IsImage, SuitsVersion, parts_with};
+ghost use Rattle.alpha_image.specs.Parts.{IsImage, IsCodeInsn, SuitsVersion, numbered_level, parts_with};
+ghost use Rattle.alpha_image.specs.Rules.{FieldsFit};
 ghost use Rattle.alpha_image.specs.ImageFault.{Tells, parts_fault};
 
 use crate::header::Header;
 use crate::segment::MOST_SEGMENTS;
 use crate::{Fields, Image, ImageFault, LevelFields, Segment, Version};
+use alpha_table::Insn;
 use arrayvec::ArrayVec;
 use std::alloc::Global;
 
@@ -66,6 +69,36 @@ impl Image {
             Tells result (parts_fault n words) }
     {
         build(alloc, Version::Two, fields, segments, code, bytes)
+    }
+
+    /// The image of a version with these fields, segments, instructions and data bytes, which are those
+    /// of the segments in order. No field is bad, as [`LevelFields::bad_field`] tells, and each
+    /// instruction is there at the level. The list of instructions and that of bytes are taken as they
+    /// are, so it takes no memory and decodes nothing.
+    pub fn of_program(
+        version: Version,
+        fields: &LevelFields,
+        segments: &[Segment],
+        insns: Vec<Insn>,
+        bytes: Vec<u8>,
+    ) -> Image
+        requires fields { FieldsFit (level_numbers fields.now (length insns.items) segments.now) }
+        requires suits { let words = length insns.items in
+            SuitsVersion version (level_numbers fields.now words segments.now) }
+        requires insns { All (IsCodeInsn (numbered_level fields.now.level)) insns.items }
+        requires bytes { length bytes.items ≡ filled_size segments.now }
+        ensures insns { map decoded result.words ≡ map Some insns.items }
+        ensures parts { let n = level_numbers fields.now (length insns.items) segments.now in
+            result ≡ parts_with version n result.words bytes.items }
+        ensures good { IsImage result }
+    {
+        let header = Header {
+            version,
+            fields: *fields,
+            words: insns.len() as u64,
+            segments: few(segments),
+        };
+        Image::of_parts(header, insns, bytes)
     }
 }
 

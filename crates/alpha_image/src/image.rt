@@ -1,26 +1,29 @@
-ghost use Rattle.std.specs.Prelude.{◌≡◌, ◌+◌, ◌*◌, ◌<◌, ◌≤◌, ◌≢◌, ◌^◌, ◌↔◌, ℕ, length, slice_index, slice_get, IfSome, IfNone, IfOk, IsSome};
+ghost use Rattle.std.specs.Prelude.{◌≡◌, ◌+◌, ◌*◌, ◌<◌, ◌≤◌, ◌≢◌, ◌^◌, ◌↔◌, ◌++◌, ℕ, length, map, slice_index, slice_get, Some, IfSome, IfNone, IfOk, OnOk, IsSome, All};
 ghost use Rattle.std.specs.List.{flat_map};
-ghost use Rattle.std.specs.Option.{option_map};
+ghost use Rattle.std.specs.Option.{option_map, option_and_then};
+ghost use Rattle.alpha_table.specs.Decoded.{decoded};
+ghost use Rattle.alpha_table.specs.Encoded.{encoded};
 ghost use Rattle.alpha_image.specs.Header.{header_numbers};
 ghost use Rattle.alpha_image.specs.Layout.{longword, words_of, first_segment, filled_size};
-ghost use Rattle.alpha_image.specs.Parts.{IsCodeWord};
+ghost use Rattle.alpha_image.specs.Parts.{IsByte, IsCodeInsn, IsCodeWord};
 ghost use Rattle.alpha_image.specs.Rules.{FieldsFit};
 ghost use Rattle.alpha_image.specs.ImageFault.{Tells, word_fault};
 
 use crate::header::Header;
-use crate::words::{check_words, word_at};
+use crate::words::{push_words, read_words};
 use crate::{ImageFault, Segment};
-use alpha_words::{Level, Word};
-use std::alloc::Global;
+use alpha_table::{Insn, encode};
+use alpha_words::{Level, NoMemory, Word};
+use std::alloc::{AllocError, Global};
 use std::marker::Model;
 
 /// A program image. A clause sees its parts, a record of the version, the level, the addresses, the
-/// number of stack bytes, the segments, the code words and the data bytes. Code and data are kept as the
-/// bytes of the image.
+/// number of stack bytes, the segments, the code words and the data bytes. The code is kept as its
+/// instructions, each of which has one word, and the data as the bytes of the image.
 #[derive(Debug, Drop)]
 pub struct Image {
     header: Header,
-    code: Vec<u8>,
+    insns: Vec<Insn>,
     bytes: Vec<u8>,
 }
 
@@ -134,14 +137,56 @@ impl Image {
         Some(bytes)
     }
 
-    /// The code words, each as four bytes with the lowest first.
-    pub fn code(&self) -> &[u8]
-        ensures value { result.now ≡ flat_map longword self.now.words }
-        ensures words { words_of result.now ≡ self.now.words }
-        ensures length { length result.now ≡ 4 * length self.now.words }
+    /// The instruction of the code word at a place, `None` exactly where the place is not below the
+    /// number of words.
+    pub fn insn(&self, place: u32) -> Option<Insn>
+        ensures value { result ≡ option_and_then decoded (slice_get self.now.words place) }
+        ensures found { IsSome result ↔ (place < length self.now.words) }
         ensures good { IsImage self.now }
     {
-        self.code.as_slice()
+        if place < self.words() {
+            Some(self.insn_at(place))
+        } else {
+            None
+        }
+    }
+
+    /// The instruction of the code word at a place below the number of words.
+    pub fn insn_at(&self, place: u32) -> Insn
+        requires { place < length self.now.words }
+        ensures value { decoded (slice_index self.now.words place) ≡ Some result }
+        ensures found { option_and_then decoded (slice_get self.now.words place) ≡ Some result }
+        ensures word { slice_index self.now.words place ≡ encoded result }
+        ensures good { IsImage self.now }
+    {
+        insn_in(&self.insns, place as usize)
+    }
+
+    /// The instructions of the code words, in order.
+    pub fn insns(&self) -> &[Insn]
+        ensures value { map decoded self.now.words ≡ map Some result.now }
+        ensures words { self.now.words ≡ map encoded result.now }
+        ensures good { IsImage self.now }
+    {
+        self.insns.as_slice()
+    }
+
+    /// The code words, each as four bytes with the lowest first.
+    pub fn code_bytes(&self, alloc: Global) -> Result<Vec<u8>, NoMemory>
+        ensures value { IfOk result (λ code. code.items ≡ flat_map longword self.now.words) }
+        ensures good { IsImage self.now }
+    {
+        let mut code = Vec::with_capacity(alloc, 4 * self.insns.len())?;
+        self.push_code(&mut code)?;
+        Ok(code)
+    }
+
+    /// Appends the bytes of the code words.
+    pub(crate) fn push_code(&self, out: &mut Vec<u8>) -> Result<(), AllocError>
+        ensures ok { OnOk result
+            (out.new.items ≡ out.old.items ++ flat_map longword self.now.words) }
+    {
+        push_words(out, &self.insns)
     }
 
     /// The data bytes of all segments, in order.
@@ -162,10 +207,10 @@ impl Image {
         ensures none { IfNone result ((place : ℕ) →
             place < length self.now.words → pc ≢ self.now.code_base + 4 * place) }
     {
-        let base = self.code_base();
-        let words = u64::from(self.words());
-        if pc % 4 == 0 && base <= pc && pc < base + 4 * words {
-            Some(((pc - base) / 4) as u32)
+        // Below the code base the difference wraps, and is greater than any offset of the code.
+        let offset = pc.wrapping_sub(self.code_base());
+        if offset % 4 == 0 && offset / 4 < u64::from(self.words()) {
+            Some((offset / 4) as u32)
         } else {
             None
         }
@@ -189,12 +234,32 @@ impl Image {
         ensures parts { let n = header_numbers header in IfOk result (λ image.
             image ≡ parts_with header.version n (words_of code.now) bytes.now) }
     {
-        check_words(header.level(), code)?;
+        let insns = read_words(alloc, header.level(), code)?;
         Ok(Image {
             header,
-            code: Vec::from_slice(alloc, code)?,
+            insns,
             bytes: Vec::from_slice(alloc, bytes)?,
         })
+    }
+
+    /// The image with this header, these instructions and these data bytes.
+    pub(crate) fn of_parts(header: Header, insns: Vec<Insn>, bytes: Vec<u8>) -> Image
+        requires fields { FieldsFit (header_numbers header) }
+        requires suits { SuitsVersion header.version (header_numbers header) }
+        requires words { length insns.items ≡ header.words }
+        requires insns { All (IsCodeInsn (numbered_level header.fields.level)) insns.items }
+        requires bytes { All IsByte bytes.items }
+        requires filled { length bytes.items ≡ filled_size header.segments.items }
+        ensures good { IsImage result }
+        ensures insns { map decoded result.words ≡ map Some insns.items }
+        ensures parts { let n = header_numbers header in
+            result ≡ parts_with header.version n (map encoded insns.items) bytes.items }
+    {
+        Image {
+            header,
+            insns,
+            bytes,
+        }
     }
 
     /// The numbers that the image begins with.
@@ -205,15 +270,14 @@ impl Image {
     {
         &self.header
     }
+}
 
-    // The code word at a place.
-    fn word(&self, place: u32) -> Word
-        requires { place < length self.now.words }
-        ensures value { result.0 ≡ slice_index self.now.words place }
-        ensures good { IsImage self.now }
-    {
-        word_at(&self.code, place as usize)
-    }
+// The instruction at a place.
+fn insn_in(insns: &[Insn], place: usize) -> Insn
+    requires { place < length insns.now }
+    ensures { slice_get insns.now place ≡ Some result }
+{
+    insns[place]
 }
 
 /// The code word at a place, `None` exactly where the place is not below the number of words. The word is
@@ -224,7 +288,7 @@ pub fn code_word(image: &Image, n: u32) -> Option<Word>
     ensures table { IfSome result (λ word. IsCodeWord image.now.level word.0) }
 {
     if n < image.words() {
-        Some(image.word(n))
+        Some(encode(&image.insn_at(n)))
     } else {
         None
     }

@@ -22,12 +22,15 @@
 //! | 40 + 16 * k | the code words, then the data bytes of the segments in order |
 //!
 //! - [`Image`] is a good image: no field is bad, and each code word is in the instruction table at the
-//!   image's level. A clause sees its `Parts`, one record for both versions.
+//!   image's level. A clause sees its `Parts`, one record for both versions. The code is kept as
+//!   instructions, which are decoded once, where the words are read: [`Image::insn`],
+//!   [`Image::insn_at`] and [`Image::insns`] give them, and [`Image::code_bytes`] their words.
 //! - [`ImageFault`] says why there is no image.
 //! - [`Fields`] are the numbers that [`Image::build`] makes an image of version 1 of, with its code and
 //!   data bytes. [`LevelFields`] and [`Segment`] are those of [`Image::build_level`], for version 2. The
 //!   least bad field of such numbers is [`Fields::bad_field`] and [`LevelFields::bad_field`], which need
-//!   no code or data bytes but only their sizes.
+//!   no code or data bytes but only their sizes. [`Image::of_program`] makes an image of instructions and
+//!   of numbers that were judged so.
 //!
 //! The laws, each with the call that carries it:
 //!
@@ -35,16 +38,18 @@
 //!   the bytes. Memory runs out only where there is none.
 //! - [`image_bytes`] gives the spelling.
 //! - [`Image::build`] and [`Image::build_level`] give the image of the parts given, or the least bad
-//!   field, or the first bad word.
+//!   field, or the first bad word. [`Image::of_program`] gives that of its instructions.
 //! - [`laws_of_spelling`]: bytes have no fault exactly where they are the spelling of a good image, and
 //!   that is one image. [`laws_of_fields`]: the tests of the fields decide their rules.
 //!   [`laws_of_places`]: where the code words stand. [`laws_of_pieces`]: the data bytes are those of the
 //!   segments.
-//! - [`code_word`] and [`Image::place_of`] answer `None` exactly outside the code, with constant work and
-//!   no memory.
+//! - [`Image::insn`], [`code_word`] and [`Image::place_of`] answer `None` exactly outside the code, with
+//!   constant work and no memory.
 //!
-//! All tests of bytes and parts come before the first memory is taken. `src/header.rt` reads what stands
-//! before the code, `src/rules.rt` tests the fields, `src/words.rt` the code words; `src/read.rt`,
+//! The tests of the front come before the first memory is taken, and memory runs out only where each code
+//! word has an instruction. `src/header.rt` reads what stands
+//! before the code, `src/rules.rt` tests the fields, `src/words.rt` makes code
+//! words instructions; `src/read.rt`,
 //! `src/build.rt` and `src/write.rt` are the ways in and out, and `src/image.rt` is what there is between.
 //!
 //! `specs/Layout.antt` has the layout of the bytes, `specs/Rules.antt` the rules of the fields over the

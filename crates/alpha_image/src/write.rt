@@ -124,10 +124,10 @@ pub fn image_bytes(alloc: Global, image: &Image) -> Result<Vec<u8>, NoMemory>
     ensures value { IfOk result (λ bytes. bytes.items ≡ spelling image.now) }
 {
     let header = image.header();
-    let size = header.front_size() + image.code().len() + image.data_bytes().len();
+    let size = header.front_size() + 4 * image.words() as usize + image.data_bytes().len();
     let mut out = Vec::with_capacity(alloc, size)?;
     header.push_onto(&mut out)?;
-    out.extend_from_slice(image.code())?;
+    image.push_code(&mut out)?;
     out.extend_from_slice(image.data_bytes())?;
     Ok(out)
 }

@@ -3,6 +3,7 @@ pub mod Op
 pub mod Rows
 pub mod Row
 pub mod Decoded
+pub mod Encoded
 pub mod Class
 pub mod Columns
 pub mod Code

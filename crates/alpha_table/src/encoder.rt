@@ -2,6 +2,7 @@ ghost use Rattle.std.specs.Prelude.{◌≡◌, ℕ, ◌^◌, ◌<◌, ◌*◌, �
 ghost use Rattle.alpha_words.specs.Field.{signed_field};
 ghost use Rattle.alpha_table.specs.Op.{op_row};
 ghost use Rattle.alpha_table.specs.Row.{Row, IsSigned, OperandsFit};
+ghost use Rattle.alpha_table.specs.Encoded.{encoded};
 ghost use Rattle.alpha_table.specs.declared.form.Form.TheVariants.{Operate};
 
 use crate::formats::{fetch_function, pal_function};
@@ -12,6 +13,7 @@ use alpha_words::{Reg, Word};
 pub fn encode(i: &Insn) -> Word
     ensures row { Row result.0 i.now }
     ensures only { (w : ℕ) → w < 2 ^ 32 → Row w i.now → w ≡ result.0 }
+    ensures value { result.0 ≡ encoded i.now }
 {
     Word(word_of(i))
 }

@@ -14,6 +14,6 @@ returns c =
     let same : front h.version (header_numbers h) ≡ front p.version (numbers p) =
     ap (λ (v : Version). front v (header_numbers h)) c.header-header.ensures.version ∙ ap (λ (n : Numbers). front p.version n) c.header-header.ensures.numbers in
     record {
-      value = rw (c.in_ok-extend_from_slice-2.ensures.items, c.data_bytes-2.ensures.value, c.in_ok-extend_from_slice.ensures.items, c.code-2.ensures.value, c.in_ok-push_onto.ensures.ok, same, c.in_ok-out.ensures.items)
+      value = rw (c.in_ok-extend_from_slice.ensures.items, c.data_bytes-2.ensures.value, c.in_ok-push_code.ensures.ok, c.in_ok-push_onto.ensures.ok, same, c.in_ok-out.ensures.items)
           (simp append_assoc);
     }

@@ -1,6 +1,12 @@
 use Rattle.std.proofs.Common.{arith}
-use Rattle.alpha_table.proofs.Decoding.{same_word}
+use Rattle.alpha_table.proofs.Decoding.{same_word, IsInsn-Row}
+use Rattle.alpha_table.proofs.Words.{encoded-Row}
 use Rattle.alpha_table.proofs.encoder.encode.Goals as goal
 
 pub returns-clause-only : goal.returns-clause-only
 returns-clause-only c = λ w small row. same_word w _ _ small (omega arith) row c.word_of.ensures
+
+pub returns-clause-value : goal.returns-clause-value
+returns-clause-value c =
+    let e = encoded-Row _ (IsInsn-Row _ _ c.word_of.ensures) in
+    same_word _ _ _ (omega arith) e.0 c.word_of.ensures e.1

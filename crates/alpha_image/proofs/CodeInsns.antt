@@ -1,0 +1,84 @@
+-- The instructions of code words, and the words of instructions.
+use Rattle.std.proofs.Common.{◌≡◌, ℕ, zero, suc, ◌+◌, ◌^◌, ◌<◌, ◌++◌, List, [], ◌∷◌, length, map, take, get_or, slice_get, Option, Some, None, refl, sym, ap, subst, ◌∙◌, arith}
+use Rattle.std.specs.List.{All}
+use Rattle.std.specs.Option.{option_map, option_and_then, IsSomeAnd}
+use Rattle.std.proofs.lemmas.List.{take_more, map-append, length-map}
+use Rattle.std.proofs.lemmas.List.Elements.{All-nil, All-cons, All-head, All-tail}
+use Rattle.std.proofs.lemmas.Option.{slice_get-map, slice_get-get_or, get_or_from_slice_get}
+use Rattle.alpha_words.specs.declared.Level.{Level}
+use Rattle.alpha_table.specs.declared.form.Form.{Form}
+use Rattle.alpha_table.specs.Row.{IsInsn}
+use Rattle.alpha_table.specs.Decoded.{decoded}
+use Rattle.alpha_table.specs.Encoded.{encoded}
+use Rattle.alpha_table.specs.Columns.{level_of}
+use Rattle.alpha_table.proofs.Decoding.{decoded-Row, Row-decoded, same_word, IsInsn-Row}
+use Rattle.alpha_table.proofs.Words.{encoded-Row}
+use Rattle.alpha_image.specs.Parts.{IsWithin, IsCodeWord, IsCodeInsn}
+
+-- the word of an instruction stands for it
+pub decoded-encoded : (i : Form) → IsInsn i → decoded (encoded i) ≡ Some i
+decoded-encoded i good = decoded-Row (encoded i) i (encoded-Row i good).1
+
+-- and a word of 32 bits is that of its instruction
+encoded-decoded : (w : ℕ) (i : Form) → w < 2 ^ 32 → decoded w ≡ Some i → w ≡ encoded i
+encoded-decoded w i small e =
+    let row = Row-decoded w i e in
+    let own = encoded-Row i (IsInsn-Row w i row) in
+    same_word w (encoded i) i small own.0 row own.1
+
+-- code words are those of their instructions
+pub words_of_insns : (level : Level) (words : List ℕ) (insns : List Form) → All (IsCodeWord level) words → map decoded words ≡ map Some insns → words ≡ map encoded insns
+words_of_insns level [] [] all e = refl
+words_of_insns level [] (i ∷ insns) all e = absurd cc
+words_of_insns level (w ∷ words) [] all e = absurd cc
+words_of_insns level (w ∷ words) (i ∷ insns) all e =
+    let here : decoded w ≡ Some i = cc in
+    let later : map decoded words ≡ map Some insns = cc in
+    ap (λ (v : ℕ). v ∷ words) (encoded-decoded w i (All-head (IsCodeWord level) w words all).0 here)
+    ∙ ap (λ (ws : List ℕ). encoded i ∷ ws) (words_of_insns level words insns (All-tail (IsCodeWord level) w words all) later)
+
+-- one word more
+pub one_more : (words : List ℕ) (insns : List Form) (place : ℕ) (i : Form) → place < length words → map decoded (take place words) ≡ map Some insns → decoded (get_or words place 0) ≡ Some i
+    → map decoded (take (place + 1) words) ≡ map Some (insns ++ i ∷ [])
+one_more words insns place i below e here =
+    ap (map decoded) (take_more words place 0 below)
+    ∙ (map-append decoded (take place words) (get_or words place 0 ∷ [])
+    ∙ (ap (λ (os : List (Option Form)). os ++ (decoded (get_or words place 0) ∷ [])) e
+    ∙ (ap (λ (o : Option Form). map Some insns ++ (o ∷ [])) here
+    ∙ sym (map-append Some insns (i ∷ [])))))
+
+-- the word at a place stands for the instruction there
+pub decoded_there : (words : List ℕ) (insns : List Form) (place : ℕ) (i : Form) → map decoded words ≡ map Some insns → slice_get insns place ≡ Some i
+    → option_and_then decoded (slice_get words place) ≡ Some i
+decoded_there words insns place i e there =
+    chained (slice_get words place) i
+    (sym (slice_get-map decoded words place) ∙ (ap (λ (os : List (Option Form)). slice_get os place) e ∙ (slice_get-map Some insns place ∙ ap (option_map Some) there)))
+  where
+    chained : (o : Option ℕ) (i : Form) → option_map decoded o ≡ Some (Some i) → option_and_then decoded o ≡ Some i
+    chained None i h = absurd cc
+    chained (Some w) i h = cc
+
+-- the same of a place within the words
+pub decoded_within : (words : List ℕ) (place : ℕ) (i : Form) → place < length words → option_and_then decoded (slice_get words place) ≡ Some i → decoded (get_or words place 0) ≡ Some i
+decoded_within words place i below e = rw (slice_get-get_or words place 0 below) at e
+
+-- the word there is that of the instruction
+pub encoded_there : (insns : List Form) (place : ℕ) (i : Form) → slice_get insns place ≡ Some i → get_or (map encoded insns) place 0 ≡ encoded i
+encoded_there insns place i there = get_or_from_slice_get (map encoded insns) place (encoded i) 0 (slice_get-map encoded insns place ∙ ap (option_map encoded) there)
+
+-- no instruction stands past the words
+pub decoded_past : (words : List ℕ) (place : ℕ) → slice_get words place ≡ None → option_and_then decoded (slice_get words place) ≡ None
+decoded_past words place e = rw e refl
+
+-- instructions of the table at a level have code words of that level
+pub code_words_of_insns : (level : Level) (insns : List Form) → All (IsCodeInsn level) insns
+    → All (IsCodeWord level) (map encoded insns) × (map decoded (map encoded insns) ≡ map Some insns)
+code_words_of_insns level [] all = (All-nil (IsCodeWord level), refl)
+code_words_of_insns level (i ∷ insns) all =
+    let here = All-head (IsCodeInsn level) i insns all in
+    let later = code_words_of_insns level insns (All-tail (IsCodeInsn level) i insns all) in
+    let own = decoded-encoded i here.0 in
+    let word : IsCodeWord level (encoded i) = ((encoded-Row i here.0).0, subst (λ (o : Option Form). IsSomeAnd o (λ j. IsWithin (level_of j) level)) (sym own) here.1) in (
+      All-cons (IsCodeWord level) (encoded i) (map encoded insns) word later.0,
+      ap (λ (o : Option Form). o ∷ map decoded (map encoded insns)) own ∙ ap (λ (os : List (Option Form)). Some i ∷ os) later.1,
+    )

@@ -1,0 +1,32 @@
+use Rattle.std.proofs.Common.{◌≡◌, length, map, ◌∙◌}
+use Rattle.std.proofs.lemmas.List.{length-map}
+use Rattle.alpha_table.specs.Encoded.{encoded}
+use Rattle.alpha_image.specs.Header.{header_numbers}
+use Rattle.alpha_image.specs.Parts.{IsImage, numbered_level, numbers, parts_with}
+use Rattle.alpha_image.proofs.CodeInsns.{code_words_of_insns}
+use Rattle.alpha_image.proofs.Form.{IsImage-of_words, numbers-parts_with}
+use Rattle.alpha_image.proofs.image.Image.of_parts.Goals as goal
+
+pub returns-clause-good : goal.returns-clause-good
+returns-clause-good c =
+    let h = c.args.header in
+    let insns = c.args.insns.items in
+    let size : length (map encoded insns) ≡ h.words = length-map insns encoded ∙ c.requires.words in
+    IsImage-of_words h.version (header_numbers h) (map encoded insns) c.args.bytes.items c.requires.fields c.requires.suits size c.requires.filled
+    (code_words_of_insns (numbered_level h.fields.level) insns c.requires.insns).0 c.requires.bytes
+
+pub invariant_of-result : goal.invariant_of-result
+invariant_of-result c =
+    let h = c.args.header in
+    let insns = c.args.insns.items in
+    let size : length (map encoded insns) ≡ h.words = length-map insns encoded ∙ c.requires.words in
+    record {
+      good =
+          IsImage-of_words h.version (header_numbers h) (map encoded insns) c.args.bytes.items c.requires.fields c.requires.suits size c.requires.filled
+          (code_words_of_insns (numbered_level h.fields.level) insns c.requires.insns).0 c.requires.bytes;
+      numbers = numbers-parts_with h.version (header_numbers h) (map encoded insns) c.args.bytes.items c.requires.fields size;
+      insns = (code_words_of_insns (numbered_level h.fields.level) insns c.requires.insns).1;
+    }
+
+pub returns-clause-insns : goal.returns-clause-insns
+returns-clause-insns c = (code_words_of_insns (numbered_level c.args.header.fields.level) c.args.insns.items c.requires.insns).1

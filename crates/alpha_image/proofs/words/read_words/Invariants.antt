@@ -1,0 +1,11 @@
+use Rattle.std.proofs.Common.{◌≡◌, map, take, Some}
+use Rattle.alpha_table.specs.Decoded.{decoded}
+use Rattle.alpha_image.specs.Layout.{words_of}
+use Rattle.alpha_image.proofs.CodeWords.{AreInside}
+use Rattle.alpha_image.proofs.words.read_words.Given as goal
+
+abbrev pub invariant-loop-place : goal.invariant-loop-place
+invariant-loop-place l = record {
+  inside : AreInside l.level (words_of l.code) l.place;
+  read : map decoded (take l.place (words_of l.code)) ≡ map Some l.insns.items;
+}
