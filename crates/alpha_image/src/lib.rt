@@ -46,11 +46,10 @@
 //! - [`Image::insn`], [`code_word`] and [`Image::place_of`] answer `None` exactly outside the code, with
 //!   constant work and no memory.
 //!
-//! The tests of the front come before the first memory is taken, and memory runs out only where each code
-//! word has an instruction. `src/header.rt` reads what stands
-//! before the code, `src/rules.rt` tests the fields, `src/words.rt` makes code
-//! words instructions; `src/read.rt`,
-//! `src/build.rt` and `src/write.rt` are the ways in and out, and `src/image.rt` is what there is between.
+//! The tests of the front come before the first memory is taken, and memory runs out only where each
+//! code word has an instruction. `src/header.rt` reads what stands before the code, `src/rules.rt` tests
+//! the fields, `src/words.rt` makes words instructions; `src/read.rt`, `src/build.rt` and `src/write.rt`
+//! are the ways in and out, and `src/image.rt` is what there is between.
 //!
 //! `specs/Layout.antt` has the layout of the bytes, `specs/Rules.antt` the rules of the fields over the
 //! `specs/Numbers.antt` of either version, `specs/Parts.antt` what an image is and its spelling,

@@ -19,11 +19,7 @@ use std::alloc::{AllocError, Global};
 ///
 /// `BadWord` with the first word outside the instruction table or above the level. `NoMemory` comes only
 /// where there is none.
-pub(crate) fn read_words(
-    alloc: Global,
-    level: Level,
-    code: &[u8],
-) -> Result<Vec<Insn>, ImageFault>
+pub(crate) fn read_words(alloc: Global, level: Level, code: &[u8]) -> Result<Vec<Insn>, ImageFault>
     requires { length code.now < 2 ^ 32 }
     ensures fault { Tells result (word_fault level (words_of code.now)) }
     ensures insns { IfOk result (λ insns.

@@ -3,12 +3,10 @@ use Rattle.std.proofs.Common.{◌≡◌, ℕ, ℤ, pos, negsuc, ◌+◌, ◌-◌
 use Rattle.std.proofs.lemmas.Bool.{lt-ltb, le-ltb}
 use Rattle.std.proofs.lemmas.Int.{ints}
 use Rattle.alpha_words.specs.Field.{field}
-use Rattle.alpha_table.specs.declared.form.Src.{Src}
 use Rattle.alpha_table.specs.declared.form.Src.TheVariants.{Reg, Lit}
 use Rattle.alpha_table.specs.declared.form.Form.{Form}
 use Rattle.alpha_table.specs.declared.form.Form.TheVariants.{Mem, Branch, Jump, Operate, Misc, Fetch, Pal}
-use Rattle.alpha_table.specs.Op.{op_row}
-use Rattle.alpha_table.specs.Rows.{mem_row, branch_row, jump_kind, misc_row, fetch_function, pal_function}
+use Rattle.alpha_table.specs.Rows.{mem_row, branch_row}
 use Rattle.alpha_table.specs.Row.{Row, IsInsn}
 use Rattle.alpha_table.specs.Encoded.{digits, source, encoded}
 use Rattle.alpha_table.proofs.Lookups.{opcode-operate, opcode-memory, opcode-branch, function-operate, kind-jump, function-misc, function-fetch, function-pal}

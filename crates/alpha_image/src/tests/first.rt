@@ -2,6 +2,7 @@
 
 use super::{CODE, DATA, END, LAST, NOP, SMALL};
 use crate::*;
+use alpha_table::decode;
 use alpha_words::{Level, Word};
 use std::alloc::{AllocError, Global};
 use std::test::Fail;
@@ -35,7 +36,8 @@ fn an_image_gives_its_parts_and_its_bytes(rt: HostRuntime) -> Result<(), Fail> {
     assert_eq!(rt; sizes, (5, 0, 0, 65_536));
     let form = (image.version(), image.level(), image.segments());
     assert_eq!(rt; form, (1, Level::One, 1));
-    assert_eq!(rt; image.code(), &SMALL[48..]);
+    let code = image.code_bytes(rt.alloc()).ok().ok_or("memory")?;
+    assert_eq!(rt; code.as_slice(), &SMALL[48..]);
     let bytes = image_bytes(rt.alloc(), &image).ok().ok_or("memory")?;
     assert_eq!(rt; bytes.as_slice(), SMALL.as_slice());
     Ok(())
@@ -50,6 +52,7 @@ fn words_and_places_end_with_the_code(rt: HostRuntime) -> Result<(), Fail> {
         (5, None),
     ] {
         assert_eq!(rt; code_word(&image, n), word);
+        assert_eq!(rt; image.insn(n), word.and_then(decode));
     }
     let places = [
         (0x1_0000, Some(0)),
@@ -269,6 +272,7 @@ fn the_largest_image_is_read_and_written(rt: HostRuntime) -> Result<(), Fail> {
     let sizes = (image.words(), image.data_bytes().len(), image.stack());
     assert_eq!(rt; sizes, (262_144, 16_777_216, 1_048_576));
     assert_eq!(rt; code_word(&image, 262_143), Some(Word(0x47ff_041f)));
+    assert_eq!(rt; image.insns().len(), 262_144);
     let spelled = image_bytes(rt.alloc(), &image).ok().ok_or("memory")?;
     assert!(rt; spelled.as_slice() == bytes.as_slice());
     Ok(())
