@@ -1,19 +1,17 @@
-ghost use Rattle.std.specs.Prelude.{◌≡◌, ◌≤◌, ◌<◌, ◌+◌, ◌*◌, ◌^◌, ◌++◌, length, take, drop, min, OnOk, OnErr, Option, Some, slice_index};
+ghost use Rattle.std.specs.Prelude.{◌≡◌, ◌≤◌, ◌<◌, ◌+◌, ◌*◌, ◌^◌, ◌++◌, length, take, drop, min, OnOk, OnErr, Option, slice_index};
 ghost use Rattle.hex.specs.Hex.{encode_lower};
 ghost use Rattle.alpha_io.specs.declared.line.TheConstants.{LINE_ROOM};
 ghost use Rattle.alpha_io.specs.Sunk.{sunk, Puts};
-ghost use Rattle.alpha_table.specs.Decoded.{decoded};
 ghost use Rattle.alpha_mem.specs.Block.{Block};
 ghost use Rattle.alpha_image.specs.Parts.{place_of};
 ghost use Rattle.alpha_debug.specs.Effects.{Stops};
 ghost use Rattle.alpha_debug.specs.Lines.{rows, place_line, memory_line, memory_row, bytes_lines, memory_lines, bad_range, code_line, code_row, code_lines, verdict_line, log_line};
 
-use alpha_image::{Image, code_word};
+use alpha_image::Image;
 use alpha_io::{Failed, Line, Sink, write_whole};
 use alpha_mem::Memory;
 use alpha_seq::{End, line_of_end};
 use alpha_shadow::{Broken, line_of_broken};
-use alpha_table::{Insn, decode};
 use alpha_text::{LineBuf, write_line};
 
 // How many bytes a line of `mem` has at most.
@@ -163,27 +161,13 @@ fn code_line(image: &Image, place: u32) -> Line
     ensures { result ≡ code_line (image.now.code_base + 4 * place) (slice_index image.now.words place) }
 {
     let mut text = LineBuf::new();
-    write_line(&instruction(image, place), &mut text);
+    write_line(&image.insn_at(place), &mut text);
     let mut line = Line::new();
     line.push_hex(image.code_base() + 4 * u64::from(place));
     line.push(b" ");
     line.push(text.bytes());
     line.end();
     line
-}
-
-// The instruction of the code word at a place.
-fn instruction(image: &Image, place: u32) -> Insn
-    requires { place < length image.now.words }
-    ensures { decoded (slice_index image.now.words place) ≡ Some result }
-{
-    match code_word(image, place) {
-        Some(word) => match decode(word) {
-            Some(insn) => insn,
-            None => unreachable!(),
-        },
-        None => unreachable!(),
-    }
 }
 
 // Appends the hexadecimal digits of at most sixteen bytes.

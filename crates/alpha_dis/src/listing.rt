@@ -1,16 +1,14 @@
-ghost use Rattle.std.specs.Prelude.{◌≡◌, ◌<◌, ◌++◌, length, map, slice_index, slice_get, Some, OnOk, OnErr};
+ghost use Rattle.std.specs.Prelude.{◌≡◌, ◌<◌, ◌++◌, length, map, slice_get, Some, OnOk, OnErr};
 ghost use Rattle.std.specs.List.{flat_map};
 ghost use Rattle.alpha_io.specs.Sunk.{sunk, Puts, Partly, HasFailed};
-ghost use Rattle.alpha_table.specs.Decoded.{decoded};
 ghost use Rattle.alpha_image.specs.Parts.{pieces};
 ghost use Rattle.alpha_dis.specs.Taken.{Takes, Stops};
 ghost use Rattle.alpha_dis.specs.Listing.{ended, text, heading, code_line, byte_line, rows, piece_of, piece_lines, listing};
 
 use crate::block::Block;
 use crate::lines::{push_bytes, push_count, push_heading, push_segment_start};
-use alpha_image::{Image, Segment, code_word};
+use alpha_image::{Image, Segment};
 use alpha_io::{Failed, Sink};
-use alpha_table::{Insn, decode};
 use alpha_text::{LineBuf, write_line};
 use thiserror::Error;
 
@@ -81,24 +79,10 @@ fn push_code<K: Sink>(block: &mut Block, image: &Image, out: &mut K) -> Result<(
 {
     let mut line = LineBuf::new();
     for place in 0..image.words() {
-        write_line(&instruction(image, place), &mut line);
+        write_line(&image.insn_at(place), &mut line);
         push_line(block, &line, out)?;
     }
     Ok(())
-}
-
-// The instruction of the code word at a place.
-fn instruction(image: &Image, place: u32) -> Insn
-    requires { place < length image.now.words }
-    ensures { decoded (slice_index image.now.words place) ≡ Some result }
-{
-    match code_word(image, place) {
-        Some(word) => match decode(word) {
-            Some(insn) => insn,
-            None => unreachable!(),
-        },
-        None => unreachable!(),
-    }
 }
 
 // Appends a line and its line feed.

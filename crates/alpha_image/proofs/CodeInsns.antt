@@ -10,7 +10,9 @@ use Rattle.alpha_table.specs.declared.form.Form.{Form}
 use Rattle.alpha_table.specs.Row.{IsInsn}
 use Rattle.alpha_table.specs.Decoded.{decoded}
 use Rattle.alpha_table.specs.Encoded.{encoded}
+use Rattle.alpha_table.specs.Class.{class_of}
 use Rattle.alpha_table.specs.Columns.{level_of}
+use Rattle.alpha_table.specs.Code.{class_at}
 use Rattle.alpha_table.proofs.Decoding.{decoded-Row, Row-decoded, same_word, IsInsn-Row}
 use Rattle.alpha_table.proofs.Words.{encoded-Row}
 use Rattle.alpha_image.specs.Parts.{IsWithin, IsCodeWord, IsCodeInsn}
@@ -66,9 +68,10 @@ decoded_within words place i below e = rw (slice_get-get_or words place 0 below)
 pub encoded_there : (insns : List Form) (place : ℕ) (i : Form) → slice_get insns place ≡ Some i → get_or (map encoded insns) place 0 ≡ encoded i
 encoded_there insns place i there = get_or_from_slice_get (map encoded insns) place (encoded i) 0 (slice_get-map encoded insns place ∙ ap (option_map encoded) there)
 
--- no instruction stands past the words
-pub decoded_past : (words : List ℕ) (place : ℕ) → slice_get words place ≡ None → option_and_then decoded (slice_get words place) ≡ None
-decoded_past words place e = rw e refl
+-- its class is that of the word at the place
+pub class_here : (words : List ℕ) (place : ℕ) (i : Form) → option_and_then decoded (slice_get words place) ≡ Some i → class_at words place ≡ Some (class_of i)
+unfolding class_at
+class_here words place i e = ap (option_map class_of) e
 
 -- instructions of the table at a level have code words of that level
 pub code_words_of_insns : (level : Level) (insns : List Form) → All (IsCodeInsn level) insns

@@ -3,6 +3,8 @@ ghost use Rattle.std.specs.List.{flat_map};
 ghost use Rattle.std.specs.Option.{option_map, option_and_then};
 ghost use Rattle.alpha_table.specs.Decoded.{decoded};
 ghost use Rattle.alpha_table.specs.Encoded.{encoded};
+ghost use Rattle.alpha_table.specs.Class.{class_of};
+ghost use Rattle.alpha_table.specs.Code.{class_at};
 ghost use Rattle.alpha_image.specs.Header.{header_numbers};
 ghost use Rattle.alpha_image.specs.Layout.{longword, words_of, first_segment, filled_size};
 ghost use Rattle.alpha_image.specs.Parts.{IsByte, IsCodeInsn, IsCodeWord};
@@ -157,6 +159,7 @@ impl Image {
         ensures value { decoded (slice_index self.now.words place) ≡ Some result }
         ensures found { option_and_then decoded (slice_get self.now.words place) ≡ Some result }
         ensures word { slice_index self.now.words place ≡ encoded result }
+        ensures class { class_at self.now.words place ≡ Some (class_of result) }
         ensures good { IsImage self.now }
     {
         insn_in(&self.insns, place as usize)

@@ -8,7 +8,7 @@ ghost use Rattle.alpha_values.specs.Source.{source_value};
 ghost use Rattle.alpha_trap.specs.Handler.{going_on, handled, handled_at, kernel_after, place_of_trap, trap_in};
 
 use crate::scan::scan_back;
-use crate::trigger::{Trigger, insn_at, trigger_of};
+use crate::trigger::{Trigger, trigger_of};
 use alpha_image::Image;
 use alpha_pal::Kernel;
 use alpha_table::Src;
@@ -95,7 +95,7 @@ fn end_trap(
     if how == Completion::Stop {
         return at;
     }
-    match trigger_of(&insn_at(image, place)) {
+    match trigger_of(&image.insn_at(place)) {
         Some(trigger) => complete(&trigger, kernel, regs, how),
         None => unreachable!(),
     }

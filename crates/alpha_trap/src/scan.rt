@@ -1,7 +1,7 @@
 ghost use Rattle.std.specs.Prelude.{◌≡◌, ◌<◌, ◌≤◌, ◌^◌, ℕ, IfSome, IfNone, length};
 ghost use Rattle.alpha_trap.specs.Scan.{Finds, fits, greatest_below, place_or_end, scan};
 
-use crate::trigger::{insn_at, trigger_of};
+use crate::trigger::trigger_of;
 use alpha_image::Image;
 use alpha_table::{InsnKind, kind};
 use alpha_words::RegSet;
@@ -47,7 +47,7 @@ fn place_before(image: &Image, end: u32, mask: RegSet) -> Option<u32>
 {
     let mut left = mask;
     for place in (0..end).rev() {
-        let insn = insn_at(image, place);
+        let insn = image.insn_at(place);
         if let InsnKind::Barrier | InsnKind::Turn = kind(&insn) {
             return None;
         }

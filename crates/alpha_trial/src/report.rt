@@ -5,8 +5,8 @@ ghost use Rattle.hex.specs.Hex.{encode_lower};
 ghost use Rattle.alpha_trial.specs.Report.{is_trigger, line};
 ghost use Rattle.alpha_trial.specs.Counted.{tally_of};
 
-use alpha_image::{Image, code_word};
-use alpha_table::{decode, trap_op};
+use alpha_image::Image;
+use alpha_table::trap_op;
 use itoa::Buffer;
 use std::alloc::{AllocError, Global};
 
@@ -100,11 +100,5 @@ fn may_trap(image: &Image, place: u32) -> bool
     requires { place < length image.now.words }
     ensures { result ≡ is_trigger (slice_index image.now.words place) }
 {
-    match code_word(image, place) {
-        Some(word) => match decode(word) {
-            Some(insn) => trap_op(&insn).is_some(),
-            None => false,
-        },
-        None => false,
-    }
+    trap_op(&image.insn_at(place)).is_some()
 }

@@ -26,7 +26,7 @@ loop-place-preserved g c =
     let l = c.loop-place in
     let words = c.args.image.now.words in
     let within : l.place < length words = omega arith in
-    let line : c.write_line.new.to ≡ code_line (get_or words l.place 0) = c.write_line.ensures ∙ ap (λ o. option_map_or canon o []) (sym c.instruction.ensures) in
+    let line : c.write_line.new.to ≡ code_line (get_or words l.place 0) = c.write_line.ensures ∙ ap (λ o. option_map_or canon o []) (sym c.insn_at.ensures.value) in
     subst (Takes (sunk_by written faults c.args.out.now c.push_line.new.out) c.args.block.now c.push_line.new.block)
     (ap (λ (t : List ℕ). text (map code_line (take l.place words)) ++ ended t) line ∙ sym (text-map-more code_line words l.place 0 within))
     (Takes-then written faults c.args.out.now l.out c.push_line.new.out c.args.block.now l.block (text (map code_line (take l.place words))) c.push_line.new.block (ended c.write_line.new.to)

@@ -7,7 +7,7 @@ use Rattle.alpha_trap.proofs.scan.place_before.Goals as goal
 
 pub returns-in-Barrier-clause-value : goal.returns-in-Barrier-clause-value
 returns-in-Barrier-clause-value c =
-    let seen : kind (class_at c.args.image.now.words (c.loop-place.place - 1)) ≡ Some c.kind.result = ap kind c.insn_at-insn.ensures ∙ ap Some (sym c.kind.ensures) in
+    let seen : kind (class_at c.args.image.now.words (c.loop-place.place - 1)) ≡ Some c.kind.result = ap kind c.insn_at-insn.ensures.class ∙ ap Some (sym c.kind.ensures) in
     sym (walked_stop c.args.image.now.words c.args.mask c.loop-place.left (c.loop-place.place - 1) c.args.end
     (walked_next c.args.image.now.words c.args.mask c.loop-place.left c.loop-place.place c.args.end c.loop-place-test.true c.loop-place.invariant)
     (omega arith)
@@ -19,7 +19,7 @@ returns-in-Barrier-clause-value c =
 pub returns-then-covers-clause-value : goal.returns-then-covers-clause-value
 returns-then-covers-clause-value c =
     let t = c.in-Some.trigger in
-    let here : class_at c.args.image.now.words (c.loop-place.place - 1) ≡ Some (trigger t.op t.ra t.src t.rc) = c.insn_at-insn.ensures ∙ ap Some c.in-Some.ensures.found in
+    let here : class_at c.args.image.now.words (c.loop-place.place - 1) ≡ Some (trigger t.op t.ra t.src t.rc) = c.insn_at-insn.ensures.class ∙ ap Some c.in-Some.ensures.found in
     sym (walked_found c.args.image.now.words c.args.mask c.loop-place.left c.without-left.result (c.loop-place.place - 1) c.args.end t.rc
     (walked_next c.args.image.now.words c.args.mask c.loop-place.left c.loop-place.place c.args.end c.loop-place-test.true c.loop-place.invariant)
     (omega arith) (ap kind here) (ap trap_rc here) c.without-left.ensures
@@ -28,7 +28,7 @@ returns-then-covers-clause-value c =
 pub loop-place-preserved-else-covers : goal.loop-place-preserved-else-covers
 loop-place-preserved-else-covers c =
     let t = c.in-Some.trigger in
-    let here : class_at c.args.image.now.words (c.loop-place.place - 1) ≡ Some (trigger t.op t.ra t.src t.rc) = c.insn_at-insn.ensures ∙ ap Some c.in-Some.ensures.found in
+    let here : class_at c.args.image.now.words (c.loop-place.place - 1) ≡ Some (trigger t.op t.ra t.src t.rc) = c.insn_at-insn.ensures.class ∙ ap Some c.in-Some.ensures.found in
     let seen : kind (class_at c.args.image.now.words (c.loop-place.place - 1)) ≡ Some kinds.Trigger = ap kind here in
     walked_trigger c.args.image.now.words c.args.mask c.loop-place.left c.without-left.result (c.loop-place.place - 1) c.args.end t.rc
     (walked_next c.args.image.now.words c.args.mask c.loop-place.left c.loop-place.place c.args.end c.loop-place-test.true c.loop-place.invariant)

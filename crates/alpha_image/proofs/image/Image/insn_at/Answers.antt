@@ -4,7 +4,7 @@ use Rattle.alpha_table.specs.declared.form.Form.{Form}
 use Rattle.alpha_table.specs.Decoded.{decoded}
 use Rattle.alpha_table.specs.Encoded.{encoded}
 use Rattle.alpha_image.specs.Parts.{Parts}
-use Rattle.alpha_image.proofs.CodeInsns.{decoded_there, decoded_within, encoded_there}
+use Rattle.alpha_image.proofs.CodeInsns.{class_here, decoded_there, decoded_within, encoded_there}
 use Rattle.alpha_image.proofs.image.Image.insn_at.Goals as goal
 
 pub returns-clause-found : goal.returns-clause-found
@@ -24,3 +24,6 @@ returns-clause-word c =
     let at : slice_get insns c.args.place ≡ Some c.insn_in.result = ap (λ (l : List Form). slice_get l c.args.place) (sym c.deref.ensures.value) ∙ c.insn_in.ensures in
     subst (λ (ws : List ℕ). slice_index ws c.args.place ≡ encoded c.insn_in.result) (ap (λ (p : Parts). p.words) c.self.view_is)
     (encoded_there insns c.args.place c.insn_in.result at)
+
+pub returns-clause-class : goal.returns-clause-class
+returns-clause-class c = class_here c.args.self.now.words c.args.place c.insn_in.result (returns-clause-found c)
