@@ -1,8 +1,6 @@
 -- A barrier breaks nothing, and ends every shadow.
-use Rattle.std.proofs.Common.{◌≡◌, ◌+◌, ℕ, Some, None, List, [], slice_get, sym, ◌∙◌, inr, refl}
+use Rattle.std.proofs.Common.{◌≡◌, ◌+◌, ℕ, Some, None, List, [], sym, ◌∙◌, inr, refl}
 use Rattle.alpha_table.specs.declared.columns.InsnKind.TheVariants as kinds
-use Rattle.alpha_table.specs.Code.{class_at}
-use Rattle.alpha_table.specs.Decoded.{decoded, memory_form, branch_form, jump_form, operate_form, misc_form}
 use Rattle.alpha_shadow.specs.declared.broken.Condition.TheVariants.{ZeroDestination, SourceLost, SameDestination, WildBase, LoadThenStore, Locked, Turn, Long}
 use Rattle.alpha_shadow.specs.declared.window.Window.{Window}
 use Rattle.alpha_shadow.specs.Code.{kind_at, SetIn}
@@ -41,8 +39,3 @@ closed code at w after s k t l set used =
       set = rw set (ends_skip code at (SetIn code) w.set.ends nothing s.set);
       used = rw used (ends_skip code at (UsedIn code) w.used.ends nothing s.used);
     }
-
--- the word of TRAPB is one
-pub trapb_kind : (code : List ℕ) (at : ℕ) → slice_get code at ≡ Some 0x63ff0000 → kind_at code at ≡ Some kinds.Barrier
-unfolding class_at decoded memory_form branch_form jump_form operate_form misc_form
-trapb_kind code at is = rw is refl

@@ -1,7 +1,6 @@
 pub mod Barriers
 pub mod Conditions
 pub mod Tables
-pub mod Traps
 pub mod Shadows
 pub mod OpenLoads
 pub mod Covers

@@ -1,12 +1,14 @@
 -- What follows from the instruction table for the word at a place. The other lemmas speak of places alone.
-use Rattle.std.proofs.Common.{◌≡◌, ◌<◌, ◌≤◌, ◌⊎◌, ℕ, Bool, true, false, Option, Some, None, List, length, ap, sym, refl, subst, ⊎_elim, ◌==◌, cond, eqb-true}
+use Rattle.std.proofs.Common.{◌≡◌, ◌≢◌, ◌<◌, ◌≤◌, ◌⊎◌, ◌↔◌, ℕ, Bool, IsTrue, is_some, true, false, Option, Some, None, List, length, ap, sym, refl, subst, ⊎_elim, ◌==◌, cond, eqb-true}
 use Rattle.std.specs.Option.{unwrap_or}
 use Rattle.std.proofs.lemmas.Option.{slice_get_past}
 use Rattle.std.proofs.lemmas.Bool.{cases_lt}
+use Rattle.alpha_table.specs.declared.form.Form.{Form}
+use Rattle.alpha_table.specs.declared.op.TrapOp.{TrapOp}
 use Rattle.alpha_table.specs.declared.columns.InsnKind.{InsnKind}
 use Rattle.alpha_table.specs.declared.columns.InsnKind.TheVariants as kinds
-use Rattle.alpha_table.specs.Class.{Class, operate, trigger, address, load, store, load_locked, store_conditional, branch, jump, barrier, idle}
-use Rattle.alpha_table.specs.Columns.{class_kind, class_access, but_zero}
+use Rattle.alpha_table.specs.Class.{Class, operate, trigger, address, load, store, load_locked, store_conditional, branch, jump, barrier, idle, class_of}
+use Rattle.alpha_table.specs.Columns.{class_kind, class_access, class_trap, kind_of, trap_op_of, but_zero}
 use Rattle.alpha_table.specs.Code.{class_at, kind, sets, trap_rc}
 use Rattle.alpha_shadow.specs.Code.{kind_at, destination_at, access_at, sets_at}
 use Rattle.alpha_shadow.specs.Columns.{destination_of}
@@ -98,3 +100,35 @@ no_set code at e = cases (class_at code at) refl e
     cases : (o : Option Class) → class_at code at ≡ o → kind o ≡ Some kinds.Barrier → sets_at code at ≡ None
     cases None f e = rw f refl
     cases (Some c) f e = rw f (class_no_set c cc)
+
+-- an instruction traps exactly where it is a trigger
+class_calm : (c : Class) → class_trap c ≡ None → class_kind c ≢ kinds.Trigger
+class_calm (trigger op ra src rc) none e = cc
+class_calm (operate op ra src rc) none e = cc
+class_calm (address op ra rb disp) none e = cc
+class_calm (load extension at ra) none e = cc
+class_calm (store at ra) none e = cc
+class_calm (load_locked extension at ra) none e = cc
+class_calm (store_conditional at ra) none e = cc
+class_calm (branch condition ra disp) none e = cc
+class_calm (jump ra rb) none e = cc
+class_calm (barrier call) none e = cc
+class_calm idle none e = cc
+
+class_traps : (c : Class) (op : TrapOp) → class_trap c ≡ Some op → class_kind c ≡ kinds.Trigger
+class_traps (trigger op ra src rc) t e = refl
+class_traps (operate op ra src rc) t e = cc
+class_traps (address op ra rb disp) t e = cc
+class_traps (load extension at ra) t e = cc
+class_traps (store at ra) t e = cc
+class_traps (load_locked extension at ra) t e = cc
+class_traps (store_conditional at ra) t e = cc
+class_traps (branch condition ra disp) t e = cc
+class_traps (jump ra rb) t e = cc
+class_traps (barrier call) t e = cc
+class_traps idle t e = cc
+
+-- so the operation that traps decides
+pub trap_decides : (i : Form) (o : Option TrapOp) (b : Bool) → o ≡ trap_op_of i → b ≡ is_some o → IsTrue b ↔ (kind_of i ≡ kinds.Trigger)
+trap_decides i None b e f = (λ t. absurd cc, λ k. absurd (class_calm (class_of i) (sym e) k))
+trap_decides i (Some op) b e f = (λ t. class_traps (class_of i) op (sym e), λ k. f)

@@ -1,8 +1,7 @@
 -- What the checker reads of the word at a place.
-use Rattle.std.specs.Prelude.{◌≡◌, ◌<◌, ◌≤◌, ◌↔◌, ◌⊎◌, ℕ, Some, List, length}
+use Rattle.std.specs.Prelude.{◌≡◌, ◌<◌, ◌↔◌, ℕ, Some, List, length}
 use Rattle.std.specs.Option.{unwrap_or}
 use Rattle.alpha_words.specs.Regs.{Has}
-use Rattle.alpha_words.specs.Field.{field}
 use Rattle.alpha_table.specs.Columns.{access_of}
 use Rattle.alpha_shadow.specs.declared.columns.Columns.{Columns}
 use Rattle.alpha_shadow.specs.Code.{kind_at, access_at, sets_at, Uses}
@@ -18,7 +17,3 @@ pub record HasColumns (code : List ℕ) (at : ℕ) (columns : Columns) : Type 0 
   pub sets : sets_at code at ≡ columns.sets
   pub uses : (r : ℕ) → Has columns.uses r ↔ Uses code at r
   pub access : access_at code at ≡ access_of columns.insn
-
--- The opcode is one of the two, and the function has the highest bit, that each word with `/V` has.
-abbrev pub MayTrap : ℕ → Type 0
-MayTrap word = ((field 31 26 word ≡ 0x10) ⊎ (field 31 26 word ≡ 0x13)) × (0x40 ≤ field 11 5 word)

@@ -1,13 +1,12 @@
-ghost use Rattle.std.specs.Prelude.{◌≡◌, ◌==◌, ◌↔◌, ℕ, List, Some, IsTrue, IsSome, slice_get};
-ghost use Rattle.std.specs.Option.{unwrap_or};
-ghost use Rattle.alpha_table.specs.Columns.{access_of};
+ghost use Rattle.std.specs.Prelude.{◌≡◌, ◌↔◌, ℕ, List, Some, IsTrue, slice_get};
+ghost use Rattle.std.specs.Option.{option_and_then, unwrap_or};
+ghost use Rattle.alpha_table.specs.Columns.{access_of, kind_of};
 ghost use Rattle.alpha_table.specs.Decoded.{decoded};
-ghost use Rattle.alpha_table.specs.Class.{class_of};
-ghost use Rattle.alpha_table.specs.Code.{class_at};
-ghost use Rattle.alpha_shadow.specs.Columns.{HasColumns, MayTrap};
+ghost use Rattle.alpha_table.specs.declared.columns.InsnKind.TheVariants as kinds;
+ghost use Rattle.alpha_shadow.specs.Columns.{HasColumns};
 
-use alpha_table::{Insn, InsnKind, MemAccess, access, decode, kind, sets, uses};
-use alpha_words::{Reg, RegSet, Word};
+use alpha_table::{Insn, InsnKind, MemAccess, access, kind, sets, trap_op, uses};
+use alpha_words::{Reg, RegSet};
 
 /// What the checker reads of an instruction: its columns of the instruction table.
 #[derive(Clone, Copy)]
@@ -22,13 +21,12 @@ pub(crate) struct Columns {
 }
 
 impl Columns {
-    /// The columns of a word of the instruction table.
-    pub(crate) fn of(word: Word) -> Columns
-        requires { IsSome (decoded word.0) }
-        ensures { (code : List ℕ) (at : ℕ) → slice_get code at ≡ Some word.0
-            → HasColumns code at result }
+    /// The columns of an instruction.
+    pub(crate) fn of(insn: Insn) -> Columns
+        ensures kind { result.kind ≡ kind_of insn }
+        ensures columns { (code : List ℕ) (at : ℕ)
+            → option_and_then decoded (slice_get code at) ≡ Some insn → HasColumns code at result }
     {
-        let insn = insn_of(word);
         Columns {
             kind: kind(&insn),
             sets: sets(&insn),
@@ -52,30 +50,10 @@ impl Columns {
     }
 }
 
-/// Whether a word can be one with `/V`, before it is looked up: those have one of two opcodes and
-/// the highest bit of the function.
-pub(crate) fn may_trap(word: Word) -> bool
-    ensures { IsTrue result ↔ MayTrap word.0 }
+/// Whether the instruction is one with `/V`.
+#[inline(always)]
+pub(crate) fn is_trigger(insn: &Insn) -> bool
+    ensures { IsTrue result ↔ (kind_of insn.now ≡ kinds.Trigger) }
 {
-    matches!(word.opcode(), 0x10 | 0x13) && word.function() >= 0x40
-}
-
-/// Whether a word is TRAPB, the barrier of nearly all programs, before it is looked up.
-pub(crate) fn is_trapb(word: Word) -> bool
-    ensures { result ≡ (word.0 == 0x63ff0000) }
-{
-    word.0 == 0x63ff_0000
-}
-
-// The instruction of a word of the table.
-#[tactic(auto, unfolding(alpha_table::specs::Code::class_at))]
-fn insn_of(word: Word) -> Insn
-    requires { IsSome (decoded word.0) }
-    ensures { (code : List ℕ) (at : ℕ) → slice_get code at ≡ Some word.0
-        → class_at code at ≡ Some (class_of result) }
-{
-    match decode(word) {
-        Some(insn) => insn,
-        None => unreachable!(),
-    }
+    trap_op(insn).is_some()
 }

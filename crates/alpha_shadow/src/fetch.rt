@@ -1,9 +1,10 @@
-ghost use Rattle.std.specs.Prelude.{◌≡◌, ℕ, ◌+◌, ◌-◌, ◌^◌, ◌<◌, List, Some, min, length, slice_get, IsSome};
+ghost use Rattle.std.specs.Prelude.{◌≡◌, ℕ, ◌+◌, ◌-◌, ◌^◌, ◌<◌, List, Some, min, length, slice_get};
+ghost use Rattle.std.specs.Option.{option_and_then};
 ghost use Rattle.alpha_table.specs.Decoded.{decoded};
 
-use alpha_words::Word;
+use alpha_table::Insn;
 
-/// Where the checker reads the code's words, one at a time. Each look is counted.
+/// Where the checker reads the code's instructions, one at a time. Each look is counted.
 pub trait Fetch {
     /// The words, which no call changes.
     ghost code: { Self → List ℕ };
@@ -15,11 +16,10 @@ pub trait Fetch {
     fn words(&self) -> u32
         ensures { result ≡ length (code self.now) };
 
-    /// The word at a place, which is a word of the instruction table.
-    fn word(&mut self, place: u32) -> Word
+    /// The instruction of the word at a place.
+    fn insn(&mut self, place: u32) -> Insn
         requires { place < length (code self.old) }
-        ensures value { slice_get (code self.old) place ≡ Some result.0 }
-        ensures known { IsSome (decoded result.0) }
+        ensures found { option_and_then decoded (slice_get (code self.old) place) ≡ Some result }
         ensures code { code self.new ≡ code self.old }
         ensures count { fetches self.new ≡ min (fetches self.old + 1) (2 ^ 64 - 1) };
 }

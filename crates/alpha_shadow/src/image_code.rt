@@ -1,28 +1,27 @@
-ghost use Rattle.std.specs.Prelude.{◌≡◌, ◌+◌, ◌*◌, ◌≤◌, length, slice_index};
-ghost use Rattle.alpha_image.specs.Layout.{words_of, longword_at};
+ghost use Rattle.std.specs.Prelude.{◌≡◌, ◌<◌, ◌≤◌, ◌^◌, length, drop, Some, slice_get};
 
 use crate::Fetch;
 use alpha_image::Image;
-use alpha_words::Word;
-use byteorder::{ByteOrder, LittleEndian};
+use alpha_table::Insn;
 use std::marker::Model;
 
-/// The code words of an image, for the checker. A clause sees the words and the count of looks.
+/// The code of an image, for the checker. A clause sees its words and the count of looks.
 #[derive(Drop)]
 pub struct ImageCode<'a> {
-    bytes: &'a [u8],
+    insns: &'a [Insn],
     fetches: u64,
 }
 
 impl<'a> Model for ImageCode<'a> {
-    ghost use Rattle.alpha_image.specs.Layout.{words_of};
-    ghost use Rattle.alpha_shadow.specs.Fetched.{Fetched, AreCodeWords};
+    ghost use Rattle.std.specs.Prelude.{map};
+    ghost use Rattle.alpha_table.specs.Encoded.{encoded};
+    ghost use Rattle.alpha_shadow.specs.Fetched.{Fetched, HaveWords};
 
     ghost Value = { Fetched };
 
-    ghost view = { λ c. record { code = words_of c.bytes.now; fetches = c.fetches } };
+    ghost view = { λ c. record { code = map encoded c.insns.now; fetches = c.fetches } };
 
-    ghost invariant = { λ c. AreCodeWords c.bytes.now };
+    ghost invariant = { λ c. HaveWords c.insns.now };
 }
 
 impl<'a> ImageCode<'a> {
@@ -34,7 +33,20 @@ impl<'a> ImageCode<'a> {
         ensures fetches { result.fetches ≡ 0 }
     {
         ImageCode {
-            bytes: image.code(),
+            insns: image.insns(),
+            fetches: 0,
+        }
+    }
+
+    /// The code from a place on, not looked at so far.
+    pub fn from_place(&self, place: u32) -> ImageCode<'a>
+        requires { place ≤ length self.now.code }
+        ensures code { result.code ≡ drop place self.now.code }
+        ensures fetches { result.fetches ≡ 0 }
+        ensures bound { length self.now.code < 2 ^ 32 }
+    {
+        ImageCode {
+            insns: &self.insns[place as usize..],
             fetches: 0,
         }
     }
@@ -46,28 +58,21 @@ impl<'a> Fetch for ImageCode<'a> {
     ghost fetches = { λ c. c.fetches };
 
     fn words(&self) -> u32 {
-        (self.bytes.len() / 4) as u32
+        self.insns.len() as u32
     }
 
-    fn word(&mut self, place: u32) -> Word {
+    #[inline(always)]
+    fn insn(&mut self, place: u32) -> Insn {
         self.fetches = self.fetches.saturating_add(1);
-        word_at(self.bytes, place as usize)
+        insn_in(self.insns, place as usize)
     }
 }
 
-// The word in the four bytes of a place.
-fn word_at(bytes: &[u8], place: usize) -> Word
-    requires { 4 * place + 4 ≤ length bytes.now }
-    ensures { result.0 ≡ slice_index (words_of bytes.now) place }
+// The instruction at a place.
+#[inline(always)]
+fn insn_in(insns: &[Insn], place: usize) -> Insn
+    requires { place < length insns.now }
+    ensures { slice_get insns.now place ≡ Some result }
 {
-    Word(longword_at(bytes, 4 * place))
-}
-
-// The number in the four bytes at an offset.
-#[tactic(auto, unfolding(alpha_image::specs::Layout::longword_at))]
-fn longword_at(bytes: &[u8], offset: usize) -> u32
-    requires { offset + 4 ≤ length bytes.now }
-    ensures { result ≡ longword_at offset bytes.now }
-{
-    LittleEndian::read_u32(&bytes[offset..])
+    insns[place]
 }

@@ -3,8 +3,9 @@
 //! completion; the exact form is this project's own).
 //!
 //! - [`Condition`] is one of the nine conditions, C1 to C9, and [`Broken`] a broken place.
-//! - [`judge`] is the verdict on the words that a [`Fetch`] gives. It looks at each word once at most,
-//!   in their order, and takes no memory. [`ImageCode`] is the code of an image.
+//! - [`judge`] is the verdict on the instructions that a [`Fetch`] gives. It looks at each word once at
+//!   most, in their order, and takes no memory. [`ImageCode`] is the code of an image, or the rest of it
+//!   from a place on.
 //! - [`write_broken`] writes the line of a broken place.
 //! - [`laws_of_verdicts`] says that each condition is decided, and that every list of words is
 //!   accepted or has a least broken place.
@@ -19,8 +20,8 @@
 //! `proofs/Shadows.antt`, `OpenLoads.antt` and `Ends.antt` follow the open triggers, the kept loads and the
 //! registers' places word by word; `Places.antt` ties each condition to them, `Steps.antt` joins the
 //! conditions, `Passing.antt` and `Judging.antt` make the walk, and `Decided.antt` has the laws.
-//! `Covers.antt` has what a cover of loads covers. `Tables.antt`, `Traps.antt` for words with
-//! `/V` and `Barriers.antt` for TRAPB alone look into the instruction table.
+//! `Covers.antt` has what a cover of loads covers. `Tables.antt` alone looks into the instruction table,
+//! and `Barriers.antt` has what a barrier leaves.
 #![tactic(auto)]
 
 mod broken;

@@ -1,7 +1,7 @@
 ghost use Rattle.std.specs.Prelude.{◌≡◌, ◌≤◌, ◌+◌, length, OnOk, IfErr};
 ghost use Rattle.alpha_shadow.specs.Broken.{IsAccepted, IsLeastBroken};
 
-use crate::columns::{Columns, is_trapb, may_trap};
+use crate::columns::Columns;
 use crate::place::broken_at;
 use crate::window::Window;
 use crate::{Broken, Condition, Fetch};
@@ -21,18 +21,11 @@ pub fn judge<F: Fetch>(code: &mut F) -> Result<(), Broken>
     let mut window = Window::empty();
     let words = code.words();
     for at in 0..words {
-        let word = code.word(at);
-        if window.is_clear() && !may_trap(word) {
+        let insn = code.insn(at);
+        if window.is_quiet(&insn) {
             continue;
         }
-        if is_trapb(word) {
-            window.close();
-            continue;
-        }
-        let columns = Columns::of(word);
-        if window.is_quiet(columns.kind) {
-            continue;
-        }
+        let columns = Columns::of(insn);
         if columns.kind == InsnKind::Barrier {
             window.close();
             continue;

@@ -2,16 +2,17 @@ ghost use Rattle.std.specs.Prelude.{◌≡◌, ◌≢◌, ◌<◌, ◌+◌, ◌-
 ghost use Rattle.std.specs.Option.{option_map};
 ghost use Rattle.std.specs.List.{Any};
 ghost use Rattle.alpha_table.specs.declared.columns.InsnKind.TheVariants as kinds;
+ghost use Rattle.alpha_table.specs.Columns.{kind_of};
 ghost use Rattle.alpha_shadow.specs.Code.{Sets, Uses};
 ghost use Rattle.alpha_shadow.specs.Columns.{HasColumns};
 ghost use Rattle.alpha_shadow.specs.Window.{Summarizes, HasRoom, Notes, place_of, stands_within};
 ghost use Rattle.alpha_shadow.specs.Reach.{MayTouch};
 
-use crate::columns::Columns;
+use crate::columns::{Columns, is_trigger};
 use crate::last::LastPlaces;
 use crate::loads::{Loads, Reach};
 use crate::triggers::{Trigger, Triggers};
-use alpha_table::InsnKind;
+use alpha_table::{Insn, InsnKind};
 use alpha_words::Reg;
 
 /// What is known of the words before a place: the triggers whose shadows reach it, in order, the
@@ -95,18 +96,13 @@ impl Window {
         }
     }
 
-    /// Whether no shadow reaches the place.
-    pub(crate) fn is_clear(&self) -> bool
-        ensures { IsTrue result ↔ (self.now.triggers.items ≡ []) }
+    /// Whether no shadow has a word of this instruction: none reaches its place, and it begins none.
+    #[inline(always)]
+    pub(crate) fn is_quiet(&self, insn: &Insn) -> bool
+        ensures { IsTrue result
+            ↔ ((self.now.triggers.items ≡ []) × (kind_of insn.now ≢ kinds.Trigger)) }
     {
-        self.triggers.is_empty()
-    }
-
-    /// Whether no shadow has a word of this kind: none reaches its place, and it begins none.
-    pub(crate) fn is_quiet(&self, kind: InsnKind) -> bool
-        ensures { IsTrue result ↔ ((self.now.triggers.items ≡ []) × (kind ≢ kinds.Trigger)) }
-    {
-        self.triggers.is_empty() && kind != InsnKind::Trigger
+        self.triggers.is_empty() && !is_trigger(insn)
     }
 
     /// Ends every shadow.

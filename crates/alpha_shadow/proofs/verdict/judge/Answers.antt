@@ -1,13 +1,15 @@
 use Rattle.std.proofs.Common.{rules, ◌≡◌, ◌≢◌, Some, ◌+◌, ◌∙◌, [], length, ap, subst, sym, refl, arith}
 use Rattle.alpha_table.specs.declared.columns.InsnKind.TheVariants as kinds
+use Rattle.alpha_table.specs.Class.{class_of}
+use Rattle.alpha_table.specs.Columns.{kind_of}
 use Rattle.alpha_shadow.specs.declared.broken.Condition.TheVariants.{Open}
 use Rattle.alpha_shadow.specs.Broken.{IsAccepted, IsLeastBroken}
-use Rattle.alpha_shadow.specs.Columns.{MayTrap}
 use Rattle.alpha_shadow.specs.Window.{Summarizes, IsUnbroken, IsFirstThat}
 use Rattle.alpha_shadow.specs.Place.{IsLeastUpTo}
-use Rattle.alpha_shadow.proofs.Traps.{calm_word}
+use Rattle.alpha_image.proofs.CodeInsns.{class_here}
+use Rattle.alpha_shadow.proofs.Tables.{kind_here}
 use Rattle.alpha_shadow.proofs.Places.{window_first}
-use Rattle.alpha_shadow.proofs.Barriers.{breaks_nothing, closed, trapb_kind}
+use Rattle.alpha_shadow.proofs.Barriers.{breaks_nothing, closed}
 use Rattle.alpha_shadow.proofs.Passing.{skipped}
 use Rattle.alpha_shadow.proofs.Judging.{room, unbroken_passed, unbroken_skipped, found_least, end_accepted, end_least}
 use Rattle.alpha_shadow.proofs.verdict.judge.Goals as goal
@@ -21,83 +23,49 @@ loop-at-init g c = record {
   fetches = omega arith;
 }
 
-pub loop-at-preserved-then-not-may_trap : goal.loop-at-preserved-then-not-may_trap
-loop-at-preserved-then-not-may_trap g c =
-    let code = g.F.Fetch.code c.loop-at.code in
-    let at = c.loop-at.at in
-    let word = c.word-word.result.0 in
-    let same = c.word-word.ensures.code in
-    let clear = c.is_clear.ensures.0 c.if-is_clear.true in
-    let calm : MayTrap word → ⊥ = λ m. let t = c.may_trap.ensures.1 m in let f = c.if-not-may_trap.true in cc in
-    let kind = calm_word code at word c.word-word.ensures.value c.word-word.ensures.known calm in
-    record {
-      same = same ∙ c.loop-at.invariant.same;
-      words = c.loop-at.invariant.words ∙ ap length (sym same);
-      summary = subst (λ k. Summarizes k c.loop-at.window (at + 1)) (sym same) (skipped code at c.loop-at.window kind.0 c.loop-at.invariant.summary kind.1 clear kind.2);
-      unbroken = subst (λ k. IsUnbroken k (at + 1)) (sym same) (unbroken_skipped code at c.loop-at.window kind.0 c.loop-at.invariant.summary kind.1 clear kind.2 c.loop-at.invariant.unbroken);
-      fetches = let n = c.word-word.ensures.count in let f = c.loop-at.invariant.fetches in omega arith;
-    }
-
 pub loop-at-preserved-then-is_quiet : goal.loop-at-preserved-then-is_quiet
 loop-at-preserved-then-is_quiet g c =
     let code = g.F.Fetch.code c.loop-at.code in
     let at = c.loop-at.at in
-    let same = c.word-word.ensures.code in
-    let word = c.of-columns.ensures code at c.word-word.ensures.value in
-    let kind = word.kind in
+    let same = c.insn-insn.ensures.code in
     let quiet = c.is_quiet.ensures.0 c.if-is_quiet.true in
+    let i = c.insn-insn.result in
+    let kind = kind_here code at (class_of i) (kind_of i) (class_here code at i c.insn-insn.ensures.found) refl in
     record {
       same = same ∙ c.loop-at.invariant.same;
       words = c.loop-at.invariant.words ∙ ap length (sym same);
-      summary = subst (λ k. Summarizes k c.loop-at.window (at + 1)) (sym same) (skipped code at c.loop-at.window c.of-columns.result.kind c.loop-at.invariant.summary kind quiet.0 quiet.1);
-      unbroken = subst (λ k. IsUnbroken k (at + 1)) (sym same) (unbroken_skipped code at c.loop-at.window c.of-columns.result.kind c.loop-at.invariant.summary kind quiet.0 quiet.1 c.loop-at.invariant.unbroken);
-      fetches = let n = c.word-word.ensures.count in let f = c.loop-at.invariant.fetches in omega arith;
-    }
-
-pub loop-at-preserved-then-is_trapb : goal.loop-at-preserved-then-is_trapb
-loop-at-preserved-then-is_trapb g c =
-    let code = g.F.Fetch.code c.loop-at.code in
-    let at = c.loop-at.at in
-    let same = c.word-word.ensures.code in
-    let is : c.word-word.result.0 ≡ 0x63ff0000 = let e = c.is_trapb.ensures in let t = c.if-is_trapb.true in search (arith, rules) in
-    let barrier = trapb_kind code at (c.word-word.ensures.value ∙ ap Some is) in
-    record {
-      same = same ∙ c.loop-at.invariant.same;
-      words = c.loop-at.invariant.words ∙ ap length (sym same);
-      summary = subst (λ k. Summarizes k c.close.new.self (at + 1)) (sym same) (closed code at c.loop-at.window c.close.new.self c.loop-at.invariant.summary barrier c.close.ensures.triggers c.close.ensures.loads c.close.ensures.set c.close.ensures.used);
-      unbroken = subst (λ k. IsUnbroken k (at + 1)) (sym same) (unbroken_passed code at c.loop-at.invariant.unbroken (breaks_nothing code at barrier));
-      fetches = let n = c.word-word.ensures.count in let f = c.loop-at.invariant.fetches in omega arith;
+      summary = subst (λ k. Summarizes k c.loop-at.window (at + 1)) (sym same) (skipped code at c.loop-at.window (kind_of i) c.loop-at.invariant.summary kind quiet.0 quiet.1);
+      unbroken = subst (λ k. IsUnbroken k (at + 1)) (sym same) (unbroken_skipped code at c.loop-at.window (kind_of i) c.loop-at.invariant.summary kind quiet.0 quiet.1 c.loop-at.invariant.unbroken);
+      fetches = let n = c.insn-insn.ensures.count in let f = c.loop-at.invariant.fetches in omega arith;
     }
 
 pub loop-at-preserved-then-eq : goal.loop-at-preserved-then-eq
 loop-at-preserved-then-eq g c =
     let code = g.F.Fetch.code c.loop-at.code in
     let at = c.loop-at.at in
-    let same = c.word-word.ensures.code in
-    let word = c.of-columns.ensures code at c.word-word.ensures.value in
+    let same = c.insn-insn.ensures.code in
+    let word = c.of-columns.ensures.columns code at c.insn-insn.ensures.found in
     let kind = word.kind in
     let is : c.of-columns.result.kind ≡ kinds.Barrier = search rules in
     let barrier = kind ∙ ap Some is in
     record {
       same = same ∙ c.loop-at.invariant.same;
       words = c.loop-at.invariant.words ∙ ap length (sym same);
-      summary = subst (λ k. Summarizes k c.close-then-eq.new.self (at + 1)) (sym same) (closed code at c.loop-at.window c.close-then-eq.new.self c.loop-at.invariant.summary barrier c.close-then-eq.ensures.triggers c.close-then-eq.ensures.loads c.close-then-eq.ensures.set c.close-then-eq.ensures.used);
+      summary = subst (λ k. Summarizes k c.close.new.self (at + 1)) (sym same) (closed code at c.loop-at.window c.close.new.self c.loop-at.invariant.summary barrier c.close.ensures.triggers c.close.ensures.loads c.close.ensures.set c.close.ensures.used);
       unbroken = subst (λ k. IsUnbroken k (at + 1)) (sym same) (unbroken_passed code at c.loop-at.invariant.unbroken (breaks_nothing code at barrier));
-      fetches = let n = c.word-word.ensures.count in let f = c.loop-at.invariant.fetches in omega arith;
+      fetches = let n = c.insn-insn.ensures.count in let f = c.loop-at.invariant.fetches in omega arith;
     }
 
 pub loop-at-preserved : goal.loop-at-preserved
 loop-at-preserved g c =
     let code = g.F.Fetch.code c.loop-at.code in
     let at = c.loop-at.at in
-    let same = c.word-word.ensures.code in
-    let word = c.of-columns.ensures code at c.word-word.ensures.value in
+    let same = c.insn-insn.ensures.code in
+    let word = c.of-columns.ensures.columns code at c.insn-insn.ensures.found in
     let none = subst (IsLeastUpTo code at 9) c.in_default.is (c.broken_at.ensures code c.loop-at.invariant.summary c.loop-at.invariant.unbroken word) in
-    let word = c.of-columns.ensures code at c.word-word.ensures.value in
-    let kind = word.kind in
-    let again = word.kind in
+    let word = c.of-columns.ensures.columns code at c.insn-insn.ensures.found in
     let shadow : (c.loop-at.window.triggers.items ≡ []) × (c.of-columns.result.kind ≢ kinds.Trigger) → ⊥ = λ q.
-    let quiet = c.is_quiet.ensures.1 (q.0, λ t. q.1 cc) in
+    let quiet = c.is_quiet.ensures.1 (q.0, λ t. q.1 (c.of-columns.ensures.kind ∙ t)) in
     let loud = c.if-is_quiet.false in
     cc in
     record {
@@ -105,14 +73,14 @@ loop-at-preserved g c =
       words = c.loop-at.invariant.words ∙ ap length (sym same);
       summary = subst (λ k. Summarizes k c.pass.new.self (at + 1)) (sym same) (c.pass.ensures code c.loop-at.invariant.summary word shadow);
       unbroken = subst (λ k. IsUnbroken k (at + 1)) (sym same) (unbroken_passed code at c.loop-at.invariant.unbroken none);
-      fetches = let n = c.word-word.ensures.count in let f = c.loop-at.invariant.fetches in omega arith;
+      fetches = let n = c.insn-insn.ensures.count in let f = c.loop-at.invariant.fetches in omega arith;
     }
 
 pub pass-requires : goal.pass-requires
 pass-requires g c =
     let code = g.F.Fetch.code c.loop-at.code in
     let at = c.loop-at.at in
-    let word = c.of-columns.ensures code at c.word-word.ensures.value in
+    let word = c.of-columns.ensures.columns code at c.insn-insn.ensures.found in
     let none = subst (IsLeastUpTo code at 9) c.in_default.is (c.broken_at.ensures code c.loop-at.invariant.summary c.loop-at.invariant.unbroken word) in
     record {
       bound = omega arith;
@@ -123,7 +91,7 @@ pub returns-in-Some-clause-broken : goal.returns-in-Some-clause-broken
 returns-in-Some-clause-broken g c =
     let code = g.F.Fetch.code c.loop-at.code in
     let at = c.loop-at.at in
-    let word = c.of-columns.ensures code at c.word-word.ensures.value in
+    let word = c.of-columns.ensures.columns code at c.insn-insn.ensures.found in
     let some = subst (IsLeastUpTo code at 9) c.in-Some.is (c.broken_at.ensures code c.loop-at.invariant.summary c.loop-at.invariant.unbroken word) in
     subst (λ k. IsLeastBroken k c.in-Some.broken) c.loop-at.invariant.same (found_least code at c.in-Some.broken c.loop-at.invariant.unbroken some)
 
