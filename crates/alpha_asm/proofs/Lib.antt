@@ -6,7 +6,6 @@ pub mod Refusing
 pub mod Underway
 pub mod Putting
 pub mod Whole
-pub mod Encoding
 pub mod Sound
 pub mod Making
 pub mod Adding

@@ -1,7 +1,7 @@
 -- The program behind the last line, by the state of the pass.
 use Rattle.std.proofs.Common.{◌≡◌, ℕ, ◌+◌, ◌≤◌, List, [], ◌∷◌, ◌++◌, length, map, take, drop, Bool, true, false, cond, nat_le, Option, None, Some, Result, Ok, Err, IfOk, refl, sym, ◌∙◌, ap, length-append, arith}
 use Rattle.std.specs.Prelude.{ℤ, ◌*◌}
-use Rattle.std.specs.Option.{option_map, option_map_or, unwrap_or}
+use Rattle.std.specs.Option.{option_map, option_map_or, option_or, unwrap_or}
 use Rattle.std.proofs.lemmas.Bool.Decides.{nat_tests}
 use Rattle.alpha_words.specs.Digits.{low_bytes}
 use Rattle.alpha_asm.proofs.Pushing.{length-low_bytes}
@@ -10,6 +10,8 @@ use Rattle.std.proofs.lemmas.List.{map-append, length-take, length-drop, length-
 use Rattle.std.proofs.Math.Path.{fun_ext}
 use Rattle.alpha_text.specs.Reading.{LineSaid}
 use Rattle.alpha_table.specs.declared.form.Form.{Form}
+use Rattle.alpha_table.specs.Decoded.{decoded}
+use Rattle.alpha_asm.specs.declared.fault.AsmFault.{AsmFault}
 use Rattle.alpha_asm.specs.declared.pass.Pass.{Pass}
 use Rattle.alpha_image.specs.declared.segment.Segment.{Segment}
 use Rattle.alpha_image.specs.Layout.{filled_size}
@@ -23,7 +25,7 @@ use Rattle.alpha_asm.specs.declared.place.Section.{Section}
 use Rattle.alpha_asm.specs.Statement.{Cell, number, address, cells, data_size, Entry}
 use Rattle.alpha_asm.specs.Layout.{Placed, layout, start, end, first, fields, filled_pad}
 use Rattle.alpha_asm.specs.Program.{Known, Name, name, Need, by_insn, by_cell, by_entry, cell_name, insn_names, entry_names, names_in, code_in, bytes_in, known, segments_of, code_base_of, data_base_of, based, own_segments, address_of, quadword_of, reached, displaced, undefined_line, unmet_line, numbers_of}
-use Rattle.alpha_asm.specs.Assembled.{made, made_at}
+use Rattle.alpha_asm.specs.Assembled.{made, made_at, unless}
 use Rattle.alpha_asm.specs.Patches.{Fix, fix, fix_of, entry_view, cell_fixes, fixes_in, fixes, raw_insns, raw_bytes, names_of, overlaid, code_at, code_with, bytes_with, code_after, bytes_after}
 use Rattle.alpha_asm.specs.Pass.{place_of, spot_at, fields_read, Filled, Sound, Stands}
 use Rattle.alpha_asm.proofs.Whole.{code_whole, bytes_whole}
@@ -213,3 +215,19 @@ whole p entry k base f sound bytes level fields segments =
       single = λ none. ap length segments ∙ single (sym level ∙ none);
       level = ap (λ g. g.level) fields ∙ ap (λ l. unwrap_or l 1) (sym level);
     }
+
+-- the instructions of words are those that the words stand for
+pub insns_of_words : (words : List ℕ) (insns : List Form) → map decoded words ≡ map Some insns → filter_map decoded words ≡ insns
+insns_of_words [] [] e = refl
+insns_of_words [] (i ∷ insns) e = absurd cc
+insns_of_words (w ∷ words) [] e = absurd cc
+insns_of_words (w ∷ words) (i ∷ insns) e =
+    let here : decoded w ≡ Some i = cc in
+    let later : map decoded words ≡ map Some insns = cc in
+    rw (here, insns_of_words words insns later) refl
+
+-- nothing is refused
+pub not_refused : {A : Type 0} (a b : Option AsmFault) (r : Result A AsmFault) → option_or a b ≡ None → unless a (unless b r) ≡ r
+not_refused None None r e = refl
+not_refused None (Some fault) r e = absurd cc
+not_refused (Some fault) b r e = absurd cc

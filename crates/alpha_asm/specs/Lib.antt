@@ -7,5 +7,4 @@ pub mod Patches
 pub mod Place
 pub mod Pass
 pub mod Bases
-pub mod Words
 pub mod Finished

@@ -24,7 +24,7 @@ pub fn assemble(alloc: Global, source: &[u8]) -> Result<Image, AsmFault>
     ensures refused { IfErr result (λ fault. fault ≢ faults.NoMemory → assembled source.now ≡ Err fault) }
 {
     match read_lines(alloc, source) {
-        Ok(pass) => made(alloc, pass),
+        Ok(pass) => made(pass),
         Err(fault) => Err(fault),
     }
 }

@@ -10,7 +10,11 @@
 //! `lines.rt` cuts a source into lines; `statement.rt` says what a statement asks, apart from where it
 //! stands; `place.rt` is the place that a line stands at, `fields.rt` the field statements, `label.rt`
 //! the labels, `output.rt` the instructions and data bytes, `patch.rt` the addresses that are put in
-//! later, and `pass.rt` the state with the steps that each line takes.
+//! later, and `pass.rt` the state with the steps that each line takes. The image takes the instructions
+//! and the data bytes as they are: nothing is encoded or decoded.
+//!
+//! [`Section`], [`Spot`], [`Use`] and [`Displacement`] are what its definitions speak of, for crates that
+//! cite them.
 //!
 //! `specs/Statement.antt` has what a statement asks, `specs/Layout.antt` where each item stands,
 //! `specs/Program.antt` the program that the items make, and `specs/Assembled.antt` the image of a
@@ -36,3 +40,6 @@ mod tests;
 
 pub use assembler::assemble;
 pub use fault::AsmFault;
+pub use patch::Displacement;
+pub use place::{Section, Spot};
+pub use statement::Use;

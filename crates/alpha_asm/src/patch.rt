@@ -10,7 +10,7 @@ use alpha_text::Expr;
 
 /// The displacement of an instruction.
 #[derive(Clone, Copy, Debug, PartialEq, Eq)]
-pub(crate) enum Displacement {
+pub enum Displacement {
     /// In words, of a branch: 21 bits with the sign.
     Words(i32),
     /// In bytes, or in units of 65,536 bytes.

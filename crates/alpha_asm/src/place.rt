@@ -14,7 +14,8 @@ use std::alloc::{AllocError, Global};
 
 /// A section.
 #[derive(Clone, Copy, Debug, PartialEq, Eq)]
-pub(crate) enum Section {
+pub enum Section {
+    /// That of the instructions.
     Code,
     /// The segment in hand.
     Data,
@@ -22,7 +23,7 @@ pub(crate) enum Section {
 
 /// Where a label is defined, apart from the bases of its section.
 #[derive(Clone, Copy, Debug, PartialEq, Eq)]
-pub(crate) enum Spot {
+pub enum Spot {
     /// Behind so many instructions.
     Code(u32),
     /// An offset in a segment. Segments are numbered from 0.

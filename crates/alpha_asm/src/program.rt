@@ -1,30 +1,25 @@
-ghost use Rattle.std.specs.Prelude.{◌≡◌, ◌≢◌, ◌+◌, ◌*◌, ◌%◌, ◌++◌, ◌∷◌, [], length, Some, None, Ok, Err, OnOk, IfOk, IfErr};
-ghost use Rattle.std.specs.List.{filter_map, flat_map};
+ghost use Rattle.std.specs.Prelude.{◌≡◌, ◌≢◌, ◌++◌, ◌∷◌, [], length, Some, Ok, Err, All, IsTrue, IfNone, IfOk, IfErr};
+ghost use Rattle.std.specs.List.{flat_map};
 ghost use Rattle.std.specs.Option.{option_map, option_or};
-ghost use Rattle.alpha_table.specs.Decoded.{decoded};
-ghost use Rattle.alpha_image.specs.declared.version.Version.TheVariants as versions;
-ghost use Rattle.alpha_image.specs.Numbers.{level_numbers};
-ghost use Rattle.alpha_image.specs.Layout.{words_of, filled_size};
-ghost use Rattle.alpha_image.specs.Parts.{parts_with};
-ghost use Rattle.alpha_image.specs.Rules.{least_bad_field};
+ghost use Rattle.alpha_image.specs.Parts.{IsCodeInsn, numbered_level};
+ghost use Rattle.alpha_image.specs.Rules.{FieldsFit, least_bad_field};
 ghost use Rattle.alpha_asm.specs.Layout.{first, layout};
-ghost use Rattle.alpha_asm.specs.Program.{program_of, based, own_segments, known, names_in, undefined_line};
+ghost use Rattle.alpha_asm.specs.Program.{program_of, version_of, based, own_segments, known, names_in, undefined_line};
 ghost use Rattle.alpha_asm.specs.Assembled.{made, made_at};
 ghost use Rattle.alpha_asm.specs.Patches.{entry_view};
 ghost use Rattle.alpha_asm.specs.Pass.{place_of, fields_read, Sound, Stands};
 ghost use Rattle.alpha_asm.specs.Bases.{known_of};
-ghost use Rattle.alpha_asm.specs.Words.{AddsWord};
-ghost use Rattle.alpha_asm.specs.Finished.{fields_of, finished_numbers, finished_program, finished_result, IsWhole, Finishes};
+ghost use Rattle.alpha_asm.specs.Finished.{fields_of, finished_numbers, finished_result, IsWhole, Finishes};
 ghost use Rattle.alpha_asm.specs.declared.fault.AsmFault.TheVariants as faults;
 
 use crate::AsmFault;
 use crate::bases::{Bases, put_all};
 use crate::fields::{Entry, FieldsRead};
 use crate::pass::Pass;
-use alpha_image::{Fields, Image, LevelFields, Segment};
-use alpha_table::{Insn, encode};
-use byteorder::{ByteOrder, LittleEndian};
-use std::alloc::{AllocError, Global};
+use alpha_image::{Image, LevelFields, Segment, Version};
+use alpha_table::{Insn, level_of};
+use alpha_words::Level;
+use std::alloc::AllocError;
 
 /// Without a `.codebase`.
 const CODE_BASE: u64 = 0x10000;
@@ -34,29 +29,6 @@ const DATA_BASE: u64 = 0x1000_0000;
 
 /// Without a `.stack`.
 const STACK: u64 = 65_536;
-
-// Appends the word of an instruction as four bytes, the lowest first.
-fn push_word(to: &mut Vec<u8>, insn: &Insn) -> Result<(), AllocError>
-    ensures { OnOk result (AddsWord insn.now to.old.items to.new.items) }
-{
-    let word = encode(insn).0;
-    let mut bytes = [0; 4];
-    LittleEndian::write_u32(&mut bytes, word);
-    to.extend_from_slice(&bytes)?;
-    Ok(())
-}
-
-// The words of instructions.
-fn words_of(alloc: Global, code: &[Insn]) -> Result<Vec<u8>, AllocError>
-    ensures size { IfOk result (λ words. length words.items ≡ 4 * length code.now) }
-    ensures words { IfOk result (λ words. filter_map decoded (words_of words.items) ≡ code.now) }
-{
-    let mut words = Vec::with_capacity(alloc, code.len().saturating_mul(4))?;
-    for insn in code {
-        push_word(&mut words, insn)?;
-    }
-    Ok(words)
-}
 
 // The segments, the one of the first version first.
 fn all_segments(earlier: Vec<Segment>, last: Segment, base: u64) -> Result<Vec<Segment>, AllocError>
@@ -78,52 +50,46 @@ fn own_segments(level: Option<u8>, all: &[Segment]) -> &[Segment]
     }
 }
 
-// The image of the first version with one segment.
-fn first_version(
-    alloc: Global,
-    fields: &LevelFields,
-    segment: &Segment,
-    words: &[u8],
-    bytes: &[u8],
-) -> Result<Image, AsmFault>
-    requires code { length words.now % 4 ≡ 0 }
-    requires level { fields.now.level ≡ 1 }
-    requires bytes { length bytes.now ≡ segment.now.filled }
-    ensures ok { IfOk result (λ image. image ≡ parts_with versions.One
-        (level_numbers fields.now (length (words_of words.now)) (segment.now ∷ [])) (words_of words.now) bytes.now) }
-    ensures memory { IfErr result (λ fault. fault ≡ faults.NoMemory) }
+// The version that has a level of its own, or the first.
+fn version_of(level: Option<u8>) -> Version
+    ensures { result ≡ version_of level }
 {
-    let fields = Fields {
-        code_base: fields.code_base,
-        data_base: segment.base,
-        entry: fields.entry,
-        zeroed: segment.zeroed,
-        stack: fields.stack,
-    };
-    match Image::build(alloc, &fields, words, bytes) {
-        Ok(image) => Ok(image),
-        Err(_) => Err(AsmFault::NoMemory),
+    match level {
+        Some(_) => Version::Two,
+        None => Version::One,
     }
 }
 
-// The image of the second version.
-fn second_version(
-    alloc: Global,
-    fields: &LevelFields,
-    segments: &[Segment],
-    words: &[u8],
-    bytes: &[u8],
-) -> Result<Image, AsmFault>
-    requires code { length words.now % 4 ≡ 0 }
-    requires bytes { length bytes.now ≡ filled_size segments.now }
-    ensures ok { IfOk result (λ image. image ≡ parts_with versions.Two
-        (level_numbers fields.now (length (words_of words.now)) segments.now) (words_of words.now) bytes.now) }
-    ensures memory { IfErr result (λ fault. fault ≡ faults.NoMemory) }
+// The level of the code.
+fn code_level(fields: &LevelFields) -> Level
+    ensures { result ≡ numbered_level fields.now.level }
 {
-    match Image::build_level(alloc, fields, segments, words, bytes) {
-        Ok(image) => Ok(image),
-        Err(_) => Err(AsmFault::NoMemory),
+    if fields.level == 2 {
+        Level::Two
+    } else {
+        Level::One
     }
+}
+
+// Whether each instruction is there at a level.
+fn are_within(level: Level, code: &[Insn]) -> bool
+    ensures { IsTrue result → All (IsCodeInsn level) code.now }
+{
+    for insn in code {
+        if !is_within(level, insn) {
+            return false;
+        }
+    }
+    true
+}
+
+// Whether an instruction is there at a level.
+fn is_within(level: Level, insn: &Insn) -> bool
+    ensures { IsTrue result → IsCodeInsn level insn.now }
+{
+    // The instruction is one of the table: so its form says.
+    let _form = insn.form();
+    level == Level::Two || level_of(insn) == Level::One
 }
 
 /// A program with all addresses put in.
@@ -143,8 +109,9 @@ struct Finished {
 impl Finished {
     // Why it has no image.
     fn fault(&self) -> Option<AsmFault>
-        ensures { result ≡ option_or (option_map faults.ImageField (least_bad_field (finished_numbers self.now)))
+        ensures value { result ≡ option_or (option_map faults.ImageField (least_bad_field (finished_numbers self.now)))
             (option_map faults.Reach self.now.unmet) }
+        ensures good { IfNone result (FieldsFit (finished_numbers self.now)) }
     {
         let own = own_segments(self.level, &self.segments);
         match self.fields.bad_field(self.code.len() as u64, own) {
@@ -156,32 +123,35 @@ impl Finished {
         }
     }
 
-    // The image that has its parts.
-    fn built(&self, alloc: Global) -> Result<Image, AsmFault>
-        requires { IsWhole self.now }
-        ensures ok { IfOk result (λ image. program_of image ≡ finished_program self.now) }
-        ensures memory { IfErr result (λ fault. fault ≡ faults.NoMemory) }
+    // The image, if it has one. An instruction above the level was refused with its line, so each is
+    // within.
+    fn image(self) -> Result<Image, AsmFault>
+        requires { IsWhole self }
+        ensures ok { IfOk result (λ image. finished_result self ≡ Ok (program_of image)) }
+        ensures refused { IfErr result (λ fault. fault ≢ faults.NoMemory → finished_result self ≡ Err fault) }
     {
-        let words = words_of(alloc, &self.code)?;
-        let own = own_segments(self.level, &self.segments);
-        match (self.level, own) {
-            (None, [segment, ..]) => {
-                first_version(alloc, &self.fields, segment, &words, &self.bytes)
-            }
-            _ => second_version(alloc, &self.fields, own, &words, &self.bytes),
+        if let Some(fault) = self.fault() {
+            return Err(fault);
         }
-    }
-
-    // The image, if it has one.
-    fn image(&self, alloc: Global) -> Result<Image, AsmFault>
-        requires { IsWhole self.now }
-        ensures ok { IfOk result (λ image. finished_result self.now ≡ Ok (program_of image)) }
-        ensures refused { IfErr result (λ fault. fault ≢ faults.NoMemory → finished_result self.now ≡ Err fault) }
-    {
-        match self.fault() {
-            Some(fault) => Err(fault),
-            None => self.built(alloc),
+        let Finished {
+            level,
+            fields,
+            segments,
+            code,
+            bytes,
+            unmet: _,
+        } = self;
+        if !are_within(code_level(&fields), &code) {
+            return Err(AsmFault::NoMemory);
         }
+        let own = own_segments(level, &segments);
+        Ok(Image::of_program(
+            version_of(level),
+            &fields,
+            own,
+            code,
+            bytes,
+        ))
     }
 }
 
@@ -190,20 +160,20 @@ impl Finished {
 /// # Errors
 ///
 /// `NoEntry`, `Undefined`, `ImageField` or `Reach`, the first in this order.
-pub(crate) fn made(alloc: Global, pass: Pass<'_>) -> Result<Image, AsmFault>
+pub(crate) fn made(pass: Pass<'_>) -> Result<Image, AsmFault>
     requires { Sound (place_of pass) (length pass.output.bytes.items) }
     ensures ok { IfOk result (λ image. (is : _) → Stands is pass.entry → made is ≡ Ok (program_of image)) }
     ensures refused { IfErr result (λ fault. fault ≢ faults.NoMemory →
         (is : _) → Stands is pass.entry → made is ≡ Err fault) }
 {
     match pass.fields.entry {
-        Some(entry) => made_at(alloc, pass, &entry),
+        Some(entry) => made_at(pass, &entry),
         None => Err(AsmFault::NoEntry),
     }
 }
 
 // The image behind the last line, with an entry.
-fn made_at<'a>(alloc: Global, pass: Pass<'a>, entry: &Entry<'a>) -> Result<Image, AsmFault>
+fn made_at<'a>(pass: Pass<'a>, entry: &Entry<'a>) -> Result<Image, AsmFault>
     requires { Sound (place_of pass) (length pass.output.bytes.items) }
     ensures ok { IfOk result (λ image. (is : _) → Stands is pass.entry →
         made_at is (Some (entry_view entry.now)) ≡ Ok (program_of image)) }
@@ -211,7 +181,7 @@ fn made_at<'a>(alloc: Global, pass: Pass<'a>, entry: &Entry<'a>) -> Result<Image
         (is : _) → Stands is pass.entry → made_at is (Some (entry_view entry.now)) ≡ Err fault) }
 {
     match finish(pass, entry) {
-        Ok(finished) => finished.image(alloc),
+        Ok(finished) => finished.image(),
         Err(fault) => Err(fault),
     }
 }

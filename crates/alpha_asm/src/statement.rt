@@ -10,7 +10,7 @@ use alpha_text::{Expr, Statement};
 
 /// How an instruction uses the address of a label.
 #[derive(Clone, Copy, Debug, PartialEq, Eq)]
-pub(crate) enum Use {
+pub enum Use {
     /// It branches there.
     Branch,
     /// Its displacement is the high half of the address, rounded so that the low half is signed.
