@@ -145,13 +145,7 @@ impl Finished {
             return Err(AsmFault::NoMemory);
         }
         let own = own_segments(level, &segments);
-        Ok(Image::of_program(
-            version_of(level),
-            &fields,
-            own,
-            code,
-            bytes,
-        ))
+        Ok(Image::of_program(version_of(level), &fields, own, code, bytes))
     }
 }
 
