@@ -10,3 +10,7 @@ pub mod RunSteps
 pub mod RunEnds
 pub mod Growing
 pub mod Prefixes
+pub mod Inputs
+pub mod OverRuns
+pub mod Unread
+pub mod Filling

@@ -65,7 +65,7 @@ pub advance-extended : (g : Program) (r : Run) (t : Stepped) → is_over r.last 
 advance-extended g r t goes e = rw (goes, e) refl
 
 -- what is noted of a step shows the PC and the registers alone
-marks-same : (event : Event) (m : Machine) (input output : List ℕ) → marks_of event (state_of m input output) ≡ marks_of event (state_of m [] [])
+pub marks-same : (event : Event) (m : Machine) (input output : List ℕ) → marks_of event (state_of m input output) ≡ marks_of event (state_of m [] [])
 marks-same Went m input output = refl
 marks-same Barriered m input output = refl
 marks-same (Overflowed at) m input output = refl
@@ -147,7 +147,7 @@ Runs-more xs n run event old mid new input out told program goes one two =
           after-more (program_of old) (state_of old ((one.taken ++ two.taken) ++ two.rest) output) (state_of mid (two.taken ++ two.rest) (output ++ one.bytes)) n run new event two.rest (output ++ (one.bytes ++ two.bytes)) start goes stepped_is;
     }
 
-notes-more : (watch : Bool) (trace marks : List Mark) → notes_of watch (trace ++ marks) ≡ notes_of watch trace ++ notes_of watch marks
+pub notes-more : (watch : Bool) (trace marks : List Mark) → notes_of watch (trace ++ marks) ≡ notes_of watch trace ++ notes_of watch marks
 notes-more watch trace marks = flat_map-append (mark_lines watch) trace marks
 
 pub IsMade-more : (xs : List ℕ) (n : ℕ) (watch : Bool) (event : Event) (old mid new : Machine) (input out notes : Times)

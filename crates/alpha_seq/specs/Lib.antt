@@ -11,3 +11,4 @@ pub mod StepEffect
 pub mod Turn
 pub mod RunEffect
 pub mod Executed
+pub mod Inputs

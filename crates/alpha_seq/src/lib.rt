@@ -11,12 +11,15 @@
 //!   barrier, of the registers alone and of an end.
 //! - [`laws_of_steps`]: a step leaves how many registers there are and where the blocks of memory lie, and one that ends
 //!   the program leaves all. [`laws_of_runs`]: a run that is over stays, and one that isn't has made all its steps.
+//!   [`laws_of_inputs`]: how runs in which each step finds an input of its own stand to the run over one input, and to
+//!   runs that don't look at theirs.
 //!
 //! `specs/State.antt` says what a program and a state are and what comes of a step, `specs/Start.antt` what the state
 //! at the start is, `specs/Step.antt` what each class of words does, `specs/Run.antt` what a run is and what one sees
 //! of it, `specs/Notes.antt` what its lines are, and `specs/Next.antt` what a word would do. `specs/Machine.antt` says
 //! how the code's machine stands to programs and states, `specs/StepEffect.antt` and `specs/RunEffect.antt` what its
 //! step and its run did, and `specs/Devices.antt` what they did to devices that tell their bytes and to others.
+//! `specs/Inputs.antt` says what a run does over a source that tells nothing: each step finds some input of its own.
 //! `specs/StartMemory.antt`, `specs/Executed.antt` and `specs/Turn.antt` say what the helpers of the start, of the step
 //! and of the run do.
 //!
@@ -44,7 +47,7 @@ mod words;
 
 pub use access::{memory_access, size};
 pub use end::{End, Next, RunEnd, StepEnd};
-pub use laws::{laws_of_runs, laws_of_steps};
+pub use laws::{laws_of_inputs, laws_of_runs, laws_of_steps};
 pub use lines::{
     line_of_end, line_of_overflow, write_barrier, write_end, write_overflow, write_registers,
 };

@@ -1,10 +1,12 @@
-ghost use Rattle.std.specs.Prelude.{◌≡◌, ℕ, List, Some, IsTrue};
+ghost use Rattle.std.specs.Prelude.{◌≡◌, ℕ, List, [], Some, IsTrue};
 ghost use Rattle.alpha_io.specs.Sunk.{sunk};
 ghost use Rattle.alpha_mem.specs.Block.{shapes};
-ghost use Rattle.alpha_seq.specs.Machine.{Stays};
+ghost use Rattle.alpha_seq.specs.Step.{next_pc};
+ghost use Rattle.alpha_seq.specs.Machine.{state_of, class_here, kernel_left, Stays};
 ghost use Rattle.alpha_seq.specs.Devices.{drawn, AreCalm};
 ghost use Rattle.alpha_seq.specs.Turn.{TurnEffect, run_ended_by};
 ghost use Rattle.alpha_seq.specs.RunEffect.{RunEffect, RunCause, HasGrown, Shows, ShowsPart, shown_from};
+ghost use Rattle.alpha_seq.specs.Inputs.{OverEffect};
 
 use crate::{Machine, RunEnd, StepEnd, write_barrier};
 use alpha_io::{Sink, Source};
@@ -14,6 +16,9 @@ use alpha_io::{Sink, Source};
 /// written to the notes. `Lost` never comes. `InputFault` and `SinkFault` come only where that device
 /// failed in this call: the output got a prefix of what the program puts, and the notes a prefix of
 /// the lines.
+///
+/// Over a source that tells nothing it is the run in which each step finds some input of its own:
+/// state, kernel, output and notes are those of that run.
 #[inline(never)]
 pub fn run<S: Source, K: Sink, N: Sink>(
     machine: &mut Machine,
@@ -36,6 +41,10 @@ pub fn run<S: Source, K: Sink, N: Sink>(
         → Shows (shown_from machine.old bytes units watch) result from to lines }
     ensures prefix { (bytes : List ℕ) → S.left input.old ≡ Some bytes
         → ShowsPart (shown_from machine.old bytes units watch)
+        (sunk K.Sink out.old out.new)
+        (sunk N.Sink notes.old notes.new) }
+    ensures over { OverEffect result units watch machine.old machine.new
+        (drawn S.Source input.old input.new)
         (sunk K.Sink out.old out.new)
         (sunk N.Sink notes.old notes.new) }
     ensures cause { RunCause result
@@ -70,6 +79,8 @@ fn turn<S: Source, K: Sink, N: Sink>(
         (drawn S.Source input.old input.new)
         (sunk K.Sink out.old out.new)
         (sunk N.Sink notes.old notes.new) }
+    ensures kernel { machine.new.kernel ≡ kernel_left (class_here machine.old)
+        (next_pc (state_of machine.old [] [])) machine.old.regs machine.old.kernel }
     ensures shapes { shapes machine.new.memory ≡ shapes machine.old.memory }
     ensures same { Stays machine.old machine.new }
 {
