@@ -1,16 +1,20 @@
 -- Steps with their devices and their chooser.
 use Rattle.std.specs.Prelude.{slice_index, slice_index_or}
-use Rattle.std.proofs.Common.{◌≡◌, ◌<◌, ◌+◌, ◌^◌, ℕ, zero, suc, List, [], ◌∷◌, length, Option, None, Some, refl, sym, ap, subst, ◌∙◌, inr, arith, append-nil}
+use Rattle.std.proofs.Common.{◌≡◌, ◌≢◌, ◌<◌, ◌+◌, ◌^◌, ℕ, zero, suc, true, List, [], ◌∷◌, length, Option, None, Some, refl, sym, ap, subst, ◌∙◌, inr, arith, append-nil}
 use Rattle.alpha_io.specs.Sunk.{Sunk}
 use Rattle.alpha_io.proofs.Sinks.{Puts-none}
 use Rattle.alpha_pal.proofs.Serving.{rest_of, Takes-nothing}
-use Rattle.alpha_seq.specs.Machine.{state_of}
+use Rattle.alpha_pal.specs.Kernel.{KernelState}
+use Rattle.alpha_table.specs.Class.{Class, operate, trigger, address, load, store, load_locked, store_conditional, branch, jump, barrier, idle}
+use Rattle.alpha_seq.specs.State.{State}
+use Rattle.alpha_seq.specs.Machine.{state_of, kernel_left}
 use Rattle.alpha_seq.specs.Devices.{Drawn}
 use Rattle.alpha_seq.specs.declared.machine.Machine.{Machine}
 use Rattle.alpha_imprecise.specs.declared.pending.Pending.{Pending}
 use Rattle.alpha_imprecise.specs.declared.end.WildEnd.{WildEnd}
 use Rattle.alpha_imprecise.specs.declared.end.WildEnd.TheVariants as ends
 use Rattle.alpha_imprecise.specs.Moment.{Happening}
+use Rattle.alpha_imprecise.specs.Step.{triggers}
 use Rattle.alpha_imprecise.specs.Telling.{Telling, Goes, Counts, Moves}
 use Rattle.alpha_imprecise.specs.Wild.{WildState}
 use Rattle.alpha_imprecise.specs.WildEffect.{IsChosen, WildSteps, Chooses, StepsAlone, WildEffect, IsFramed, Framed}
@@ -95,15 +99,30 @@ Moves-two a b d x y first second = record {
     fits (suc zero) e below = second.fit 0 e (omega arith)
     fits (suc (suc n)) e below = absurd (omega arith)
 
--- ---- the frame
+-- ---- the kernel
 
-pub framed : (end : WildEnd) (trap : Pending) (m : Machine) → IsFramed m → Framed (Some trap) end m
-framed ends.Went trap m f = f
-framed ends.Barrier trap m f = f
-framed ends.Triggered trap m f = f
-framed ends.Waited trap m f = tt
-framed (ends.Reported at) trap m f = f
-framed (ends.Ended end) trap m f = f
-framed (ends.Lost pc mask) trap m f = f
-framed ends.InputFault trap m f = f
-framed ends.SinkFault trap m f = f
+pub framed : (end : WildEnd) (trap : Pending) (old new : Machine) → end ≢ ends.Waited → IsFramed new → Framed (Some trap) end old new
+framed ends.Went trap old new reports f = f
+framed ends.Barrier trap old new reports f = f
+framed ends.Triggered trap old new reports f = f
+framed ends.Waited trap old new reports f = absurd (reports refl)
+framed (ends.Reported at) trap old new reports f = f
+framed (ends.Ended end) trap old new reports f = f
+framed (ends.Lost pc mask) trap old new reports f = f
+framed ends.InputFault trap old new reports f = f
+framed ends.SinkFault trap old new reports f = f
+
+-- a word that overflows is no PAL call
+pub kernel-triggers : (o : Option Class) (s : State) (next : ℕ) (regs : List ℕ) (k : KernelState) → triggers o s ≡ true → kernel_left o next regs k ≡ k
+kernel-triggers None s next regs k e = refl
+kernel-triggers (Some (operate op ra src rc)) s next regs k e = refl
+kernel-triggers (Some (trigger op ra src rc)) s next regs k e = refl
+kernel-triggers (Some (address op ra rb disp)) s next regs k e = refl
+kernel-triggers (Some (load extension at ra)) s next regs k e = refl
+kernel-triggers (Some (store at ra)) s next regs k e = refl
+kernel-triggers (Some (load_locked extension at ra)) s next regs k e = refl
+kernel-triggers (Some (store_conditional at ra)) s next regs k e = refl
+kernel-triggers (Some (branch condition ra disp)) s next regs k e = refl
+kernel-triggers (Some (jump ra rb)) s next regs k e = refl
+kernel-triggers (Some (barrier call)) s next regs k e = absurd cc
+kernel-triggers (Some idle) s next regs k e = refl

@@ -1,10 +1,12 @@
 -- What the machine's step did, by its answer.
-use Rattle.std.specs.Prelude.{◌≡◌, ◌⊎◌, ⊤, ℕ, List, [], ◌++◌, length, Option, None, Some}
+use Rattle.std.specs.Prelude.{◌≡◌, ◌⊎◌, ℕ, List, [], ◌++◌, length, Option, None, Some}
 use Rattle.alpha_io.specs.Sunk.{Sunk, Puts, Partly, HasFailed}
 use Rattle.alpha_seq.specs.declared.machine.Machine.{Machine}
 use Rattle.alpha_seq.specs.State.{State, Went, Barriered, Ends}
 use Rattle.alpha_seq.specs.Notes.{overflow_line}
-use Rattle.alpha_seq.specs.Machine.{program_of, state_of}
+use Rattle.alpha_pal.specs.Kernel.{KernelState}
+use Rattle.alpha_seq.specs.Step.{next_pc}
+use Rattle.alpha_seq.specs.Machine.{program_of, state_of, class_here, kernel_left}
 use Rattle.alpha_seq.specs.Devices.{Drawn, Draws, Idles}
 use Rattle.alpha_seq.specs.StepEffect.{InputFails, OutputFails}
 use Rattle.alpha_seq.specs.RunEffect.{HasNoFault, HasInputFault, HasOutputFault, HasNotesFault}
@@ -14,7 +16,7 @@ use Rattle.alpha_imprecise.specs.Moment.{Happening, Precisely, Triggered, Waited
 use Rattle.alpha_imprecise.specs.Chosen.{draw, reporting, chosen, waited_after}
 use Rattle.alpha_imprecise.specs.Telling.{Telling, Moves}
 use Rattle.alpha_imprecise.specs.declared.pending.Pending.{Pending}
-use Rattle.alpha_imprecise.specs.Wild.{WildState, trap_in, waited_in, returned_kernel}
+use Rattle.alpha_imprecise.specs.Wild.{WildState, trap_in, waited_in, bare, returned_kernel}
 
 -- From one state to another it is the step that these words choose, whatever comes behind them: they are as many as the
 -- step draws.
@@ -128,15 +130,13 @@ WildCause ends.SinkFault input out notes = HasOutputFault input out notes ⊎ Ha
 abbrev pub IsFramed : Machine → Type 0
 IsFramed m = m.kernel ≡ returned_kernel m.pc m.regs
 
--- the frame after a step at which a trap was pending: it was reported, by whatever answer, or it waited
-abbrev pub Framed : Option Pending → WildEnd → Machine → Type 0
-Framed None end m = ⊤
-Framed (Some trap) ends.Went m = IsFramed m
-Framed (Some trap) ends.Barrier m = IsFramed m
-Framed (Some trap) ends.Triggered m = IsFramed m
-Framed (Some trap) ends.Waited m = ⊤
-Framed (Some trap) (ends.Reported at) m = IsFramed m
-Framed (Some trap) (ends.Ended end) m = IsFramed m
-Framed (Some trap) (ends.Lost pc mask) m = IsFramed m
-Framed (Some trap) ends.InputFault m = IsFramed m
-Framed (Some trap) ends.SinkFault m = IsFramed m
+-- The kernel after a step. With nothing pending it is as after a step of the sequential machine. A word that is executed
+-- while a trap is pending leaves it, and a report, by whatever answer, leaves it in user mode with the frame of a trap at the
+-- PC and the registers as they are then.
+abbrev pub kernel_stepped : Option Pending → WildEnd → Machine → Machine → KernelState
+kernel_stepped None end old new = kernel_left (class_here old) (next_pc (bare old)) old.regs old.kernel
+kernel_stepped (Some trap) ends.Waited old new = old.kernel
+kernel_stepped (Some trap) _ old new = returned_kernel new.pc new.regs
+
+abbrev pub Framed : Option Pending → WildEnd → Machine → Machine → Type 0
+Framed pending end old new = new.kernel ≡ kernel_stepped pending end old new

@@ -1,10 +1,11 @@
 //! A step, by what it is: precise, a trigger, a word that is executed while a trap waits, or a report.
 
-ghost use Rattle.std.specs.Prelude.{◌≡◌, ◌<◌, ◌≤◌, ◌/◌, ◌%◌, ◌==◌, ℕ, List, [], ◌∷◌, true, false, IfSome, IfNone, IsTrue, None, Some};
+ghost use Rattle.std.specs.Prelude.{◌≡◌, ◌≢◌, ◌<◌, ◌≤◌, ◌/◌, ◌%◌, ◌==◌, ℕ, List, [], ◌∷◌, true, false, IfSome, IfNone, IsTrue, None, Some};
 ghost use Rattle.alpha_io.specs.Sunk.{sunk};
 ghost use Rattle.alpha_table.specs.Class.{class_of};
 ghost use Rattle.alpha_seq.specs.Next.{next_insn};
-ghost use Rattle.alpha_seq.specs.Machine.{class_here, program_of};
+ghost use Rattle.alpha_seq.specs.Step.{next_pc};
+ghost use Rattle.alpha_seq.specs.Machine.{class_here, program_of, kernel_left};
 ghost use Rattle.alpha_seq.specs.Devices.{drawn};
 ghost use Rattle.alpha_imprecise.specs.Moment.{Triggered, Waited, with_register};
 ghost use Rattle.alpha_imprecise.specs.Step.{triggers, destination, mask_after};
@@ -43,7 +44,7 @@ pub(crate) fn step<C: Chooser, S: Source, K: Sink, N: Sink>(
         (drawn S.Source input.old input.new)
         (sunk K.Sink out.old out.new)
         (sunk N.Sink notes.old notes.new) }
-    ensures frame { Framed pending.old result machine.new }
+    ensures frame { Framed pending.old result machine.old machine.new }
     ensures user { IsTrue machine.new.kernel.user }
     ensures bound { IfSome pending.new (λ p. p.waited ≤ 1024) }
 {
@@ -71,6 +72,8 @@ fn with_none<C: Chooser, S: Source, K: Sink, N: Sink>(
         (drawn S.Source input.old input.new)
         (sunk K.Sink out.old out.new)
         (sunk N.Sink notes.old notes.new) }
+    ensures kernel { machine.new.kernel ≡ kernel_left (class_here machine.old)
+        (next_pc (bare machine.old)) machine.old.regs machine.old.kernel }
     ensures user { IsTrue machine.new.kernel.user }
     ensures bound { IfSome pending.new (λ p. p.waited ≤ 1024) }
 {
@@ -103,7 +106,7 @@ fn with_trap<C: Chooser, N: Sink>(
         (wild_state machine.old pending.old) (wild_state machine.new pending.new)
         (telling C.ahead C.drawn chooser.old) (telling C.ahead C.drawn chooser.new)
         (sunk N.Sink notes.old notes.new) }
-    ensures frame { Framed (Some trap.now) result machine.new }
+    ensures frame { Framed (Some trap.now) result machine.old machine.new }
     ensures user { IsTrue machine.new.kernel.user }
     ensures bound { IfSome pending.new (λ p. p.waited ≤ 1024) }
 {
@@ -154,6 +157,8 @@ fn precise<S: Source, K: Sink, N: Sink>(
         (drawn S.Source input.old input.new)
         (sunk K.Sink out.old out.new)
         (sunk N.Sink notes.old notes.new) }
+    ensures kernel { machine.new.kernel ≡ kernel_left (class_here machine.old)
+        (next_pc (bare machine.old)) machine.old.regs machine.old.kernel }
     ensures user { IsTrue machine.new.kernel.user }
 {
     match machine.step_by(insn, input, out, notes) {
@@ -260,6 +265,7 @@ fn report_pending<N: Sink>(
         → AloneEffect result (wild_state machine.old pending.old)
         (wild_state machine.new pending.new) words (sunk N.Sink notes.old notes.new) }
     ensures frame { IsFramed machine.new }
+    ensures reports { result ≢ WildEnd.Waited }
     ensures user { IsTrue machine.new.kernel.user }
     ensures bound { IfSome pending.new (λ p. p.waited ≤ 1024) }
 {

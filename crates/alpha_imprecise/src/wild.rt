@@ -83,7 +83,7 @@ impl Wild {
             (drawn S.Source input.old input.new)
             (sunk K.Sink out.old out.new)
             (sunk N.Sink notes.old notes.new) }
-        ensures frame { Framed self.old.pending result self.new.machine }
+        ensures frame { Framed self.old.pending result self.old.machine self.new.machine }
         ensures cause { WildCause result
             (drawn S.Source input.old input.new)
             (sunk K.Sink out.old out.new)

@@ -1,5 +1,6 @@
 use Rattle.std.proofs.Common.{None, refl}
 use Rattle.alpha_imprecise.specs.Made.{begun}
+use Rattle.alpha_imprecise.proofs.Drawing.{made_draws}
 use Rattle.alpha_imprecise.proofs.Nearing.{calm_takes, pending_takes, comes_nearer}
 use Rattle.alpha_imprecise.proofs.Settling.{made_is}
 use Rattle.alpha_imprecise.proofs.laws.laws_of_chosen_runs.Goals as goal
@@ -9,6 +10,9 @@ returns-clause-used c g s words n = made_is g (begun s None 0 words) n refl refl
 
 pub returns-clause-steps : goal.returns-clause-steps
 returns-clause-steps c g s words n = calm_takes g (begun s None 0 words) n refl
+
+pub returns-clause-words : goal.returns-clause-words
+returns-clause-words c g s words n = made_draws g (begun s None 0 words) n refl refl refl
 
 pub returns-clause-pending : goal.returns-clause-pending
 returns-clause-pending c = pending_takes

@@ -30,8 +30,8 @@ returns-in-None-clause-effect g c =
     }
 
 pub returns-then-c-eq0-clause-frame : goal.returns-then-c-eq0-clause-frame
-returns-then-c-eq0-clause-frame g c = framed c.report_pending.result c.args.trap.now c.report_pending.new.machine c.report_pending.ensures.frame
+returns-then-c-eq0-clause-frame g c = framed c.report_pending.result c.args.trap.now c.args.machine.now c.report_pending.new.machine c.report_pending.ensures.reports c.report_pending.ensures.frame
 
 pub returns-in-None-clause-frame : goal.returns-in-None-clause-frame
 returns-in-None-clause-frame g c =
-    framed c.report_pending-in-None.result c.args.trap.now c.report_pending-in-None.new.machine c.report_pending-in-None.ensures.frame
+    framed c.report_pending-in-None.result c.args.trap.now c.args.machine.now c.report_pending-in-None.new.machine c.report_pending-in-None.ensures.reports c.report_pending-in-None.ensures.frame
