@@ -18,3 +18,5 @@ pub mod Drawing
 pub mod Nearing
 pub mod Showing
 pub mod Fresh
+pub mod Freely
+pub mod FreeRuns

@@ -30,7 +30,7 @@ ran_more g s w c h = record {
 }
 
 -- a step by the coming words is a choice
-making_step : (g : Program) (k : Making) → (c : Choice) × ((advance_making g k).run ≡ advance_wild g k.run c)
+pub making_step : (g : Program) (k : Making) → (c : Choice) × ((advance_making g k).run ≡ advance_wild g k.run c)
 making_step g k =
     let c = (draw g k.run.state k.run.pending k.waited k.words).choice in
     (c, by (finished k.run.last))

@@ -137,7 +137,7 @@ extended_at run mid new from h input output words coming count d m drew step wai
     ∙ (ap (λ (n : ℕ). record { run = over; waited = n; words = coming; count = count + length words }) (sym waits)
     ∙ ap (λ (marks : List Mark). record { run = record over { trace = run.trace ++ marks }; waited = waited_in new.pending; words = coming; count = count + length words }) (marks-same h new.machine input output))))
 
-advanced_at : (g : Program) (run : WildRun) (mid new : WildState) (h : Happening) (input output input' output' words coming : List ℕ) (count : ℕ)
+pub advanced_at : (g : Program) (run : WildRun) (mid new : WildState) (h : Happening) (input output input' output' words coming : List ℕ) (count : ℕ)
     → finished run.last ≡ false → program_of mid.machine ≡ g
     → IsChosen h mid new (state_of mid.machine input output) (state_of new.machine input' output') words coming
     → waited_in new.pending ≡ waited_after h (waited_in mid.pending)

@@ -89,7 +89,7 @@ spent_event Barriered e = refl
 spent_event (Overflowed at) e = refl
 spent_event (Ends end) e = absurd cc
 
-spent : (h : Happening) → finished h ≡ false → answer_of h ≡ runs.Spent
+pub spent : (h : Happening) → finished h ≡ false → answer_of h ≡ runs.Spent
 spent (Precisely event) e = spent_event event e
 spent Triggered e = refl
 spent Waited e = refl

@@ -12,3 +12,4 @@ pub mod Report
 pub mod WildEffect
 pub mod WildTurn
 pub mod WildRunEffect
+pub mod Free

@@ -1,6 +1,6 @@
 //! Runs: steps until the program ends, a trap is lost, or all units are used with nothing pending.
 
-ghost use Rattle.std.specs.Prelude.{◌≡◌, ◌≤◌, ℕ, List, Some, IfSome};
+ghost use Rattle.std.specs.Prelude.{◌≡◌, ◌≤◌, ℕ, List, Some, None, IfSome};
 ghost use Rattle.alpha_io.specs.Sunk.{sunk};
 ghost use Rattle.alpha_seq.specs.Devices.{drawn, AreCalm};
 ghost use Rattle.alpha_seq.specs.Machine.{Stays};
@@ -9,6 +9,8 @@ ghost use Rattle.alpha_imprecise.specs.Restart.{IsRestartable};
 ghost use Rattle.alpha_imprecise.specs.Run.{unit_of};
 ghost use Rattle.alpha_imprecise.specs.Telling.{telling};
 ghost use Rattle.alpha_imprecise.specs.Wild.{trap_in, IsFresh};
+ghost use Rattle.alpha_imprecise.specs.WildEffect.{Framed};
+ghost use Rattle.alpha_imprecise.specs.Free.{FreeEffect, NeverLoses, LosesNone};
 ghost use Rattle.alpha_imprecise.specs.WildTurn.{WildTurnEffect, run_ended_by};
 ghost use Rattle.alpha_imprecise.specs.WildRunEffect.{WildRunEffect, WildRunCause, ShowsMade, ShowsMadePart, ShowsTold, ShowsSequential};
 
@@ -26,6 +28,9 @@ use alpha_seq::{RunEnd, write_barrier};
 /// From a machine at the start and with nothing pending it is the run that the chooser's words make,
 /// where they are told. If the image can be restarted, it is the sequential run whatever the chooser
 /// answers, and `Lost` never comes.
+///
+/// Over a source that tells nothing it is the run in which each step finds some input of its own. Where no such run
+/// loses a trap `Lost` never comes.
 #[inline(never)]
 pub fn run<C: Chooser, S: Source, K: Sink, N: Sink>(
     wild: &mut Wild,
@@ -66,6 +71,12 @@ pub fn run<C: Chooser, S: Source, K: Sink, N: Sink>(
         (drawn S.Source input.old input.new)
         (sunk K.Sink out.old out.new)
         (sunk N.Sink notes.old notes.new) }
+    ensures free { FreeEffect result units watch wild.old wild.new
+        (telling C.ahead C.drawn chooser.old) (telling C.ahead C.drawn chooser.new)
+        (drawn S.Source input.old input.new)
+        (sunk K.Sink out.old out.new)
+        (sunk N.Sink notes.old notes.new) }
+    ensures found { wild.old.pending ≡ None → NeverLoses wild.old.machine.image → LosesNone result }
     ensures cause { WildRunCause result
         (drawn S.Source input.old input.new)
         (sunk K.Sink out.old out.new)
@@ -112,6 +123,7 @@ fn turn<C: Chooser, S: Source, K: Sink, N: Sink>(
         (drawn S.Source input.old input.new)
         (sunk K.Sink out.old out.new)
         (sunk N.Sink notes.old notes.new) }
+    ensures frame { Framed wild.old.pending result wild.old.machine wild.new.machine }
     ensures same { Stays wild.old.machine wild.new.machine }
 {
     match wild.step(chooser, input, out, notes) {

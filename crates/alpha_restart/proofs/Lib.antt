@@ -22,3 +22,4 @@ pub mod Rows
 pub mod Walks
 pub mod Fine
 pub mod Needed
+mod Losing

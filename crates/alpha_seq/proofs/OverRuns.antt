@@ -169,7 +169,7 @@ IsRun-over n units watch end old new input out notes most one = record {
 
 -- ---- a step that a fault cuts short
 
-between : (old mid new : Option (List ℕ)) (xs zs ys : List ℕ) → Appends old mid xs → WritesPrefix mid new zs → ys ≡ xs ++ zs → WritesBetween old new xs ys
+pub between : (old mid new : Option (List ℕ)) (xs zs ys : List ℕ) → Appends old mid xs → WritesPrefix mid new zs → ys ≡ xs ++ zs → WritesBetween old new xs ys
 between old mid new xs zs ys first part is = record {
   more = part.done;
   rest = part.rest;
@@ -178,7 +178,7 @@ between old mid new xs zs ys first part is = record {
 }
 
 -- where the input is told, this step finds what is left of it and leaves a rest of that
-abbrev Finds : Option (List ℕ) → Option (List ℕ) → List ℕ → Type 0
+abbrev pub Finds : Option (List ℕ) → Option (List ℕ) → List ℕ → Type 0
 Finds mid last next = (left : List ℕ) → mid ≡ Some left → (left ≡ next) × ((taken : List ℕ) × (rest : List ℕ) × (next ≡ taken ++ rest) × (last ≡ Some rest))
 
 IsCutAt-more : (n units : ℕ) (watch : Bool) (old mid : Machine) (next zs : List ℕ) (t : Stepped) (input out notes : Times)
@@ -215,7 +215,7 @@ IsCutAt-more n units watch old mid next zs t input out notes program less one fi
     }
 
 -- nothing was written of what the step shows
-idle-part : (s : Sunk) (bytes : List ℕ) → Idles s → WritesPrefix s.old s.new bytes
+pub idle-part : (s : Sunk) (bytes : List ℕ) → Idles s → WritesPrefix s.old s.new bytes
 idle-part s bytes idle = record {
   done = [];
   rest = bytes;

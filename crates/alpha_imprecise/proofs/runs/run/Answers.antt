@@ -8,12 +8,14 @@ use Rattle.alpha_imprecise.specs.Telling.{telling}
 use Rattle.alpha_imprecise.specs.Run.{unit_of}
 use Rattle.alpha_imprecise.specs.Wild.{trap_in}
 use Rattle.alpha_imprecise.specs.WildRunEffect.{IsMade}
+use Rattle.alpha_imprecise.specs.Free.{IsFreeRun}
 use Rattle.alpha_imprecise.proofs.Causes.{stays_then}
 use Rattle.alpha_imprecise.proofs.RunGoes.{Goes, Goes-none, turn_goes_on, turn_shortens, wait_left, all_used, room, room_less, none_left, fewer_left}
 use Rattle.alpha_imprecise.proofs.RunStops.{goes_calm, turn_stops}
 use Rattle.alpha_imprecise.proofs.RunEnds.{counts_go_on, counts_stop, grown_more, run_shows}
 use Rattle.alpha_imprecise.proofs.Prefixes.{run_shows_part}
 use Rattle.alpha_imprecise.proofs.Fresh.{run_told, run_sequential}
+use Rattle.alpha_imprecise.proofs.FreeRuns.{GoesFree, GoesFree-none, free_goes_on, free_spent, free_stops, loses_none}
 use Rattle.alpha_imprecise.proofs.runs.run.Goals as goal
 
 pub steps-init : goal.steps-init
@@ -27,6 +29,14 @@ steps-init g c = record {
       (drawn g.S.Source c.args.input.now c.args.input.now)
       (sunk g.K.Sink c.args.out.now c.args.out.now)
       (sunk g.N.Sink c.args.notes.now c.args.notes.now)) none started;
+  free =
+      let none : 0 ≡ c.args.units - c.args.units = omega arith in
+      subst (λ n. GoesFree n c.args.watch c.args.wild.now c.args.wild.now
+      (telling g.C.Chooser.ahead g.C.Chooser.drawn c.args.chooser.now) (telling g.C.Chooser.ahead g.C.Chooser.drawn c.args.chooser.now)
+      (drawn g.S.Source c.args.input.now c.args.input.now)
+      (sunk g.K.Sink c.args.out.now c.args.out.now)
+      (sunk g.N.Sink c.args.notes.now c.args.notes.now)) none
+      (GoesFree-none c.args.watch c.args.wild.now (telling g.C.Chooser.ahead g.C.Chooser.drawn c.args.chooser.now) (g.S.Source.left c.args.input.now) (g.K.Sink.written c.args.out.now) (g.N.Sink.written c.args.notes.now) (g.S.Source.faults c.args.input.now) (g.K.Sink.faults c.args.out.now) (g.N.Sink.faults c.args.notes.now));
   calm = record { source = refl; sink = refl; lines = refl };
   grown = (HasGrown-none (g.K.Sink.written c.args.out.now) (g.K.Sink.faults c.args.out.now), HasGrown-none (g.N.Sink.written c.args.notes.now) (g.N.Sink.faults c.args.notes.now));
   same = record { program = refl; mode = refl };
@@ -43,6 +53,28 @@ returns-in-Some-clause-effect g c =
     let stops = sym c.run_ended_by.ensures ∙ c.in-Some.is in
     let most = room c.args.units c.steps.left c.unit.result (unit_of (trap_in c.steps.wild.pending)) c.unit.ensures.value c.steps-test.true c.steps.invariant.most in
     λ bytes told. turn_stops bytes (c.args.units - c.steps.left) c.args.units c.args.watch c.turn-step.result c.in-Some.end c.args.wild.now c.steps.wild c.turn-step.new.wild before mid after input out notes told c.unit.ensures.bound most stops (c.steps.invariant.made bytes told) c.turn-step.ensures.effect
+
+pub returns-in-Some-clause-free : goal.returns-in-Some-clause-free
+returns-in-Some-clause-free g c =
+    let before = telling g.C.Chooser.ahead g.C.Chooser.drawn c.args.chooser.now in
+    let mid = telling g.C.Chooser.ahead g.C.Chooser.drawn c.steps.chooser in
+    let after = telling g.C.Chooser.ahead g.C.Chooser.drawn c.turn-step.new.chooser in
+    let input = times g.S.Source.left g.S.Source.faults c.args.input.now c.steps.input c.turn-step.new.input in
+    let out = times g.K.Sink.written g.K.Sink.faults c.args.out.now c.steps.out c.turn-step.new.out in
+    let notes = times g.N.Sink.written g.N.Sink.faults c.args.notes.now c.steps.notes c.turn-step.new.notes in
+    let stops = sym c.run_ended_by.ensures ∙ c.in-Some.is in
+    let most = room c.args.units c.steps.left c.unit.result (unit_of (trap_in c.steps.wild.pending)) c.unit.ensures.value c.steps-test.true c.steps.invariant.most in
+    free_stops (c.args.units - c.steps.left) c.args.units c.args.watch c.turn-step.result c.in-Some.end c.args.wild.now c.steps.wild c.turn-step.new.wild before mid after input out notes c.steps.invariant.same.program most stops c.steps.invariant.free c.turn-step.ensures.effect c.turn-step.ensures.frame
+
+pub returns-in-Some-clause-found : goal.returns-in-Some-clause-found
+returns-in-Some-clause-found g c =
+    let before = telling g.C.Chooser.ahead g.C.Chooser.drawn c.args.chooser.now in
+    let after = telling g.C.Chooser.ahead g.C.Chooser.drawn c.turn-step.new.chooser in
+    let input = times g.S.Source.left g.S.Source.faults c.args.input.now c.steps.input c.turn-step.new.input in
+    let out = times g.K.Sink.written g.K.Sink.faults c.args.out.now c.steps.out c.turn-step.new.out in
+    let notes = times g.N.Sink.written g.N.Sink.faults c.args.notes.now c.steps.notes c.turn-step.new.notes in
+    λ calm never.
+    loses_none c.in-Some.end c.args.units c.args.watch c.args.wild.now c.turn-step.new.wild before after (drawn_over input) (sunk_over out) (sunk_over notes) calm never (returns-in-Some-clause-free g c)
 
 pub returns-in-Some-clause-cause : goal.returns-in-Some-clause-cause
 returns-in-Some-clause-cause g c =
@@ -149,6 +181,9 @@ steps-preserved g c =
       made = λ bytes told.
           subst (λ n. Goes n c.args.watch c.args.wild.now c.turn-step.new.wild before after (drawn_over input) (sunk_over out) (sunk_over notes)) units
           (turn_goes_on bytes (c.args.units - c.steps.left) c.args.watch c.turn-step.result c.args.wild.now c.steps.wild c.turn-step.new.wild before mid after input out notes told c.unit.ensures.bound goes (invariant.made bytes told) c.turn-step.ensures.effect);
+      free =
+          subst (λ n. GoesFree n c.args.watch c.args.wild.now c.turn-step.new.wild before after (drawn_over input) (sunk_over out) (sunk_over notes)) units
+          (free_goes_on (c.args.units - c.steps.left) c.args.watch c.turn-step.result c.args.wild.now c.steps.wild c.turn-step.new.wild before mid after input out notes invariant.same.program goes invariant.free c.turn-step.ensures.effect c.turn-step.ensures.frame);
       calm = counts_go_on c.args.watch c.turn-step.result c.steps.wild c.turn-step.new.wild mid after input out notes goes invariant.calm c.turn-step.ensures.effect;
       grown = grown_more c.args.watch c.turn-step.result c.steps.wild c.turn-step.new.wild mid after input out notes c.steps.invariant.grown c.turn-step.ensures.effect;
       same = stays_then invariant.same c.turn-step.ensures.same;
@@ -205,3 +240,14 @@ returns-clause-restarted g c =
     let notes = sunk g.N.Sink c.args.notes.now c.steps.notes in
     λ bytes told fresh restartable.
     run_sequential c.args.units c.args.watch runs.Spent c.args.wild.now c.steps.wild before after input out notes bytes told fresh (returns-clause-effect g c bytes told) restartable
+
+pub returns-clause-free : goal.returns-clause-free
+returns-clause-free g c =
+    let before = telling g.C.Chooser.ahead g.C.Chooser.drawn c.args.chooser.now in
+    let after = telling g.C.Chooser.ahead g.C.Chooser.drawn c.steps.chooser in
+    let input = drawn g.S.Source c.args.input.now c.steps.input in
+    let out = sunk g.K.Sink c.args.out.now c.steps.out in
+    let notes = sunk g.N.Sink c.args.notes.now c.steps.notes in
+    let none = all_used c.steps.left c.steps.wild.pending (subst (λ n. c.steps.left < n) c.unit.ensures.value c.steps-test.false) in
+    subst (λ n. IsFreeRun n c.args.watch runs.Spent c.args.wild.now c.steps.wild before after input out notes) (none_left c.args.units c.steps.left none.1)
+    (free_spent (c.args.units - c.steps.left) c.args.watch c.args.wild.now c.steps.wild before after input out notes none.0 c.steps.invariant.free)

@@ -5,6 +5,7 @@ use Rattle.alpha_seq.specs.Machine.{Stays}
 use Rattle.alpha_seq.specs.RunEffect.{HasNoFault, HasGrown}
 use Rattle.alpha_imprecise.specs.Telling.{telling}
 use Rattle.alpha_imprecise.proofs.RunGoes.{Goes, wait_left}
+use Rattle.alpha_imprecise.proofs.FreeRuns.{GoesFree}
 use Rattle.alpha_imprecise.proofs.runs.run.Given as goal
 
 abbrev pub invariant-steps : goal.invariant-steps
@@ -12,6 +13,12 @@ invariant-steps g l = record {
   most : l.left ≤ l.units;
   made : (bytes : List ℕ) → g.S.Source.left l.initial.input ≡ Some bytes
       → Goes (l.units - l.left) l.watch l.initial.wild l.wild
+      (telling g.C.Chooser.ahead g.C.Chooser.drawn l.initial.chooser)
+      (telling g.C.Chooser.ahead g.C.Chooser.drawn l.chooser)
+      (drawn g.S.Source l.initial.input l.input)
+      (sunk g.K.Sink l.initial.out l.out)
+      (sunk g.N.Sink l.initial.notes l.notes);
+  free : GoesFree (l.units - l.left) l.watch l.initial.wild l.wild
       (telling g.C.Chooser.ahead g.C.Chooser.drawn l.initial.chooser)
       (telling g.C.Chooser.ahead g.C.Chooser.drawn l.chooser)
       (drawn g.S.Source l.initial.input l.input)
