@@ -40,10 +40,10 @@ module _ (g : Program) (good : IsImage g.image) (safe : IsSafe g.image.words) wh
   pending_run w place mask = record w { pending = Some (trap_of place mask) }
 
   -- what a report leaves, and what a wait at a place leaves
-  abbrev landed_run : WildRun → ℕ → ℕ → WildRun
+  abbrev pub landed_run : WildRun → ℕ → ℕ → WildRun
   landed_run w place mask = extended_wild (pending_run w place mask) (landed g w.state place)
 
-  abbrev waited_on : WildRun → ℕ → ℕ → ℕ → Choice → WildRun
+  abbrev pub waited_on : WildRun → ℕ → ℕ → ℕ → Choice → WildRun
   waited_on w place at mask c = extended_wild (pending_run w place mask) (waited (class_at g.image.words at) w.state (trap_of place mask) c)
 
   -- a step with a trap pending is one of both
