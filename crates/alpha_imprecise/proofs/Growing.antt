@@ -63,10 +63,10 @@ pub record Begins (k l : Making) : Type 0 where
   pub output : Grows k.run.state.outside.output l.run.state.outside.output
   pub trace : Grows k.run.trace l.run.trace
 
-begins_same : (k : Making) → Begins k k
+pub begins_same : (k : Making) → Begins k k
 begins_same k = record { output = Grows-same k.run.state.outside.output; trace = Grows-same k.run.trace }
 
-begins_then : (a b c : Making) → Begins a b → Begins b c → Begins a c
+pub begins_then : (a b c : Making) → Begins a b → Begins b c → Begins a c
 begins_then a b c p q = record {
   output = Grows-trans a.run.state.outside.output b.run.state.outside.output c.run.state.outside.output p.output q.output;
   trace = Grows-trans a.run.trace b.run.trace c.run.trace p.trace q.trace;
@@ -76,7 +76,7 @@ begins_either : (b : Bool) (a k l : Making) → Begins a k → Begins a l → Be
 begins_either true a k l p q = p
 begins_either false a k l p q = q
 
-advance_begins : (g : Program) (k : Making) → Begins k (advance_making g k)
+pub advance_begins : (g : Program) (k : Making) → Begins k (advance_making g k)
 advance_begins g k =
     let d = draw g k.run.state k.run.pending k.waited k.words in
     let m = chosen g k.run.state k.run.pending k.waited k.words in

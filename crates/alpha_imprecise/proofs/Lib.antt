@@ -20,3 +20,4 @@ pub mod Showing
 pub mod Fresh
 pub mod Freely
 pub mod FreeRuns
+pub mod FreeFilling

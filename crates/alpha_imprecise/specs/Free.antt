@@ -3,6 +3,7 @@
 use Rattle.std.specs.Prelude.{◌≡◌, ◌≢◌, ⊤, ℕ, zero, suc, ◌+◌, ◌≤◌, Bool, false, if◌then◌else◌, List, [], ◌∷◌, ◌++◌, length, Option, Some, None}
 use Rattle.alpha_words.specs.declared.Completion.{Completion}
 use Rattle.alpha_io.specs.Sunk.{Sunk, Puts}
+use Rattle.alpha_io.specs.Written.{WritesPrefix}
 use Rattle.alpha_table.specs.Class.{Class}
 use Rattle.alpha_pal.specs.Kernel.{KernelState}
 use Rattle.alpha_image.specs.Parts.{Parts}
@@ -155,6 +156,22 @@ pub record IsFreeCut (n : ℕ) (watch : Bool) (old : WildState) (before after : 
   pub fed : AreFedMaking old input.old words (inputs ++ next ∷ [])
   pub rest : (bytes : List ℕ) → input.old ≡ Some bytes
       → (taken : List ℕ) × (left : List ℕ) × (next ≡ taken ++ left) × (input.new ≡ Some left)
+
+-- the output and the notes are fronts of what a run of so many units, or to its end, shows by these words over some inputs
+pub record IsFrontBy (n : ℕ) (watch : Bool) (w : WildState) (words : List ℕ) (out notes : Sunk) : Type 0 where
+  pub inputs : List (List ℕ)
+  pub used : HasUsed n (run_making_over (program_of w.machine) inputs (begun_at w [] [] words)).run
+  pub bytes : WritesPrefix out.old out.new
+      (run_making_over (program_of w.machine) inputs (begun_at w [] [] words)).run.state.outside.output
+  pub lines : WritesPrefix notes.old notes.new
+      (notes_of watch (run_making_over (program_of w.machine) inputs (begun_at w [] [] words)).run.trace)
+
+-- the output and the notes are fronts of what a run of so many units, or to its end, shows over some inputs, by the words
+-- that the chooser went on by and others behind them
+pub record IsFreeFront (n : ℕ) (watch : Bool) (old : WildState) (before after : Telling) (out notes : Sunk) : Type 0 where
+  pub words : List ℕ
+  pub drew : Moves before after words
+  pub fronts : (coming : List ℕ) → IsFrontBy n watch old (words ++ coming) out notes
 
 -- what a run did over any source, by its answer
 abbrev pub FreeEffect : RunEnd → ℕ → Bool → WildState → WildState → Telling → Telling → Drawn → Sunk → Sunk → Type 0

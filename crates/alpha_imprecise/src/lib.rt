@@ -6,12 +6,14 @@
 //!   trap is lost or a number of units is used up.
 //! - A [`Chooser`] answers the words of 64 bits by which a step chooses: [`ListChooser`] has them from bytes,
 //!   [`PcgChooser`] from a seeded generator. A [`CountingChooser`] counts the words of another one.
-//! - [`laws_of_chosen_runs`]: a run by such words uses its units or is over before, and takes 1,026 steps a unit at
-//!   most.
+//! - [`laws_of_chosen_runs`]: a run by such words uses its units or is over before, takes 1,026 steps a unit at most,
+//!   and draws 2,049 words a unit at most. [`laws_of_free_runs`]: how runs in which each step finds an input of its own
+//!   stand to the run over one input.
 //!
 //! `specs/Moment.antt` has what the machine is at a moment and what it is free to choose, `specs/Step.antt` the
 //! step, `specs/Run.antt` the runs, `specs/Chosen.antt` the choices that are made by words of 64 bits,
-//! `specs/Made.antt` the runs that coming words make, `specs/Restart.antt` what it means that a program can be
+//! `specs/Made.antt` the runs that coming words make, `specs/Free.antt` the runs in which each step finds an input of its
+//! own, as over a source that tells nothing, `specs/Restart.antt` what it means that a program can be
 //! restarted after each trap, and `specs/Shown.antt` what such a program's runs show. `specs/WildEffect.antt` says what the code's step did against that, for choosers and
 //! devices that may tell nothing, `specs/WildRunEffect.antt` what its run did, and `specs/Telling.antt` how a chooser
 //! goes on. `specs/WildTurn.antt` says what a step does together with the lines of a barrier.
@@ -38,7 +40,7 @@ mod wild;
 pub use chooser::Chooser;
 pub use counting::CountingChooser;
 pub use end::WildEnd;
-pub use laws::laws_of_chosen_runs;
+pub use laws::{laws_of_chosen_runs, laws_of_free_runs};
 pub use list::ListChooser;
 pub use pcg::PcgChooser;
 pub use pending::Pending;

@@ -79,12 +79,12 @@ fill n m inputs most = filled (program_of m) n (n - (run_from m inputs).steps) (
 
 -- ---- a run that a fault cut short
 
-front : (old new : Option (List ℕ)) (xs ys zs : List ℕ) → WritesBetween old new xs ys → Grows ys zs → WritesPrefix old new zs
+pub front : (old new : Option (List ℕ)) (xs ys zs : List ℕ) → WritesBetween old new xs ys → Grows ys zs → WritesPrefix old new zs
 front old new xs ys zs b more =
     let written : WritesPrefix old new ys = record { done = xs ++ b.more; rest = b.rest; whole = b.whole; written = b.written } in
     subst (WritesPrefix old new) (sym more.is) (WritesPrefix-more old new ys more.tail written)
 
-notes-grow : (watch : Bool) (xs ys : List Mark) → Grows xs ys → Grows (notes_of watch xs) (notes_of watch ys)
+pub notes-grow : (watch : Bool) (xs ys : List Mark) → Grows xs ys → Grows (notes_of watch xs) (notes_of watch ys)
 notes-grow watch xs ys more = record {
   tail = notes_of watch more.tail;
   is = ap (notes_of watch) more.is ∙ notes-more watch xs more.tail;

@@ -1,0 +1,171 @@
+-- A run by coming words, over inputs of its own, that goes on until its units are used.
+use Rattle.std.proofs.Common.{◌≡◌, ◌<◌, ◌≤◌, ◌+◌, ◌-◌, ◌*◌, ◌||◌, ◌⊎◌, ℕ, zero, suc, Bool, true, false, List, [], ◌∷◌, ◌++◌, length, Option, Some, None, is_none, inl, inr, refl, sym, ap, subst, ◌∙◌, ⊎_elim, arith}
+use Rattle.std.proofs.lemmas.Bool.{cases_Bool, cases_lt}
+use Rattle.alpha_io.specs.Sunk.{Sunk}
+use Rattle.alpha_io.specs.Written.{WritesPrefix}
+use Rattle.alpha_seq.specs.State.{Program}
+use Rattle.alpha_seq.specs.Run.{Mark, notes_of}
+use Rattle.alpha_seq.specs.Machine.{program_of}
+use Rattle.alpha_seq.specs.Devices.{Drawn}
+use Rattle.alpha_seq.proofs.Growing.{Grows}
+use Rattle.alpha_seq.proofs.Filling.{front, notes-grow}
+use Rattle.alpha_imprecise.specs.Moment.{Trap}
+use Rattle.alpha_imprecise.specs.Run.{WildRun, HasUsed, finished, unit_of}
+use Rattle.alpha_imprecise.specs.Made.{Making, advance_making, Nearer, Used, Waiting, Settled, Finished}
+use Rattle.alpha_imprecise.specs.Telling.{Telling}
+use Rattle.alpha_imprecise.specs.Wild.{WildState}
+use Rattle.alpha_imprecise.specs.WildRunEffect.{begun_at}
+use Rattle.alpha_imprecise.specs.Free.{making_over, advance_making_over, run_making_over, IsAmid, IsFreeCut, IsFrontBy, IsFreeFront}
+use Rattle.alpha_imprecise.proofs.Settling.{advance-going}
+use Rattle.alpha_imprecise.proofs.Nearing.{comes_nearer}
+use Rattle.alpha_imprecise.proofs.Growing.{Begins, begins_same, begins_then, advance_begins}
+use Rattle.alpha_imprecise.proofs.Freely.{run_making-last, advance_making_over-going}
+
+-- how many steps a run may still make: 1,026 a unit, and what a pending trap may still wait
+abbrev wait_of : Option Trap → ℕ → ℕ
+wait_of None waited = 0
+wait_of (Some t) waited = suc (1024 - waited)
+
+abbrev left_of : ℕ → Making → ℕ
+left_of n k = (n - k.run.units) * 1026 + wait_of k.run.pending k.waited
+
+wait_most : (o : Option Trap) (waited : ℕ) → wait_of o waited ≤ 1025
+wait_most None waited = omega arith
+wait_most (Some t) waited = omega arith
+
+module _ (g : Program) where
+  -- a step uses a unit where nothing is pending
+  units-step : (k : Making) → finished k.run.last ≡ false → (advance_making g k).run.units ≡ k.run.units + unit_of k.run.pending
+  units-step k going = ap (λ (j : Making). j.run.units) (advance-going g k going)
+
+  -- it leaves fewer, or ends the run
+  shorter : (n : ℕ) (k : Making) → finished k.run.last ≡ false → k.run.units + unit_of k.run.pending ≤ n
+      → (left_of n (advance_making g k) < left_of n k) ⊎ (finished (advance_making g k).run.last ≡ true)
+  shorter n k going room = by k.run.pending refl
+    where
+      pending : (t : Trap) → k.run.pending ≡ Some t → Nearer k (advance_making g k)
+          → (left_of n (advance_making g k) < left_of n k) ⊎ (finished (advance_making g k).run.last ≡ true)
+      pending t e (Used used) =
+          let units = units-step k going ∙ ap (λ (o : Option Trap). k.run.units + unit_of o) e in
+          absurd (omega (arith, used, units))
+      pending t e (Waiting low more) =
+          let units = units-step k going ∙ ap (λ (o : Option Trap). k.run.units + unit_of o) e in
+          let before : wait_of k.run.pending k.waited ≡ suc (1024 - k.waited) = ap (λ (o : Option Trap). wait_of o k.waited) e in
+          let after : wait_of (advance_making g k).run.pending (advance_making g k).waited ≤ suc (1024 - (advance_making g k).waited) = most (advance_making g k).run.pending (advance_making g k).waited in
+          inl (omega (arith, units, before, after, low, more))
+        where
+          most : (o : Option Trap) (waited : ℕ) → wait_of o waited ≤ suc (1024 - waited)
+          most None waited = omega arith
+          most (Some t) waited = omega arith
+      pending t e (Settled none) =
+          let units = units-step k going ∙ ap (λ (o : Option Trap). k.run.units + unit_of o) e in
+          let before : wait_of k.run.pending k.waited ≡ suc (1024 - k.waited) = ap (λ (o : Option Trap). wait_of o k.waited) e in
+          let after : wait_of (advance_making g k).run.pending (advance_making g k).waited ≡ 0 = ap (λ (o : Option Trap). wait_of o (advance_making g k).waited) none in
+          inl (omega (arith, units, before, after))
+      pending t e (Finished over) = inr over
+
+      by : (o : Option Trap) → k.run.pending ≡ o → (left_of n (advance_making g k) < left_of n k) ⊎ (finished (advance_making g k).run.last ≡ true)
+      by (Some t) e = pending t e (comes_nearer g k going)
+      by None e =
+          let units = units-step k going ∙ ap (λ (o : Option Trap). k.run.units + unit_of o) e in
+          let used : k.run.units + 1 ≤ n = subst (λ (o : Option Trap). k.run.units + unit_of o ≤ n) e room in
+          let after = wait_most (advance_making g k).run.pending (advance_making g k).waited in
+          inl (omega (arith, units, used, after))
+
+  -- a run goes on over inputs to one that has used its units
+  pub record Filled (n : ℕ) (k : Making) : Type 0 where
+    pub inputs : List (List ℕ)
+    pub used : HasUsed n (run_making_over g inputs k).run
+    pub begins : Begins k (run_making_over g inputs k)
+
+  over_filled : (n : ℕ) (k : Making) → k.run.units ≤ n → finished k.run.last ≡ true → Filled n k
+  over_filled n k most over = record {
+    inputs = [];
+    used = record {
+      settled = ap (λ (b : Bool). b || is_none k.run.pending) over;
+      most = most;
+      full = λ goes. absurd (let no : true ≡ false = sym over ∙ goes in cc);
+    };
+    begins = begins_same k;
+  }
+
+  pub filled : (n fuel : ℕ) (k : Making) → k.run.units ≤ n → left_of n k < fuel → Filled n k
+  filled n zero k most low = absurd (omega arith)
+  filled n (suc fuel) k most low =
+      ⊎_elim (over_filled n k most) (λ (going : finished k.run.last ≡ false). by k.run.pending refl going (λ l units fewer. filled n fuel l units fewer)) (cases_Bool (finished k.run.last))
+    where
+      on : finished k.run.last ≡ false → k.run.units + unit_of k.run.pending ≤ n → ((l : Making) → l.run.units ≤ n → left_of n l < fuel → Filled n l) → Filled n k
+      on going room again =
+          let over = making_over [] k in
+          let same : advance_making_over g k [] ≡ advance_making g over = advance_making_over-going g k [] going in
+          let units : (advance_making g over).run.units ≤ n = subst (λ m. m ≤ n) (sym (units-step over going)) room in
+          let rest : Filled n (advance_making g over) =
+          ⊎_elim
+          (λ (fewer : left_of n (advance_making g over) < left_of n over). again (advance_making g over) units (omega (arith, low, fewer)))
+          (λ (ended : finished (advance_making g over).run.last ≡ true). over_filled n (advance_making g over) units ended)
+          (shorter n over going room) in
+          record {
+            inputs = [] ∷ rest.inputs;
+            used = subst (λ (j : Making). HasUsed n (run_making_over g rest.inputs j).run) (sym same) rest.used;
+            begins = subst (λ (j : Making). Begins k (run_making_over g rest.inputs j)) (sym same)
+                (begins_then k (advance_making g over) (run_making_over g rest.inputs (advance_making g over)) step_begins rest.begins);
+          }
+        where
+          step_begins : Begins k (advance_making g (making_over [] k))
+          step_begins = let b = advance_begins g (making_over [] k) in record { output = b.output; trace = b.trace }
+
+      by : (o : Option Trap) → k.run.pending ≡ o → finished k.run.last ≡ false → ((l : Making) → l.run.units ≤ n → left_of n l < fuel → Filled n l) → Filled n k
+      by (Some t) e going again = on going (subst (λ (p : Option Trap). k.run.units + unit_of p ≤ n) (sym e) (omega (arith, most))) again
+      by None e going again =
+          ⊎_elim
+          (λ (less : k.run.units < n). on going (subst (λ (p : Option Trap). k.run.units + unit_of p ≤ n) (sym e) (omega (arith, less))) again)
+          (λ (full : n ≤ k.run.units). record {
+            inputs = [];
+            used = record {
+              settled = ap (λ (b : Bool). b || is_none k.run.pending) going ∙ ap (λ (p : Option Trap). is_none p) e;
+              most = most;
+              full = λ goes. omega (arith, most, full);
+            };
+            begins = begins_same k;
+          })
+          (cases_lt k.run.units n)
+
+  append-making : (xs ys : List (List ℕ)) (k : Making) → run_making_over g (xs ++ ys) k ≡ run_making_over g ys (run_making_over g xs k)
+  append-making [] ys k = refl
+  append-making (x ∷ xs) ys k = append-making xs ys (advance_making_over g k x)
+
+-- ---- a run that a fault cut short
+
+cut_by : (n : ℕ) (watch : Bool) (old : WildState) (words next : List ℕ) (inputs : List (List ℕ)) (out notes : Sunk)
+    → IsAmid n watch (program_of old.machine) (run_making_over (program_of old.machine) inputs (begun_at old [] [] words)) next out notes
+    → IsFrontBy n watch old words out notes
+cut_by n watch old words next inputs out notes cut =
+    let g = program_of old.machine in
+    let start = begun_at old [] [] words in
+    let k = run_making_over g inputs start in
+    let over = making_over next k in
+    let l = advance_making_over g k next in
+    let stepped : l ≡ advance_making g over = advance_making_over-going g k next cut.going in
+    let one : run_making_over g (inputs ++ next ∷ []) start ≡ l = run_making-last g inputs next start in
+    let units : l.run.units ≤ n = subst (λ m. m ≤ n) (sym (ap (λ (j : Making). j.run.units) stepped ∙ units-step g over cut.going)) cut.room in
+    let rest = filled g n (suc (left_of n l)) l units (omega arith) in
+    let all : run_making_over g ((inputs ++ next ∷ []) ++ rest.inputs) start ≡ run_making_over g rest.inputs l =
+    append-making g (inputs ++ next ∷ []) rest.inputs start ∙ ap (run_making_over g rest.inputs) one in
+    let last = run_making_over g rest.inputs l in
+    record {
+      inputs = (inputs ++ next ∷ []) ++ rest.inputs;
+      used = subst (λ (j : Making). HasUsed n j.run) (sym all) rest.used;
+      bytes = subst (λ (j : Making). WritesPrefix out.old out.new j.run.state.outside.output) (sym all)
+          (front out.old out.new k.run.state.outside.output l.run.state.outside.output last.run.state.outside.output cut.output rest.begins.output);
+      lines = subst (λ (j : Making). WritesPrefix notes.old notes.new (notes_of watch j.run.trace)) (sym all)
+          (front notes.old notes.new (notes_of watch k.run.trace) (notes_of watch l.run.trace) (notes_of watch last.run.trace) cut.lines
+          (notes-grow watch l.run.trace last.run.trace rest.begins.trace));
+    }
+
+pub cut_free : (n : ℕ) (watch : Bool) (old : WildState) (before after : Telling) (input : Drawn) (out notes : Sunk)
+    → IsFreeCut n watch old before after input out notes → IsFreeFront n watch old before after out notes
+cut_free n watch old before after input out notes cut = record {
+  words = cut.words;
+  drew = cut.drew;
+  fronts = λ coming. cut_by n watch old (cut.words ++ coming) cut.next cut.inputs out notes (cut.amid coming);
+}
