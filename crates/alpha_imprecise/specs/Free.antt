@@ -11,13 +11,14 @@ use Rattle.alpha_seq.specs.declared.end.RunEnd.{RunEnd}
 use Rattle.alpha_seq.specs.declared.end.RunEnd.TheVariants as runs
 use Rattle.alpha_seq.specs.State.{Program, State}
 use Rattle.alpha_seq.specs.Step.{next_pc, next_class}
-use Rattle.alpha_seq.specs.Run.{notes_of}
+use Rattle.alpha_seq.specs.Start.{start}
+use Rattle.alpha_seq.specs.Run.{started, end_of, notes_of}
 use Rattle.alpha_seq.specs.Machine.{program_of, kernel_left}
 use Rattle.alpha_seq.specs.Devices.{Drawn}
-use Rattle.alpha_seq.specs.Inputs.{over_input, WritesBetween}
+use Rattle.alpha_seq.specs.Inputs.{over_input, run_over, HasMade, WritesBetween}
 use Rattle.alpha_imprecise.specs.Moment.{Trap, Choice, Happening, Waited, Lost}
 use Rattle.alpha_imprecise.specs.Run.{WildRun, HasUsed, finished, started_wild, unit_of, advance_wild}
-use Rattle.alpha_imprecise.specs.Made.{Making, advance_making, steps_making}
+use Rattle.alpha_imprecise.specs.Made.{Making, advance_making, steps_making, wild_end, lost_trap}
 use Rattle.alpha_imprecise.specs.Telling.{Telling, Moves}
 use Rattle.alpha_imprecise.specs.Wild.{WildState, returned_kernel}
 use Rattle.alpha_imprecise.specs.WildRunEffect.{begun_at, making_at, answer_of}
@@ -183,3 +184,23 @@ FreeEffect (runs.Lost pc mask) n watch old new before after input out notes =
     IsFreeRun n watch (runs.Lost pc mask) old new before after input out notes
 FreeEffect runs.InputFault n watch old new before after input out notes = IsFreeCut n watch old before after input out notes
 FreeEffect runs.SinkFault n watch old new before after input out notes = IsFreeCut n watch old before after input out notes
+
+-- ---- where such runs are those of the sequential machine
+
+-- A run from the start over some inputs, one a unit, of the sequential machine: it has the same end, number of steps,
+-- output and trace, and no trap was lost.
+pub record SameFree (n : ℕ) (g : Program) (s : State) (w : WildRun) : Type 0 where
+  pub inputs : List (List ℕ)
+  pub each : length inputs ≡ w.units
+  pub made : HasMade n (run_over g inputs (started s))
+  pub end : wild_end w.last ≡ end_of (run_over g inputs (started s)).last
+  pub lost : lost_trap w.last ≡ None
+  pub steps : w.units ≡ (run_over g inputs (started s)).steps
+  pub output : w.state.outside.output ≡ (run_over g inputs (started s)).state.outside.output
+  pub trace : w.trace ≡ (run_over g inputs (started s)).trace
+
+-- every run from the start by free choices that has used so many units is such a run of as many steps
+abbrev pub FreeAlike : Parts → Type 0
+FreeAlike image = (how : Completion) (steps : List Free) (n : ℕ)
+    → let g : Program = record { image = image; how = how } in
+    let w = run_free g steps (started_wild (start g [])) in HasUsed n w → SameFree n g (start g []) w

@@ -24,7 +24,7 @@ stays_wild : (g : Program) (w : WildRun) (c : Choice) → finished w.last ≡ tr
 stays_wild g w c e = ap (λ b. cond b w (extended_wild w (wild g w.state w.pending c))) (sym e)
 
 -- a step with nothing pending uses a unit
-unit_more : (g : Program) (w : WildRun) (c : Choice) → w.pending ≡ None → finished w.last ≡ false → suc w.units ≡ (advance_wild g w c).units
+pub unit_more : (g : Program) (w : WildRun) (c : Choice) → w.pending ≡ None → finished w.last ≡ false → suc w.units ≡ (advance_wild g w c).units
 unit_more g w c pending going =
     sym (add-one w.units)
     ∙ (ap (λ (o : Option Trap). w.units + unit_of o) (sym pending)

@@ -23,3 +23,4 @@ pub mod Walks
 pub mod Fine
 pub mod Needed
 mod Losing
+mod FreeTogether

@@ -30,10 +30,8 @@ data Sure (g : Program) (w : WildRun) : Type 0 where
   trailing : (place at : ℕ) → Trail g place at w → Sure g w
 
 -- over another input, which none of it speaks of
-sure_over : (g : Program) (input : List ℕ) (w : WildRun) → Sure g w → Sure g (wild_over input w)
-sure_over g input w (ended over never) = ended over never
-sure_over g input w (calm none going) = calm none going
-sure_over g input w (trailing place at h) = trailing place at (record {
+pub trail_over : (g : Program) (place at : ℕ) (input : List ℕ) (w : WildRun) → Trail g place at w → Trail g place at (wild_over input w)
+trail_over g place at input w h = record {
   rc = h.rc;
   mask = h.mask;
   pending = h.pending;
@@ -46,7 +44,12 @@ sure_over g input w (trailing place at h) = trailing place at (record {
   counted = h.counted;
   has = h.has;
   covers = h.covers;
-})
+}
+
+sure_over : (g : Program) (input : List ℕ) (w : WildRun) → Sure g w → Sure g (wild_over input w)
+sure_over g input w (ended over never) = ended over never
+sure_over g input w (calm none going) = calm none going
+sure_over g input w (trailing place at h) = trailing place at (trail_over g place at input w h)
 
 module _ (g : Program) (good : IsImage g.image) (safety : IsSafe g.image.words) where
   -- ---- with nothing pending

@@ -8,7 +8,7 @@ ghost use Rattle.alpha_seq.specs.State.{Program, State};
 ghost use Rattle.alpha_imprecise.specs.Moment.{Trap, Choice, IsChoice, Moment};
 ghost use Rattle.alpha_imprecise.specs.Step.{wild};
 ghost use Rattle.alpha_imprecise.specs.Restart.{IsRestartable};
-ghost use Rattle.alpha_imprecise.specs.Free.{NeverLoses};
+ghost use Rattle.alpha_imprecise.specs.Free.{NeverLoses, FreeAlike};
 ghost use Rattle.alpha_restart.specs.Safe.{IsSafe};
 ghost use Rattle.alpha_restart.specs.Table.{Row, WalksAgree};
 ghost use Rattle.alpha_imprecise.specs.Shown.{ChoicesAlike, RunsAlike};
@@ -30,12 +30,15 @@ ghost use Rattle.alpha_restart.specs.Needed.{Needs, StopsApart};
 /// 4. Where it has not ended and nothing is pending, the precise run has not ended either, and has the
 ///    same input left, output and notes.
 ///
-/// No trap is lost from any other state either that has nothing pending, whatever input each step finds.
+/// No trap is lost from any other state either that has nothing pending, whatever input each step finds. And where
+/// each step finds an input of its own, a run that has used its units is a precise run over some inputs, one a step.
 pub fn laws_of_restarts()
     ensures accepted { (image : Parts) → IsImage image → IsAccepted image.words
         → IsRestartable image }
     ensures found { (image : Parts) → IsImage image → IsAccepted image.words
         → NeverLoses image }
+    ensures free { (image : Parts) → IsImage image → IsAccepted image.words
+        → FreeAlike image }
     ensures safe { (image : Parts) → IsAccepted image.words → IsSafe image.words }
 {}
 
