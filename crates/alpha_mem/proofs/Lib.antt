@@ -6,3 +6,4 @@ mod Places
 mod Writable
 mod Kept
 pub mod LawLemmas
+pub mod Regions

@@ -47,7 +47,7 @@ first_byte a n b some h =
     let p = holds-true (shape_of b) a n h in
     holds-from (shape_of b) a 1 p.0 (omega arith)
 
-found_at : (m : List Block) (a n i : ℕ) (o : Option ℕ) → IsLayout (shapes m) → 0 < n → i < length m → (d : Block) → spans a n (get_or m i d) ≡ true → position (spans a n) m ≡ o → is_some o ≡ true → o ≡ Some i
+pub found_at : (m : List Block) (a n i : ℕ) (o : Option ℕ) → IsLayout (shapes m) → 0 < n → i < length m → (d : Block) → spans a n (get_or m i d) ≡ true → position (spans a n) m ≡ o → is_some o ≡ true → o ≡ Some i
 found_at m a n i None layout some inside d h e there = absurd (false≢true there)
 found_at m a n i (Some j) layout some inside d h e there =
     let p = position-Some (spans a n) m j d e in

@@ -16,6 +16,7 @@ pub enum Size {
 
 impl Size {
     /// The number of bytes.
+    #[inline(always)]
     pub fn bytes(self) -> u64
         ensures { result ≡ size_of self }
     {

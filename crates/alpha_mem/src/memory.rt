@@ -6,7 +6,7 @@ ghost use Rattle.alpha_words.specs.Digits.{little, low_bytes};
 ghost use Rattle.alpha_mem.specs.Intent.{Load, Store};
 ghost use Rattle.alpha_mem.specs.Block.{shape_of, shapes, holds, within, block};
 ghost use Rattle.alpha_mem.specs.Fault.{fault_of};
-ghost use Rattle.alpha_mem.specs.Memory.{bytes_at, write_bytes, IsFree, IsMemory};
+ghost use Rattle.alpha_mem.specs.Memory.{bytes_at, write_bytes, IsFree, IsLayout, IsMemory};
 
 use crate::number::number_of;
 use crate::region::Region;
@@ -71,6 +71,7 @@ impl Memory {
     /// The little-endian number of the size's bytes at the address, extended with zeros
     /// (Architecture Handbook, section 4.2). `Align` where the address is no multiple of the size,
     /// else `Region` where a byte lies in no region.
+    #[inline(always)]
     pub fn load(&self, addr: u64, size: Size) -> Result<u64, MemFault>
         ensures fault { result_err result ≡ fault_of (shapes self.now) Load addr (size_of size) }
         ensures ok { IfOk result (λ v. v ≡ little (bytes_at self.now addr (size_of size))) }
@@ -90,6 +91,7 @@ impl Memory {
     /// Writes the number's low bytes at the address, as many as the size says, the lowest first
     /// (Architecture Handbook, section 4.2). `Align` where the address is no multiple of the size,
     /// else `Region` where a byte lies in no region that is writable. A fault changes nothing.
+    #[inline(always)]
     pub fn store(&mut self, addr: u64, size: Size, value: u64) -> Result<(), MemFault>
         ensures fault { result_err result ≡ fault_of (shapes self.old) Store addr (size_of size) }
         ensures ok { OnOk result
@@ -130,6 +132,7 @@ impl Memory {
     }
 
     /// The bytes of a range: `None` where it has bytes and doesn't lie within one region.
+    #[inline(always)]
     pub fn bytes(&self, addr: u64, len: u64) -> Option<&[u8]>
         ensures none { IsSome result ↔ IsTrue (within (shapes self.now) Load addr len) }
         ensures found { IfSome result (λ bytes. bytes.now ≡ bytes_at self.now addr len) }
@@ -139,7 +142,7 @@ impl Memory {
         if len == 0 {
             return Some(&[]);
         }
-        let i = index_of(regions, addr, len)?;
+        let i = place_of(regions, addr, len)?;
         let region = &regions[i];
         Some(region.part(addr, len))
     }
@@ -173,13 +176,31 @@ fn index_of(regions: &[Region], addr: u64, len: u64) -> Option<usize>
     regions.iter().position(|r| r.holds(addr, len))
 }
 
-// The place in the list of the first region that is writable and that the range lies within.
+// The place in the list of the region that the range lies within. Regions share no address, so it is one. The last
+// are asked first: the stack is the last one, and the code the first.
+#[inline(always)]
+fn place_of(regions: &[Region], addr: u64, len: u64) -> Option<usize>
+    requires layout { IsLayout (shapes regions.now) }
+    requires some { 0 < len }
+    ensures { result ≡ position (λ b. holds (shape_of b) addr len) regions.now }
+{
+    for i in (0..regions.len()).rev() {
+        if regions[i].holds(addr, len) {
+            return Some(i);
+        }
+    }
+    None
+}
+
+// The same of a region that is writable.
+#[inline(always)]
 fn place_to_write(regions: &[Region], addr: u64, len: u64) -> Option<usize>
+    requires layout { IsLayout (shapes regions.now) }
+    requires some { 0 < len }
     ensures { result ≡ position (λ b. b.writable && holds (shape_of b) addr len) regions.now }
 {
-    regions
-        .iter()
-        .position(|r| r.writable() && r.holds(addr, len))
+    let i = place_of(regions, addr, len)?;
+    if regions[i].writable() { Some(i) } else { None }
 }
 
 // Whether the range lies within a region that is writable.

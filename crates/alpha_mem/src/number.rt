@@ -3,6 +3,7 @@ ghost use Rattle.alpha_words.specs.Digits.{little};
 
 /// The number whose bytes these are, at most eight, the lowest first (Architecture Handbook,
 /// section 2.1).
+#[inline(always)]
 pub fn number_of(bytes: &[u8]) -> u64
     requires { length bytes.now ≤ 8 }
     ensures { result ≡ little bytes.now }

@@ -8,7 +8,7 @@ use alpha_words::NoMemory;
 use std::alloc::Global;
 use std::marker::Model;
 
-/// Bytes that stand in a row from an address on. A clause sees the block.
+/// Bytes that stand in a row from an address on, and end at or below 2 ^ 30. A clause sees the block.
 #[derive(Debug, Drop)]
 pub struct Region {
     first: u64,
@@ -17,11 +17,14 @@ pub struct Region {
 }
 
 impl Model for Region {
+    ghost use Rattle.std.specs.Prelude.{◌+◌, ◌^◌, ◌≤◌, length};
     ghost use Rattle.alpha_mem.specs.Block.{Block};
 
     ghost Value = { Block };
 
     ghost view = { λ r. record { first = r.first; bytes = r.bytes.items; writable = r.writable } };
+
+    ghost invariant = { λ r. r.first + length r.bytes.items ≤ 2 ^ 30 };
 }
 
 impl Region {
@@ -33,7 +36,7 @@ impl Region {
         zeroed: u64,
         writable: bool,
     ) -> Result<Region, NoMemory>
-        requires { length bytes.now + zeroed ≤ 2 ^ 30 }
+        requires { first + length bytes.now + zeroed ≤ 2 ^ 30 }
         ensures { IfOk result (λ b. b ≡ block first bytes.now zeroed writable) }
     {
         let size = bytes.len() + zeroed as usize;
@@ -48,14 +51,18 @@ impl Region {
     }
 
     /// Whether the range lies within the region.
+    // An address below the region has a place past its end, modulo 2^64.
+    #[inline(always)]
     pub fn holds(&self, addr: u64, len: u64) -> bool
         ensures { result ≡ holds (shape_of self.now) addr len }
     {
+        let at = addr.wrapping_sub(self.first);
         let size = self.bytes.len() as u64;
-        self.first <= addr && addr - self.first <= size && len <= size - (addr - self.first)
+        at <= size && len <= size - at
     }
 
     /// Whether stores may write the region.
+    #[inline(always)]
     pub fn writable(&self) -> bool
         ensures { result ≡ self.now.writable }
     {
@@ -63,6 +70,7 @@ impl Region {
     }
 
     /// The bytes of a range of the region.
+    #[inline(always)]
     pub fn part(&self, addr: u64, len: u64) -> &[u8]
         requires { IsTrue (holds (shape_of self.now) addr len) }
         ensures { result.now ≡ part self.now addr len }
@@ -72,6 +80,7 @@ impl Region {
     }
 
     /// Writes a range of the region.
+    #[inline(always)]
     pub fn put(&mut self, addr: u64, bytes: &[u8])
         requires { IsTrue (holds (shape_of self.old) addr (length bytes.now)) }
         ensures { self.new ≡ overwritten self.old addr bytes.now }
@@ -82,6 +91,7 @@ impl Region {
 
     /// Writes the number's low bytes, as many as the size says, the lowest first (Architecture
     /// Handbook, section 2.1).
+    #[inline(always)]
     pub fn put_number(&mut self, addr: u64, size: Size, value: u64)
         requires { IsTrue (holds (shape_of self.old) addr (size_of size)) }
         ensures { self.new ≡ overwritten self.old addr (low_bytes (size_of size) value) }
