@@ -45,15 +45,6 @@ logged_machine m rc value = record m {
   last = m.pc;
 }
 
--- what an overflow did whose completed value is given, by whether it ends the program
-abbrev pub overflow_answer : Bool → Machine → Executed
-overflow_answer true m = answers.Ended (ends.Overflow m.pc)
-overflow_answer false m = answers.Overflowed m.pc
-
-abbrev pub overflow_left : Bool → Machine → ℕ → ℕ → Machine
-overflow_left true m rc value = m
-overflow_left false m rc value = logged_machine m rc value
-
 -- the sizes of accesses
 abbrev pub IsSized : ℕ → Type 0
 IsSized bytes = (bytes ≡ 1) ⊎ ((bytes ≡ 2) ⊎ ((bytes ≡ 4) ⊎ (bytes ≡ 8)))

@@ -1,11 +1,11 @@
-ghost use Rattle.std.specs.Prelude.{◌≡◌, [], IfOk};
+ghost use Rattle.std.specs.Prelude.{◌≡◌, ◌==◌, [], IfOk, if◌then◌else◌};
 ghost use Rattle.std.specs.Int.{w32};
 ghost use Rattle.std.specs.Result.{result_err};
 ghost use Rattle.alpha_mem.specs.Size.{size_of};
 ghost use Rattle.alpha_mem.specs.Block.{shapes};
 ghost use Rattle.alpha_mem.specs.Fault.{fault_of};
 ghost use Rattle.alpha_mem.specs.Intent.{Load};
-ghost use Rattle.alpha_table.specs.Class.{class_of, load, store, load_locked, store_conditional};
+ghost use Rattle.alpha_table.specs.Class.{class_of, load, store, load_locked, store_conditional, idle};
 ghost use Rattle.alpha_table.specs.declared.form.Form.TheVariants.{Mem};
 ghost use Rattle.alpha_values.specs.Numbers.{signed, register_of};
 ghost use Rattle.alpha_seq.specs.Step.{fault_end, place, loaded};
@@ -15,32 +15,50 @@ ghost use Rattle.alpha_seq.specs.Executed.{ExecuteEffect, IsSized, filled, row_a
 use crate::execute::Executed;
 use crate::{End, Machine};
 use alpha_mem::{MemFault, Size};
-use alpha_table::{Extension, MemAccess, MemOp, MemRole};
+use alpha_table::{Extension, MemAccess, MemOp};
 use alpha_values::access_address;
 use alpha_words::Reg;
 
 // The words with a displacement, which load, store or compute an address.
 impl Machine {
+    // An arm an operation, so that its row is known where it is executed.
     #[inline(always)]
     pub(crate) fn memory_word(&mut self, op: MemOp, ra: Reg, rb: Reg, disp: i16) -> Executed
         ensures { ExecuteEffect result (class_of (Mem op ra rb disp)) self.old self.new }
     {
-        let at = memory_access(op, rb, disp);
-        match op.row().role {
-            MemRole::Address => self.address(op, ra, rb, disp),
-            MemRole::Load(_) if ra == Reg::ZERO => self.idle(),
-            MemRole::Load(extension) => self.load(extension, &at, ra),
-            MemRole::Store => self.store(&at, ra),
-            MemRole::LoadLocked(extension) => self.load_locked(extension, &at, ra),
-            MemRole::StoreConditional => self.store_conditional(&at, ra),
+        match op {
+            MemOp::Lda => self.address(MemOp::Lda, ra, rb, disp),
+            MemOp::Ldah => self.address(MemOp::Ldah, ra, rb, disp),
+            MemOp::Ldbu => self.load(Extension::Zero, &memory_access(MemOp::Ldbu, rb, disp), ra),
+            MemOp::Ldwu => self.load(Extension::Zero, &memory_access(MemOp::Ldwu, rb, disp), ra),
+            MemOp::Ldl => self.load(Extension::Sign, &memory_access(MemOp::Ldl, rb, disp), ra),
+            MemOp::Ldq => self.load(Extension::Zero, &memory_access(MemOp::Ldq, rb, disp), ra),
+            MemOp::LdqU => self.load(Extension::Zero, &memory_access(MemOp::LdqU, rb, disp), ra),
+            MemOp::Stb => self.store(&memory_access(MemOp::Stb, rb, disp), ra),
+            MemOp::Stw => self.store(&memory_access(MemOp::Stw, rb, disp), ra),
+            MemOp::Stl => self.store(&memory_access(MemOp::Stl, rb, disp), ra),
+            MemOp::Stq => self.store(&memory_access(MemOp::Stq, rb, disp), ra),
+            MemOp::StqU => self.store(&memory_access(MemOp::StqU, rb, disp), ra),
+            MemOp::LdlL => {
+                self.load_locked(Extension::Sign, &memory_access(MemOp::LdlL, rb, disp), ra)
+            }
+            MemOp::LdqL => {
+                self.load_locked(Extension::Zero, &memory_access(MemOp::LdqL, rb, disp), ra)
+            }
+            MemOp::StlC => self.store_conditional(&memory_access(MemOp::StlC, rb, disp), ra),
+            MemOp::StqC => self.store_conditional(&memory_access(MemOp::StqC, rb, disp), ra),
         }
     }
 
+    // A load into R31 makes no access.
     #[inline(always)]
     fn load(&mut self, extension: Extension, at: &MemAccess, ra: Reg) -> Executed
         requires { IsSized at.now.bytes }
-        ensures { ExecuteEffect result (load extension at.now ra) self.old self.new }
+        ensures { ExecuteEffect result (if ra == 31 then idle else load extension at.now ra) self.old self.new }
     {
+        if ra == Reg::ZERO {
+            return self.idle();
+        }
         let addr = self.place(at);
         match self.read(extension, at, addr) {
             Ok(value) => {
@@ -51,7 +69,7 @@ impl Machine {
         }
     }
 
-    #[inline(never)]
+    #[inline(always)]
     fn load_locked(&mut self, extension: Extension, at: &MemAccess, ra: Reg) -> Executed
         requires { IsSized at.now.bytes }
         ensures { ExecuteEffect result (load_locked extension at.now ra) self.old self.new }
@@ -84,7 +102,7 @@ impl Machine {
     }
 
     // It stores where the lock flag has the number of its sixteen bytes, and faults alike where it doesn't.
-    #[inline(never)]
+    #[inline(always)]
     fn store_conditional(&mut self, at: &MemAccess, ra: Reg) -> Executed
         requires { IsSized at.now.bytes }
         ensures { ExecuteEffect result (store_conditional at.now ra) self.old self.new }
@@ -159,6 +177,7 @@ pub fn size(bytes: u8) -> Size
 }
 
 // The end that the fault of an access brings.
+#[inline(always)]
 pub(crate) fn fault_end(fault: MemFault, pc: u64, addr: u64) -> End
     ensures { result ≡ fault_end fault pc addr }
 {

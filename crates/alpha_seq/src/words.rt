@@ -2,9 +2,8 @@ ghost use Rattle.std.specs.Prelude.{◌≡◌, ◌+◌, ◌+ℤ◌, ◌*ℤ◌, 
 ghost use Rattle.alpha_table.specs.Class.{operate, trigger, address, branch, jump, idle};
 ghost use Rattle.alpha_table.specs.Rows.{branch_row};
 ghost use Rattle.alpha_values.specs.Numbers.{register_of};
-ghost use Rattle.alpha_values.specs.TrapOp.{stops};
 ghost use Rattle.alpha_seq.specs.Step.{computed};
-ghost use Rattle.alpha_seq.specs.Executed.{ExecuteEffect, overflow_answer, overflow_left};
+ghost use Rattle.alpha_seq.specs.Executed.{ExecuteEffect, logged_machine};
 
 use crate::execute::Executed;
 use crate::{End, Machine};
@@ -33,28 +32,27 @@ impl Machine {
         let a = self.regs.get(ra);
         let b = self.source(src);
         let value = completed(op, a, b, self.how);
-        if overflows(op, a, b) {
-            return self.overflow(rc, value);
+        if !overflows(op, a, b) {
+            self.set(rc, value);
+            return Executed::Went;
         }
-        self.set(rc, value);
-        Executed::Went
-    }
-
-    // Ends the program at an overflow, or completes it by this value and logs it.
-    #[inline(never)]
-    fn overflow(&mut self, rc: Reg, value: u64) -> Executed
-        ensures answer { result ≡ overflow_answer (stops self.old.how) self.old }
-        ensures state { self.new ≡ overflow_left (stops self.old.how) self.old rc value }
-    {
         let at = self.pc;
         if self.how == Completion::Stop {
             return Executed::Ended(End::Overflow { pc: at });
         }
+        self.log(rc, value);
+        Executed::Overflowed(at)
+    }
+
+    // Completes an overflow by this value, and logs it.
+    #[inline(never)]
+    fn log(&mut self, rc: Reg, value: u64)
+        ensures { self.new ≡ logged_machine self.old rc value }
+    {
+        self.last = self.pc;
         self.set(rc, value);
         self.lock = None;
         self.overflows = self.overflows.wrapping_add(1);
-        self.last = at;
-        Executed::Overflowed(at)
     }
 
     #[inline(always)]
