@@ -5,8 +5,7 @@ ghost use Rattle.alpha_seq.specs.Next.{next_insn};
 ghost use Rattle.alpha_values.specs.Source.{source_value};
 
 use crate::Machine;
-use alpha_image::code_word;
-use alpha_table::{Insn, Src, decode_inline};
+use alpha_table::{Insn, Src};
 use alpha_words::Reg;
 
 impl Machine {
@@ -16,8 +15,7 @@ impl Machine {
         ensures { result ≡ next_insn (program_of self.now) self.now.pc }
     {
         let place = self.image.place_of(self.pc)?;
-        let word = code_word(&self.image, place)?;
-        decode_inline(word)
+        Some(self.image.insn_at(place))
     }
 
     // The address of the next word.

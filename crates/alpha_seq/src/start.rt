@@ -47,7 +47,7 @@ fn start_memory(alloc: Global, image: &Image) -> Result<Memory, NoMemory>
     ensures { IfOk result (λ memory. memory ≡ start_memory image.now) }
 {
     let mut memory = Memory::empty(alloc);
-    add_code(&mut memory, image)?;
+    add_code(alloc, &mut memory, image)?;
     for n in 0..image.segments() {
         add_segment(&mut memory, image, n)?;
     }
@@ -56,11 +56,12 @@ fn start_memory(alloc: Global, image: &Image) -> Result<Memory, NoMemory>
 }
 
 // Adds the code.
-fn add_code(memory: &mut Memory, image: &Image) -> Result<(), NoMemory>
+fn add_code(alloc: Global, memory: &mut Memory, image: &Image) -> Result<(), NoMemory>
     requires { memory.old ≡ [] }
     ensures { OnOk result (memory.new ≡ memory_before image.now 0) }
 {
-    memory.add(image.code_base(), image.code(), 0, false)
+    let code = image.code_bytes(alloc)?;
+    memory.add(image.code_base(), code.as_slice(), 0, false)
 }
 
 // Adds the segment with this number, to the code and the segments before it.
