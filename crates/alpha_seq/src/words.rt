@@ -1,7 +1,8 @@
-ghost use Rattle.std.specs.Prelude.{◌≡◌, ◌+◌, ◌+ℤ◌, ◌*ℤ◌, pos};
+ghost use Rattle.std.specs.Prelude.{◌≡◌, ◌+◌, ◌+ℤ◌, ◌*ℤ◌, pos, false};
 ghost use Rattle.alpha_table.specs.Class.{operate, trigger, address, branch, jump, idle};
 ghost use Rattle.alpha_table.specs.Rows.{branch_row};
 ghost use Rattle.alpha_values.specs.Numbers.{register_of};
+ghost use Rattle.alpha_values.specs.TrapOp.{overflow_of, completed_of};
 ghost use Rattle.alpha_seq.specs.Step.{computed};
 ghost use Rattle.alpha_seq.specs.Executed.{ExecuteEffect, logged_machine};
 
@@ -31,8 +32,8 @@ impl Machine {
     {
         let a = self.regs.get(ra);
         let b = self.source(src);
-        let value = completed(op, a, b, self.how);
         if !overflows(op, a, b) {
+            let value = self.exact(op, a, b);
             self.set(rc, value);
             return Executed::Went;
         }
@@ -40,15 +41,25 @@ impl Machine {
         if self.how == Completion::Stop {
             return Executed::Ended(End::Overflow { pc: at });
         }
-        self.log(rc, value);
+        self.complete(op, a, b, rc);
         Executed::Overflowed(at)
     }
 
-    // Completes an overflow by this value, and logs it.
-    #[inline(never)]
-    fn log(&mut self, rc: Reg, value: u64)
-        ensures { self.new ≡ logged_machine self.old rc value }
+    // The result of an instruction that doesn't overflow: every completion has it.
+    #[inline(always)]
+    fn exact(&self, op: TrapOp, a: u64, b: u64) -> u64
+        requires { overflow_of op a b ≡ false }
+        ensures { result ≡ completed_of op a b self.now.how }
     {
+        completed(op, a, b, Completion::Wrap)
+    }
+
+    // Completes an overflow, and logs it.
+    #[inline(never)]
+    fn complete(&mut self, op: TrapOp, a: u64, b: u64, rc: Reg)
+        ensures { self.new ≡ logged_machine self.old rc (completed_of op a b self.old.how) }
+    {
+        let value = completed(op, a, b, self.how);
         self.last = self.pc;
         self.set(rc, value);
         self.lock = None;
