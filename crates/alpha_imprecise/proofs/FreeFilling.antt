@@ -1,16 +1,15 @@
 -- A run by coming words, over inputs of its own, that goes on until its units are used.
-use Rattle.std.proofs.Common.{◌≡◌, ◌<◌, ◌≤◌, ◌+◌, ◌-◌, ◌*◌, ◌||◌, ◌⊎◌, ℕ, zero, suc, Bool, true, false, List, [], ◌∷◌, ◌++◌, length, Option, Some, None, is_none, inl, inr, refl, sym, ap, subst, ◌∙◌, ⊎_elim, arith}
+use Rattle.std.proofs.Common.{◌≡◌, ◌<◌, ◌≤◌, ◌+◌, ◌-◌, ◌*◌, ◌||◌, ◌⊎◌, ℕ, zero, suc, Bool, true, false, List, [], ◌∷◌, ◌++◌, Option, Some, None, is_none, inl, inr, refl, sym, ap, subst, ◌∙◌, ⊎_elim, arith}
 use Rattle.std.proofs.lemmas.Bool.{cases_Bool, cases_lt}
 use Rattle.alpha_io.specs.Sunk.{Sunk}
 use Rattle.alpha_io.specs.Written.{WritesPrefix}
 use Rattle.alpha_seq.specs.State.{Program}
-use Rattle.alpha_seq.specs.Run.{Mark, notes_of}
+use Rattle.alpha_seq.specs.Run.{notes_of}
 use Rattle.alpha_seq.specs.Machine.{program_of}
 use Rattle.alpha_seq.specs.Devices.{Drawn}
-use Rattle.alpha_seq.proofs.Growing.{Grows}
 use Rattle.alpha_seq.proofs.Filling.{front, notes-grow}
 use Rattle.alpha_imprecise.specs.Moment.{Trap}
-use Rattle.alpha_imprecise.specs.Run.{WildRun, HasUsed, finished, unit_of}
+use Rattle.alpha_imprecise.specs.Run.{HasUsed, finished, unit_of}
 use Rattle.alpha_imprecise.specs.Made.{Making, advance_making, Nearer, Used, Waiting, Settled, Finished}
 use Rattle.alpha_imprecise.specs.Telling.{Telling}
 use Rattle.alpha_imprecise.specs.Wild.{WildState}

@@ -1,6 +1,5 @@
 -- The machine's run over inputs of its own: one step more, and a step that a device's fault cuts short.
-use Rattle.std.proofs.Common.{◌≡◌, ◌<◌, ◌≤◌, ◌+◌, ℕ, suc, Bool, true, false, cond, ◌||◌, List, [], ◌∷◌, ◌++◌, length, Option, Some, None, is_none, refl, sym, ap, subst, ◌∙◌, ⊎_elim, append_assoc, append-nil, length-append, arith}
-use Rattle.std.specs.Io.KnownBytes.{Appends}
+use Rattle.std.proofs.Common.{◌≡◌, ◌≤◌, ◌+◌, ℕ, suc, Bool, true, false, cond, ◌||◌, List, [], ◌∷◌, ◌++◌, length, Option, Some, None, is_none, refl, sym, ap, subst, ◌∙◌, ⊎_elim, append_assoc, length-append, arith}
 use Rattle.alpha_words.specs.declared.PalCall.TheVariants.{Callsys}
 use Rattle.alpha_words.specs.Regs.{reg}
 use Rattle.alpha_io.specs.Sunk.{Sunk, Puts}
@@ -14,32 +13,30 @@ use Rattle.alpha_pal.specs.CallEffect.{Takes}
 use Rattle.alpha_pal.proofs.Serving.{rest_of, Takes-nothing}
 use Rattle.alpha_seq.specs.declared.end.RunEnd.{RunEnd}
 use Rattle.alpha_seq.specs.declared.end.RunEnd.TheVariants as runs
-use Rattle.alpha_seq.specs.declared.machine.Machine.{Machine}
 use Rattle.alpha_seq.specs.State.{Program, State, Went, Barriered, Overflowed, Ends}
 use Rattle.alpha_seq.specs.Step.{next_class, step, step_from}
 use Rattle.alpha_seq.specs.Notes.{overflow_line, barrier_lines}
-use Rattle.alpha_seq.specs.Run.{Mark, marks_of, notes_of}
+use Rattle.alpha_seq.specs.Run.{Mark, notes_of}
 use Rattle.alpha_seq.specs.Machine.{program_of, state_of, class_here}
 use Rattle.alpha_seq.specs.Devices.{Drawn, Idles}
 use Rattle.alpha_seq.specs.StepEffect.{InputFails, OutputFails}
-use Rattle.alpha_seq.specs.Inputs.{WritesBetween}
 use Rattle.alpha_seq.proofs.Growing.{step-grows, wrote_all}
 use Rattle.alpha_seq.proofs.RunSteps.{Times, drawn_before, drawn_after, drawn_over, sunk_before, sunk_after, sunk_over}
 use Rattle.alpha_seq.proofs.OverRuns.{Takes-told, Finds, between, idle-part}
 use Rattle.alpha_imprecise.specs.declared.end.WildEnd.{WildEnd}
 use Rattle.alpha_imprecise.specs.declared.end.WildEnd.TheVariants as ends
 use Rattle.alpha_imprecise.specs.declared.pending.Pending.{Pending}
-use Rattle.alpha_imprecise.specs.Moment.{Trap, Happening, Precisely, Triggered, Waited, Reported, Lost, Moment, moment}
+use Rattle.alpha_imprecise.specs.Moment.{Happening, Precisely, Triggered, Waited, Reported, Lost, Moment}
 use Rattle.alpha_imprecise.specs.Step.{precisely, wild_at}
-use Rattle.alpha_imprecise.specs.Run.{WildRun, HasUsed, finished, started_wild, resumed, unit_of, wild_marks}
-use Rattle.alpha_imprecise.specs.Chosen.{draw, chosen, draw_at, reporting}
+use Rattle.alpha_imprecise.specs.Run.{WildRun, finished, started_wild, resumed, unit_of, wild_marks}
+use Rattle.alpha_imprecise.specs.Chosen.{chosen, draw_at}
 use Rattle.alpha_imprecise.specs.Made.{Making, advance_making, steps_making}
 use Rattle.alpha_imprecise.specs.Telling.{Telling, Moves}
 use Rattle.alpha_imprecise.specs.Wild.{WildState, bare, trap_in, waited_in}
 use Rattle.alpha_imprecise.specs.WildEffect.{WildSteps, CallFails, ReportFails, WildEffect, Framed}
 use Rattle.alpha_imprecise.specs.WildTurn.{WildTurns, WatchFails, WildTurnEffect, run_ended_by}
 use Rattle.alpha_imprecise.specs.WildRunEffect.{begun_at, making_at, answer_of}
-use Rattle.alpha_imprecise.specs.Free.{NeverLoses, LosesNone, run_free, making_over, advance_making_over, run_making_over, kernel_by, kernel_made, kernel_making_over, lefts_making, AreFedMaking, AreLeftMaking, ComesFree, IsFreeRun, IsAmid, IsFreeCut, FreeEffect}
+use Rattle.alpha_imprecise.specs.Free.{NeverLoses, LosesNone, run_free, advance_making_over, run_making_over, kernel_by, kernel_made, kernel_making_over, lefts_making, AreFedMaking, AreLeftMaking, ComesFree, IsFreeRun, IsAmid, IsFreeCut, FreeEffect}
 use Rattle.alpha_imprecise.proofs.Choosing.{Moves-none}
 use Rattle.alpha_imprecise.proofs.Settling.{advance-going}
 use Rattle.alpha_imprecise.proofs.RunSteps.{onto, Moves-then, advanced_at}

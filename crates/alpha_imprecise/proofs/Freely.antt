@@ -1,18 +1,17 @@
 -- Runs in which each step finds an input of its own: one step more, and what is told of the input.
-use Rattle.std.proofs.Common.{◌≡◌, ◌+◌, ℕ, zero, suc, Bool, true, false, cond, List, [], ◌∷◌, ◌++◌, length, Option, Some, None, refl, sym, ap, subst, ◌∙◌, length-append, append_assoc, arith}
+use Rattle.std.proofs.Common.{◌≡◌, ◌+◌, ℕ, zero, suc, Bool, true, false, cond, List, [], ◌∷◌, ◌++◌, Option, Some, None, refl, sym, ap, ◌∙◌}
 use Rattle.alpha_table.specs.Class.{Class}
 use Rattle.alpha_pal.specs.Kernel.{KernelState}
 use Rattle.alpha_seq.specs.declared.machine.Machine.{Machine}
-use Rattle.alpha_seq.specs.State.{Program, State}
-use Rattle.alpha_seq.specs.Step.{next_pc, next_class}
-use Rattle.alpha_seq.specs.Machine.{program_of, state_of, class_here, kernel_left}
+use Rattle.alpha_seq.specs.State.{Program}
+use Rattle.alpha_seq.specs.Machine.{program_of, state_of, class_here}
 use Rattle.alpha_seq.specs.State.{Went, Barriered, Ends}
 use Rattle.alpha_imprecise.specs.declared.end.WildEnd.{WildEnd}
 use Rattle.alpha_imprecise.specs.declared.end.WildEnd.TheVariants as ends
 use Rattle.alpha_imprecise.specs.declared.pending.Pending.{Pending}
 use Rattle.alpha_imprecise.specs.Moment.{Trap, Choice, Happening, Precisely, Triggered, Waited, Reported, Lost}
 use Rattle.alpha_imprecise.specs.Run.{WildRun, finished, advance_wild}
-use Rattle.alpha_imprecise.specs.Made.{Making, begun, advance_making, steps_making}
+use Rattle.alpha_imprecise.specs.Made.{Making, advance_making, steps_making}
 use Rattle.alpha_imprecise.specs.Wild.{WildState, bare, trap_in}
 use Rattle.alpha_imprecise.specs.WildEffect.{kernel_stepped}
 use Rattle.alpha_imprecise.specs.WildRunEffect.{begun_at}

@@ -1,22 +1,21 @@
 -- The machines stay together where each step finds an input of its own.
-use Rattle.std.proofs.Common.{◌≡◌, ◌≤◌, ◌+◌, ◌||◌, ℕ, Bool, true, false, cond, List, [], ◌∷◌, ◌++◌, length, Option, Some, None, is_none, refl, sym, ap, subst, ◌∙◌, length-append, arith}
+use Rattle.std.proofs.Common.{◌≡◌, ◌≤◌, ◌+◌, ◌||◌, ℕ, Bool, true, false, cond, List, [], ◌∷◌, ◌++◌, length, None, is_none, refl, sym, ap, subst, ◌∙◌, length-append, arith}
 use Rattle.alpha_pal.specs.Call.{Outside, outside}
 use Rattle.alpha_image.specs.Parts.{Parts, IsImage}
 use Rattle.alpha_shadow.specs.Broken.{IsAccepted}
 use Rattle.alpha_seq.specs.State.{Program, State, Event, Went, Barriered, Overflowed, Ends}
-use Rattle.alpha_seq.specs.Step.{next_class, step, step_from}
+use Rattle.alpha_seq.specs.Step.{step}
 use Rattle.alpha_seq.specs.Start.{start}
-use Rattle.alpha_seq.specs.Run.{Run, started, end_of, is_over, extended_by, advance}
-use Rattle.alpha_seq.specs.Inputs.{over_input, advance_over, run_over, HasMade}
+use Rattle.alpha_seq.specs.Run.{Run, started, end_of, is_over, advance}
+use Rattle.alpha_seq.specs.Inputs.{over_input, advance_over, run_over}
 use Rattle.alpha_seq.proofs.Inputs.{run_over-last, advance_over-going}
 use Rattle.alpha_seq.proofs.RunSteps.{over-end}
-use Rattle.alpha_imprecise.specs.Moment.{Choice, Happening, Precisely, Triggered, Waited, Reported, Lost}
-use Rattle.alpha_imprecise.specs.Step.{wild}
+use Rattle.alpha_imprecise.specs.Moment.{Happening, Precisely, Triggered, Waited, Reported, Lost}
 use Rattle.alpha_imprecise.specs.Run.{WildRun, HasUsed, finished, started_wild, advance_wild}
 use Rattle.alpha_imprecise.specs.Made.{wild_end, lost_trap}
 use Rattle.alpha_imprecise.specs.Free.{Free, wild_over, advance_free, run_free, SameFree, FreeAlike}
 use Rattle.alpha_restart.specs.Safe.{IsSafe}
-use Rattle.alpha_restart.specs.Invariant.{IsReady, Exact, Synced, Trail, Window, Stopping, Stopped, Together, exact, synced, window, stopping, stopped}
+use Rattle.alpha_restart.specs.Invariant.{IsReady, Exact, Trail, Together, exact, synced, window, stopping, stopped}
 use Rattle.alpha_restart.proofs.Safety.{safe}
 use Rattle.alpha_restart.proofs.Starting.{ready_start}
 use Rattle.alpha_restart.proofs.Precise.{advance-going}

@@ -1,19 +1,19 @@
 -- A run that goes on to its last step.
-use Rattle.std.proofs.Common.{◌≡◌, ◌<◌, ◌≤◌, ◌+◌, ◌-◌, ℕ, zero, suc, Bool, true, false, cond, List, [], ◌∷◌, ◌++◌, length, replicate, Option, Some, None, refl, sym, ap, subst, ◌∙◌, ⊎_elim, append_assoc, arith}
+use Rattle.std.proofs.Common.{◌≡◌, ◌≤◌, ◌+◌, ◌-◌, ℕ, zero, suc, Bool, true, false, cond, List, [], ◌∷◌, ◌++◌, Option, None, refl, sym, ap, subst, ◌∙◌, ⊎_elim, arith}
 use Rattle.std.proofs.lemmas.Bool.{cases_Bool}
 use Rattle.alpha_io.specs.Sunk.{Sunk}
 use Rattle.alpha_io.specs.Written.{WritesPrefix}
 use Rattle.alpha_io.proofs.Writes.{WritesPrefix-more}
 use Rattle.alpha_seq.specs.declared.machine.Machine.{Machine}
-use Rattle.alpha_seq.specs.State.{Program, State, Event, Went, Barriered, Overflowed, Ends, Stepped}
+use Rattle.alpha_seq.specs.State.{Program, Event, Went, Barriered, Overflowed, Ends, Stepped}
 use Rattle.alpha_seq.specs.Step.{next_class, step_from}
-use Rattle.alpha_seq.specs.Run.{Run, Mark, started, end_of, is_over, extended_by, mark_lines, notes_of}
+use Rattle.alpha_seq.specs.Run.{Run, Mark, started, end_of, is_over, extended_by, notes_of}
 use Rattle.alpha_seq.specs.Machine.{program_of, state_of}
 use Rattle.alpha_seq.specs.Devices.{Drawn}
 use Rattle.alpha_seq.specs.Inputs.{over_input, advance_over, run_over, HasMade, run_from, WritesBetween, IsCutAt, IsFront}
 use Rattle.alpha_seq.proofs.Growing.{Grows, Grows-same, Grows-by, Grows-trans, Begins, step-grows}
 use Rattle.alpha_seq.proofs.RunSteps.{notes-more}
-use Rattle.alpha_seq.proofs.Inputs.{run_over-last, advance_over-going, advance_over-over}
+use Rattle.alpha_seq.proofs.Inputs.{run_over-last, advance_over-going}
 
 Begins-same : (r : Run) → Begins r r
 Begins-same r = record { output = Grows-same r.state.outside.output; trace = Grows-same r.trace }

@@ -2,13 +2,11 @@
 use Rattle.std.proofs.Common.{◌≡◌, ◌<◌, ◌≤◌, ◌+◌, ℕ, suc, Bool, false, List, [], ◌∷◌, ◌++◌, length, Option, Some, None, refl, sym, ap, subst, ◌∙◌, ⊎_elim, append_assoc, length-append, arith}
 use Rattle.std.specs.Io.KnownBytes.{Appends}
 use Rattle.std.proofs.KnownBytes.{Appends-trans}
-use Rattle.alpha_words.specs.declared.PalCall.TheVariants.{Callsys}
 use Rattle.alpha_words.specs.Regs.{reg}
 use Rattle.alpha_io.specs.Sunk.{Sunk, Puts}
 use Rattle.alpha_io.specs.Written.{WritesPrefix}
-use Rattle.alpha_io.proofs.Writes.{WritesPrefix-all, WritesPrefix-none}
+use Rattle.alpha_io.proofs.Writes.{WritesPrefix-all}
 use Rattle.alpha_io.proofs.Sinks.{Puts-none, Puts-then}
-use Rattle.alpha_table.specs.Class.{Class, barrier}
 use Rattle.alpha_mem.specs.Memory.{bytes_at}
 use Rattle.alpha_pal.specs.CallEffect.{Takes}
 use Rattle.alpha_pal.proofs.Serving.{rest_of, Takes-nothing}
@@ -21,11 +19,11 @@ use Rattle.alpha_seq.specs.declared.machine.Machine.{Machine}
 use Rattle.alpha_seq.specs.State.{Program, State, Event, Went, Barriered, Overflowed, Ends, Stepped, stepped}
 use Rattle.alpha_seq.specs.Step.{next_class, next_pc, step_from}
 use Rattle.alpha_seq.specs.Run.{Run, Mark, marks_of, started, end_of, is_over, extended_by, after, notes_of}
-use Rattle.alpha_seq.specs.Machine.{program_of, state_of, class_here, kernel_left, Stays}
-use Rattle.alpha_seq.specs.Devices.{Drawn, Draws, Rests, Idles}
+use Rattle.alpha_seq.specs.Machine.{program_of, state_of, class_here, kernel_left}
+use Rattle.alpha_seq.specs.Devices.{Drawn, Idles}
 use Rattle.alpha_seq.specs.StepEffect.{Steps, InputFails, OutputFails, LineFails, StepEffect}
 use Rattle.alpha_seq.specs.Turn.{Turns, BarrierFails, TurnEffect, run_ended_by}
-use Rattle.alpha_seq.specs.Inputs.{over_input, advance_over, run_over, kernel_over, HasMade, lefts, run_from, AreFed, AreLeft, IsRun, WritesBetween, IsCutAt, OverEffect}
+use Rattle.alpha_seq.specs.Inputs.{over_input, advance_over, run_over, kernel_over, lefts, run_from, AreFed, AreLeft, IsRun, WritesBetween, IsCutAt, OverEffect}
 use Rattle.alpha_seq.proofs.Growing.{step-grows, wrote_all}
 use Rattle.alpha_seq.proofs.RunSteps.{Times, drawn_before, drawn_after, drawn_over, sunk_before, sunk_after, sunk_over, over-end, marks-same, notes-more, line-part, barrier-part}
 use Rattle.alpha_seq.proofs.Inputs.{run_over-last, kernel_over-last, advance_over-going, kernel_next-here, start-any, told}

@@ -1,5 +1,5 @@
 -- What the execution of one word did, by its answer.
-use Rattle.std.specs.Prelude.{◌≡◌, ℕ, ℤ, ◌+◌, ◌%◌, ◌^◌, ◌⊎◌, Bool, true, false, List, [], Option, Some, None}
+use Rattle.std.specs.Prelude.{◌≡◌, ℕ, ℤ, ◌+◌, ◌%◌, ◌^◌, ◌⊎◌, List, [], Option, Some, None}
 use Rattle.std.specs.Int.{w32}
 use Rattle.alpha_words.specs.Regs.{put}
 use Rattle.alpha_table.specs.declared.rows.MemOp.{MemOp}
@@ -11,7 +11,6 @@ use Rattle.alpha_table.specs.Class.{Class, barrier}
 use Rattle.alpha_table.specs.Rows.{mem_row}
 use Rattle.alpha_values.specs.Numbers.{signed, register_of}
 use Rattle.alpha_seq.specs.declared.end.End.{End}
-use Rattle.alpha_seq.specs.declared.end.End.TheVariants as ends
 use Rattle.alpha_seq.specs.declared.end.Next.{Next}
 use Rattle.alpha_seq.specs.declared.end.Next.TheVariants as nexts
 use Rattle.alpha_seq.specs.declared.execute.Executed.{Executed}
