@@ -2,14 +2,15 @@
 //! trap that is reported late, whatever the machine did until then. The crate has no code; its
 //! functions are laws.
 //!
-//! - [`laws_of_restarts`] says that accepted images can be restarted, and what that is in four parts.
+//! - [`laws_of_restarts`] says that accepted images can be restarted, and what that is in four parts; that they
+//!   lose no trap, whatever input each step finds; and that their runs are precise ones over such inputs too.
 //! - [`laws_of_restarted_runs`] says what a run of such an image shows, whatever is chosen.
 //! - [`laws_of_imprecise_steps`] says that the choices of the imprecise step are the rows of its table.
 //! - [`limits_of_restarts`] says that no condition from C1 to C7 could be left out, and that no more
 //!   could be said of a stop.
 //!
 //! What can be restarted is defined in `alpha_imprecise` (`specs/Restart.antt`), and what its runs show
-//! (`specs/Shown.antt`); what is accepted in `alpha_shadow` (`specs/Broken.antt`). `docs/restart.md`
+//! (`specs/Shown.antt`, and `specs/Free.antt` where each step finds an input of its own); what is accepted in `alpha_shadow` (`specs/Broken.antt`). `docs/restart.md`
 //! explains why the law holds.
 //!
 //! `specs/Table.antt` has the table, `specs/Needed.antt` what it means that a condition is needed. The others have the invariant of the proof: `Safe.antt` what
@@ -23,7 +24,8 @@
 //! `Shadows.antt`, `Spoiling.antt` and `Trails.antt` (registers, bytes and the mask while a trap is
 //! pending), `Precise.antt`, `Together.antt`, `Syncing.antt`, `Waiting.antt` and `Reporting.antt` (each
 //! kind of step keeps the invariant), `Keeping.antt` (so does every run), `Starting.antt` (the start)
-//! and `Agreeing.antt` (the law). `Rows.antt` and `Walks.antt` have the table, `Fine.antt` a test for
+//! and `Agreeing.antt` (the law). `Losing.antt` has that no trap is lost, and `FreeTogether.antt` the runs over
+//! inputs of their own. `Rows.antt` and `Walks.antt` have the table, `Fine.antt` a test for
 //! broken places and `Needed.antt` an image for each condition. What follows for runs is proved in
 //! `alpha_imprecise` (`proofs/Showing.antt`).
 #![tactic(auto)]
