@@ -7,8 +7,10 @@ use Rattle.clap.specs.Words.{first_of}
 use Rattle.alpha_request.specs.declared.name.Name.{Name}
 use Rattle.alpha_request.specs.declared.name.Name.TheVariants as names
 use Rattle.alpha_request.specs.Command.{Command, check, dis, asm, run, imprecise, debug, trial}
-use Rattle.alpha_request.specs.Options.{blocks_in, blocks_of, within_blocks, options_in, choices_in, force_in, has_choices, is_imprecise, number_of}
-use Rattle.alpha_request.specs.Asked.{app_of_name, asked, asked_as, command_in, imprecise_in, matches_on, name_of, plain_in}
+use Rattle.alpha_request.specs.Options.{options_in, choices_in, force_in, number_of}
+use Rattle.alpha_request.specs.Commands.Run.{has_choices, imprecise_in, is_imprecise, plain_in}
+use Rattle.alpha_request.specs.Commands.Trial.{blocks_in, blocks_of, within_blocks}
+use Rattle.alpha_request.specs.Asked.{app_of_name, asked, asked_as, command_in, matches_on, name_of}
 
 abbrev IsWithin : ℕ → Type 0
 IsWithin n = (0 < n) × (n ≤ 20000)

@@ -1,9 +1,9 @@
 -- From what clap answers to what the words ask for.
-use Rattle.std.proofs.Common.{◌≡◌, true, List, [], ◌∷◌, map, String, Global, string_bytes, Option, Some, None, slice_get, drop, Err, refl, sym, ap, ◌∙◌, subst, ⊎_elim}
+use Rattle.std.proofs.Common.{◌≡◌, ◌&&◌, Bool, true, false, List, [], ◌∷◌, map, String, Global, string_bytes, Option, Some, None, slice_get, drop, Err, refl, sym, ap, ◌∙◌, subst, ⊎_elim}
 use Rattle.std.specs.Option.{option_and_then}
 use Rattle.clap.specs.Walk.{Row, Text, rows_of}
-use Rattle.clap.specs.Simple.{App, HasMatchesOf, is_simple, matches_of}
-use Rattle.clap.specs.Faults.{fault_of, is_simple_and_free}
+use Rattle.clap.specs.Simple.{App, HasMatchesOf, built, is_simple, matches_of}
+use Rattle.clap.specs.Faults.{fault_of, is_free_app, is_simple_and_free}
 use Rattle.clap.specs.Kinds.{Kinds, HasKind, IsAmong}
 use Rattle.clap.specs.Values.{kind_of}
 use Rattle.clap.specs.Matches.{found_of}
@@ -17,7 +17,8 @@ use Rattle.alpha_request.specs.declared.name.Name.TheVariants as names
 use Rattle.alpha_request.specs.declared.request.Refusal.{Refusal}
 use Rattle.alpha_request.specs.declared.request.Refusal.TheVariants.{BadWords, NoMemory}
 use Rattle.alpha_request.specs.Command.{Command}
-use Rattle.alpha_request.specs.Asked.{app_of_name, asked, asked_as, command_in, matches_on, name_of, unless_faulty, Matches, Reads}
+use Rattle.alpha_request.specs.Asked.{app_of_name, asked, asked_as, command_in, matches_on, name_of, unless_faulty}
+use Rattle.alpha_request.specs.Reading.{Matches, Reads}
 
 -- each command is simple, and no argument has a rule on another
 pub simple_and_free : (name : Name) → is_simple_and_free (app_of_name name) ≡ true
@@ -29,14 +30,12 @@ simple_and_free names.Run = refl
 simple_and_free names.Debug = refl
 simple_and_free names.Trial = refl
 
-pub simple : (name : Name) → is_simple (app_of_name name) ≡ true
-unfolding clap_on_literals
-simple names.Check = refl
-simple names.Dis = refl
-simple names.Asm = refl
-simple names.Run = refl
-simple names.Debug = refl
-simple names.Trial = refl
+and_left : (a b : Bool) → (a && b) ≡ true → a ≡ true
+and_left true b h = refl
+and_left false b h = cc
+
+simple : (name : Name) → is_simple (app_of_name name) ≡ true
+simple name = and_left (is_simple (app_of_name name)) (is_free_app (built (app_of_name name))) (simple_and_free name)
 
 chosen : (kinds : Kinds) (rows : List Row) → kinds ≡ [] → unless_faulty kinds rows ≡ Some rows
 chosen [] rows none = refl

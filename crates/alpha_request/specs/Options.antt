@@ -1,16 +1,18 @@
--- The options of `run`, by the product's own rules.
-use Rattle.std.specs.Prelude.{ℕ, ◌^◌, ◌&&◌, ◌||◌, Bool, true, false, not, List, length, codes, nat_lt, nat_le, Option, Some, None, option_map, if◌then◌else◌}
+-- The options of a run, by the product's own rules, and what clap is told of them.
+use Rattle.std.specs.Prelude.{ℕ, ◌^◌, ◌&&◌, Bool, true, false, not, List, length, codes, nat_lt, Option, Some, None, option_map, if◌then◌else◌}
 use Rattle.std.specs.Option.{option_and_then}
 use Rattle.std.specs.List.{list_all}
 use Rattle.std.specs.Char.{is_ascii_digit}
 use Rattle.std.specs.Str.{bytes_eq}
 use Rattle.std.specs.Str.Parse.{digits_value}
 use Rattle.clap.specs.Walk.{Row, Text, first_of}
+use Rattle.clap.specs.Simple.{App, with_rule}
 use Rattle.alpha_words.specs.declared.Completion.{Completion}
 use Rattle.alpha_words.specs.declared.Completion.TheVariants.{Wrap, Saturate, Stop}
 use Rattle.alpha_request.specs.declared.options.RunOptions.{RunOptions}
 use Rattle.alpha_request.specs.declared.options.Choices.{Choices}
 use Rattle.alpha_request.specs.declared.options.Choices.TheVariants.{Seed, File}
+use Rattle.alpha_request.specs.Rules.{option, flag}
 
 -- the completion that a text names
 abbrev pub completion_of : Text → Option Completion
@@ -83,24 +85,15 @@ choices_from (Some number) (Some name) = None
 abbrev pub choices_in : List Row → Option Drawn
 choices_in rows = choices_from (first_of (codes "seed") rows) (first_of (codes "choices") rows)
 
-abbrev pub is_imprecise : List Row → Bool
-is_imprecise rows = is_given (first_of (codes "imprecise") rows)
-
 abbrev pub force_in : List Row → Bool
 force_in rows = is_given (first_of (codes "force") rows)
 
--- an option that only a run of the imprecise machine has
-abbrev pub has_choices : List Row → Bool
-has_choices rows = is_there (first_of (codes "seed") rows) || (is_there (first_of (codes "choices") rows) || force_in rows)
+-- ---- what clap is told
 
--- ---- the blocks of a trial
+-- how a program is run
+abbrev pub with_bounds : App → App
+with_bounds app = with_rule (with_rule app (option (codes "complete"))) (option (codes "steps"))
 
--- from 1 to 20,000
-abbrev pub within_blocks : ℕ → Option ℕ
-within_blocks n = if nat_lt 0 n && nat_le n 20000 then Some n else None
-
-abbrev pub blocks_of : Text → Option ℕ
-blocks_of text = option_and_then within_blocks (number_of text)
-
-abbrev pub blocks_in : List Row → Option ℕ
-blocks_in rows = option_and_then blocks_of (first_of (codes "blocks") rows)
+-- and by which choices, on the imprecise machine
+abbrev pub with_choices : App → App
+with_choices app = with_rule (with_rule (with_rule app (option (codes "seed"))) (option (codes "choices"))) (flag (codes "force"))

@@ -9,15 +9,15 @@
 //!   which one is a function of them (`specs/Asked.antt`, `asked`). [`laws_of_trial_words`] says how
 //!   many blocks a trial has that they ask for.
 //!
-//! `words.rt` has the words, `name.rt` the names of the commands, `command.rt` what `clap` is told of
-//! each, `matches.rt` what is read of its matches, `options.rt` the options of `run` with their rules
-//! (`specs/Options.antt`), and `request.rt` the requests. A further command is a row in each of
-//! `Name`, `Request`, `specs/Command.antt`, `specs/Asked.antt` and the three functions that match a
-//! name. A further option of `run` is a field of `RunOptions`, an argument in `run_command` and in
-//! `run_app` of `specs/Asked.antt`, and its reading in `options_in`.
+//! `words.rt` has the words, `name.rt` the names of the commands, `matches.rt` what is read of the
+//! matches of `clap`, and `request.rt` the requests. The words of a command are one module of
+//! `commands.rt` and its namesake of `specs/Commands.antt`: what `clap` is told (`args.rt`,
+//! `specs/Rules.antt`), and the request that the matches make. `options.rt` and `specs/Options.antt`
+//! have the options of a run. What a further command touches is listed in docs/ARCHITECTURE.md.
 #![tactic(auto)]
 
-mod command;
+mod args;
+mod commands;
 mod laws;
 mod matches;
 mod name;

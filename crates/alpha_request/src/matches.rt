@@ -2,10 +2,12 @@
 
 ghost use Rattle.std.specs.Prelude.{◌≡◌, ◌≢◌, map, string_bytes, option_map};
 ghost use Rattle.clap.specs.Words.{found_of, first_of, kind_of, rows_of};
-ghost use Rattle.alpha_request.specs.Asked.{app_of_name, matches_on, Matches};
+ghost use Rattle.alpha_request.specs.Asked.{app_of_name, matches_on};
+ghost use Rattle.alpha_request.specs.Options.{is_given, is_there};
+ghost use Rattle.alpha_request.specs.Reading.{Matches};
 
 use crate::Refusal;
-use crate::command::command_for;
+use crate::commands::command_for;
 use crate::name::Name;
 use clap::error::ErrorKind;
 use clap::{ArgMatches, Error};
@@ -47,4 +49,21 @@ pub(crate) fn text<'a>(matches: &ArgMatches<'a>, id: &str) -> Option<&'a str>
         ≡ first_of id.now (rows_of (found_of matches.now)) }
 {
     matches.get_str(id)
+}
+
+/// Whether a flag is given: its text is `true` then.
+pub(crate) fn is_given(matches: &ArgMatches<'_>, id: &str) -> bool
+    ensures { result ≡ is_given (first_of id.now (rows_of (found_of matches.now))) }
+{
+    match text(matches, id) {
+        Some(given) => given == "true",
+        None => false,
+    }
+}
+
+/// Whether an option is given.
+pub(crate) fn is_there(matches: &ArgMatches<'_>, id: &str) -> bool
+    ensures { result ≡ is_there (first_of id.now (rows_of (found_of matches.now))) }
+{
+    text(matches, id).is_some()
 }

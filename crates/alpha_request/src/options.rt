@@ -1,14 +1,16 @@
-//! The options of `run`, the choices of `run --imprecise`, and the number of `trial`.
+//! The options of a run: how the program is run, and by which choices on the imprecise machine.
 
-ghost use Rattle.std.specs.Prelude.{◌≡◌, option_map};
+ghost use Rattle.std.specs.Prelude.{◌≡◌, option_map, IfOk};
 ghost use Rattle.std.specs.List.{list_all};
 ghost use Rattle.std.specs.Char.{is_ascii_digit};
-ghost use Rattle.clap.specs.Words.{found_of, first_of, rows_of};
-ghost use Rattle.alpha_request.specs.Options.{blocks_in, blocks_of, choices_in, complete_in, completion_of, drawn_from, force_in, has_choices, is_digits, is_given, is_imprecise, is_there, number_of, options_in, seed, steps_in, watch_in, within_blocks};
+ghost use Rattle.clap.specs.Words.{app_of, found_of, rows_of};
+ghost use Rattle.alpha_request.specs.Options.{choices_in, complete_in, completion_of, drawn_from, force_in, is_digits, number_of, options_in, seed, steps_in, watch_in, with_bounds, with_choices};
 
-use crate::matches::text;
+use crate::args::{flag, option, with_arg};
+use crate::matches::{is_given, text};
 use alpha_words::Completion;
-use clap::ArgMatches;
+use clap::{ArgMatches, Command};
+use std::alloc::{AllocError, Global};
 
 /// How a program is run.
 #[derive(Clone, Copy, Debug, PartialEq, Eq)]
@@ -35,11 +37,31 @@ pub enum Choices<'a> {
 // The most steps where none are given.
 const STEPS: u64 = 100_000_000;
 
-// The most blocks of a trial.
-const MOST_BLOCKS: u64 = 20_000;
-
 // The most digits of a number.
 const MOST_DIGITS: usize = 20;
+
+/// A command with the options that say how a program is run.
+pub(crate) fn with_bounds<'a>(
+    alloc: Global,
+    command: Command<'a>,
+) -> Result<Command<'a>, AllocError>
+    ensures { IfOk result (λ more. app_of more ≡ with_bounds (app_of command.entry)) }
+{
+    let complete = with_arg(command, option(alloc, "complete"))?;
+    with_arg(complete, option(alloc, "steps"))
+}
+
+/// A command with those that say by which choices the imprecise machine runs it.
+pub(crate) fn with_choices<'a>(
+    alloc: Global,
+    command: Command<'a>,
+) -> Result<Command<'a>, AllocError>
+    ensures { IfOk result (λ more. app_of more ≡ with_choices (app_of command.entry)) }
+{
+    let seed = with_arg(command, option(alloc, "seed"))?;
+    let choices = with_arg(seed, option(alloc, "choices"))?;
+    with_arg(choices, flag(alloc, "force"))
+}
 
 /// The options that matches make, by the product's own rules.
 pub(crate) fn options_in(matches: &ArgMatches<'_>) -> Option<RunOptions>
@@ -79,25 +101,11 @@ fn watch_in(matches: &ArgMatches<'_>) -> bool
     is_given(matches, "watch")
 }
 
-/// Whether the run is one of the imprecise machine.
-pub(crate) fn is_imprecise(matches: &ArgMatches<'_>) -> bool
-    ensures { result ≡ is_imprecise (rows_of (found_of matches.now)) }
-{
-    is_given(matches, "imprecise")
-}
-
 /// Whether a refused image is run as well.
 pub(crate) fn force_in(matches: &ArgMatches<'_>) -> bool
     ensures { result ≡ force_in (rows_of (found_of matches.now)) }
 {
     is_given(matches, "force")
-}
-
-/// Whether an option is given that only a run of the imprecise machine has.
-pub(crate) fn has_choices(matches: &ArgMatches<'_>) -> bool
-    ensures { result ≡ has_choices (rows_of (found_of matches.now)) }
-{
-    is_there(matches, "seed") || is_there(matches, "choices") || force_in(matches)
 }
 
 /// The choices that matches make: a seed and a file exclude each other.
@@ -122,54 +130,6 @@ fn seed_of<'a>(number: &str) -> Option<Choices<'a>>
     }
 }
 
-/// The number of blocks of a trial.
-pub(crate) fn blocks_in(matches: &ArgMatches<'_>) -> Option<u32>
-    ensures { result ≡ blocks_in (rows_of (found_of matches.now)) }
-{
-    match text(matches, "blocks") {
-        Some(number) => blocks_of(number),
-        None => None,
-    }
-}
-
-// The number of blocks that a text stands for.
-fn blocks_of(text: &str) -> Option<u32>
-    ensures { result ≡ blocks_of text.now }
-{
-    match number_of(text) {
-        Some(blocks) => within_blocks(blocks),
-        None => None,
-    }
-}
-
-// A number of blocks, where it is one.
-fn within_blocks(blocks: u64) -> Option<u32>
-    ensures { result ≡ within_blocks blocks }
-{
-    if 0 < blocks && blocks <= MOST_BLOCKS {
-        Some(blocks as u32)
-    } else {
-        None
-    }
-}
-
-// The flag's text is `true` where it is given.
-fn is_given(matches: &ArgMatches<'_>, id: &str) -> bool
-    ensures { result ≡ is_given (first_of id.now (rows_of (found_of matches.now))) }
-{
-    match text(matches, id) {
-        Some(given) => given == "true",
-        None => false,
-    }
-}
-
-// An option is given.
-fn is_there(matches: &ArgMatches<'_>, id: &str) -> bool
-    ensures { result ≡ is_there (first_of id.now (rows_of (found_of matches.now))) }
-{
-    text(matches, id).is_some()
-}
-
 // The completion that a text names.
 fn completion_of(name: &str) -> Option<Completion>
     ensures { result ≡ completion_of name.now }
@@ -182,8 +142,8 @@ fn completion_of(name: &str) -> Option<Completion>
     }
 }
 
-// The number that a text stands for: 1 to 20 decimal digits, with a value below 2^64.
-fn number_of(text: &str) -> Option<u64>
+/// The number that a text stands for: 1 to 20 decimal digits, with a value below 2^64.
+pub(crate) fn number_of(text: &str) -> Option<u64>
     ensures { result ≡ number_of text.now }
 {
     if !is_digits(text.as_bytes()) {

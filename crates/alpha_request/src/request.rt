@@ -1,13 +1,10 @@
-ghost use Rattle.std.specs.Prelude.{◌≡◌, option_map};
-ghost use Rattle.clap.specs.Words.{found_of, rows_of};
-ghost use Rattle.alpha_request.specs.Command.{command_of};
-ghost use Rattle.alpha_request.specs.Asked.{asked, command_in, imprecise_in, plain_in, Reads};
+ghost use Rattle.alpha_request.specs.Asked.{asked};
+ghost use Rattle.alpha_request.specs.Reading.{Reads};
 
-use crate::matches::{matches_of, text};
-use crate::name::{Name, name_of};
-use crate::options::{blocks_in, choices_in, force_in, has_choices, is_imprecise, options_in};
+use crate::commands::request_in;
+use crate::matches::matches_of;
+use crate::name::name_of;
 use crate::{Choices, RunOptions, Words};
-use clap::ArgMatches;
 use std::alloc::Global;
 
 /// What good words ask for.
@@ -85,104 +82,7 @@ pub fn request_of<'a>(alloc: Global, words: &'a Words) -> Result<Request<'a>, Re
         return Err(Refusal::BadWords);
     };
     match matches_of(alloc, name, words) {
-        Ok(matches) => match request_in(name, &matches) {
-            Some(request) => Ok(request),
-            None => Err(Refusal::BadWords),
-        },
+        Ok(matches) => request_in(name, &matches),
         Err(refusal) => Err(refusal),
-    }
-}
-
-// The request that a command's matches make, by the product's own rules.
-fn request_in<'a>(name: Name, matches: &ArgMatches<'a>) -> Option<Request<'a>>
-    ensures { option_map command_of result ≡ command_in name (rows_of (found_of matches.now)) }
-{
-    match name {
-        Name::Check => match text(matches, "file") {
-            Some(file) => Some(Request::Check { file }),
-            None => None,
-        },
-        Name::Dis => match text(matches, "file") {
-            Some(file) => Some(Request::Dis { file }),
-            None => None,
-        },
-        Name::Asm => asm_request(matches),
-        Name::Run => run_request(matches),
-        Name::Trial => trial_request(matches),
-        Name::Debug => match text(matches, "file") {
-            Some(file) => Some(Request::Debug { file }),
-            None => None,
-        },
-    }
-}
-
-// The request of a trial.
-fn trial_request<'a>(matches: &ArgMatches<'a>) -> Option<Request<'a>>
-    ensures { option_map command_of result
-        ≡ command_in Name.Trial (rows_of (found_of matches.now)) }
-{
-    match blocks_in(matches) {
-        Some(blocks) => Some(Request::Trial { blocks }),
-        None => None,
-    }
-}
-
-// The request of an assembly.
-fn asm_request<'a>(matches: &ArgMatches<'a>) -> Option<Request<'a>>
-    ensures { option_map command_of result
-        ≡ command_in Name.Asm (rows_of (found_of matches.now)) }
-{
-    match text(matches, "file") {
-        Some(file) => match text(matches, "out") {
-            Some(out) => Some(Request::Asm { file, out }),
-            None => None,
-        },
-        None => None,
-    }
-}
-
-// The request of a run.
-fn run_request<'a>(matches: &ArgMatches<'a>) -> Option<Request<'a>>
-    ensures { option_map command_of result
-        ≡ command_in Name.Run (rows_of (found_of matches.now)) }
-{
-    if is_imprecise(matches) {
-        imprecise_request(matches)
-    } else if has_choices(matches) {
-        None
-    } else {
-        plain_request(matches)
-    }
-}
-
-// The request of a run of the imprecise machine.
-fn imprecise_request<'a>(matches: &ArgMatches<'a>) -> Option<Request<'a>>
-    ensures { option_map command_of result ≡ imprecise_in (rows_of (found_of matches.now)) }
-{
-    match (
-        options_in(matches),
-        choices_in(matches),
-        text(matches, "file"),
-    ) {
-        (Some(options), Some(choices), Some(file)) => Some(Request::RunImprecise {
-            options,
-            choices,
-            force: force_in(matches),
-            file,
-        }),
-        _ => None,
-    }
-}
-
-// The request of a run of the sequential machine, where no other options are given.
-fn plain_request<'a>(matches: &ArgMatches<'a>) -> Option<Request<'a>>
-    ensures { option_map command_of result ≡ plain_in (rows_of (found_of matches.now)) }
-{
-    match options_in(matches) {
-        Some(options) => match text(matches, "file") {
-            Some(file) => Some(Request::Run { options, file }),
-            None => None,
-        },
-        None => None,
     }
 }
