@@ -1,10 +1,10 @@
 -- On an image that `check` accepts, a run of the imprecise machine has the answer of the sequential run, but for the number
 -- of words that it draws.
 use Rattle.std.proofs.Common.{◌≡◌, ◌⊎◌, ◌∙◌, ℕ, Bool, true, false, List, Option, None, Some, IsSome, refl, sym, ap, subst, inl, inr, ⊎_elim}
-use Rattle.alpha_io.specs.Files.{Files}
+use Rattle.alpha_io.specs.Files.{Files, HasFile}
 use Rattle.alpha_io.specs.Shelved.{Shelved}
 use Rattle.alpha_io.specs.Sunk.{Sunk}
-use Rattle.alpha_image.specs.Parts.{Parts}
+use Rattle.alpha_image.specs.Parts.{Parts, IsImage, spelling}
 use Rattle.alpha_shadow.specs.Broken.{IsAccepted}
 use Rattle.alpha_request.specs.Command.{Command, check, run, imprecise}
 use Rattle.alpha_request.specs.declared.options.RunOptions.{RunOptions}
@@ -19,17 +19,26 @@ use Rattle.alpha_imprecise.specs.Restart.{IsRestartable}
 use Rattle.alpha_imprecise.specs.Shown.{ShowsSame}
 use Rattle.alpha_imprecise.proofs.Showing.{runs_alike}
 use Rattle.alpha_cmd.specs.declared.status.Status.{Status}
-use Rattle.alpha_cmd.specs.declared.status.Status.TheVariants.{Done, NoMemory}
-use Rattle.alpha_cmd.specs.Outcome.{Outcome, goes, stops}
+use Rattle.alpha_cmd.specs.declared.status.Status.TheVariants.{Done, ShelfFault, NoMemory}
+use Rattle.alpha_cmd.specs.Status.{class_of}
+use Rattle.alpha_cmd.specs.Outcome.{goes}
 use Rattle.alpha_cmd.specs.Image.{ImageOf}
-use Rattle.alpha_cmd.specs.Imprecise.{plan_by, PlanOf, run_by}
-use Rattle.alpha_cmd.specs.Answer.{World, Answer, answer_shown, answer_wild, answer_of, Steps, Asks, AnswerOf, IsAnswer, IsTold, AreTold, IsAnswered}
-use Rattle.alpha_request.specs.Asked.{asked}
-use Rattle.alpha_cmd.specs.Tried.{CutBy, IsCut, IsStarved, TriedBy}
+use Rattle.alpha_cmd.specs.Asks.{Asks}
+use Rattle.alpha_cmd.specs.Answer.{World, Answer, AnswerBy, IsAnswered}
+use Rattle.alpha_cmd.specs.Tries.{CutBy, FailsBy}
+use Rattle.alpha_cmd.specs.Commands.{form_of, AnswerOf, IsTold}
+use Rattle.alpha_cmd.specs.Commands.Check as checks
+use Rattle.alpha_cmd.specs.Commands.Run as runs
+use Rattle.alpha_cmd.specs.Commands.Run.{answer_shown}
+use Rattle.alpha_cmd.specs.Commands.Imprecise as wilds
+use Rattle.alpha_cmd.specs.Commands.Imprecise.{plan_by, PlanOf, run_by, answer_wild}
+use Rattle.alpha_cmd.specs.Tried.{AreTold, IsAnswer, TriedBy}
 use Rattle.alpha_cmd.specs.Alike.{but_drawn, undrawn, IsChecked, HasWords}
-use Rattle.alpha_cmd.proofs.Causes.{Missed, missing, large, Unread-cause, NoImage-cause, IsRefused-cause}
-use Rattle.alpha_cmd.proofs.Trying.{shown_answer, wild_answer, passed}
-use Rattle.alpha_cmd.proofs.Uniqueness.{AnswerOf-single}
+use Rattle.alpha_cmd.proofs.Forms.{done_goes}
+use Rattle.alpha_cmd.proofs.Commands.Check.{lawful}
+use Rattle.alpha_cmd.proofs.Commands.Run.{shown_answer}
+use Rattle.alpha_cmd.proofs.Commands.Imprecise.{wild_answer, passed}
+use Rattle.alpha_cmd.proofs.Tried.{AnswerOf-single}
 
 -- ---- an accepted file
 
@@ -39,22 +48,10 @@ pub record IsGood (file : List ℕ) (files : Files) : Type 0 where
   pub found : ImageOf files file (goes image)
   pub accepted : IsAccepted image.words
 
-missed_not : (files : Files) (file : List ℕ) (limit : ℕ) (s : Status) → s ≡ Done 0 → Missed files file limit s → ⊥
-missed_not files file limit s e (missing is lacks) = cc
-missed_not files file limit s e (large is longer) = cc
-
-stopped_not : (file : List ℕ) (w : World) (s : Status) (line : List ℕ) → s ≡ Done 0 → Steps (check file) w (stops s line) → ⊥
-stopped_not file w s line e (inl (inl (inl h))) = missed_not w.files file _ s e (Unread-cause w.files file _ s h.0)
-stopped_not file w s line e (inl (inl (inr h))) = let is = (NoImage-cause h.0 s h.2.0).is in cc
-stopped_not file w s line e (inl (inr h)) = let is = (IsRefused-cause h.0 s line h.2).is in cc
-stopped_not file w s line e (inr h) = absurd h.2
-
 pub checked_good : (file : List ℕ) (w : World) → IsChecked file w → IsGood file w.files
-checked_good file w h = go h.is.0 h.is.1 h.is.2
-  where
-    go : (o : Outcome Answer) → Steps (check file) w o → h.answer ≡ answer_of w.input o → IsGood file w.files
-    go (goes b) (same, (image, found, accepted), is) e = record { image = image; found = found; accepted = accepted.0 }
-    go (stops s line) steps e = absurd (stopped_not file w s line (sym (ap (λ (a : Answer). a.status) e) ∙ h.done) steps)
+checked_good file w h =
+    let (same, (image, found, accepted), is) = done_goes (checks.form file) (checks.there file) w (lawful file w) h.answer h.is (ap class_of h.done) in
+    record { image = image; found = found; accepted = accepted.0 }
 
 pub good_restarts : (file : List ℕ) (files : Files) (h : IsGood file files) → IsRestartable h.image
 good_restarts file files h = accepted_restarts h.image h.found.2.0 h.accepted
@@ -94,14 +91,18 @@ runs_same false g input ahead n watch h = record { end = refl; lost = refl; step
 
 -- ---- the answers
 
+-- what a run reads is told
+abbrev IsRead : World → Type 0
+IsRead w = IsSome w.files × IsSome w.input
+
 -- an answer of the imprecise run, which is the sequential one's but for the number
 record Same (options : RunOptions) (choices : Drawn) (force : Bool) (file : List ℕ) (w : World) (a : Answer) : Type 0 where
   answer : Answer
-  is : AnswerOf (imprecise options choices force file) w answer
+  is : AnswerBy (wilds.steps options choices force file) w answer
   same : undrawn answer ≡ a
 
-same_at : (options : RunOptions) (choices : Drawn) (force : Bool) (file : List ℕ) (w : World) (a : Answer) (input : List ℕ) → w.input ≡ Some input → IsTold (run options file) w
-    → HasWords w.files choices → IsGood file w.files → AnswerOf (run options file) w a → Same options choices force file w a
+same_at : (options : RunOptions) (choices : Drawn) (force : Bool) (file : List ℕ) (w : World) (a : Answer) (input : List ℕ) → w.input ≡ Some input → IsRead w
+    → HasWords w.files choices → IsGood file w.files → AnswerBy (runs.steps options file) w a → Same options choices force file w a
 same_at options choices force file w a input e told words good is =
     let g : Program = record { image = good.image; how = options.complete } in
     let plan = plan_by good.image words.0 in
@@ -123,23 +124,23 @@ told_input : (o : Option (List ℕ)) → IsSome o → (input : List ℕ) × (o �
 told_input None told = cc
 told_input (Some input) told = (input, refl)
 
-same_answer : (options : RunOptions) (choices : Drawn) (force : Bool) (file : List ℕ) (w : World) (a : Answer) → IsTold (run options file) w
-    → HasWords w.files choices → IsChecked file w → AnswerOf (run options file) w a → Same options choices force file w a
+same_answer : (options : RunOptions) (choices : Drawn) (force : Bool) (file : List ℕ) (w : World) (a : Answer) → IsRead w
+    → HasWords w.files choices → IsChecked file w → AnswerBy (runs.steps options file) w a → Same options choices force file w a
 same_answer options choices force file w a told words checked is =
     let input = told_input w.input told.1 in
     same_at options choices force file w a input.0 input.1 told words (checked_good file w checked) is
 
 -- the answers are the same but for the number
-pub alike : (options : RunOptions) (choices : Drawn) (force : Bool) (file : List ℕ) (w : World) (a b : Answer) → IsTold (run options file) w
-    → HasWords w.files choices → IsChecked file w → AnswerOf (run options file) w a → AnswerOf (imprecise options choices force file) w b → undrawn b ≡ a
-alike options choices force file w a b told words checked is other =
-    let same = same_answer options choices force file w a told words checked is in
-    ap undrawn (AnswerOf-single (imprecise options choices force file) w b same.answer told other same.is) ∙ same.same
+pub alike : (options : RunOptions) (choices : Drawn) (force : Bool) (file : List ℕ) (w : World) (a b : Answer) → IsSome w.files → IsSome w.input
+    → HasWords w.files choices → IsChecked file w → AnswerBy (runs.steps options file) w a → AnswerBy (wilds.steps options choices force file) w b → undrawn b ≡ a
+alike options choices force file w a b files input words checked is other =
+    let same = same_answer options choices force file w a (files, input) words checked is in
+    ap undrawn (AnswerOf-single (imprecise options choices force file) w b same.answer (files, input) other same.is) ∙ same.same
 
 -- ---- a call
 
 told_alike : (words : List (List ℕ)) (options : RunOptions) (choices : Drawn) (force : Bool) (file : List ℕ) (w : World)
-    → Asks words (imprecise options choices force file) → IsTold (run options file) w → AreTold words w
+    → Asks words (imprecise options choices force file) → IsRead w → AreTold words w
 told_alike words options choices force file w asks told = λ command asked.
     let same : imprecise options choices force file ≡ command = (let x = sym asks ∙ asked in cc) in
     subst (λ (c : Command). IsTold c w) same told
@@ -157,41 +158,43 @@ answered_undrawn b status left s out notes h = record {
 
 -- the call gives the sequential run's answer, but for the number, if it gives an answer of its words
 pub alike_call : (words : List (List ℕ)) (options : RunOptions) (choices : Drawn) (force : Bool) (file : List ℕ) (w : World) (a : Answer) (status : Status) (left : Option (List ℕ))
-    (s : Shelved) (out notes : Sunk) → Asks words (imprecise options choices force file) → IsTold (run options file) w
-    → HasWords w.files choices → IsChecked file w → AnswerOf (run options file) w a
+    (s : Shelved) (out notes : Sunk) → Asks words (imprecise options choices force file) → IsSome w.files → IsSome w.input
+    → HasWords w.files choices → IsChecked file w → AnswerBy (runs.steps options file) w a
     → ((b : Answer) → AreTold words w → IsAnswer words w b → IsAnswered b status left s out notes ⊎ (status ≡ NoMemory))
     → IsAnswered a (but_drawn status) left s out notes ⊎ (status ≡ NoMemory)
-alike_call words options choices force file w a status left s out notes asks told has checked is exact =
-    let same = same_answer options choices force file w a told has checked is in
+alike_call words options choices force file w a status left s out notes asks files input has checked is exact =
+    let same = same_answer options choices force file w a (files, input) has checked is in
     ⊎_elim
     (λ (h : IsAnswered same.answer status left s out notes).
     inl (subst (λ (x : Answer). IsAnswered x (but_drawn status) left s out notes) same.same (answered_undrawn same.answer status left s out notes h)))
     (λ (h : status ≡ NoMemory). inr h)
-    (exact same.answer (told_alike words options choices force file w asks told) (inr (imprecise options choices force file, asks, same.is)))
+    (exact same.answer (told_alike words options choices force file w asks (files, input)) (inr (imprecise options choices force file, asks, same.is)))
 
 -- ---- a check that is done
 
-done_not : (words : List (List ℕ)) (file : List ℕ) → Asks words (check file) → (asked words ≡ None) → ⊥
-done_not words file asks none = cc
+cut_not : (shelf : Type 0) (s : Status) → s ≡ Done 0 → CutBy shelf s → ⊥
+cut_not shelf s e (inl h) = cc
+cut_not shelf s e (inr h) = let x : Done 0 ≡ ShelfFault = sym e ∙ h.0 in cc
+
+fails_not : (shelf input : Type 0) (command : Command) (w : World) (t : Answer) → t.status ≡ Done 0 → FailsBy shelf input (form_of command) w t → ⊥
+fails_not shelf input command w t e (inl h) = cut_not shelf t.status e h.cause
+fails_not shelf input command w t e (inr (inl h)) = let x = h.status_is in cc
+fails_not shelf input command w t e (inr (inr h)) = cut_not shelf t.status e h.cause
 
 -- what is tried for a check, with the status of one that is done, is its answer
 done_tried : (shelf input : Type 0) (words : List (List ℕ)) (file : List ℕ) (w : World) (t : Answer) → Asks words (check file)
     → TriedBy shelf input words w t → t.status ≡ Done 0 → IsChecked file w
-done_tried shelf input words file w t asks (inl (inl h)) e = absurd (done_not words file asks h.0)
+done_tried shelf input words file w t asks (inl (inl h)) e = absurd (let x = sym asks ∙ h.0 in cc)
 done_tried shelf input words file w t asks (inl (inr h)) e =
     let x = h.1 in
     let same : h.0 ≡ check file = cc in
     record { answer = t; is = subst (λ (c : Command). AnswerOf c w t) same h.2; done = e }
-done_tried shelf input words file w t asks (inr (inl h)) e =
-    absurd
-    (⊎_elim
-    (λ (cut : IsCut shelf h.0 w t). subst (CutBy shelf) e cut.cause)
-    (λ (starved : IsStarved input h.0 w t). let x = starved.status_is in cc)
-    h.2)
+done_tried shelf input words file w t asks (inr (inl h)) e = absurd (fails_not shelf input h.0 w t e h.2)
 done_tried shelf input words file w t asks (inr (inr h)) e = absurd (let x : t.status ≡ NoMemory = ap (λ (a : Answer). a.status) h in cc)
 
 pub tried_restarts : (shelf input : Type 0) (words : List (List ℕ)) (file : List ℕ) (w : World) (t : Answer) → Asks words (check file)
-    → TriedBy shelf input words w t → t.status ≡ Done 0 → (image : Parts) × ImageOf w.files file (goes image) × IsRestartable image
+    → TriedBy shelf input words w t → t.status ≡ Done 0 → (image : Parts) × IsImage image × HasFile w.files file (spelling image) × IsRestartable image
 tried_restarts shelf input words file w t asks tried e =
     let good = checked_good file w (done_tried shelf input words file w t asks tried e) in
-    (good.image, good.found, good_restarts file w.files good)
+    let (bytes, read, spelt) = good.found in
+    (good.image, spelt.0, subst (HasFile w.files file) spelt.1 read.0, good_restarts file w.files good)

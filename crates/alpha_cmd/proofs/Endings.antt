@@ -8,11 +8,11 @@ use Rattle.alpha_io.proofs.Sinks.{Puts-none, Puts-then, Partly-then, HasFailed-n
 use Rattle.alpha_cmd.specs.declared.decision.Decision.{Decision}
 use Rattle.alpha_cmd.specs.declared.status.Status.{Status}
 use Rattle.alpha_cmd.specs.declared.status.Status.TheVariants.{SinkFault, NoMemory}
-use Rattle.alpha_cmd.specs.Answer.{World, Answer, notes_of, IsAnswer, IsLeft, AreTold, IsAnswered}
+use Rattle.alpha_cmd.specs.Answer.{World, Answer, notes_of, IsLeft, IsAnswered}
 use Rattle.alpha_cmd.specs.Kept.{Kept, nothing, HasKept}
 use Rattle.alpha_cmd.specs.Ends.{Ends, EndsPart, Leaves, Decides, still}
-use Rattle.alpha_cmd.specs.Tried.{TriedBy}
-use Rattle.alpha_cmd.proofs.Trying.{exact_tried, tried_not_sink, IsAnswered-tried}
+use Rattle.alpha_cmd.specs.Tried.{AreTold, IsAnswer, TriedBy}
+use Rattle.alpha_cmd.proofs.Tried.{exact_tried, tried_not_sink, IsAnswered-tried}
 
 IsLeft-same : (left : Option (List ℕ)) → IfSome left (λ rest. left ≡ Some rest)
 IsLeft-same None = tt

@@ -6,7 +6,6 @@ use Rattle.alpha_io.specs.Sunk.{Sunk, Puts}
 use Rattle.alpha_io.specs.Written.{WritesPrefix}
 use Rattle.alpha_io.proofs.Sinks.{Partly-more}
 use Rattle.alpha_io.proofs.Writes.{WritesPrefix-all}
-use Rattle.alpha_request.specs.Command.{run}
 use Rattle.alpha_request.specs.declared.options.RunOptions.{RunOptions}
 use Rattle.alpha_seq.specs.declared.end.End.{End}
 use Rattle.alpha_seq.specs.declared.machine.Machine.{Machine}
@@ -20,12 +19,12 @@ use Rattle.alpha_cmd.specs.declared.status.Status.TheVariants.{InputFault}
 use Rattle.alpha_cmd.specs.Status.{status_line}
 use Rattle.alpha_cmd.specs.Outcome.{goes}
 use Rattle.alpha_cmd.specs.Image.{ImageOf}
-use Rattle.alpha_cmd.specs.Running.{run_status, run_line, MayShow}
-use Rattle.alpha_cmd.specs.Answer.{World, Answer, answer_shown, said}
+use Rattle.alpha_cmd.specs.Commands.Run.{run_status, run_line, MayShow, answer_shown, form}
+use Rattle.alpha_cmd.specs.Answer.{World, Answer, said}
 use Rattle.alpha_cmd.specs.Kept.{nothing}
 use Rattle.alpha_cmd.specs.Ends.{EndsPart, Leaves}
-use Rattle.alpha_cmd.specs.Tried.{TriedOf}
-use Rattle.alpha_cmd.proofs.Trying.{shown_answer}
+use Rattle.alpha_cmd.specs.Tries.{TriesBy}
+use Rattle.alpha_cmd.proofs.Commands.Run.{shown_answer}
 
 -- a machine at the start of an image's program
 pub record IsStarted (options : RunOptions) (m : Machine) : Type 0 where
@@ -116,7 +115,7 @@ module _ (options : RunOptions) (file : List ℕ) (w : World) (m : Machine) (she
     (s : Shelved) (same : KeepsFiles s.old s.new) where
   -- a run that was made, with the status and the line of its end still to be written
   pub made_tried : (d : Drawn) (out notes : Sunk) (end : Option End) → d.old ≡ w.input → Shows options m end d out notes
-      → Leaves (TriedOf shelf input (run options file) w) (said d.new (run_status end) (run_line end)) s out notes
+      → Leaves (TriesBy shelf input (form options file) w) (said d.new (run_status end) (run_line end)) s out notes
   made_tried d out notes end told did =
       let may : MayShow options w.input m.image did.what = subst (λ l. MayShow options l m.image did.what) told did.may in
       record {
@@ -135,15 +134,15 @@ module _ (options : RunOptions) (file : List ℕ) (w : World) (m : Machine) (she
 
   -- one whose input failed, with the line of the fault still to be written
   pub starved_tried : (d : Drawn) (out notes : Sunk) → HasInputFault d out notes → (HasInputFault d out notes → input) → Begins options m w.input out notes
-      → Leaves (TriedOf shelf input (run options file) w) (said d.new InputFault (status_line InputFault)) s out notes
+      → Leaves (TriesBy shelf input (form options file) w) (said d.new InputFault (status_line InputFault)) s out notes
   starved_tried d out notes fault cause b =
       let line = status_line InputFault in
       let t : Answer = record { status = InputFault; output = b.bytes.done; trace = b.lines.done; line = line; left = None; kept = nothing } in
       record {
         tried = t;
-        is = inr (inr (record {
+        is = inr (inr (inl (record {
           cause = cause fault;
-          takes = tt;
+          takes = refl;
           status_is = refl;
           answer = answer_shown w.input b.what;
           is = shown_answer w options file m.image b.what found b.may;
@@ -152,7 +151,7 @@ module _ (options : RunOptions) (file : List ℕ) (w : World) (m : Machine) (she
           line = refl;
           left = refl;
           kept = refl;
-        }));
+        })));
         status_is = refl;
         left_is = tt;
         files = same;
@@ -166,7 +165,7 @@ module _ (options : RunOptions) (file : List ℕ) (w : World) (m : Machine) (she
 
   -- one for which a sink failed
   pub unwritten_tried : (d : Drawn) (out notes : Sunk) → HasOutputFault d out notes ⊎ HasNotesFault d out notes → Begins options m w.input out notes
-      → EndsPart (TriedOf shelf input (run options file) w) s out notes
+      → EndsPart (TriesBy shelf input (form options file) w) s out notes
   unwritten_tried d out notes fault b = record {
     tried = answer_shown w.input b.what;
     is = inl (shown_answer w options file m.image b.what found b.may);

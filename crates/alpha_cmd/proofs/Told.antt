@@ -7,7 +7,6 @@ use Rattle.alpha_io.specs.Sunk.{Sunk}
 use Rattle.alpha_io.proofs.Sinks.{Puts-none, Partly-none}
 use Rattle.alpha_pal.specs.CallEffect.{Takes}
 use Rattle.alpha_image.specs.Parts.{Parts}
-use Rattle.alpha_request.specs.Command.{debug}
 use Rattle.alpha_seq.specs.Devices.{Drawn}
 use Rattle.alpha_debug.specs.declared.end.DebugEnd.{DebugEnd}
 use Rattle.alpha_debug.specs.Script.{Transcript, IsTranscript}
@@ -16,12 +15,12 @@ use Rattle.alpha_cmd.specs.declared.status.Status.TheVariants.{InputFault}
 use Rattle.alpha_cmd.specs.Status.{status_line}
 use Rattle.alpha_cmd.specs.Outcome.{goes}
 use Rattle.alpha_cmd.specs.Image.{ImageOf}
-use Rattle.alpha_cmd.specs.Debugging.{MayTell, session_status, LeavesTail, script_most}
-use Rattle.alpha_cmd.specs.Answer.{World, Answer, answer_told, said}
+use Rattle.alpha_cmd.specs.Commands.Debug.{MayTell, session_status, LeavesTail, script_most, answer_told, form}
+use Rattle.alpha_cmd.specs.Answer.{World, Answer, said}
 use Rattle.alpha_cmd.specs.Kept.{nothing}
 use Rattle.alpha_cmd.specs.Ends.{EndsPart, Leaves, still}
-use Rattle.alpha_cmd.specs.Tried.{TriedOf}
-use Rattle.alpha_cmd.proofs.Trying.{told_answer}
+use Rattle.alpha_cmd.specs.Tries.{TriesBy}
+use Rattle.alpha_cmd.proofs.Commands.Debug.{told_answer}
 
 -- ---- the script
 
@@ -48,12 +47,12 @@ tail_same old new same = subst (λ (left : Option (List ℕ)). LeavesTail script
 
 module _ (file : List ℕ) (w : World) (image : Parts) (shelf input : Type 0) (found : ImageOf w.files file (goes image))
     (s : Shelved) (same : KeepsFiles s.old s.new) (d : Drawn) (out : Sunk) (told : Option (List ℕ)) (count : ℕ) (from : d.old ≡ w.input) where
-  is_answer : (t : Transcript) → Follows image d t → TriedOf shelf input (debug file) w (answer_told t)
+  is_answer : (t : Transcript) → Follows image d t → TriesBy shelf input (form file) w (answer_told t)
   is_answer t follows = inl (told_answer w file image t found (subst (λ left. MayTell left image t) from (may_tell image d t follows)))
 
   -- a session to its end, with its status and the line of that still to be written
   pub whole_tried : (end : DebugEnd) → IsWhole end image d out
-      → Leaves (TriedOf shelf input (debug file) w) (said d.new (session_status end) (status_line (session_status end))) s out (still told count)
+      → Leaves (TriesBy shelf input (form file) w) (said d.new (session_status end) (status_line (session_status end))) s out (still told count)
   whole_tried end did = record {
     tried = answer_told did.told;
     is = is_answer did.told did.follows;
@@ -70,15 +69,15 @@ module _ (file : List ℕ) (w : World) (image : Parts) (shelf input : Type 0) (f
 
   -- one whose script failed, with the line of the fault still to be written
   pub unread_tried : (Rose d.before d.now → input) → IsUnread image d out
-      → Leaves (TriedOf shelf input (debug file) w) (said d.new InputFault (status_line InputFault)) s out (still told count)
+      → Leaves (TriesBy shelf input (form file) w) (said d.new InputFault (status_line InputFault)) s out (still told count)
   unread_tried cause did =
       let front = did.part.prefix in
       let t : Answer = record { status = InputFault; output = front.done; trace = []; line = status_line InputFault; left = None; kept = nothing } in
       record {
         tried = t;
-        is = inr (inr (record {
+        is = inr (inr (inl (record {
           cause = cause did.cause;
-          takes = tt;
+          takes = refl;
           status_is = refl;
           answer = answer_told did.told;
           is = told_answer w file image did.told found (subst (λ left. MayTell left image did.told) from (may_tell image d did.told did.follows));
@@ -87,7 +86,7 @@ module _ (file : List ℕ) (w : World) (image : Parts) (shelf input : Type 0) (f
           line = refl;
           left = refl;
           kept = refl;
-        }));
+        })));
         status_is = refl;
         left_is = tt;
         files = same;
@@ -100,7 +99,7 @@ module _ (file : List ℕ) (w : World) (image : Parts) (shelf input : Type 0) (f
       }
 
   -- one whose sink failed
-  pub unwritten_tried : IsUnwritten image d out → EndsPart (TriedOf shelf input (debug file) w) s out (still told count)
+  pub unwritten_tried : IsUnwritten image d out → EndsPart (TriesBy shelf input (form file) w) s out (still told count)
   unwritten_tried did = record {
     tried = answer_told did.told;
     is = is_answer did.told did.follows;

@@ -7,7 +7,6 @@ use Rattle.alpha_io.specs.Written.{WritesPrefix}
 use Rattle.alpha_io.proofs.Sinks.{Partly-more}
 use Rattle.alpha_io.proofs.Writes.{WritesPrefix-all}
 use Rattle.alpha_image.specs.Parts.{Parts, IsImage}
-use Rattle.alpha_request.specs.Command.{imprecise}
 use Rattle.alpha_request.specs.declared.options.RunOptions.{RunOptions}
 use Rattle.alpha_request.specs.Options as choices
 use Rattle.alpha_seq.specs.declared.end.End.{End}
@@ -27,12 +26,12 @@ use Rattle.alpha_cmd.specs.declared.status.Status.{Status}
 use Rattle.alpha_cmd.specs.declared.status.Status.TheVariants.{StepsSpent, Lost, InputFault, SinkFault}
 use Rattle.alpha_cmd.specs.Status.{status_line}
 use Rattle.alpha_cmd.specs.Outcome.{goes}
-use Rattle.alpha_cmd.specs.Imprecise.{Plan, plan_by, PlanOf, Passes, with_drawn, MayShowWild, drawn_status, wild_status, wild_line}
-use Rattle.alpha_cmd.specs.Answer.{World, Answer, answer_wild, said}
+use Rattle.alpha_cmd.specs.Commands.Imprecise.{Plan, plan_by, PlanOf, Passes, with_drawn, MayShowWild, drawn_status, wild_status, wild_line, answer_wild, form}
+use Rattle.alpha_cmd.specs.Answer.{World, Answer, said}
 use Rattle.alpha_cmd.specs.Kept.{nothing}
 use Rattle.alpha_cmd.specs.Ends.{EndsPart, Leaves}
-use Rattle.alpha_cmd.specs.Tried.{TriedOf}
-use Rattle.alpha_cmd.proofs.Trying.{wild_answer}
+use Rattle.alpha_cmd.specs.Tries.{TriesBy}
+use Rattle.alpha_cmd.proofs.Commands.Imprecise.{wild_answer}
 
 -- ---- the status and the line of an answer, by a number of words
 
@@ -231,7 +230,7 @@ module _ (options : RunOptions) (m : Machine) (ahead : ℕ → ℕ) (how : m.how
       (passes : Passes force (plan_by m.image ahead) (goes (plan_by m.image ahead))) (s : Shelved) (same : KeepsFiles s.old s.new) where
     -- a run that was made, with the status and the line of its end still to be written
     pub made_tried : (answer : RunEnd) (status : Status) (d : Drawn) (out notes : Sunk) → d.old ≡ w.input → Shows force answer status d.old d.new out notes
-        → Leaves (TriedOf shelf input (imprecise options drawn force name) w) (said d.new status (answer_line answer)) s out notes
+        → Leaves (TriesBy shelf input (form options drawn force name) w) (said d.new status (answer_line answer)) s out notes
     made_tried answer status d out notes told did =
         let may : MayShowWild options force w.input (plan_by m.image ahead) did.what = subst (λ l. MayShowWild options force l (plan_by m.image ahead) did.what) told did.may in
         record {
@@ -252,15 +251,15 @@ module _ (options : RunOptions) (m : Machine) (ahead : ℕ → ℕ) (how : m.how
 
     -- one whose input failed, with the line of the fault still to be written
     pub starved_tried : (d : Drawn) (out notes : Sunk) → HasInputFault d out notes → (HasInputFault d out notes → input) → Begins force w.input out notes
-        → Leaves (TriedOf shelf input (imprecise options drawn force name) w) (said d.new InputFault (status_line InputFault)) s out notes
+        → Leaves (TriesBy shelf input (form options drawn force name) w) (said d.new InputFault (status_line InputFault)) s out notes
     starved_tried d out notes fault cause b =
         let line = status_line InputFault in
         let t : Answer = record { status = InputFault; output = b.bytes.done; trace = b.lines.done; line = line; left = None; kept = nothing } in
         record {
           tried = t;
-          is = inr (inr (record {
+          is = inr (inr (inl (record {
             cause = cause fault;
-            takes = tt;
+            takes = refl;
             status_is = refl;
             answer = answer_wild w.input b.what;
             is = wild_answer w options drawn force name (plan_by m.image ahead) b.what found passes b.may;
@@ -269,7 +268,7 @@ module _ (options : RunOptions) (m : Machine) (ahead : ℕ → ℕ) (how : m.how
             line = refl;
             left = refl;
             kept = refl;
-          }));
+          })));
           status_is = refl;
           left_is = tt;
           files = same;
@@ -283,7 +282,7 @@ module _ (options : RunOptions) (m : Machine) (ahead : ℕ → ℕ) (how : m.how
 
     -- one for which a sink failed
     pub unwritten_tried : (d : Drawn) (out notes : Sunk) → HasOutputFault d out notes ⊎ HasNotesFault d out notes → Begins force w.input out notes
-        → EndsPart (TriedOf shelf input (imprecise options drawn force name) w) s out notes
+        → EndsPart (TriesBy shelf input (form options drawn force name) w) s out notes
     unwritten_tried d out notes fault b = record {
       tried = answer_wild w.input b.what;
       is = inl (wild_answer w options drawn force name (plan_by m.image ahead) b.what found passes b.may);

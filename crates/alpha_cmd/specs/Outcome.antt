@@ -6,13 +6,21 @@ pub data Outcome (X : Type 0) : Type 0 where
   goes : X → Outcome X
   stops : Status → List ℕ → Outcome X
 
+-- a stage by what it goes on with, and by why it stops
+abbrev pub Either : {X : Type 0} → (X → Type 0) → (Status → List ℕ → Type 0) → Outcome X → Type 0
+Either Good Why (goes x) = Good x
+Either Good Why (stops status line) = Why status line
+
 -- One stage and then another, on what the first goes on with. Where the first stops, both do: so the order of stages is the
 -- order of refusals.
 abbrev pub Then : {X Y : Type 0} → (Outcome X → Type 0) → (X → Outcome Y → Type 0) → Outcome Y → Type 0
 Then {X = X} R S (goes y) = (x : X) × R (goes x) × S x (goes y)
 Then {X = X} R S (stops status line) = R (stops status line) ⊎ ((x : X) × R (goes x) × S x (stops status line))
 
+-- a stage that never stops
+abbrev pub Never : Status → List ℕ → Type 0
+Never status line = ⊥
+
 -- the last stage: it goes on with this
 abbrev pub Gives : {X : Type 0} → X → Outcome X → Type 0
-Gives x (goes y) = y ≡ x
-Gives x (stops status line) = ⊥
+Gives x = Either (λ y. y ≡ x) Never

@@ -1,5 +1,5 @@
--- The statuses: their numbers and the lines that say them.
-use Rattle.std.specs.Prelude.{ℕ, List, [], ◌∷◌, ◌++◌, codes, decimal}
+-- The statuses: a row each, with its number, the line that says it, and its class.
+use Rattle.std.specs.Prelude.{◌≡◌, ℕ, List, [], ◌∷◌, ◌++◌, codes, decimal}
 use Rattle.alpha_image.specs.declared.fault.ImageFault.{ImageFault}
 use Rattle.alpha_image.specs.declared.fault.ImageFault.TheVariants as faults
 use Rattle.alpha_operands.specs.declared.operands.LineFaultKind.{LineFaultKind}
@@ -10,21 +10,6 @@ use Rattle.alpha_io.specs.Line.{hex_digits}
 use Rattle.alpha_seq.specs.Notes.{end_line}
 use Rattle.alpha_cmd.specs.declared.status.Status.{Status}
 use Rattle.alpha_cmd.specs.declared.status.Status.TheVariants.{Done, NotRestartable, BadWords, BadSource, BadImage, Stopped, StepsSpent, Lost, ShelfFault, InputFault, SinkFault, TooLarge, NoMemory}
-
-abbrev pub status_number : Status → ℕ
-status_number (Done n) = 0
-status_number (NotRestartable b) = 1
-status_number BadWords = 2
-status_number (BadSource fault) = 3
-status_number (BadImage fault) = 4
-status_number (Stopped end) = 5
-status_number StepsSpent = 6
-status_number (Lost lost) = 7
-status_number ShelfFault = 8
-status_number InputFault = 9
-status_number SinkFault = 10
-status_number (TooLarge limit) = 11
-status_number NoMemory = 12
 
 -- `image kind K first F second S`: the kind of the fault and its numbers, 0 where there is none
 unfoldable pub numbered_line : ℕ → ℕ → ℕ → List ℕ
@@ -71,18 +56,46 @@ limit_line limit = codes "too large " ++ decimal limit ++ 10 ∷ []
 unfoldable pub lost_line : ℕ → ℕ → List ℕ
 lost_line pc mask = codes "lost " ++ hex_digits pc ++ codes " mask " ++ decimal mask ++ 10 ∷ []
 
--- the line of a status; that of a broken place needs the image's code base, and a failed sink gets none
+-- A call did what was asked. It was refused, by what the words and the files say or by how the program ended. Or a device
+-- failed, or memory ran out.
+pub data Class : Type 0 where
+  done : Class
+  refused : Class
+  failed : Class
+
+pub record Row : Type 0 where
+  pub number : ℕ
+  pub line : List ℕ
+  pub class : Class
+
+abbrev pub row : ℕ → List ℕ → Class → Row
+row number line class = record { number = number; line = line; class = class }
+
+-- a broken place's own line needs the image's code base, and a failed sink gets none
+abbrev pub row_of : Status → Row
+row_of (Done n) = row 0 [] done
+row_of (NotRestartable b) = row 1 [] refused
+row_of BadWords = row 2 (codes "words" ++ 10 ∷ []) refused
+row_of (BadSource fault) = row 3 (refusal_line fault) refused
+row_of (BadImage fault) = row 4 (fault_line fault) refused
+row_of (Stopped end) = row 5 (end_line end) refused
+row_of StepsSpent = row 6 (codes "steps" ++ 10 ∷ []) refused
+row_of (Lost lost) = row 7 (lost_line lost.trap_pc lost.mask) refused
+row_of ShelfFault = row 8 (codes "shelf" ++ 10 ∷ []) failed
+row_of InputFault = row 9 (codes "input" ++ 10 ∷ []) failed
+row_of SinkFault = row 10 [] failed
+row_of (TooLarge limit) = row 11 (limit_line limit) refused
+row_of NoMemory = row 12 (codes "no memory" ++ 10 ∷ []) failed
+
+abbrev pub status_number : Status → ℕ
+status_number status = (row_of status).number
+
 abbrev pub status_line : Status → List ℕ
-status_line (Done n) = []
-status_line (NotRestartable b) = []
-status_line BadWords = codes "words" ++ 10 ∷ []
-status_line (BadSource fault) = refusal_line fault
-status_line (BadImage fault) = fault_line fault
-status_line (Stopped end) = end_line end
-status_line StepsSpent = codes "steps" ++ 10 ∷ []
-status_line (Lost lost) = lost_line lost.trap_pc lost.mask
-status_line ShelfFault = codes "shelf" ++ 10 ∷ []
-status_line InputFault = codes "input" ++ 10 ∷ []
-status_line SinkFault = []
-status_line (TooLarge limit) = limit_line limit
-status_line NoMemory = codes "no memory" ++ 10 ∷ []
+status_line status = (row_of status).line
+
+abbrev pub class_of : Status → Class
+class_of status = (row_of status).class
+
+-- a stage stops with a status for this reason, and says it by the status's own line
+abbrev pub Says : (Status → Type 0) → Status → List ℕ → Type 0
+Says Why status line = Why status × (line ≡ status_line status)

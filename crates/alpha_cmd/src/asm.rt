@@ -3,15 +3,16 @@
 ghost use Rattle.std.specs.Prelude.{◌≡◌, ◌≢◌, ◌⊎◌, ◌^◌, ◌<◌, length, IfOk, IfErr};
 ghost use Rattle.alpha_io.specs.Faults.{Rose};
 ghost use Rattle.alpha_io.specs.Shelved.{shelved, OnlyReads};
-ghost use Rattle.alpha_request.specs.Command as commands;
 ghost use Rattle.alpha_seq.specs.Devices.{Drawn};
 ghost use Rattle.alpha_cmd.specs.Outcome.{goes, stops};
 ghost use Rattle.alpha_cmd.specs.Status.{status_line};
-ghost use Rattle.alpha_cmd.specs.Assembly.{Assembles, Makes};
+ghost use Rattle.alpha_cmd.specs.Commands.Asm as assemblies;
+ghost use Rattle.alpha_cmd.specs.Commands.Asm.{Assembles, Makes};
 ghost use Rattle.alpha_cmd.specs.Decision.{answer_in};
 ghost use Rattle.alpha_cmd.specs.Ends.{Settles};
+ghost use Rattle.alpha_cmd.specs.Form.{SparesBy};
 ghost use Rattle.alpha_cmd.specs.Kept.{Serves};
-ghost use Rattle.alpha_cmd.specs.Tried.{CutBy, Spares, TriedOf};
+ghost use Rattle.alpha_cmd.specs.Tries.{CutBy, TriesBy};
 
 use crate::Status;
 use crate::decision::Decision;
@@ -28,14 +29,14 @@ pub const SOURCE_LIMIT: u64 = 16_777_216;
 /// same. The keep comes last: before it no file is changed.
 pub(crate) fn asm<H: Shelf>(alloc: Global, file: &str, out: &str, shelf: &mut H) -> Decision
     ensures tried { (input : Drawn)
-        → Settles (TriedOf (Rose (H.faults shelf.old) (H.faults shelf.new))
-        (Rose input.before input.now) (commands.asm file.now out.now)
+        → Settles (TriesBy (Rose (H.faults shelf.old) (H.faults shelf.new))
+        (Rose input.before input.now) (assemblies.form file.now out.now)
         (record { files = H.files shelf.old; takes = H.takes shelf.old; input = input.old }))
         (answer_in input.old result)
         (shelved H.Shelf shelf.old shelf.new) }
     ensures shelf { Serves (shelved H.Shelf shelf.old shelf.new)
         (result.status ≢ Status.ShelfFault) }
-    ensures files { Spares (commands.asm file.now out.now) result.status
+    ensures files { SparesBy (assemblies.kind out.now) result.status
         (H.files shelf.old) (H.files shelf.new) }
 {
     match made(alloc, shelf, file) {

@@ -3,10 +3,10 @@
 ghost use Rattle.std.specs.Prelude.{◌≢◌};
 ghost use Rattle.alpha_io.specs.Faults.{Rose};
 ghost use Rattle.alpha_io.specs.Shelved.{shelved, OnlyReads};
-ghost use Rattle.alpha_request.specs.Command as commands;
 ghost use Rattle.alpha_seq.specs.Devices.{Drawn};
+ghost use Rattle.alpha_cmd.specs.Commands.Check as checks;
 ghost use Rattle.alpha_cmd.specs.Decision.{answer_in};
-ghost use Rattle.alpha_cmd.specs.Tried.{TriedOf};
+ghost use Rattle.alpha_cmd.specs.Tries.{TriesBy};
 
 use crate::Status;
 use crate::decision::Decision;
@@ -18,8 +18,8 @@ use std::alloc::Global;
 /// Reads the image of a file and judges it.
 pub(crate) fn check<H: Shelf>(alloc: Global, file: &str, shelf: &mut H) -> Decision
     ensures tried { (input : Drawn)
-        → TriedOf (Rose (H.faults shelf.old) (H.faults shelf.new))
-        (Rose input.before input.now) (commands.check file.now)
+        → TriesBy (Rose (H.faults shelf.old) (H.faults shelf.new))
+        (Rose input.before input.now) (checks.form file.now)
         (record { files = H.files shelf.old; takes = H.takes shelf.old; input = input.old })
         (answer_in input.old result) }
     ensures shelf { OnlyReads (shelved H.Shelf shelf.old shelf.new)

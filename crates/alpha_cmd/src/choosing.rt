@@ -7,9 +7,9 @@ ghost use Rattle.alpha_request.specs.Options as choices;
 ghost use Rattle.alpha_request.specs.Options.{drawn_from};
 ghost use Rattle.alpha_cmd.specs.Outcome.{goes, stops};
 ghost use Rattle.alpha_cmd.specs.Status.{status_line};
-ghost use Rattle.alpha_cmd.specs.Choosing.{ahead_in};
-ghost use Rattle.alpha_cmd.specs.Imprecise.{ChoicesOf};
-ghost use Rattle.alpha_cmd.specs.Tried.{CutBy};
+ghost use Rattle.alpha_cmd.specs.Chooser.{ahead_in};
+ghost use Rattle.alpha_cmd.specs.Choosing.{ChoicesOf};
+ghost use Rattle.alpha_cmd.specs.Tries.{CutBy};
 
 use crate::Status;
 use crate::image::read_file;

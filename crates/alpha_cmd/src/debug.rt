@@ -4,12 +4,13 @@ ghost use Rattle.std.specs.Prelude.{◌≡◌, ◌≢◌, ◌⊎◌, ℕ, List, 
 ghost use Rattle.alpha_io.specs.Faults.{Rose};
 ghost use Rattle.alpha_io.specs.Shelved.{shelved, OnlyReads};
 ghost use Rattle.alpha_io.specs.Sunk.{sunk};
-ghost use Rattle.alpha_request.specs.Command as commands;
 ghost use Rattle.alpha_seq.specs.Devices.{drawn};
 ghost use Rattle.alpha_cmd.specs.Answer.{world};
-ghost use Rattle.alpha_cmd.specs.Debugging.{LeavesTail, script_most};
+ghost use Rattle.alpha_cmd.specs.Commands.Debug as sessions;
+ghost use Rattle.alpha_cmd.specs.Commands.Debug.{LeavesTail, script_most};
 ghost use Rattle.alpha_cmd.specs.Ends.{Decides, status_in, still};
-ghost use Rattle.alpha_cmd.specs.Tried.{CountStays, MayTake, TriedOf};
+ghost use Rattle.alpha_cmd.specs.Form.{MayTakeBy};
+ghost use Rattle.alpha_cmd.specs.Tries.{CountStays, TriesBy};
 
 use crate::Status;
 use crate::decision::Decision;
@@ -28,15 +29,15 @@ pub(crate) fn debug<H: Shelf, S: Source, K: Sink>(
     out: &mut K,
 ) -> Result<Decision, Failed>
     ensures tried { (told : Option (List ℕ)) (count : ℕ)
-        → Decides (TriedOf (Rose (H.faults shelf.old) (H.faults shelf.new))
-        (Rose (S.faults input.old) (S.faults input.new)) (commands.debug file.now)
+        → Decides (TriesBy (Rose (H.faults shelf.old) (H.faults shelf.new))
+        (Rose (S.faults input.old) (S.faults input.new)) (sessions.form file.now)
         (world H.Shelf S.Source shelf.old input.old)) result (S.left input.new)
         (shelved H.Shelf shelf.old shelf.new)
         (sunk K.Sink out.old out.new) (still told count) }
     ensures shelf { OnlyReads (shelved H.Shelf shelf.old shelf.new)
         (IfOk result (λ decision. decision.status ≢ Status.ShelfFault)) }
     ensures input { (input.new ≡ input.old)
-        ⊎ MayTake (commands.debug file.now) (status_in result) }
+        ⊎ MayTakeBy sessions.kind (status_in result) }
     ensures source { CountStays (drawn S.Source input.old input.new)
         (IfOk result (λ decision. decision.status ≢ Status.InputFault)) }
     ensures script { LeavesTail script_most (S.left input.old) (S.left input.new) }

@@ -3,9 +3,10 @@ ghost use Rattle.alpha_io.specs.Sunk.{sunk, Puts, Partly, HasFailed};
 ghost use Rattle.alpha_shadow.specs.Report.{broken_line};
 ghost use Rattle.alpha_seq.specs.Notes.{end_line};
 ghost use Rattle.alpha_cmd.specs.Status.{status_line};
-ghost use Rattle.alpha_cmd.specs.Running.{end_status};
-ghost use Rattle.alpha_cmd.specs.Imprecise.{drawn_status};
-ghost use Rattle.alpha_cmd.specs.Answer.{said, accepted};
+ghost use Rattle.alpha_cmd.specs.Answer.{said};
+ghost use Rattle.alpha_cmd.specs.Commands.Check.{accepted};
+ghost use Rattle.alpha_cmd.specs.Commands.Imprecise.{drawn_status};
+ghost use Rattle.alpha_cmd.specs.Commands.Run.{end_status};
 ghost use Rattle.alpha_cmd.specs.Decision.{answer_in};
 
 use crate::Status;
@@ -93,7 +94,7 @@ impl Decision {
     /// Writes what is still to be written, and answers the status, or that a sink failed.
     pub(crate) fn deliver<K: Sink, N: Sink>(&self, out: &mut K, notes: &mut N) -> Status
         requires { self.now.status ≢ Status.SinkFault }
-        ensures status { result ≢ Status.SinkFault → result ≡ self.now.status }
+        ensures status { (result ≡ Status.SinkFault) ⊎ (result ≡ self.now.status) }
         ensures output { result ≢ Status.SinkFault
             → Puts (sunk K.Sink out.old out.new) self.now.output }
         ensures notes { result ≢ Status.SinkFault

@@ -4,10 +4,10 @@ ghost use Rattle.std.specs.Prelude.{◌≢◌, ℕ, List, Option, IfOk};
 ghost use Rattle.alpha_io.specs.Faults.{Rose};
 ghost use Rattle.alpha_io.specs.Shelved.{shelved, OnlyReads};
 ghost use Rattle.alpha_io.specs.Sunk.{sunk};
-ghost use Rattle.alpha_request.specs.Command as commands;
 ghost use Rattle.alpha_seq.specs.Devices.{Drawn};
+ghost use Rattle.alpha_cmd.specs.Commands.Dis as listings;
 ghost use Rattle.alpha_cmd.specs.Ends.{Decides, still};
-ghost use Rattle.alpha_cmd.specs.Tried.{TriedOf};
+ghost use Rattle.alpha_cmd.specs.Tries.{TriesBy};
 
 use crate::Status;
 use crate::decision::Decision;
@@ -24,8 +24,8 @@ pub(crate) fn dis<H: Shelf, K: Sink>(
     out: &mut K,
 ) -> Result<Decision, Failed>
     ensures tried { (input : Drawn) (told : Option (List ℕ)) (count : ℕ)
-        → Decides (TriedOf (Rose (H.faults shelf.old) (H.faults shelf.new))
-        (Rose input.before input.now) (commands.dis file.now)
+        → Decides (TriesBy (Rose (H.faults shelf.old) (H.faults shelf.new))
+        (Rose input.before input.now) (listings.form file.now)
         (record { files = H.files shelf.old; takes = H.takes shelf.old; input = input.old }))
         result input.old (shelved H.Shelf shelf.old shelf.new)
         (sunk K.Sink out.old out.new) (still told count) }

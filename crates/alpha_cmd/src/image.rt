@@ -7,7 +7,7 @@ ghost use Rattle.alpha_image.specs.ImageFault.{first_fault};
 ghost use Rattle.alpha_cmd.specs.Outcome.{goes, stops};
 ghost use Rattle.alpha_cmd.specs.Status.{status_line};
 ghost use Rattle.alpha_cmd.specs.Image.{Reads, Spells, ImageOf};
-ghost use Rattle.alpha_cmd.specs.Tried.{CutBy};
+ghost use Rattle.alpha_cmd.specs.Tries.{CutBy};
 
 use crate::Status;
 use alpha_image::{Image, ImageFault, read_image};

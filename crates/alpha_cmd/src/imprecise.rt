@@ -6,17 +6,18 @@ ghost use Rattle.alpha_io.specs.Files.{KeepsFiles};
 ghost use Rattle.alpha_io.specs.Shelved.{Shelved, shelved, OnlyReads};
 ghost use Rattle.alpha_io.specs.Sunk.{sunk};
 ghost use Rattle.alpha_shadow.specs.Broken.{IsAccepted, IsLeastBroken};
-ghost use Rattle.alpha_request.specs.Command as commands;
 ghost use Rattle.alpha_request.specs.Options.{Drawn, drawn_from};
 ghost use Rattle.alpha_seq.specs.Devices.{drawn};
 ghost use Rattle.alpha_imprecise.specs.Wild.{IsFresh};
 ghost use Rattle.alpha_cmd.specs.Outcome.{goes, stops};
 ghost use Rattle.alpha_cmd.specs.Status.{status_line};
-ghost use Rattle.alpha_cmd.specs.Choosing.{ahead_in};
-ghost use Rattle.alpha_cmd.specs.Imprecise.{PlanOf, plan_by};
+ghost use Rattle.alpha_cmd.specs.Chooser.{ahead_in};
+ghost use Rattle.alpha_cmd.specs.Commands.Imprecise as wilds;
+ghost use Rattle.alpha_cmd.specs.Commands.Imprecise.{PlanOf, plan_by};
 ghost use Rattle.alpha_cmd.specs.Answer.{world};
 ghost use Rattle.alpha_cmd.specs.Ends.{Decides, status_in};
-ghost use Rattle.alpha_cmd.specs.Tried.{CountStays, CutBy, MayTake, TriedOf};
+ghost use Rattle.alpha_cmd.specs.Form.{MayTakeBy};
+ghost use Rattle.alpha_cmd.specs.Tries.{CountStays, CutBy, TriesBy};
 
 use crate::Status;
 use crate::choosing::{Choosing, chooser_of};
@@ -61,9 +62,9 @@ pub(crate) fn imprecise<H: Shelf, S: Source, K: Sink, N: Sink>(
     out: &mut K,
     notes: &mut N,
 ) -> Result<Decision, Failed>
-    ensures tried { Decides (TriedOf (Rose (H.faults shelf.old) (H.faults shelf.new))
+    ensures tried { Decides (TriesBy (Rose (H.faults shelf.old) (H.faults shelf.new))
         (Rose (S.faults input.old) (S.faults input.new))
-        (commands.imprecise asked.entry.options (drawn_from asked.entry.choices) asked.entry.force
+        (wilds.form asked.entry.options (drawn_from asked.entry.choices) asked.entry.force
         asked.entry.file.now)
         (world H.Shelf S.Source shelf.old input.old)) result (S.left input.new)
         (shelved H.Shelf shelf.old shelf.new)
@@ -71,10 +72,7 @@ pub(crate) fn imprecise<H: Shelf, S: Source, K: Sink, N: Sink>(
     ensures shelf { OnlyReads (shelved H.Shelf shelf.old shelf.new)
         (IfOk result (λ decision. decision.status ≢ Status.ShelfFault)) }
     ensures input { (input.new ≡ input.old)
-        ⊎ MayTake
-        (commands.imprecise asked.entry.options (drawn_from asked.entry.choices) asked.entry.force
-        asked.entry.file.now)
-        (status_in result) }
+        ⊎ MayTakeBy wilds.kind (status_in result) }
     ensures source { CountStays (drawn S.Source input.old input.new)
         (IfOk result (λ decision. decision.status ≢ Status.InputFault)) }
 {
@@ -138,16 +136,14 @@ fn run_plan<S: Source, K: Sink, N: Sink>(
     ensures tried { (shelf : Shelved) (file : List ℕ) (choices : Drawn) (force : Bool)
         → PlanOf shelf.old file choices (goes (plan_by plan.image (ahead_in plan.chooser)))
         → (force ≡ false → IsAccepted plan.image.words) → KeepsFiles shelf.old shelf.new
-        → Decides (TriedOf (Rose shelf.before shelf.now)
+        → Decides (TriesBy (Rose shelf.before shelf.now)
         (Rose (S.faults input.old) (S.faults input.new))
-        (commands.imprecise options choices force file)
+        (wilds.form options choices force file)
         (record { files = shelf.old; takes = shelf.took; input = S.left input.old }))
         result (S.left input.new) shelf
         (sunk K.Sink out.old out.new) (sunk N.Sink notes.old notes.new) }
     ensures status { IfOk result (λ decision. decision.status ≢ Status.ShelfFault) }
-    ensures input { (input.new ≡ input.old)
-        ⊎ ((choices : Drawn) (force : Bool) (file : List ℕ)
-        → MayTake (commands.imprecise options choices force file) (status_in result)) }
+    ensures input { (input.new ≡ input.old) ⊎ MayTakeBy wilds.kind (status_in result) }
     ensures source { CountStays (drawn S.Source input.old input.new)
         (IfOk result (λ decision. decision.status ≢ Status.InputFault)) }
 {
@@ -178,15 +174,14 @@ fn run_wild<S: Source, K: Sink, N: Sink>(
         (goes (plan_by wild.old.machine.image (ahead_in chooser.old.chooser)))
         → (force ≡ false → IsAccepted wild.old.machine.image.words)
         → KeepsFiles shelf.old shelf.new
-        → Decides (TriedOf (Rose shelf.before shelf.now)
+        → Decides (TriesBy (Rose shelf.before shelf.now)
         (Rose (S.faults input.old) (S.faults input.new))
-        (commands.imprecise options choices force file)
+        (wilds.form options choices force file)
         (record { files = shelf.old; takes = shelf.took; input = S.left input.old }))
         result (S.left input.new) shelf
         (sunk K.Sink out.old out.new) (sunk N.Sink notes.old notes.new) }
     ensures status { IfOk result (λ decision. decision.status ≢ Status.ShelfFault) }
-    ensures input { (choices : Drawn) (force : Bool) (file : List ℕ)
-        → MayTake (commands.imprecise options choices force file) (status_in result) }
+    ensures input { MayTakeBy wilds.kind (status_in result) }
     ensures source { CountStays (drawn S.Source input.old input.new)
         (IfOk result (λ decision. decision.status ≢ Status.InputFault)) }
 {

@@ -2,7 +2,6 @@ ghost use Rattle.std.specs.Prelude.{◌≡◌, ℕ, Bool, List, IsSome};
 ghost use Rattle.alpha_image.specs.Parts.{Parts, IsImage};
 ghost use Rattle.alpha_shadow.specs.Broken.{IsAccepted};
 ghost use Rattle.alpha_round.specs.Source.{IsSourceOf};
-ghost use Rattle.alpha_request.specs.Command as commands;
 ghost use Rattle.alpha_request.specs.Options.{Drawn};
 ghost use Rattle.alpha_request.specs.declared.options.RunOptions.{RunOptions};
 ghost use Rattle.alpha_imprecise.specs.Restart.{IsRestartable};
@@ -10,7 +9,11 @@ ghost use Rattle.alpha_cmd.specs.declared.status.Status.TheVariants.{Done};
 ghost use Rattle.alpha_cmd.specs.Outcome.{goes};
 ghost use Rattle.alpha_cmd.specs.Image.{ImageOf};
 ghost use Rattle.alpha_cmd.specs.Alike.{HasWords, IsChecked, undrawn};
-ghost use Rattle.alpha_cmd.specs.Answer.{Answer, AnswerOf, AreTold, HaveBytes, IsTold, World, IsAnswer};
+ghost use Rattle.alpha_cmd.specs.Answer.{Answer, AnswerBy, HaveBytes, World};
+ghost use Rattle.alpha_cmd.specs.Commands.Dis as listings;
+ghost use Rattle.alpha_cmd.specs.Commands.Imprecise as wilds;
+ghost use Rattle.alpha_cmd.specs.Commands.Run as runs;
+ghost use Rattle.alpha_cmd.specs.Tried.{AreTold, IsAnswer};
 
 /// The laws of answers: words have one answer where what their command reads is told, the files and
 /// for a run the input; and where told files are of bytes, they have some. So each status comes
@@ -24,7 +27,7 @@ pub fn laws_of_answers()
 
 /// The law of listings: where `dis` is done, what it writes is a source of the image of its file.
 pub fn laws_of_listed_files()
-    ensures { (file : List ℕ) (w : World) (a : Answer) → AnswerOf (commands.dis file) w a → a.status ≡ Done 0
+    ensures { (file : List ℕ) (w : World) (a : Answer) → AnswerBy (listings.steps file) w a → a.status ≡ Done 0
         → (image : Parts) × ImageOf w.files file (goes image) × IsSourceOf a.output image }
 {}
 
@@ -37,8 +40,8 @@ pub fn laws_of_restarts()
     ensures accepted { (image : Parts) → IsImage image → IsAccepted image.words
         → IsRestartable image }
     ensures alike { (options : RunOptions) (choices : Drawn) (force : Bool) (file : List ℕ)
-        (w : World) (a b : Answer) → IsTold (commands.run options file) w
+        (w : World) (a b : Answer) → IsSome w.files → IsSome w.input
         → HasWords w.files choices → IsChecked file w
-        → AnswerOf (commands.run options file) w a
-        → AnswerOf (commands.imprecise options choices force file) w b → undrawn b ≡ a }
+        → AnswerBy (runs.steps options file) w a
+        → AnswerBy (wilds.steps options choices force file) w b → undrawn b ≡ a }
 {}

@@ -2,11 +2,11 @@
 //!
 //! - [`Words`] are the words after the program's name, [`Status`] is how a call ended.
 //! - [`alpha_top`] does what the words ask. Words, files and input have one answer: a status, the
-//!   bytes for the output and for the notes, the input left, and the file that is kept. It is put
-//!   together from stages, whose order is the order of refusals (`specs/Answer.antt` over
-//!   `specs/Outcome.antt`, `specs/Image.antt` and `specs/Assembly.antt`). A fault of a device or want
-//!   of memory may cut a call short, and then a part of an answer, or the line of that status, was
-//!   written (`specs/Tried.antt`, `specs/Ends.antt`).
+//!   bytes for the output and for the notes, the input left, and the file that is kept. A command is
+//!   put together from stages, whose order is the order of refusals (`specs/Outcome.antt`), and has
+//!   one module (`specs/Commands.antt`); what is the same of all of them is said by their form
+//!   (`specs/Form.antt`). A fault of a device or want of memory may cut a call short, and then a part
+//!   of an answer, or the line of that status, was written (`specs/Tries.antt`, `specs/Ends.antt`).
 //! - [`alpha_sure`] is the same call over devices that never fail.
 //! - [`image_of`] makes the image of a file's bytes.
 //! - [`laws_of_answers`] says that words have one answer where what their command reads is told, and
@@ -19,12 +19,10 @@
 //! A command decides, and `Decision::deliver` writes what is then still to be written: all of it, but
 //! for a command that writes while it works, as `dis.rt`, `run.rt` and `debug.rt`. `alpha_request`
 //! reads the words, `image.rt` has the stages that lead to an image and `choosing.rt` the one that
-//! leads to the words of an imprecise run, `specs/Running.antt` and `specs/Imprecise.antt` say what
-//! runs show, `specs/Debugging.antt` what a session tells and `specs/Kept.antt` what becomes of files,
-//! each command has a module, as `check.rt`, and `top.rt` matches what is asked. `line.rt` and
-//! `specs/Status.antt` have the line and the number of each status.
-//! A further command is a row in `specs/Answer.antt` (`Steps`, `IsTold`), in `specs/Tried.antt`
-//! (`HasFiles`, `MayTake`, and `MayKeep` where it keeps a file) and in `perform`, beside its module.
+//! leads to the words of an imprecise run, each command has a module, as `check.rt`, and `top.rt`
+//! matches what is asked. `line.rt` and `specs/Status.antt` have the line, the number and the class of
+//! each status, `specs/Kept.antt` says what becomes of files. What a further command or status
+//! touches is listed in docs/ARCHITECTURE.md.
 #![tactic(auto)]
 
 mod asm;

@@ -5,15 +5,16 @@ ghost use Rattle.alpha_io.specs.Faults.{Rose};
 ghost use Rattle.alpha_io.specs.Files.{KeepsFiles};
 ghost use Rattle.alpha_io.specs.Shelved.{Shelved, shelved, OnlyReads};
 ghost use Rattle.alpha_io.specs.Sunk.{sunk};
-ghost use Rattle.alpha_request.specs.Command as commands;
 ghost use Rattle.alpha_seq.specs.Devices.{drawn};
 ghost use Rattle.alpha_seq.specs.Machine.{program_of, state_of};
 ghost use Rattle.alpha_seq.specs.Start.{start};
 ghost use Rattle.alpha_cmd.specs.Outcome.{goes};
 ghost use Rattle.alpha_cmd.specs.Image.{ImageOf};
 ghost use Rattle.alpha_cmd.specs.Answer.{world};
+ghost use Rattle.alpha_cmd.specs.Commands.Run as runs;
 ghost use Rattle.alpha_cmd.specs.Ends.{Decides, status_in};
-ghost use Rattle.alpha_cmd.specs.Tried.{CountStays, MayTake, TriedOf};
+ghost use Rattle.alpha_cmd.specs.Form.{MayTakeBy};
+ghost use Rattle.alpha_cmd.specs.Tries.{CountStays, TriesBy};
 
 use crate::Status;
 use crate::decision::Decision;
@@ -35,15 +36,15 @@ pub(crate) fn run<H: Shelf, S: Source, K: Sink, N: Sink>(
     out: &mut K,
     notes: &mut N,
 ) -> Result<Decision, Failed>
-    ensures tried { Decides (TriedOf (Rose (H.faults shelf.old) (H.faults shelf.new))
-        (Rose (S.faults input.old) (S.faults input.new)) (commands.run options file.now)
+    ensures tried { Decides (TriesBy (Rose (H.faults shelf.old) (H.faults shelf.new))
+        (Rose (S.faults input.old) (S.faults input.new)) (runs.form options file.now)
         (world H.Shelf S.Source shelf.old input.old)) result (S.left input.new)
         (shelved H.Shelf shelf.old shelf.new)
         (sunk K.Sink out.old out.new) (sunk N.Sink notes.old notes.new) }
     ensures shelf { OnlyReads (shelved H.Shelf shelf.old shelf.new)
         (IfOk result (λ decision. decision.status ≢ Status.ShelfFault)) }
     ensures input { (input.new ≡ input.old)
-        ⊎ MayTake (commands.run options file.now) (status_in result) }
+        ⊎ MayTakeBy runs.kind (status_in result) }
     ensures source { CountStays (drawn S.Source input.old input.new)
         (IfOk result (λ decision. decision.status ≢ Status.InputFault)) }
 {
@@ -70,13 +71,13 @@ fn run_machine<S: Source, K: Sink, N: Sink>(
     requires mode { IsTrue machine.old.kernel.user }
     ensures tried { (shelf : Shelved) (file : List ℕ)
         → ImageOf shelf.old file (goes machine.old.image) → KeepsFiles shelf.old shelf.new
-        → Decides (TriedOf (Rose shelf.before shelf.now)
-        (Rose (S.faults input.old) (S.faults input.new)) (commands.run options file)
+        → Decides (TriesBy (Rose shelf.before shelf.now)
+        (Rose (S.faults input.old) (S.faults input.new)) (runs.form options file)
         (record { files = shelf.old; takes = shelf.took; input = S.left input.old }))
         result (S.left input.new) shelf
         (sunk K.Sink out.old out.new) (sunk N.Sink notes.old notes.new) }
     ensures status { IfOk result (λ decision. decision.status ≢ Status.ShelfFault) }
-    ensures input { (file : List ℕ) → MayTake (commands.run options file) (status_in result) }
+    ensures input { MayTakeBy runs.kind (status_in result) }
     ensures source { CountStays (drawn S.Source input.old input.new)
         (IfOk result (λ decision. decision.status ≢ Status.InputFault)) }
 {

@@ -2,8 +2,11 @@ ghost use Rattle.std.specs.Prelude.{◌≡◌, ◌≢◌, ◌⊎◌, Some};
 ghost use Rattle.alpha_io.specs.Files.{KeepsFiles};
 ghost use Rattle.alpha_io.specs.SureShelfState.{sure_file};
 ghost use Rattle.alpha_request.specs.Command.{Command};
-ghost use Rattle.alpha_cmd.specs.Answer.{Answer, Asks, IsAnswer, sure_world};
-ghost use Rattle.alpha_cmd.specs.Tried.{HasFiles, MayTake, Spares};
+ghost use Rattle.alpha_cmd.specs.Answer.{Answer};
+ghost use Rattle.alpha_cmd.specs.Asks.{Asks};
+ghost use Rattle.alpha_cmd.specs.Commands.{there_of, MayTake, Spares};
+ghost use Rattle.alpha_cmd.specs.Sure.{sure_world};
+ghost use Rattle.alpha_cmd.specs.Tried.{IsAnswer};
 
 use crate::{Status, alpha_top};
 use alpha_io::{NullSink, SureShelf, SureSource};
@@ -24,7 +27,7 @@ pub fn alpha_sure(
     // No stream fails, and the shelf answers only for a file that it doesn't have or doesn't take.
     ensures streams { (result ≢ Status.InputFault) × (result ≢ Status.SinkFault) }
     ensures shelf { (command : Command) → Asks words.now command
-        → HasFiles command (sure_world shelf.old input.old) → result ≢ Status.ShelfFault }
+        → there_of command (sure_world shelf.old input.old) → result ≢ Status.ShelfFault }
 
     // Files stay, but for the one that an assembly keeps, and so does input but for a run.
     ensures files { KeepsFiles (Some (sure_file shelf.old)) (Some (sure_file shelf.new))

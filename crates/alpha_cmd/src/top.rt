@@ -1,9 +1,9 @@
-ghost use Rattle.std.specs.Prelude.{◌≡◌, ◌≢◌, ◌<◌, ◌≤◌, ◌⊎◌, ℕ, Bool, List, IfOk};
+ghost use Rattle.std.specs.Prelude.{◌≡◌, ◌≢◌, ◌<◌, ◌≤◌, ◌⊎◌, ℕ, Bool, List, IfOk, IsSome};
 ghost use Rattle.alpha_io.specs.Faults.{Rose, Calm};
-ghost use Rattle.alpha_io.specs.Files.{KeepsFiles};
+ghost use Rattle.alpha_io.specs.Files.{HasFile, KeepsFiles};
 ghost use Rattle.alpha_io.specs.Shelved.{shelved};
 ghost use Rattle.alpha_io.specs.Sunk.{sunk, IsCalm};
-ghost use Rattle.alpha_image.specs.Parts.{Parts};
+ghost use Rattle.alpha_image.specs.Parts.{Parts, IsImage, spelling};
 ghost use Rattle.alpha_request.specs.Command as commands;
 ghost use Rattle.alpha_request.specs.Command.{Command, command_of};
 ghost use Rattle.alpha_request.specs.Options.{Drawn};
@@ -11,13 +11,15 @@ ghost use Rattle.alpha_request.specs.declared.options.RunOptions.{RunOptions};
 ghost use Rattle.alpha_seq.specs.Devices.{drawn};
 ghost use Rattle.alpha_imprecise.specs.Restart.{IsRestartable};
 ghost use Rattle.alpha_cmd.specs.Alike.{but_drawn, HasWords, IsChecked};
-ghost use Rattle.alpha_cmd.specs.Answer.{Answer, AnswerOf, AreTold, Asks, world, IsAnswer, IsAnswered, IsTold};
-ghost use Rattle.alpha_cmd.specs.Debugging.{LeavesTail, script_most};
+ghost use Rattle.alpha_cmd.specs.Answer.{Answer, AnswerBy, world, IsAnswered};
+ghost use Rattle.alpha_cmd.specs.Asks.{Asks};
+ghost use Rattle.alpha_cmd.specs.Commands.{form_of, MayTake, Spares};
+ghost use Rattle.alpha_cmd.specs.Commands.Debug.{LeavesTail, script_most};
+ghost use Rattle.alpha_cmd.specs.Commands.Run as runs;
 ghost use Rattle.alpha_cmd.specs.Ends.{Decides, Ends, EndsPart, status_in};
-ghost use Rattle.alpha_cmd.specs.Image.{ImageOf};
 ghost use Rattle.alpha_cmd.specs.Kept.{Serves};
-ghost use Rattle.alpha_cmd.specs.Outcome.{goes};
-ghost use Rattle.alpha_cmd.specs.Tried.{CountStays, MayTake, Spares, TriedBy, TriedOf};
+ghost use Rattle.alpha_cmd.specs.Tried.{AreTold, IsAnswer, TriedBy};
+ghost use Rattle.alpha_cmd.specs.Tries.{CountStays, TriesBy};
 
 use crate::Status;
 use crate::asm::asm;
@@ -101,10 +103,11 @@ pub fn alpha_top<H: Shelf, S: Source, K: Sink, N: Sink>(
         (sunk K.Sink out.old out.new)
         (sunk N.Sink notes.old notes.new) ⊎ (result ≡ Status.NoMemory) }
 
-    // Where a check is done, the image of its file can be restarted after each late trap.
+    // Where a check is done, its file spells an image that can be restarted after each late trap.
     ensures restarts { (file : List ℕ) → Asks words.now (commands.check file)
         → result ≡ Status.Done 0
-        → (image : Parts) × ImageOf (H.files shelf.old) file (goes image) × IsRestartable image }
+        → (image : Parts) × IsImage image × HasFile (H.files shelf.old) file (spelling image)
+        × IsRestartable image }
 
     // A run of the imprecise machine of a file that a check accepts has the answer of the sequential
     // run with the same options, whatever words it draws and whether the verdict is passed over: only
@@ -112,8 +115,8 @@ pub fn alpha_top<H: Shelf, S: Source, K: Sink, N: Sink>(
     ensures alike { (options : RunOptions) (choices : Drawn) (force : Bool) (file : List ℕ)
         (a : Answer) → Asks words.now (commands.imprecise options choices force file)
         → let w = world H.Shelf S.Source shelf.old input.old in
-        IsTold (commands.run options file) w → HasWords w.files choices → IsChecked file w
-        → AnswerOf (commands.run options file) w a
+        IsSome w.files → IsSome w.input → HasWords w.files choices → IsChecked file w
+        → AnswerBy (runs.steps options file) w a
         → Calm (H.faults shelf.old) (H.faults shelf.new)
         → Calm (S.faults input.old) (S.faults input.new)
         → IsCalm (sunk K.Sink out.old out.new)
@@ -174,8 +177,8 @@ fn perform<H: Shelf, S: Source, K: Sink, N: Sink>(
 ) -> Result<Decision, Failed>
     requires blocks { (n : ℕ) → command_of request ≡ commands.trial n
         → (0 < n) × (n ≤ 20000) }
-    ensures tried { Decides (TriedOf (Rose (H.faults shelf.old) (H.faults shelf.new))
-        (Rose (S.faults input.old) (S.faults input.new)) (command_of request.entry)
+    ensures tried { Decides (TriesBy (Rose (H.faults shelf.old) (H.faults shelf.new))
+        (Rose (S.faults input.old) (S.faults input.new)) (form_of (command_of request.entry))
         (world H.Shelf S.Source shelf.old input.old)) result (S.left input.new)
         (shelved H.Shelf shelf.old shelf.new)
         (sunk K.Sink out.old out.new) (sunk N.Sink notes.old notes.new) }

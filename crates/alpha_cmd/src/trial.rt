@@ -5,10 +5,10 @@ ghost use Rattle.alpha_io.specs.Faults.{Rose};
 ghost use Rattle.alpha_io.specs.Files.{KeepsFiles};
 ghost use Rattle.alpha_io.specs.Shelved.{Shelved};
 ghost use Rattle.alpha_io.specs.Sunk.{sunk};
-ghost use Rattle.alpha_request.specs.Command as commands;
 ghost use Rattle.alpha_seq.specs.Devices.{Drawn};
+ghost use Rattle.alpha_cmd.specs.Commands.Trial as trials;
 ghost use Rattle.alpha_cmd.specs.Ends.{Decides, still};
-ghost use Rattle.alpha_cmd.specs.Tried.{TriedOf};
+ghost use Rattle.alpha_cmd.specs.Tries.{TriesBy};
 
 use crate::Status;
 use crate::decision::Decision;
@@ -22,8 +22,8 @@ pub(crate) fn trial<K: Sink>(alloc: Global, blocks: u32, out: &mut K) -> Result<
     requires bound { blocks ≤ 20000 }
     ensures tried { (shelf : Shelved) (input : Drawn) (told : Option (List ℕ)) (count : ℕ)
         → KeepsFiles shelf.old shelf.new
-        → Decides (TriedOf (Rose shelf.before shelf.now) (Rose input.before input.now)
-        (commands.trial blocks)
+        → Decides (TriesBy (Rose shelf.before shelf.now) (Rose input.before input.now)
+        (trials.form blocks)
         (record { files = shelf.old; takes = shelf.took; input = input.old }))
         result input.old shelf (sunk K.Sink out.old out.new) (still told count) }
     ensures shelf { IfOk result (λ decision. decision.status ≢ Status.ShelfFault) }

@@ -1,17 +1,20 @@
-use Rattle.std.proofs.Common.{◌≡◌, ap, inl, inr, ⊎_elim}
+use Rattle.std.proofs.Common.{refl, ap, inl}
 use Rattle.alpha_io.specs.Faults.{Rose}
 use Rattle.alpha_io.specs.Shelved.{shelved}
 use Rattle.alpha_shadow.specs.Report.{broken_line}
-use Rattle.alpha_request.specs.Command as commands
 use Rattle.alpha_request.specs.Options.{drawn_from}
 use Rattle.alpha_cmd.specs.declared.status.Status.TheVariants.{NotRestartable}
-use Rattle.alpha_cmd.specs.Choosing.{ahead_in}
-use Rattle.alpha_cmd.specs.Imprecise.{plan_by}
+use Rattle.alpha_cmd.specs.Chooser.{ahead_in}
+use Rattle.alpha_cmd.specs.Commands.Imprecise.{plan_by, Passes, PlanOf, RunsWild, form}
 use Rattle.alpha_cmd.specs.Answer.{world}
 use Rattle.alpha_cmd.specs.Decision.{answer_in}
-use Rattle.alpha_cmd.specs.Tried.{TriedOf}
+use Rattle.alpha_cmd.specs.Tries.{TriesBy}
 use Rattle.alpha_cmd.proofs.Endings.{Leaves-all}
-use Rattle.alpha_cmd.proofs.Trying.{broken_answer, unplanned}
+use Rattle.alpha_cmd.specs.Outcome.{Then}
+use Rattle.alpha_cmd.specs.Status.{status_line}
+use Rattle.alpha_cmd.proofs.Commands.Imprecise.{broken_answer}
+use Rattle.alpha_cmd.proofs.Lawful.{first_stops}
+use Rattle.alpha_cmd.proofs.Trying.{stopped}
 use Rattle.alpha_cmd.proofs.imprecise.imprecise.Goals as goal
 
 pub returns-in-Ok-judged-clause-tried : goal.returns-in-Ok-judged-clause-tried
@@ -22,10 +25,6 @@ returns-in-Ok-judged-clause-tried g c =
 
 pub returns-in-Ok-judged-clause-input : goal.returns-in-Ok-judged-clause-input
 returns-in-Ok-judged-clause-input g c =
-    let a = c.args.asked in
-    ⊎_elim
-    (λ (h : c.run_plan.new.input ≡ c.args.input.now). inl h)
-    (λ h. inr (h (drawn_from a.choices) a.force a.file.now))
     c.run_plan.ensures.input
 
 pub returns-in-Err-judged-clause-tried : goal.returns-in-Err-judged-clause-tried
@@ -35,12 +34,12 @@ returns-in-Err-judged-clause-tried g c =
     let failed = Rose (g.H.Shelf.faults c.args.shelf.now) (g.H.Shelf.faults c.planned.new.shelf) in
     let input = Rose (g.S.Source.faults c.args.input.now) (g.S.Source.faults c.args.input.now) in
     let place = c.in-Err-judged.broken in
-    Leaves-all (TriedOf failed input (commands.imprecise a.options (drawn_from a.choices) a.force a.file.now) w) (answer_in w.input c.broken.result)
+    Leaves-all (TriesBy failed input (form a.options (drawn_from a.choices) a.force a.file.now) w) (answer_in w.input c.broken.result)
     (shelved g.H.Shelf c.args.shelf.now c.planned.new.shelf)
     (g.K.Sink.written c.args.out.now) (g.N.Sink.written c.args.notes.now) (g.K.Sink.faults c.args.out.now) (g.N.Sink.faults c.args.notes.now)
     (inl (broken_answer w a.options (drawn_from a.choices) a.force a.file.now (plan_by c.in-Ok.plan.image (ahead_in c.in-Ok.plan.chooser)) (NotRestartable place)
     (broken_line place c.code_base.result) (answer_in w.input c.broken.result) c.in-Ok.ensures.ok c.in-Err-judged.ensures.refused.0
-    (c.in-Err-judged.ensures.refused.1, ap (broken_line place) c.code_base.ensures.value) (c.broken.ensures w.input)))
+    (place, refl, (c.in-Err-judged.ensures.refused.1, ap (broken_line place) c.code_base.ensures.value)) (c.broken.ensures w.input)))
     c.in-Ok.ensures.shelf.files
 
 pub returns-in-Err-clause-tried : goal.returns-in-Err-clause-tried
@@ -49,8 +48,11 @@ returns-in-Err-clause-tried g c =
     let w = world g.H.Shelf g.S.Source c.args.shelf.now c.args.input.now in
     let failed = Rose (g.H.Shelf.faults c.args.shelf.now) (g.H.Shelf.faults c.planned.new.shelf) in
     let input = Rose (g.S.Source.faults c.args.input.now) (g.S.Source.faults c.args.input.now) in
-    Leaves-all (TriedOf failed input (commands.imprecise a.options (drawn_from a.choices) a.force a.file.now) w) (answer_in w.input c.said.result)
+    Leaves-all (TriesBy failed input (form a.options (drawn_from a.choices) a.force a.file.now) w) (answer_in w.input c.said.result)
     (shelved g.H.Shelf c.args.shelf.now c.planned.new.shelf)
     (g.K.Sink.written c.args.out.now) (g.N.Sink.written c.args.notes.now) (g.K.Sink.faults c.args.out.now) (g.N.Sink.faults c.args.notes.now)
-    (unplanned failed input w a.options (drawn_from a.choices) a.force a.file.now c.in-Err.status (answer_in w.input c.said.result) c.in-Err.ensures.refused (c.said.ensures.answer w.input))
+    (stopped failed input (form a.options (drawn_from a.choices) a.force a.file.now) w c.in-Err.status (answer_in w.input c.said.result)
+    (first_stops (Then (PlanOf w.files a.file.now (drawn_from a.choices)) (Passes a.force)) (RunsWild a.options a.force w.input) c.in-Err.status (status_line c.in-Err.status)
+    (first_stops (PlanOf w.files a.file.now (drawn_from a.choices)) (Passes a.force) c.in-Err.status (status_line c.in-Err.status) c.in-Err.ensures.refused))
+    (c.said.ensures.answer w.input))
     c.in-Err.ensures.shelf.files

@@ -4,9 +4,10 @@ use Rattle.alpha_io.proofs.Counts.{Rose-earlier}
 use Rattle.alpha_request.specs.Options.{drawn_from}
 use Rattle.alpha_cmd.specs.Outcome.{stops}
 use Rattle.alpha_cmd.specs.Status.{status_line}
-use Rattle.alpha_cmd.specs.Imprecise.{ChoicesOf}
-use Rattle.alpha_cmd.specs.Tried.{CutBy}
-use Rattle.alpha_cmd.proofs.Trying.{unchosen, CutBy-map}
+use Rattle.alpha_cmd.specs.Choosing.{ChoicesOf}
+use Rattle.alpha_cmd.specs.Tries.{CutBy}
+use Rattle.alpha_cmd.proofs.Commands.Imprecise.{unchosen}
+use Rattle.alpha_cmd.proofs.Trying.{CutBy-map}
 use Rattle.alpha_cmd.proofs.imprecise.planned.Goals as goal
 
 pub returns-in-Err-chooser_of-clause-refused : goal.returns-in-Err-chooser_of-clause-refused

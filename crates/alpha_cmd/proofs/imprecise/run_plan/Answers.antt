@@ -1,20 +1,19 @@
-use Rattle.std.proofs.Common.{◌≡◌, ◌∙◌, [], sym, ap, subst, inl, inr}
+use Rattle.std.proofs.Common.{◌≡◌, ◌∙◌, [], sym, ap, subst}
 use Rattle.alpha_io.specs.Faults.{Rose}
 use Rattle.alpha_image.specs.Parts.{Parts}
 use Rattle.alpha_shadow.specs.Broken.{IsAccepted}
-use Rattle.alpha_request.specs.Command as commands
 use Rattle.alpha_seq.specs.declared.machine.Machine.{Machine}
 use Rattle.alpha_seq.specs.State.{Program}
 use Rattle.alpha_seq.specs.Start.{start}
 use Rattle.alpha_seq.specs.Machine.{program_of, state_of}
 use Rattle.alpha_cmd.specs.Outcome.{goes}
-use Rattle.alpha_cmd.specs.Choosing.{ahead_in}
-use Rattle.alpha_cmd.specs.Imprecise.{plan_by, PlanOf}
+use Rattle.alpha_cmd.specs.Chooser.{ahead_in}
+use Rattle.alpha_cmd.specs.Commands.Imprecise.{plan_by, PlanOf, form}
 use Rattle.alpha_cmd.specs.Answer.{World}
 use Rattle.alpha_cmd.specs.Decision.{answer_in}
-use Rattle.alpha_cmd.specs.Tried.{TriedOf}
+use Rattle.alpha_cmd.specs.Tries.{TriesBy}
 use Rattle.alpha_cmd.proofs.Endings.{Leaves-all}
-use Rattle.alpha_cmd.proofs.Trying.{cut_short}
+use Rattle.alpha_cmd.proofs.Trying.{starts_not}
 use Rattle.alpha_cmd.proofs.imprecise.run_plan.Goals as goal
 
 pub run_wild-requires-clause-fresh : goal.run_wild-requires-clause-fresh
@@ -38,8 +37,8 @@ returns-in-Err-clause-tried g c = λ shelf file choices force found good same.
     let w : World = record { files = shelf.old; takes = shelf.took; input = g.S.Source.left c.args.input.now } in
     let failed = Rose shelf.before shelf.now in
     let input = Rose (g.S.Source.faults c.args.input.now) (g.S.Source.faults c.args.input.now) in
-    let command = commands.imprecise c.args.options choices force file in
-    Leaves-all (TriedOf failed input command w) (answer_in w.input c.said.result) shelf
+    let command = form c.args.options choices force file in
+    Leaves-all (TriesBy failed input command w) (answer_in w.input c.said.result) shelf
     (g.K.Sink.written c.args.out.now) (g.N.Sink.written c.args.notes.now) (g.K.Sink.faults c.args.out.now) (g.N.Sink.faults c.args.notes.now)
-    (inr (inl (cut_short failed command w _ _ tt (c.said.ensures.answer w.input))))
+    (starts_not failed input command w _ (c.said.ensures.answer w.input))
     same

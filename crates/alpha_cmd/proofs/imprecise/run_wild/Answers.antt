@@ -1,17 +1,17 @@
-use Rattle.std.proofs.Common.{refl, sym, ap, subst}
+use Rattle.std.proofs.Common.{Some, None, refl, sym, ap, subst}
 use Rattle.alpha_io.specs.Faults.{Rose}
 use Rattle.alpha_io.specs.Sunk.{sunk}
-use Rattle.alpha_request.specs.Command as commands
 use Rattle.alpha_restart.proofs.Agreeing.{accepted_restarts}
 use Rattle.alpha_seq.specs.declared.end.RunEnd.TheVariants as runs
 use Rattle.alpha_seq.specs.Devices.{drawn}
 use Rattle.alpha_cmd.specs.declared.status.Status.TheVariants as statuses
-use Rattle.alpha_cmd.specs.Choosing.{ahead_in}
-use Rattle.alpha_cmd.specs.Imprecise.{plan_by, drawn_status}
+use Rattle.alpha_cmd.specs.Chooser.{ahead_in}
+use Rattle.alpha_cmd.specs.Commands.Imprecise.{plan_by, drawn_status, form, kind}
+use Rattle.alpha_cmd.specs.Form.{MayTakeBy}
 use Rattle.alpha_cmd.specs.Answer.{World, Answer}
 use Rattle.alpha_cmd.specs.Ends.{Leaves}
-use Rattle.alpha_cmd.specs.Tried.{TriedOf}
-use Rattle.alpha_cmd.proofs.Trying.{passed}
+use Rattle.alpha_cmd.specs.Tries.{TriesBy}
+use Rattle.alpha_cmd.proofs.Commands.Imprecise.{passed, takes_wild}
 use Rattle.alpha_cmd.proofs.WildRan.{counted, fits, planned_image, run_shows, run_begins, made_tried, starved_tried, unwritten_tried}
 use Rattle.alpha_cmd.proofs.imprecise.run_wild.Goals as goal
 
@@ -24,7 +24,7 @@ returns-in-Ended-clause-tried g c = λ shelf file choices force found good same.
     let m = c.args.wild.now.machine in
     let ahead = ahead_in c.args.chooser.now.chooser in
     let did = c.in-Ended.ensures in
-    subst (λ (rest : Answer). Leaves (TriedOf (Rose shelf.before shelf.now) (Rose input.before input.now) (commands.imprecise c.args.options choices force file) w) rest shelf out notes)
+    subst (λ (rest : Answer). Leaves (TriesBy (Rose shelf.before shelf.now) (Rose input.before input.now) (form c.args.options choices force file) w) rest shelf out notes)
     (sym (c.ended_by.ensures.answer input.new))
     (made_tried c.args.options m ahead c.requires.how file choices force w (Rose shelf.before shelf.now) (Rose input.before input.now) found (passed force (plan_by m.image ahead) good) shelf same
     (runs.Ended c.in-Ended.end) (drawn_status c.drawn.result c.in-Ended.end) input out notes refl
@@ -33,6 +33,13 @@ returns-in-Ended-clause-tried g c = λ shelf file choices force found good same.
     (λ bytes told. did.told bytes ahead told refl c.requires.fresh)
     (λ bytes told judges. did.restarted bytes told c.requires.fresh (accepted_restarts m.image (planned_image shelf.old file choices m.image ahead found) (good judges)))
     did.output did.notes did.cause))
+
+pub returns-in-Ended-clause-input : goal.returns-in-Ended-clause-input
+returns-in-Ended-clause-input g c = subst (MayTakeBy kind) (sym c.ended_by.ensures.status) (takes_wild (Some c.in-Ended.end) None c.drawn.result)
+
+pub returns-in-Lost-clause-input : goal.returns-in-Lost-clause-input
+returns-in-Lost-clause-input g c =
+    subst (MayTakeBy kind) (sym c.said-in-Lost.ensures.status) (takes_wild None (Some (record { pc = c.in-Lost.trap_pc; mask = c.in-Lost.mask })) 0)
 
 pub returns-in-Spent-clause-tried : goal.returns-in-Spent-clause-tried
 returns-in-Spent-clause-tried g c = λ shelf file choices force found good same.
@@ -43,7 +50,7 @@ returns-in-Spent-clause-tried g c = λ shelf file choices force found good same.
     let m = c.args.wild.now.machine in
     let ahead = ahead_in c.args.chooser.now.chooser in
     let did = c.in-Spent.ensures in
-    subst (λ (rest : Answer). Leaves (TriedOf (Rose shelf.before shelf.now) (Rose input.before input.now) (commands.imprecise c.args.options choices force file) w) rest shelf out notes)
+    subst (λ (rest : Answer). Leaves (TriesBy (Rose shelf.before shelf.now) (Rose input.before input.now) (form c.args.options choices force file) w) rest shelf out notes)
     (sym (c.said.ensures.answer input.new))
     (made_tried c.args.options m ahead c.requires.how file choices force w (Rose shelf.before shelf.now) (Rose input.before input.now) found (passed force (plan_by m.image ahead) good) shelf same
     (runs.Spent) (statuses.StepsSpent) input out notes refl
@@ -62,7 +69,7 @@ returns-in-Lost-clause-tried g c = λ shelf file choices force found good same.
     let m = c.args.wild.now.machine in
     let ahead = ahead_in c.args.chooser.now.chooser in
     let did = c.in-Lost.ensures in
-    subst (λ (rest : Answer). Leaves (TriedOf (Rose shelf.before shelf.now) (Rose input.before input.now) (commands.imprecise c.args.options choices force file) w) rest shelf out notes)
+    subst (λ (rest : Answer). Leaves (TriesBy (Rose shelf.before shelf.now) (Rose input.before input.now) (form c.args.options choices force file) w) rest shelf out notes)
     (sym (c.said-in-Lost.ensures.answer input.new))
     (made_tried c.args.options m ahead c.requires.how file choices force w (Rose shelf.before shelf.now) (Rose input.before input.now) found (passed force (plan_by m.image ahead) good) shelf same
     (runs.Lost c.in-Lost.trap_pc c.in-Lost.mask) (statuses.Lost (record { trap_pc = c.in-Lost.trap_pc; mask = c.in-Lost.mask })) input out notes refl
@@ -81,7 +88,7 @@ returns-in-InputFault-clause-tried g c = λ shelf file choices force found good 
     let m = c.args.wild.now.machine in
     let ahead = ahead_in c.args.chooser.now.chooser in
     let did = c.in-InputFault.ensures in
-    subst (λ (rest : Answer). Leaves (TriedOf (Rose shelf.before shelf.now) (Rose input.before input.now) (commands.imprecise c.args.options choices force file) w) rest shelf out notes)
+    subst (λ (rest : Answer). Leaves (TriesBy (Rose shelf.before shelf.now) (Rose input.before input.now) (form c.args.options choices force file) w) rest shelf out notes)
     (sym (c.said-in-InputFault.ensures.answer input.new))
     (starved_tried c.args.options m ahead c.requires.how file choices force w (Rose shelf.before shelf.now) (Rose input.before input.now) found (passed force (plan_by m.image ahead) good) shelf same
     input out notes did.cause (λ fault. fault.source)

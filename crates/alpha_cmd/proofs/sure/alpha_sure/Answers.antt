@@ -1,6 +1,6 @@
 use Rattle.std.proofs.Common.{◌≡◌, ◌≢◌, ◌∙◌, sym, inl, inr, ⊎_elim}
 use Rattle.alpha_cmd.specs.declared.status.Status.TheVariants.{SinkFault, NoMemory}
-use Rattle.alpha_cmd.proofs.Trying.{told_sure, tried_not_input, tried_there, Rose-none, Calm-none}
+use Rattle.alpha_cmd.proofs.Tried.{told_sure, tried_not_input, tried_there, Rose-none, Calm-none}
 use Rattle.alpha_cmd.proofs.sure.alpha_sure.Goals as goal
 
 pub returns-clause-answer : goal.returns-clause-answer

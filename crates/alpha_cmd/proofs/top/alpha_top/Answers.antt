@@ -1,4 +1,4 @@
-use Rattle.std.proofs.Common.{◌≡◌, ◌≢◌, ◌∙◌, sym, subst, inl, inr, ⊎_elim}
+use Rattle.std.proofs.Common.{◌≡◌, ◌∙◌, sym, subst, inl, inr, ⊎_elim}
 use Rattle.alpha_io.specs.Faults.{Rose}
 use Rattle.alpha_io.specs.Files.{KeepsFiles}
 use Rattle.alpha_io.specs.Shelved.{shelved}
@@ -6,12 +6,13 @@ use Rattle.alpha_io.specs.Sunk.{sunk}
 use Rattle.alpha_io.proofs.Counts.{Rose-not_calm}
 use Rattle.alpha_cmd.specs.declared.status.Status.TheVariants.{Done, SinkFault}
 use Rattle.alpha_request.specs.Command.{Command}
-use Rattle.alpha_cmd.specs.Answer.{Asks, world}
+use Rattle.alpha_cmd.specs.Answer.{world}
+use Rattle.alpha_cmd.specs.Asks.{Asks}
+use Rattle.alpha_cmd.specs.Commands.{kind_of, MayTake, Spares}
 use Rattle.alpha_cmd.specs.Decision.{answer_in}
-use Rattle.alpha_cmd.specs.Tried.{MayTake, Spares, TriedBy}
+use Rattle.alpha_cmd.specs.Tried.{TriedBy}
 use Rattle.alpha_cmd.proofs.Endings.{Leaves-not_sink, whole, part, exact_whole, calm_part}
-use Rattle.alpha_cmd.proofs.Keeping.{Spares-sink}
-use Rattle.alpha_cmd.proofs.Trying.{is_sink, MayTake-sink}
+use Rattle.alpha_cmd.proofs.Trying.{MayTake-sink, Spares-sink}
 use Rattle.alpha_cmd.proofs.Alike.{tried_restarts, alike_call}
 use Rattle.alpha_cmd.proofs.top.alpha_top.Goals as goal
 
@@ -34,7 +35,7 @@ returns-in-Ok-clause-whole g c = λ calm.
     c.args.out.now c.decide.new.out c.deliver.new.out c.args.notes.now c.decide.new.notes c.deliver.new.notes
     (shelved g.H.Shelf c.args.shelf.now c.decide.new.shelf)
     (TriedBy shelf input c.args.words.now w) (answer_in (g.S.Source.left c.decide.new.input) c.in-Ok.decision) c.in-Ok.ensures.tried
-    c.deliver.result (c.deliver.ensures.status calm) (c.deliver.ensures.output calm) (c.deliver.ensures.notes calm)
+    c.deliver.result (⊎_elim (λ (e : c.deliver.result ≡ SinkFault). absurd (calm e)) (λ e. e) c.deliver.ensures.status) (c.deliver.ensures.output calm) (c.deliver.ensures.notes calm)
 
 pub returns-in-Ok-clause-part : goal.returns-in-Ok-clause-part
 returns-in-Ok-clause-part g c = λ e.
@@ -58,9 +59,9 @@ returns-in-Ok-clause-files g c =
       h.0,
       h.1,
       ⊎_elim
-          (λ (e : c.deliver.result ≡ SinkFault). subst (λ s. Spares h.0 s old new) (sym e) (Spares-sink h.0 c.in-Ok.decision.status old new h.2))
-          (λ (e : c.deliver.result ≢ SinkFault). subst (λ s. Spares h.0 s old new) (sym (c.deliver.ensures.status e)) h.2)
-          (is_sink c.deliver.result),
+          (λ (e : c.deliver.result ≡ SinkFault). subst (λ s. Spares h.0 s old new) (sym e) (Spares-sink (kind_of h.0) c.in-Ok.decision.status old new h.2))
+          (λ (e : c.deliver.result ≡ c.in-Ok.decision.status). subst (λ s. Spares h.0 s old new) (sym e) h.2)
+          c.deliver.ensures.status,
     ))
     c.in-Ok.ensures.files
 
@@ -73,9 +74,9 @@ returns-in-Ok-clause-input g c =
       h.0,
       h.1,
       ⊎_elim
-          (λ (e : c.deliver.result ≡ SinkFault). subst (MayTake h.0) (sym e) (MayTake-sink h.0 c.in-Ok.decision.status h.2))
-          (λ (e : c.deliver.result ≢ SinkFault). subst (MayTake h.0) (sym (c.deliver.ensures.status e)) h.2)
-          (is_sink c.deliver.result),
+          (λ (e : c.deliver.result ≡ SinkFault). subst (MayTake h.0) (sym e) (MayTake-sink (kind_of h.0) c.in-Ok.decision.status h.2))
+          (λ (e : c.deliver.result ≡ c.in-Ok.decision.status). subst (MayTake h.0) (sym e) h.2)
+          c.deliver.ensures.status,
     ))
     c.in-Ok.ensures.input
 
@@ -89,10 +90,12 @@ returns-in-Ok-clause-exact g c = λ a told quiet fed out notes is.
     let s = shelved g.H.Shelf c.args.shelf.now c.decide.new.shelf in
     ⊎_elim
     (λ (e : c.deliver.result ≡ SinkFault). absurd (calm_part (TriedBy shelf input c.args.words.now w) s O N (returns-in-Ok-clause-part g c e) out notes))
-    (λ (e : c.deliver.result ≢ SinkFault).
+    (λ (e : c.deliver.result ≡ c.in-Ok.decision.status).
     exact_whole shelf input c.args.words.now w a c.deliver.result (g.S.Source.left c.decide.new.input) s O N told
-    (λ p. Rose-not_calm _ _ p quiet) (λ p. Rose-not_calm _ _ p fed) (returns-in-Ok-clause-whole g c e) is)
-    (is_sink c.deliver.result)
+    (λ p. Rose-not_calm _ _ p quiet) (λ p. Rose-not_calm _ _ p fed) (returns-in-Ok-clause-whole g c (λ failed.
+    Leaves-not_sink shelf input c.args.words.now w (answer_in (g.S.Source.left c.decide.new.input) c.in-Ok.decision) s
+    (sunk g.K.Sink c.args.out.now c.decide.new.out) (sunk g.N.Sink c.args.notes.now c.decide.new.notes) c.in-Ok.ensures.tried (sym e ∙ failed))) is)
+    c.deliver.ensures.status
 
 pub returns-in-Err-clause-exact : goal.returns-in-Err-clause-exact
 returns-in-Err-clause-exact g c = λ a told quiet fed out notes is.
@@ -113,20 +116,20 @@ returns-in-Ok-clause-restarts g c = λ file asks e.
     tried_restarts shelf input c.args.words.now file w ends.tried asks ends.is (sym ends.status_is ∙ e)
 
 pub returns-in-Ok-clause-alike : goal.returns-in-Ok-clause-alike
-returns-in-Ok-clause-alike g c = λ options choices force file a asks told has checked is quiet fed out notes.
+returns-in-Ok-clause-alike g c = λ options choices force file a asks files input has checked is quiet fed out notes.
     let w = world g.H.Shelf g.S.Source c.args.shelf.now c.args.input.now in
     alike_call c.args.words.now options choices force file w a c.deliver.result (g.S.Source.left c.decide.new.input)
     (shelved g.H.Shelf c.args.shelf.now c.decide.new.shelf)
     (sunk g.K.Sink c.args.out.now c.deliver.new.out) (sunk g.N.Sink c.args.notes.now c.deliver.new.notes)
-    asks told has checked is (λ b read answer. returns-in-Ok-clause-exact g c b read quiet fed out notes answer)
+    asks files input has checked is (λ b read answer. returns-in-Ok-clause-exact g c b read quiet fed out notes answer)
 
 pub returns-in-Err-clause-restarts : goal.returns-in-Err-clause-restarts
 returns-in-Err-clause-restarts g c = λ file asks e. absurd (let x : SinkFault ≡ Done 0 = e in cc)
 
 pub returns-in-Err-clause-alike : goal.returns-in-Err-clause-alike
-returns-in-Err-clause-alike g c = λ options choices force file a asks told has checked is quiet fed out notes.
+returns-in-Err-clause-alike g c = λ options choices force file a asks files input has checked is quiet fed out notes.
     let w = world g.H.Shelf g.S.Source c.args.shelf.now c.args.input.now in
     alike_call c.args.words.now options choices force file w a SinkFault (g.S.Source.left c.decide.new.input)
     (shelved g.H.Shelf c.args.shelf.now c.decide.new.shelf)
     (sunk g.K.Sink c.args.out.now c.decide.new.out) (sunk g.N.Sink c.args.notes.now c.decide.new.notes)
-    asks told has checked is (λ b read answer. returns-in-Err-clause-exact g c b read quiet fed out notes answer)
+    asks files input has checked is (λ b read answer. returns-in-Err-clause-exact g c b read quiet fed out notes answer)

@@ -8,10 +8,12 @@ use Rattle.alpha_request.proofs.Blocks.{asked_blocks}
 use Rattle.alpha_cmd.specs.Answer.{world}
 use Rattle.alpha_cmd.specs.Decision.{answer_in}
 use Rattle.alpha_cmd.specs.Ends.{status_in}
-use Rattle.alpha_cmd.specs.Tried.{MayTake, TriedOf, TriedBy}
+use Rattle.alpha_cmd.specs.Commands.{form_of, MayTake}
+use Rattle.alpha_cmd.specs.Tried.{TriedBy}
+use Rattle.alpha_cmd.specs.Tries.{TriesBy}
 use Rattle.alpha_cmd.proofs.Endings.{Leaves-all, Decides-map}
 use Rattle.alpha_cmd.proofs.Told.{tail_same}
-use Rattle.alpha_cmd.proofs.Trying.{asked_tried}
+use Rattle.alpha_cmd.proofs.Tried.{asked_tried}
 use Rattle.alpha_cmd.proofs.top.decide.Goals as goal
 
 pub returns-in-Ok-clause-tried : goal.returns-in-Ok-clause-tried
@@ -20,7 +22,7 @@ returns-in-Ok-clause-tried g c =
     let input = Rose (g.S.Source.faults c.args.input.now) (g.S.Source.faults c.perform.new.input) in
     let w = world g.H.Shelf g.S.Source c.args.shelf.now c.args.input.now in
     let command = command_of c.in-Ok.request in
-    Decides-map (TriedOf shelf input command w) (TriedBy shelf input c.args.words.now w)
+    Decides-map (TriesBy shelf input (form_of command) w) (TriedBy shelf input c.args.words.now w)
     (λ t. asked_tried shelf input c.args.words.now command w t c.in-Ok.ensures)
     c.perform.result (g.S.Source.left c.perform.new.input)
     (shelved g.H.Shelf c.args.shelf.now c.perform.new.shelf) (sunk g.K.Sink c.args.out.now c.perform.new.out)

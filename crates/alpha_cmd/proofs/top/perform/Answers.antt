@@ -2,12 +2,13 @@ use Rattle.std.proofs.Common.{ap}
 use Rattle.alpha_io.specs.Faults.{Rose}
 use Rattle.alpha_io.specs.Shelved.{shelved}
 use Rattle.alpha_io.proofs.Shelved.{KeepsFiles-refl}
-use Rattle.alpha_request.specs.Command as commands
 use Rattle.alpha_request.specs.Command.{command_of}
 use Rattle.alpha_seq.specs.Devices.{drawn}
 use Rattle.alpha_cmd.specs.Answer.{world}
 use Rattle.alpha_cmd.specs.Decision.{answer_in}
-use Rattle.alpha_cmd.specs.Tried.{TriedOf}
+use Rattle.alpha_cmd.specs.Commands.Asm as assemblies
+use Rattle.alpha_cmd.specs.Commands.Check as checks
+use Rattle.alpha_cmd.specs.Tries.{TriesBy}
 use Rattle.alpha_cmd.proofs.Endings.{Leaves-all, Leaves-kept}
 use Rattle.alpha_cmd.proofs.top.perform.Goals as goal
 
@@ -17,7 +18,7 @@ returns-in-Check-clause-tried g c =
     let shelf = Rose (g.H.Shelf.faults c.args.shelf.now) (g.H.Shelf.faults c.check.new.shelf) in
     let input = Rose (g.S.Source.faults c.args.input.now) (g.S.Source.faults c.args.input.now) in
     rw c.in-Check.is
-    (Leaves-all (TriedOf shelf input (commands.check c.in-Check.file.now) w) (answer_in (g.S.Source.left c.args.input.now) c.check.result)
+    (Leaves-all (TriesBy shelf input (checks.form c.in-Check.file.now) w) (answer_in (g.S.Source.left c.args.input.now) c.check.result)
     (shelved g.H.Shelf c.args.shelf.now c.check.new.shelf)
     (g.K.Sink.written c.args.out.now) (g.N.Sink.written c.args.notes.now) (g.K.Sink.faults c.args.out.now) (g.N.Sink.faults c.args.notes.now)
     (c.check.ensures.tried (drawn g.S.Source c.args.input.now c.args.input.now)) c.check.ensures.shelf.files)
@@ -34,7 +35,7 @@ returns-in-Asm-clause-tried g c =
     let input = Rose (g.S.Source.faults c.args.input.now) (g.S.Source.faults c.args.input.now) in
     let settled = c.asm.ensures.tried (drawn g.S.Source c.args.input.now c.args.input.now) in
     rw c.in-Asm.is
-    (Leaves-kept (TriedOf shelf input (commands.asm c.in-Asm.file.now c.in-Asm.out.now) w) (answer_in (g.S.Source.left c.args.input.now) c.asm.result) settled.0
+    (Leaves-kept (TriesBy shelf input (assemblies.form c.in-Asm.file.now c.in-Asm.out.now) w) (answer_in (g.S.Source.left c.args.input.now) c.asm.result) settled.0
     (shelved g.H.Shelf c.args.shelf.now c.asm.new.shelf)
     (g.K.Sink.written c.args.out.now) (g.N.Sink.written c.args.notes.now) (g.K.Sink.faults c.args.out.now) (g.N.Sink.faults c.args.notes.now)
     settled.1 settled.2)

@@ -1,33 +1,28 @@
--- What a run of the imprecise machine shows, the status and the line of its end, and the stages that lead to it.
-use Rattle.std.specs.Prelude.{◌≡◌, ℕ, Bool, true, false, List, Option, Some, None}
+-- `run --imprecise FILE`: what a run of the imprecise machine shows, the status and the line of its end, and the stages that
+-- lead to it.
+use Rattle.std.specs.Prelude.{◌≡◌, ℕ, ◌%◌, ◌^◌, Bool, true, false, List, Option, Some, None, option_map}
 use Rattle.alpha_io.specs.Files.{Files}
 use Rattle.alpha_image.specs.Parts.{Parts}
 use Rattle.alpha_request.specs.declared.options.RunOptions.{RunOptions}
-use Rattle.alpha_request.specs.Options.{Drawn, seed, file}
+use Rattle.alpha_request.specs.Options.{Drawn}
+use Rattle.alpha_request.specs.Options as choices_of
 use Rattle.alpha_seq.specs.declared.end.End.{End}
 use Rattle.alpha_seq.specs.declared.end.End.TheVariants as ends
 use Rattle.alpha_seq.specs.Notes.{end_line}
 use Rattle.alpha_seq.specs.State.{Program}
 use Rattle.alpha_seq.specs.Run.{Shown, sequential}
-use Rattle.alpha_imprecise.specs.Pcg.{pcg_word, seeded}
 use Rattle.alpha_imprecise.specs.Made.{LostTrap, ShownWild, imprecise_by}
 use Rattle.alpha_cmd.specs.declared.status.Status.{Status}
 use Rattle.alpha_cmd.specs.declared.status.Status.TheVariants.{Done, Stopped, StepsSpent, Lost}
 use Rattle.alpha_cmd.specs.Status.{status_line}
-use Rattle.alpha_cmd.specs.Outcome.{Outcome, Then, Gives}
-use Rattle.alpha_cmd.specs.Image.{Reads, ImageOf, Judges}
-use Rattle.alpha_cmd.specs.Choosing.{listed_word}
+use Rattle.alpha_cmd.specs.Outcome.{Outcome, Either, Never, Then, Gives}
+use Rattle.alpha_cmd.specs.Image.{ImageOf, Judges}
+use Rattle.alpha_cmd.specs.Choosing.{ChoicesOf}
+use Rattle.alpha_cmd.specs.Kept.{nothing}
+use Rattle.alpha_cmd.specs.Answer.{World, Answer}
+use Rattle.alpha_cmd.specs.Form.{Form, Kind, IsThere, needs_files_and_input, streams}
 
 -- ---- the stages
-
--- the most bytes of a choices file
-abbrev pub choices_limit : ℕ
-choices_limit = 1048576
-
--- the words of the choices: those of a seed, or those that a named file writes
-abbrev pub ChoicesOf : Files → Drawn → Outcome (ℕ → ℕ) → Type 0
-ChoicesOf files (seed n) = Gives (pcg_word (seeded n))
-ChoicesOf files (file name) = Then (Reads files name choices_limit) (λ bytes. Gives (listed_word bytes))
 
 -- an image, and the words by which it is run
 pub record Plan : Type 0 where
@@ -85,3 +80,44 @@ abbrev pub wild_line : Option End → Option LostTrap → List ℕ
 wild_line (Some end) lost = end_line end
 wild_line None (Some t) = status_line (Lost (record { trap_pc = t.pc; mask = t.mask }))
 wild_line None None = status_line StepsSpent
+
+-- ---- the command
+
+-- what a run shows; of the number of words it has what stands in 64 bits
+abbrev pub answer_wild : Option (List ℕ) → ShownWild → Answer
+answer_wild input s = record {
+  status = wild_status s.end s.lost (s.drawn % 2 ^ 64);
+  output = s.output;
+  trace = s.notes;
+  line = wild_line s.end s.lost;
+  left = option_map (λ bytes. s.left) input;
+  kept = nothing;
+}
+
+-- the run of a plan, over this input
+abbrev pub RunsWild : RunOptions → Bool → Option (List ℕ) → Plan → Outcome Answer → Type 0
+RunsWild options force input plan =
+    Either (λ a. (s : ShownWild) × MayShowWild options force input plan s × (a ≡ answer_wild input s)) Never
+
+abbrev pub steps : RunOptions → Drawn → Bool → List ℕ → World → Outcome Answer → Type 0
+steps options choices force file w =
+    Then (Then (PlanOf w.files file choices) (Passes force)) (RunsWild options force w.input)
+
+-- the statuses of a run's end
+abbrev pub Ends : Status → Type 0
+Ends status = (end : Option End) × ((lost : Option LostTrap) × ((n : ℕ) × (status ≡ wild_status end lost n)))
+
+abbrev pub kind : Kind
+kind = streams Ends
+
+abbrev pub form : RunOptions → Drawn → Bool → List ℕ → Form
+form options choices force file =
+    record { steps = steps options choices force file; needs = needs_files_and_input; kind = kind }
+
+-- a choices file is there, where files are told
+abbrev pub HasChoices : Drawn → World → Type 0
+HasChoices (choices_of.seed n) w = Unit {0}
+HasChoices (choices_of.file name) w = IsThere name w
+
+abbrev pub there : Drawn → List ℕ → World → Type 0
+there choices file w = IsThere file w × HasChoices choices w

@@ -1,0 +1,28 @@
+-- Each command has the laws of a form.
+use Rattle.alpha_request.specs.Command.{Command, check, dis, asm, run, imprecise, debug, trial}
+use Rattle.alpha_cmd.specs.Answer.{World}
+use Rattle.alpha_cmd.specs.Commands.{form_of, there_of}
+use Rattle.alpha_cmd.proofs.Forms.{IsLawfulForm}
+use Rattle.alpha_cmd.proofs.Commands.Asm as assemblies
+use Rattle.alpha_cmd.proofs.Commands.Check as checks
+use Rattle.alpha_cmd.proofs.Commands.Debug as sessions
+use Rattle.alpha_cmd.proofs.Commands.Dis as listings
+use Rattle.alpha_cmd.proofs.Commands.Imprecise as wilds
+use Rattle.alpha_cmd.proofs.Commands.Run as runs
+use Rattle.alpha_cmd.proofs.Commands.Trial as trials
+pub mod Asm
+pub mod Check
+pub mod Debug
+pub mod Dis
+pub mod Imprecise
+pub mod Run
+pub mod Trial
+
+pub lawful : (command : Command) (w : World) → IsLawfulForm (form_of command) (there_of command) w
+lawful (check file) w = checks.lawful file w
+lawful (dis file) w = listings.lawful file w
+lawful (asm file out) w = assemblies.lawful file out w
+lawful (run options file) w = runs.lawful options file w
+lawful (imprecise options choices force file) w = wilds.lawful options choices force file w
+lawful (debug file) w = sessions.lawful file w
+lawful (trial blocks) w = trials.lawful blocks w

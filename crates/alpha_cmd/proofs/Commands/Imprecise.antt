@@ -1,0 +1,123 @@
+-- The laws of `run --imprecise`, and what leads to its answers.
+use Rattle.std.proofs.Common.{◌≡◌, ◌≢◌, ◌∙◌, ℕ, ◌%◌, ◌^◌, Bool, true, false, List, [], Option, None, Some, IsSome, refl, sym, ap, subst, inl, inr}
+use Rattle.alpha_io.specs.Files.{Files, KeepsFiles}
+use Rattle.alpha_image.specs.Parts.{Parts}
+use Rattle.alpha_shadow.specs.Broken.{IsAccepted}
+use Rattle.alpha_request.specs.declared.options.RunOptions.{RunOptions}
+use Rattle.alpha_request.specs.Options.{Drawn}
+use Rattle.alpha_request.specs.Options as choices_of
+use Rattle.alpha_seq.specs.declared.end.End.{End}
+use Rattle.alpha_seq.specs.declared.end.End.TheVariants as ends
+use Rattle.alpha_imprecise.specs.Pcg.{pcg_word, seeded}
+use Rattle.alpha_imprecise.specs.Made.{ShownWild, LostTrap}
+use Rattle.alpha_cmd.specs.declared.status.Status.{Status}
+use Rattle.alpha_cmd.specs.declared.status.Status.TheVariants.{ShelfFault}
+use Rattle.alpha_cmd.specs.Status.{status_line}
+use Rattle.alpha_cmd.specs.Outcome.{goes, stops, Then, Gives}
+use Rattle.alpha_cmd.specs.Image.{Reads, ImageOf, IsRefused, Judges}
+use Rattle.alpha_cmd.specs.Choosing.{choices_limit, listed_word, ChoicesOf}
+use Rattle.alpha_cmd.specs.Answer.{World, Answer, AnswerBy, said}
+use Rattle.alpha_cmd.specs.Form.{MayTakeBy}
+use Rattle.alpha_cmd.specs.Commands.Imprecise.{Plan, plan_by, PlanOf, Passes, run_by, MayShowWild, drawn_status, wild_status, answer_wild, RunsWild, HasChoices, steps, kind, form, there}
+use Rattle.alpha_cmd.proofs.Lawful.{Lawful, Then-lawful, Goes-lawful, Gives-lawful}
+use Rattle.alpha_cmd.proofs.Stages.{Reads-lawful, ImageOf-lawful, Judges-lawful}
+use Rattle.alpha_cmd.proofs.Forms.{IsLawfulForm, is_fault}
+
+-- ---- the stages
+
+ChoicesOf-lawful : (told whole : Type 0) (w : World) (choices : Drawn) → (told → IsSome w.files) → (whole → IsSome w.files) → (there : Type 0) → (there → HasChoices choices w)
+    → Lawful told whole there (ChoicesOf w.files choices)
+ChoicesOf-lawful told whole w (choices_of.seed n) is_told is_whole there has = Gives-lawful (pcg_word (seeded n))
+ChoicesOf-lawful told whole w (choices_of.file name) is_told is_whole there has =
+    Then-lawful {R = Reads w.files name choices_limit} {S = λ bytes. Gives (listed_word bytes)} (Reads-lawful told whole there w.files name choices_limit is_told is_whole has)
+    (λ bytes read. Gives-lawful (listed_word bytes))
+
+Passes-lawful : (told whole there : Type 0) (force : Bool) (plan : Plan) → Lawful told whole there (Passes force plan)
+Passes-lawful told whole there true plan = Gives-lawful plan
+Passes-lawful told whole there false plan =
+    Then-lawful {R = Judges plan.image} {S = λ image. Gives plan} (Judges-lawful told whole there plan.image) (λ image judged. Gives-lawful plan)
+
+no_wild_shown : ShownWild
+no_wild_shown = record { end = None; lost = None; units = 0; output = []; left = []; notes = []; drawn = 0 }
+
+some_shown : (options : RunOptions) (force : Bool) (input : Option (List ℕ)) (plan : Plan) → (s : ShownWild) × MayShowWild options force input plan s
+some_shown options force None plan = (no_wild_shown, tt)
+some_shown options force (Some input) plan =
+    (run_by force (record { image = plan.image; how = options.complete }) input plan.ahead options.steps options.watch, refl)
+
+same_shown : (options : RunOptions) (force : Bool) (input : Option (List ℕ)) (plan : Plan) (s t : ShownWild) → IsSome input → MayShowWild options force input plan s
+    → MayShowWild options force input plan t → s ≡ t
+same_shown options force None plan s t told h g = cc
+same_shown options force (Some input) plan s t told h g = h ∙ sym g
+
+RunsWild-lawful : (told whole there : Type 0) (options : RunOptions) (force : Bool) (input : Option (List ℕ)) (plan : Plan) → (told → IsSome input)
+    → Lawful told whole there (RunsWild options force input plan)
+RunsWild-lawful told whole there options force input plan has =
+    Goes-lawful (λ (a : Answer). (s : ShownWild) × MayShowWild options force input plan s × (a ≡ answer_wild input s))
+    (λ h a b p q. p.2 ∙ (ap (answer_wild input) (same_shown options force input plan p.0 q.0 (has h) p.1 q.1) ∙ sym q.2))
+    (λ h. let (s, may) = some_shown options force input plan in (answer_wild input s, (s, may, refl)))
+
+pub drawn_plain : (n : ℕ) (end : End) → is_fault (drawn_status n end) ≡ false
+drawn_plain n (ends.Exit v) = refl
+drawn_plain n (ends.Signal code pc) = refl
+drawn_plain n (ends.Fetch pc) = refl
+drawn_plain n (ends.Access pc addr) = refl
+drawn_plain n (ends.Align pc addr) = refl
+drawn_plain n (ends.Overflow pc) = refl
+
+wild_plain : (end : Option End) (lost : Option LostTrap) (n : ℕ) → is_fault (wild_status end lost n) ≡ false
+wild_plain (Some end) lost n = drawn_plain n end
+wild_plain None (Some t) n = refl
+wild_plain None None n = refl
+
+pub lawful : (options : RunOptions) (choices : Drawn) (force : Bool) (file : List ℕ) (w : World) → IsLawfulForm (form options choices force file) (there choices file) w
+lawful options choices force file w = record {
+  stages =
+      Then-lawful {R = Then (PlanOf w.files file choices) (Passes force)} {S = RunsWild options force w.input}
+      (Then-lawful {R = PlanOf w.files file choices} {S = Passes force}
+      (Then-lawful {R = ImageOf w.files file} {S = λ image. Then (ChoicesOf w.files choices) (λ ahead. Gives (plan_by image ahead))}
+      (ImageOf-lawful _ _ _ w.files file (λ h. h.0) (λ h. h) (λ h. h.0))
+      (λ image found.
+      Then-lawful {R = ChoicesOf w.files choices} {S = λ ahead. Gives (plan_by image ahead)} (ChoicesOf-lawful _ _ w choices (λ h. h.0) (λ h. h.0) _ (λ h. h.1))
+      (λ ahead given. Gives-lawful (plan_by image ahead))))
+      (λ plan found. Passes-lawful _ _ _ force plan))
+      (λ plan passed. RunsWild-lawful _ _ _ options force w.input plan (λ h. h.1));
+  ends = λ a h. inl (ap (λ (x : Answer). is_fault x.status) h.2.2 ∙ wild_plain h.2.0.end h.2.0.lost (h.2.0.drawn % 2 ^ 64));
+}
+
+-- ---- its answers
+
+pub wild_answer : (w : World) (options : RunOptions) (choices : Drawn) (force : Bool) (name : List ℕ) (plan : Plan) (s : ShownWild) → PlanOf w.files name choices (goes plan)
+    → Passes force plan (goes plan) → MayShowWild options force w.input plan s → AnswerBy (steps options choices force name) w (answer_wild w.input s)
+wild_answer w options choices force name plan s found passes may = (goes (answer_wild w.input s), (plan, (plan, found, passes), (s, may, refl)), refl)
+
+-- the verdict, unless it is passed over
+pub broken_answer : (w : World) (options : RunOptions) (choices : Drawn) (force : Bool) (name : List ℕ) (plan : Plan) (s : Status) (line : List ℕ) (t : Answer)
+    → PlanOf w.files name choices (goes plan) → force ≡ false → IsRefused plan.image s line → t ≡ said w.input s line
+    → AnswerBy (steps options choices force name) w t
+broken_answer w options choices force name plan s line t found judges refused is =
+    subst (λ b. AnswerBy (steps options choices b name) w t) (sym judges) (stops s line, inl (inr (plan, found, inl refused)), is)
+
+pub passed : (force : Bool) (plan : Plan) → (force ≡ false → IsAccepted plan.image.words) → Passes force plan (goes plan)
+passed true plan good = refl
+passed false plan good = (plan.image, (good refl, refl), refl)
+
+-- files that stay are the same
+kept_same : (a b : Files) → KeepsFiles a b → b ≡ a
+kept_same None None kept = refl
+kept_same None (Some g) kept = absurd kept
+kept_same (Some f) None kept = absurd kept
+kept_same (Some f) (Some g) kept = λ i. Some (λ name. kept name i)
+
+-- choices that aren't read after the image was
+pub unchosen : (a b : Files) (name : List ℕ) (choices : Drawn) (image : Parts) (s : Status) → KeepsFiles a b → ImageOf a name (goes image)
+    → ChoicesOf b choices (stops s (status_line s)) → PlanOf a name choices (stops s (status_line s))
+unchosen a b name choices image s kept found h = inr (image, found, inl (subst (λ f. ChoicesOf f choices (stops s (status_line s))) (kept_same a b kept) h))
+
+-- ---- the statuses of an end
+
+pub drawn_not_shelf : (n : ℕ) (end : End) → drawn_status n end ≢ ShelfFault
+drawn_not_shelf n end e = let x = sym (drawn_plain n end) ∙ ap is_fault e in cc
+
+pub takes_wild : (end : Option End) (lost : Option LostTrap) (n : ℕ) → MayTakeBy kind (wild_status end lost n)
+takes_wild end lost n = (refl, inl (end, (lost, (n, refl))))

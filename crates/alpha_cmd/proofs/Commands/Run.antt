@@ -1,0 +1,63 @@
+-- The laws of `run`, and what leads to its answers.
+use Rattle.std.proofs.Common.{◌≡◌, ◌≢◌, ◌∙◌, ℕ, List, [], false, Option, None, Some, IsSome, refl, sym, ap, inl}
+use Rattle.alpha_image.specs.Parts.{Parts}
+use Rattle.alpha_request.specs.declared.options.RunOptions.{RunOptions}
+use Rattle.alpha_seq.specs.declared.end.End.{End}
+use Rattle.alpha_seq.specs.declared.end.End.TheVariants as ends
+use Rattle.alpha_seq.specs.Run.{Shown, sequential}
+use Rattle.alpha_cmd.specs.declared.status.Status.TheVariants.{ShelfFault}
+use Rattle.alpha_cmd.specs.Outcome.{goes}
+use Rattle.alpha_cmd.specs.Image.{ImageOf}
+use Rattle.alpha_cmd.specs.Answer.{World, Answer, AnswerBy}
+use Rattle.alpha_cmd.specs.Form.{MayTakeBy}
+use Rattle.alpha_cmd.specs.Commands.Run.{end_status, run_status, MayShow, answer_shown, Runs, steps, kind, form, there}
+use Rattle.alpha_cmd.proofs.Lawful.{Lawful, Then-lawful, Goes-lawful}
+use Rattle.alpha_cmd.proofs.Stages.{ImageOf-lawful}
+use Rattle.alpha_cmd.proofs.Forms.{IsLawfulForm, is_fault}
+
+-- what a run shows that makes no step
+nothing_shown : Shown
+nothing_shown = record { end = None; steps = 0; output = []; left = []; notes = [] }
+
+some_shown : (options : RunOptions) (input : Option (List ℕ)) (image : Parts) → (s : Shown) × MayShow options input image s
+some_shown options None image = (nothing_shown, tt)
+some_shown options (Some input) image = (sequential (record { image = image; how = options.complete }) input options.steps options.watch, refl)
+
+same_shown : (options : RunOptions) (input : Option (List ℕ)) (image : Parts) (s t : Shown) → IsSome input → MayShow options input image s → MayShow options input image t → s ≡ t
+same_shown options None image s t told h g = cc
+same_shown options (Some input) image s t told h g = h ∙ sym g
+
+Runs-lawful : (told whole there : Type 0) (options : RunOptions) (input : Option (List ℕ)) (image : Parts) → (told → IsSome input) → Lawful told whole there (Runs options input image)
+Runs-lawful told whole there options input image has =
+    Goes-lawful (λ (a : Answer). (s : Shown) × MayShow options input image s × (a ≡ answer_shown input s))
+    (λ h a b p q. p.2 ∙ (ap (answer_shown input) (same_shown options input image p.0 q.0 (has h) p.1 q.1) ∙ sym q.2))
+    (λ h. let (s, may) = some_shown options input image in (answer_shown input s, (s, may, refl)))
+
+pub run_plain : (end : Option End) → is_fault (run_status end) ≡ false
+run_plain None = refl
+run_plain (Some (ends.Exit v)) = refl
+run_plain (Some (ends.Signal code pc)) = refl
+run_plain (Some (ends.Fetch pc)) = refl
+run_plain (Some (ends.Access pc addr)) = refl
+run_plain (Some (ends.Align pc addr)) = refl
+run_plain (Some (ends.Overflow pc)) = refl
+
+pub lawful : (options : RunOptions) (file : List ℕ) (w : World) → IsLawfulForm (form options file) (there file) w
+lawful options file w = record {
+  stages =
+      Then-lawful {R = ImageOf w.files file} {S = Runs options w.input} (ImageOf-lawful _ _ _ w.files file (λ h. h.0) (λ h. h) (λ h. h))
+      (λ image found. Runs-lawful _ _ _ options w.input image (λ h. h.1));
+  ends = λ a h. inl (ap (λ (x : Answer). is_fault x.status) h.2.2 ∙ run_plain h.2.0.end);
+}
+
+pub shown_answer : (w : World) (options : RunOptions) (file : List ℕ) (image : Parts) (s : Shown) → ImageOf w.files file (goes image) → MayShow options w.input image s
+    → AnswerBy (steps options file) w (answer_shown w.input s)
+shown_answer w options file image s found may = (goes (answer_shown w.input s), (image, found, (s, may, refl)), refl)
+
+-- ---- the statuses of an end
+
+pub end_not_shelf : (end : End) → end_status end ≢ ShelfFault
+end_not_shelf end e = let x = sym (run_plain (Some end)) ∙ ap is_fault e in cc
+
+pub takes_end : (end : Option End) → MayTakeBy kind (run_status end)
+takes_end end = (refl, inl (end, refl))

@@ -1,0 +1,13 @@
+-- The laws of `trial`.
+use Rattle.std.proofs.Common.{ℕ, ap, inl}
+use Rattle.alpha_trial.specs.Report.{trial_text}
+use Rattle.alpha_cmd.specs.Answer.{World, Answer, done_with}
+use Rattle.alpha_cmd.specs.Commands.Trial.{form}
+use Rattle.alpha_cmd.proofs.Lawful.{Gives-lawful}
+use Rattle.alpha_cmd.proofs.Forms.{IsLawfulForm, is_fault}
+
+pub lawful : (blocks : ℕ) (w : World) → IsLawfulForm (form blocks) (λ w. Unit {0}) w
+lawful blocks w = record {
+  stages = Gives-lawful (done_with w.input (trial_text blocks));
+  ends = λ a h. inl (ap (λ (x : Answer). is_fault x.status) h);
+}

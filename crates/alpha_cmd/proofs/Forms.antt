@@ -1,0 +1,67 @@
+-- The laws of forms, from those of their stages.
+use Rattle.std.proofs.Common.{◌≡◌, ◌⊎◌, ◌∙◌, ℕ, Bool, true, false, List, IsSome, refl, sym, ap, subst, inl, inr}
+use Rattle.alpha_cmd.specs.declared.status.Status.{Status}
+use Rattle.alpha_cmd.specs.declared.status.Status.TheVariants.{ShelfFault}
+use Rattle.alpha_cmd.specs.Status.{Class, done, refused, failed, class_of}
+use Rattle.alpha_cmd.specs.Outcome.{Outcome, goes, stops}
+use Rattle.alpha_cmd.specs.Answer.{World, Answer, AnswerBy, HaveBytes, answer_of}
+use Rattle.alpha_cmd.specs.Keeping.{KeepsAs}
+use Rattle.alpha_cmd.specs.Form.{Form, IsToldFor, making, making_there}
+use Rattle.alpha_cmd.proofs.Lawful.{Lawful, IsRefusal, Then-lawful}
+use Rattle.alpha_cmd.proofs.Stages.{KeepsAs-lawful}
+
+abbrev pub is_failed : Class → Bool
+is_failed done = false
+is_failed refused = false
+is_failed failed = true
+
+-- a fault of a device, or want of memory
+abbrev pub is_fault : Status → Bool
+is_fault s = is_failed (class_of s)
+
+-- the status of an answer: none of those, or a shelf's fault where the files aren't there
+abbrev pub IsPlain : Type 0 → Status → Type 0
+IsPlain there s = (is_fault s ≡ false) ⊎ ((s ≡ ShelfFault) × (there → ⊥))
+
+pub record IsLawfulForm (f : Form) (there : World → Type 0) (w : World) : Type 0 where
+  pub stages : Lawful (IsToldFor f.needs w) (IsSome w.files × HaveBytes w.files) (there w) (f.steps w)
+  pub ends : (a : Answer) → f.steps w (goes a) → IsPlain (there w) a.status
+
+-- ---- answers
+
+pub one_answer : (f : Form) (there : World → Type 0) (w : World) → IsLawfulForm f there w → (a b : Answer) → IsToldFor f.needs w → AnswerBy f.steps w a
+    → AnswerBy f.steps w b → a ≡ b
+one_answer f there w law a b told h g = h.2 ∙ (ap (answer_of w.input) (law.stages.single told h.0 g.0 h.1 g.1) ∙ sym g.2)
+
+pub some_answer : (f : Form) (there : World → Type 0) (w : World) → IsLawfulForm f there w → IsSome w.files → HaveBytes w.files → (a : Answer) × AnswerBy f.steps w a
+some_answer f there w law told whole = let o = law.stages.some (told, whole) in (answer_of w.input o.0, (o.0, o.1, refl))
+
+refusal_plain : (there : Type 0) (s : Status) → IsRefusal there s → IsPlain there s
+refusal_plain there s (inl h) = inl (ap is_failed h)
+refusal_plain there s (inr h) = inr h
+
+pub plain_answer : (f : Form) (there : World → Type 0) (w : World) → IsLawfulForm f there w → (a : Answer) → AnswerBy f.steps w a → IsPlain (there w) a.status
+plain_answer f there w law a (goes b, h, e) = subst (λ (x : Answer). IsPlain (there w) x.status) (sym e) (law.ends b h)
+plain_answer f there w law a (stops s line, h, e) = subst (λ (x : Answer). IsPlain (there w) x.status) (sym e) (refusal_plain (there w) s (law.stages.plain s line h))
+
+done_not : (there : Type 0) (s : Status) → class_of s ≡ done → IsRefusal there s → ⊥
+done_not there s e (inl h) = let x = sym e ∙ h in cc
+done_not there s e (inr h) = let x : done ≡ failed = sym e ∙ ap class_of h.0 in cc
+
+-- no refusal is done
+pub done_goes : (f : Form) (there : World → Type 0) (w : World) → IsLawfulForm f there w → (a : Answer) → AnswerBy f.steps w a → class_of a.status ≡ done → f.steps w (goes a)
+done_goes f there w law a (goes b, h, e) is = subst (λ (x : Answer). f.steps w (goes x)) (sym e) h
+done_goes f there w law a (stops s line, h, e) is =
+    absurd (done_not (there w) s (sym (ap (λ (x : Answer). class_of x.status) e) ∙ is) (law.stages.plain s line h))
+
+-- ---- a command that makes bytes and keeps them
+
+pub making_lawful : (names : List (List ℕ)) (Makes : World → Outcome (List ℕ) → Type 0) (out : List ℕ) (w : World)
+    → Lawful (IsSome w.files) (IsSome w.files × HaveBytes w.files) (making_there names Makes out w) (Makes w)
+    → IsLawfulForm (making Makes out) (making_there names Makes out) w
+making_lawful names Makes out w made = record {
+  stages =
+      Then-lawful {R = Makes w} {S = KeepsAs w out} made
+      (λ bytes h. KeepsAs-lawful (IsSome w.files) (IsSome w.files × HaveBytes w.files) (making_there names Makes out w) w out bytes (λ there. there.1 bytes h));
+  ends = λ a h. inl (ap (λ (x : Answer). is_fault x.status) h.2.1);
+}

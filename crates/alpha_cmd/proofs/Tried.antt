@@ -1,0 +1,126 @@
+-- What a call tries, by its words.
+use Rattle.std.proofs.Common.{◌≡◌, ◌≢◌, ◌⊎◌, ◌∙◌, ℕ, Bool, List, Option, None, Some, IsSome, refl, sym, ap, subst, inl, inr, ⊎_elim, arith}
+use Rattle.alpha_io.specs.Faults.{Rose, Calm}
+use Rattle.alpha_io.specs.Shelved.{Shelved}
+use Rattle.alpha_io.specs.Sunk.{Sunk, Puts}
+use Rattle.alpha_request.specs.Command.{Command}
+use Rattle.alpha_request.specs.Asked.{asked}
+use Rattle.alpha_cmd.specs.declared.status.Status.{Status}
+use Rattle.alpha_cmd.specs.declared.status.Status.TheVariants.{BadWords, ShelfFault, InputFault, SinkFault, NoMemory}
+use Rattle.alpha_cmd.specs.Status.{status_line}
+use Rattle.alpha_cmd.specs.Asks.{Asks}
+use Rattle.alpha_cmd.specs.Kept.{HasKept}
+use Rattle.alpha_cmd.specs.Answer.{World, Answer, HaveBytes, notes_of, said, IsLeft, IsAnswered}
+use Rattle.alpha_cmd.specs.Form.{Needs, needs_nothing, needs_files, needs_files_and_input, IsToldFor}
+use Rattle.alpha_cmd.specs.Tries.{TriesBy}
+use Rattle.alpha_cmd.specs.Commands.{form_of, there_of, AnswerOf}
+use Rattle.alpha_cmd.specs.Tried.{IsAnswer, AreTold, TriedBy}
+use Rattle.alpha_cmd.proofs.Forms.{IsPlain, one_answer, some_answer, plain_answer}
+use Rattle.alpha_cmd.proofs.Trying.{Says, plain, cut, fails_calm, fails_says, says_not_sink, says_not_input, says_not_shelf}
+use Rattle.alpha_cmd.proofs.Commands.{lawful}
+
+-- ---- words have one answer, and some
+
+pub AnswerOf-single : (command : Command) (w : World) (a b : Answer) → IsToldFor (form_of command).needs w → AnswerOf command w a → AnswerOf command w b → a ≡ b
+AnswerOf-single command w a b told h g = one_answer (form_of command) (there_of command) w (lawful command w) a b told h g
+
+pub IsAnswer-single : (words : List (List ℕ)) (w : World) (a b : Answer) → AreTold words w → IsAnswer words w a → IsAnswer words w b → a ≡ b
+IsAnswer-single words w a b told (inl h) (inl g) = h.1 ∙ sym g.1
+IsAnswer-single words w a b told (inl h) (inr g) = let x = h.0 in let y = g.1 in cc
+IsAnswer-single words w a b told (inr h) (inl g) = let x = h.1 in let y = g.0 in cc
+IsAnswer-single words w a b told (inr h) (inr g) =
+    let x = h.1 in
+    let y = g.1 in
+    let same : g.0 ≡ h.0 = cc in
+    AnswerOf-single h.0 w a b (told h.0 h.1) h.2 (subst (λ c. AnswerOf c w b) same g.2)
+
+pub IsAnswer-some : (words : List (List ℕ)) (w : World) → IsSome w.files → HaveBytes w.files → (a : Answer) × IsAnswer words w a
+IsAnswer-some words w told whole = by (asked words) refl
+  where
+    by : (command : Option Command) → asked words ≡ command → (a : Answer) × IsAnswer words w a
+    by None e = (said w.input BadWords (status_line BadWords), inl (e, refl))
+    by (Some command) e =
+        let (a, is) = some_answer (form_of command) (there_of command) w (lawful command w) told whole in
+        (a, inr (command, e, is))
+
+-- ---- what a command tries is tried for the words that ask for it
+
+pub asked_tried : (shelf input : Type 0) (words : List (List ℕ)) (command : Command) (w : World) (t : Answer) → Asks words command → TriesBy shelf input (form_of command) w t
+    → TriedBy shelf input words w t
+asked_tried shelf input words command w t asks (inl h) = inl (inr (command, asks, h))
+asked_tried shelf input words command w t asks (inr h) = inr (inl (command, asks, h))
+
+-- ---- where no device fails it is an answer to the words, or memory ran out
+
+calm_tried : (shelf input : Type 0) (words : List (List ℕ)) (w : World) (t : Answer) → (shelf → ⊥) → (input → ⊥) → TriedBy shelf input words w t
+    → IsAnswer words w t ⊎ (t.status ≡ NoMemory)
+calm_tried shelf input words w t calm quiet (inl h) = inl h
+calm_tried shelf input words w t calm quiet (inr (inl h)) = inr (fails_calm shelf input (form_of h.0) w t calm quiet h.2)
+calm_tried shelf input words w t calm quiet (inr (inr h)) = inr (ap (λ (a : Answer). a.status) h)
+
+-- and where what is read is told, it is their one answer
+pub exact_tried : (shelf input : Type 0) (words : List (List ℕ)) (w : World) (t a : Answer) → AreTold words w → (shelf → ⊥) → (input → ⊥) → TriedBy shelf input words w t
+    → IsAnswer words w a → (t ≡ a) ⊎ (t.status ≡ NoMemory)
+exact_tried shelf input words w t a told calm quiet tried is =
+    ⊎_elim (λ h. inl (IsAnswer-single words w t a told h is)) (λ (h : t.status ≡ NoMemory). inr h) (calm_tried shelf input words w t calm quiet tried)
+
+-- what was tried was written
+pub IsAnswered-tried : (t a : Answer) (status : Status) (left : Option (List ℕ)) (s : Shelved) (out notes : Sunk) → status ≡ t.status → IsLeft t left → HasKept t.kept s → Puts out t.output → Puts notes (notes_of t)
+    → (t ≡ a) ⊎ (t.status ≡ NoMemory) → IsAnswered a status left s out notes ⊎ (status ≡ NoMemory)
+IsAnswered-tried t a status left s out notes is rest files output line (inl same) =
+    inl (subst (λ x. IsAnswered x status left s out notes) same (record { status_is = is; left_is = rest; files = files; output = output; line = line }))
+IsAnswered-tried t a status left s out notes is rest files output line (inr memory) = inr (is ∙ memory)
+
+-- ---- which statuses are tried
+
+words_plain : (there : Type 0) (s : Status) → s ≡ BadWords → IsPlain there s
+words_plain there s e = inl (rw e refl)
+
+-- with this said of the files that the words' command reads
+tried_says : (shelf input : Type 0) (words : List (List ℕ)) (w : World) (t : Answer) (there : Type 0) → (there → (command : Command) → Asks words command → there_of command w)
+    → TriedBy shelf input words w t → Says shelf input there t.status
+tried_says shelf input words w t there has (inl (inl h)) = plain (words_plain there t.status (ap (λ (a : Answer). a.status) h.1))
+tried_says shelf input words w t there has (inl (inr h)) = weaker (plain_answer (form_of h.0) (there_of h.0) w (lawful h.0 w) t h.2)
+  where
+    weaker : IsPlain (there_of h.0 w) t.status → Says shelf input there t.status
+    weaker (inl p) = plain (inl p)
+    weaker (inr p) = plain (inr (p.0, λ is. p.1 (has is h.0 h.1)))
+tried_says shelf input words w t there has (inr (inl h)) = fails_says shelf input there (form_of h.0) w t h.2
+tried_says shelf input words w t there has (inr (inr h)) = cut (inl (ap (λ (a : Answer). a.status) h))
+
+pub tried_not_sink : (shelf input : Type 0) (words : List (List ℕ)) (w : World) (t : Answer) → TriedBy shelf input words w t → t.status ≢ SinkFault
+tried_not_sink shelf input words w t tried = says_not_sink shelf input ⊥ t.status (tried_says shelf input words w t ⊥ (λ no. absurd no) tried)
+
+-- of an input that doesn't fail
+pub tried_not_input : (shelf input : Type 0) (words : List (List ℕ)) (w : World) (t : Answer) → (input → ⊥) → TriedBy shelf input words w t → t.status ≢ InputFault
+tried_not_input shelf input words w t quiet tried = says_not_input shelf input ⊥ t.status quiet (tried_says shelf input words w t ⊥ (λ no. absurd no) tried)
+
+-- of a shelf that doesn't fail, where the files are there
+pub tried_there : (shelf input : Type 0) (words : List (List ℕ)) (command : Command) (w : World) (t : Answer) → (shelf → ⊥) → Asks words command → there_of command w
+    → TriedBy shelf input words w t → t.status ≢ ShelfFault
+tried_there shelf input words command w t calm asks there tried =
+    says_not_shelf shelf input (there_of command w) t.status calm there (tried_says shelf input words w t (there_of command w) own tried)
+  where
+    same : (other : Command) → Asks words other → command ≡ other
+    same other also = cc
+
+    own : there_of command w → (other : Command) → Asks words other → there_of other w
+    own is other also = subst (λ c. there_of c w) (same other also) is
+
+-- ---- devices that tell, and whose count is always 0
+
+sure_told : (needs : Needs) (file : List ℕ → Option (List ℕ)) (takes : List ℕ → ℕ → Bool) (input : List ℕ)
+    → IsToldFor needs (record { files = Some file; takes = takes; input = Some input })
+sure_told needs_nothing file takes input = tt
+sure_told needs_files file takes input = refl
+sure_told needs_files_and_input file takes input = (refl, refl)
+
+pub told_sure : (words : List (List ℕ)) (file : List ℕ → Option (List ℕ)) (takes : List ℕ → ℕ → Bool) (input : List ℕ)
+    → AreTold words (record { files = Some file; takes = takes; input = Some input })
+told_sure words file takes input command asks = sure_told (form_of command).needs file takes input
+
+pub Rose-none : Rose 0 0 → ⊥
+Rose-none rose = omega arith
+
+pub Calm-none : Calm 0 0
+Calm-none = record { same = refl; below = omega arith }

@@ -1,0 +1,66 @@
+-- The commands: the form of each, its kind, and the files that are there where it meets no missing one.
+use Rattle.alpha_request.specs.Command.{Command, check, dis, asm, run, imprecise, debug, trial}
+use Rattle.std.specs.Prelude.{ℕ, List}
+use Rattle.alpha_io.specs.Files.{Files}
+use Rattle.alpha_cmd.specs.declared.status.Status.{Status}
+use Rattle.alpha_cmd.specs.Answer.{World, Answer, AnswerBy}
+use Rattle.alpha_cmd.specs.Form.{Form, Kind, IsToldFor, MayTakeBy, SparesBy}
+use Rattle.alpha_cmd.specs.Commands.Asm as assemblies
+use Rattle.alpha_cmd.specs.Commands.Check as checks
+use Rattle.alpha_cmd.specs.Commands.Debug as sessions
+use Rattle.alpha_cmd.specs.Commands.Dis as listings
+use Rattle.alpha_cmd.specs.Commands.Imprecise as wilds
+use Rattle.alpha_cmd.specs.Commands.Run as runs
+use Rattle.alpha_cmd.specs.Commands.Trial as trials
+pub mod Asm
+pub mod Check
+pub mod Debug
+pub mod Dis
+pub mod Imprecise
+pub mod Run
+pub mod Trial
+
+abbrev pub form_of : Command → Form
+form_of (check file) = checks.form file
+form_of (dis file) = listings.form file
+form_of (asm file out) = assemblies.form file out
+form_of (run options file) = runs.form options file
+form_of (imprecise options choices force file) = wilds.form options choices force file
+form_of (debug file) = sessions.form file
+form_of (trial blocks) = trials.form blocks
+
+-- its kind, which says nothing of its stages
+abbrev pub kind_of : Command → Kind
+kind_of (check file) = checks.kind
+kind_of (dis file) = listings.kind
+kind_of (asm file out) = assemblies.kind out
+kind_of (run options file) = runs.kind
+kind_of (imprecise options choices force file) = wilds.kind
+kind_of (debug file) = sessions.kind
+kind_of (trial blocks) = trials.kind
+
+-- where files are told, those that a command reads are there, and the one that it keeps is taken
+abbrev pub there_of : Command → World → Type 0
+there_of (check file) = checks.there file
+there_of (dis file) = listings.there file
+there_of (asm file out) = assemblies.there file out
+there_of (run options file) = runs.there file
+there_of (imprecise options choices force file) = wilds.there choices file
+there_of (debug file) = sessions.there file
+there_of (trial blocks) = λ w. Unit {0}
+
+-- an answer of a command
+abbrev pub AnswerOf : Command → World → Answer → Type 0
+AnswerOf command = AnswerBy (form_of command).steps
+
+-- what a command reads is told
+abbrev pub IsTold : Command → World → Type 0
+IsTold command = IsToldFor (form_of command).needs
+
+-- the statuses under which a command may have taken input
+abbrev pub MayTake : Command → Status → Type 0
+MayTake command = MayTakeBy (kind_of command)
+
+-- told files stay, but for the file that a command keeps
+abbrev pub Spares : Command → Status → Files → Files → Type 0
+Spares command = SparesBy (kind_of command)

@@ -1,0 +1,70 @@
+-- `debug FILE`: what a session of the debugger on the image's program tells, its status, and what it leaves of its script.
+use Rattle.std.specs.Prelude.{◌≡◌, ◌⊎◌, ℕ, ◌+◌, ◌≤◌, List, [], length, Option, Some, None}
+use Rattle.alpha_pal.specs.CallEffect.{Takes}
+use Rattle.alpha_image.specs.Parts.{Parts}
+use Rattle.alpha_debug.specs.declared.end.DebugEnd.{DebugEnd}
+use Rattle.alpha_debug.specs.declared.end.DebugEnd.TheVariants as ends
+use Rattle.alpha_debug.specs.Script.{Transcript, IsTranscript, script_limit}
+use Rattle.alpha_cmd.specs.declared.status.Status.{Status}
+use Rattle.alpha_cmd.specs.declared.status.Status.TheVariants.{Done, InputFault, SinkFault, TooLarge, NoMemory}
+use Rattle.alpha_cmd.specs.Status.{status_line}
+use Rattle.alpha_cmd.specs.Outcome.{Outcome, Either, Never, Then}
+use Rattle.alpha_cmd.specs.Image.{ImageOf}
+use Rattle.alpha_cmd.specs.Kept.{nothing}
+use Rattle.alpha_cmd.specs.Answer.{World, Answer}
+use Rattle.alpha_cmd.specs.Form.{Form, Kind, IsThere, needs_files_and_input, streams}
+
+-- the transcript at an image of the script that the input tells; where it tells nothing, that of some script
+abbrev pub MayTell : Option (List ℕ) → Parts → Transcript → Type 0
+MayTell None image t = (script : List ℕ) × IsTranscript image script t
+MayTell (Some script) image t = IsTranscript image script t
+
+-- the status of a session
+abbrev pub session_status : DebugEnd → Status
+session_status ends.Done = Done 0
+session_status ends.InputFault = InputFault
+session_status ends.SinkFault = SinkFault
+session_status ends.TooLarge = TooLarge script_limit
+session_status ends.NoMemory = NoMemory
+
+-- What is left of an input that is told: a suffix, which holds all that stands behind so many bytes at its front.
+pub record LeavesTail (most : ℕ) (old new : Option (List ℕ)) : Type 0 where
+  pub taken : List ℕ
+  pub rest : List ℕ
+  pub took : Takes old new taken rest
+  pub bound : length taken ≤ most
+
+-- the most bytes of a script that are taken: those that count and one
+abbrev pub script_most : ℕ
+script_most = script_limit + 1
+
+-- what a session tells; how much of the script is left is not said here (`LeavesTail`)
+abbrev pub answer_told : Transcript → Answer
+answer_told t = record {
+  status = session_status t.end;
+  output = t.text;
+  trace = [];
+  line = status_line (session_status t.end);
+  left = None;
+  kept = nothing;
+}
+
+-- a session on the program of an image, over this input as its script
+abbrev pub Debugs : Option (List ℕ) → Parts → Outcome Answer → Type 0
+Debugs input image = Either (λ a. (t : Transcript) × MayTell input image t × (a ≡ answer_told t)) Never
+
+abbrev pub steps : List ℕ → World → Outcome Answer → Type 0
+steps file w = Then (ImageOf w.files file) (Debugs w.input)
+
+-- the statuses of a session's end
+abbrev pub Ends : Status → Type 0
+Ends status = (status ≡ Done 0) ⊎ (status ≡ TooLarge script_limit)
+
+abbrev pub kind : Kind
+kind = streams Ends
+
+abbrev pub form : List ℕ → Form
+form file = record { steps = steps file; needs = needs_files_and_input; kind = kind }
+
+abbrev pub there : List ℕ → World → Type 0
+there file = IsThere file

@@ -1,0 +1,68 @@
+-- `run FILE`: what the run of an image's program shows, and the status and the line of its end.
+use Rattle.std.specs.Prelude.{◌≡◌, ℕ, List, Option, Some, None, option_map}
+use Rattle.alpha_image.specs.Parts.{Parts}
+use Rattle.alpha_request.specs.declared.options.RunOptions.{RunOptions}
+use Rattle.alpha_seq.specs.declared.end.End.{End}
+use Rattle.alpha_seq.specs.declared.end.End.TheVariants as ends
+use Rattle.alpha_seq.specs.Notes.{end_line}
+use Rattle.alpha_seq.specs.Run.{Shown, sequential}
+use Rattle.alpha_cmd.specs.declared.status.Status.{Status}
+use Rattle.alpha_cmd.specs.declared.status.Status.TheVariants.{Done, Stopped, StepsSpent}
+use Rattle.alpha_cmd.specs.Status.{status_line}
+use Rattle.alpha_cmd.specs.Outcome.{Outcome, Either, Never, Then}
+use Rattle.alpha_cmd.specs.Image.{ImageOf}
+use Rattle.alpha_cmd.specs.Kept.{nothing}
+use Rattle.alpha_cmd.specs.Answer.{World, Answer}
+use Rattle.alpha_cmd.specs.Form.{Form, Kind, IsThere, needs_files_and_input, streams}
+
+-- the status of an end: by the system call exit the program did what was asked
+abbrev pub end_status : End → Status
+end_status (ends.Exit v) = Done 0
+end_status end = Stopped end
+
+-- the status of a run by how the program ended, if it has
+abbrev pub run_status : Option End → Status
+run_status None = StepsSpent
+run_status (Some end) = end_status end
+
+-- its last line
+abbrev pub run_line : Option End → List ℕ
+run_line None = status_line StepsSpent
+run_line (Some end) = end_line end
+
+-- Over an input that is told, a run shows what the sequential run from the start does. Over another it may show anything.
+abbrev pub MayShow : RunOptions → Option (List ℕ) → Parts → Shown → Type 0
+MayShow options None image s = Unit {0}
+MayShow options (Some input) image s =
+    s ≡ sequential (record { image = image; how = options.complete }) input options.steps options.watch
+
+-- what a run shows
+abbrev pub answer_shown : Option (List ℕ) → Shown → Answer
+answer_shown input s = record {
+  status = run_status s.end;
+  output = s.output;
+  trace = s.notes;
+  line = run_line s.end;
+  left = option_map (λ bytes. s.left) input;
+  kept = nothing;
+}
+
+-- the run of an image, over this input
+abbrev pub Runs : RunOptions → Option (List ℕ) → Parts → Outcome Answer → Type 0
+Runs options input image = Either (λ a. (s : Shown) × MayShow options input image s × (a ≡ answer_shown input s)) Never
+
+abbrev pub steps : RunOptions → List ℕ → World → Outcome Answer → Type 0
+steps options file w = Then (ImageOf w.files file) (Runs options w.input)
+
+-- the statuses of a run's end
+abbrev pub Ends : Status → Type 0
+Ends status = (end : Option End) × (status ≡ run_status end)
+
+abbrev pub kind : Kind
+kind = streams Ends
+
+abbrev pub form : RunOptions → List ℕ → Form
+form options file = record { steps = steps options file; needs = needs_files_and_input; kind = kind }
+
+abbrev pub there : List ℕ → World → Type 0
+there file = IsThere file
