@@ -2,7 +2,7 @@
 
 use crate::case::File;
 use crate::lines::{Entry, bytes_of, number_of, numbers_of};
-use alpha_cmd::{Status, Words, alpha_top};
+use alpha_cmd::{Status, alpha_main};
 use alpha_io::{MemoryShelf, MemorySink, MemorySource, read_whole};
 use alpha_words::NoMemory;
 use anyhow::bail;
@@ -167,9 +167,9 @@ impl<'a> Call<'a> {
 
     /// Makes the call over these files, for one word in place of `%`.
     pub fn make(&self, alloc: Global, files: &[File<'_>], word: &str) -> anyhow::Result<Answer> {
-        let mut words = Words::new(alloc);
+        let mut arguments = vec![in alloc; String::from_str(alloc, "alpha")?]?;
         for part in self.words.split_whitespace() {
-            there(words.push(if part == "%" { word } else { part }))?;
+            arguments.push(String::from_str(alloc, if part == "%" { word } else { part })?)?;
         }
         let mut shelf = MemoryShelf::new(alloc, self.failing.shelf.to_vec(alloc)?);
         for file in files {
@@ -185,7 +185,14 @@ impl<'a> Call<'a> {
         );
         let mut out = there(MemorySink::new(alloc, ROOM, self.failing.output.to_vec(alloc)?))?;
         let mut notes = there(MemorySink::new(alloc, ROOM, self.failing.notes.to_vec(alloc)?))?;
-        let status = alpha_top(alloc, &words, &mut shelf, &mut input, &mut out, &mut notes);
+        let status = alpha_main(
+            alloc,
+            arguments.as_slice(),
+            &mut shelf,
+            &mut input,
+            &mut out,
+            &mut notes,
+        );
         Ok(Answer {
             status,
             output: out.bytes().to_vec(alloc)?,

@@ -1,6 +1,7 @@
 pub mod Alike
 pub mod Answer
 pub mod Asks
+pub mod Called
 pub mod Chooser
 pub mod Choosing
 pub mod Commands

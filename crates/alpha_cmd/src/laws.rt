@@ -1,7 +1,9 @@
-ghost use Rattle.std.specs.Prelude.{◌≡◌, ℕ, Bool, List, IsSome};
-ghost use Rattle.alpha_image.specs.Parts.{Parts, IsImage};
+ghost use Rattle.std.specs.Prelude.{◌≡◌, ◌≤◌, ℕ, Bool, List, length, IsSome};
+ghost use Rattle.alpha_io.specs.Files.{Files, HasFile};
+ghost use Rattle.alpha_image.specs.Parts.{Parts, IsImage, spelling};
 ghost use Rattle.alpha_shadow.specs.Broken.{IsAccepted};
 ghost use Rattle.alpha_round.specs.Source.{IsSourceOf};
+ghost use Rattle.alpha_request.specs.Options as choices;
 ghost use Rattle.alpha_request.specs.Options.{Drawn};
 ghost use Rattle.alpha_request.specs.declared.options.RunOptions.{RunOptions};
 ghost use Rattle.alpha_imprecise.specs.Restart.{IsRestartable};
@@ -10,6 +12,7 @@ ghost use Rattle.alpha_cmd.specs.Outcome.{goes};
 ghost use Rattle.alpha_cmd.specs.Image.{ImageOf};
 ghost use Rattle.alpha_cmd.specs.Alike.{HasWords, IsChecked, undrawn};
 ghost use Rattle.alpha_cmd.specs.Answer.{Answer, AnswerBy, HaveBytes, World};
+ghost use Rattle.alpha_cmd.specs.Choosing.{choices_limit};
 ghost use Rattle.alpha_cmd.specs.Commands.Dis as listings;
 ghost use Rattle.alpha_cmd.specs.Commands.Imprecise as wilds;
 ghost use Rattle.alpha_cmd.specs.Commands.Run as runs;
@@ -44,4 +47,23 @@ pub fn laws_of_restarts()
         → HasWords w.files choices → IsChecked file w
         → AnswerBy (runs.steps options file) w a
         → AnswerBy (wilds.steps options choices force file) w b → undrawn b ≡ a }
+{}
+
+/// The laws of accepted files. The spelling of a good image is short enough for a file of any call; and
+/// where it stands under a name, `check` of that name is done if the image is accepted. A seed has
+/// words, and so has a file of choices within its limit. So what [`laws_of_restarts`] and the clauses of
+/// [`alpha_top`](crate::alpha_top) ask can be met: with a seed, they hold of each accepted image.
+pub fn laws_of_accepted_files()
+    ensures spelled { (image : Parts) (files : Files) (file : List ℕ) → IsImage image
+        → HasFile files file (spelling image) → ImageOf files file (goes image) }
+    ensures checked { (image : Parts) (w : World) (file : List ℕ) → IsImage image
+        → IsAccepted image.words → HasFile w.files file (spelling image) → IsChecked file w }
+    ensures seeds { (files : Files) (n : ℕ) → HasWords files (choices.seed n) }
+    ensures listed { (files : Files) (name bytes : List ℕ) → HasFile files name bytes
+        → length bytes ≤ choices_limit → HasWords files (choices.file name) }
+    ensures alike { (image : Parts) (options : RunOptions) (n : ℕ) (force : Bool) (file : List ℕ)
+        (w : World) (a b : Answer) → IsImage image → IsAccepted image.words → IsSome w.files
+        → IsSome w.input → HasFile w.files file (spelling image)
+        → AnswerBy (runs.steps options file) w a
+        → AnswerBy (wilds.steps options (choices.seed n) force file) w b → undrawn b ≡ a }
 {}

@@ -7,14 +7,16 @@
 //!   one module (`specs/Commands.antt`); what is the same of all of them is said by their form
 //!   (`specs/Form.antt`). A fault of a device or want of memory may cut a call short, and then a part
 //!   of an answer, or the line of that status, was written (`specs/Tries.antt`, `specs/Ends.antt`).
-//! - [`alpha_sure`] is the same call over devices that never fail.
+//! - [`alpha_main`] is that call by all that stands on the command line: the program, but for its real
+//!   devices. [`alpha_sure`] is the same call over devices that never fail.
 //! - [`image_of`] makes the image of a file's bytes.
 //! - [`laws_of_answers`] says that words have one answer where what their command reads is told, and
 //!   some where files are told. [`laws_of_listed_files`] says that what `dis` writes is a source of
 //!   the image of its file.
 //! - [`laws_of_restarts`] says that accepted images can be restarted, and so that a run of the
 //!   imprecise machine of a file that `check` accepts has the answer of the sequential run, but for
-//!   the number of words that it draws (`specs/Alike.antt`).
+//!   the number of words that it draws (`specs/Alike.antt`). [`laws_of_accepted_files`] says that a
+//!   file which spells an accepted image meets what those laws ask.
 //!
 //! A command decides, and `Decision::deliver` writes what is then still to be written: all of it, but
 //! for a command that writes while it works, as `dis.rt`, `run.rt` and `debug.rt`. `alpha_request`
@@ -31,6 +33,7 @@ mod choosing;
 mod debug;
 mod decision;
 mod dis;
+mod entry;
 mod image;
 mod imprecise;
 mod laws;
@@ -46,8 +49,9 @@ mod trial;
 pub use alpha_request::Words;
 pub use alpha_trial::trial_image;
 pub use asm::SOURCE_LIMIT;
+pub use entry::alpha_main;
 pub use image::{IMAGE_LIMIT, image_of};
-pub use laws::{laws_of_answers, laws_of_listed_files, laws_of_restarts};
+pub use laws::{laws_of_accepted_files, laws_of_answers, laws_of_listed_files, laws_of_restarts};
 pub use status::Status;
 pub use sure::alpha_sure;
 pub use top::alpha_top;

@@ -10,6 +10,7 @@ ghost use Rattle.alpha_request.specs.Options.{Drawn};
 ghost use Rattle.alpha_request.specs.declared.options.RunOptions.{RunOptions};
 ghost use Rattle.alpha_seq.specs.Devices.{drawn};
 ghost use Rattle.alpha_imprecise.specs.Restart.{IsRestartable};
+ghost use Rattle.alpha_shadow.specs.Broken.{IsAccepted};
 ghost use Rattle.alpha_cmd.specs.Alike.{but_drawn, HasWords, IsChecked};
 ghost use Rattle.alpha_cmd.specs.Answer.{Answer, AnswerBy, world, IsAnswered};
 ghost use Rattle.alpha_cmd.specs.Asks.{Asks};
@@ -108,6 +109,17 @@ pub fn alpha_top<H: Shelf, S: Source, K: Sink, N: Sink>(
         → result ≡ Status.Done 0
         → (image : Parts) × IsImage image × HasFile (H.files shelf.old) file (spelling image)
         × IsRestartable image }
+
+    // Where the shelf tells that the file spells an accepted image and no device fails, a check of it
+    // is done, or memory ran out.
+    ensures accepted { (image : Parts) (file : List ℕ) → Asks words.now (commands.check file)
+        → IsImage image → IsAccepted image.words → IsSome (H.files shelf.old)
+        → HasFile (H.files shelf.old) file (spelling image)
+        → Calm (H.faults shelf.old) (H.faults shelf.new)
+        → Calm (S.faults input.old) (S.faults input.new)
+        → IsCalm (sunk K.Sink out.old out.new)
+        → IsCalm (sunk N.Sink notes.old notes.new)
+        → (result ≡ Status.Done 0) ⊎ (result ≡ Status.NoMemory) }
 
     // A run of the imprecise machine of a file that a check accepts has the answer of the sequential
     // run with the same options, whatever words it draws and whether the verdict is passed over: only

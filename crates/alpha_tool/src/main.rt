@@ -1,41 +1,41 @@
-//! The program: it gathers its words, makes the real devices, and ends with the status of
-//! [`alpha_top`].
+//! The program: it gathers what stands on the command line, makes the real devices, and ends with the
+//! status of [`alpha_main`].
 #![tactic(auto)]
 
-use alpha_cmd::{Status, Words, alpha_top};
+use alpha_cmd::{Status, alpha_main};
 use alpha_io::{DiskShelf, ReadSource, WriteSink};
+use alpha_words::NoMemory;
 use std::env;
 use std::io::ErrorKind;
 use std::process::ExitCode;
 use std::rt::Env;
 
 fn main(rt: HostRuntime) -> ExitCode {
-    let status = match gather(&rt) {
-        Ok(words) => alpha_top(
+    let status = match arguments(&rt) {
+        Ok(arguments) => alpha_main(
             rt.alloc(),
-            &words,
+            arguments.as_slice(),
             &mut DiskShelf::new(&rt),
             &mut ReadSource::new(rt.stdin()),
             &mut WriteSink::new(rt.stdout()),
             &mut WriteSink::new(rt.stderr()),
         ),
-        Err(status) => status,
+        Err(NoMemory) => Status::NoMemory,
     };
     ExitCode::from(status.number())
 }
 
-// The words after the program's name. One that isn't text makes the words bad.
-fn gather(rt: &(impl Env + AllocGlobal)) -> Result<Words, Status> {
-    let mut words = Words::new(rt.alloc());
-    let arguments = match env::args(rt) {
-        Ok(arguments) => arguments,
-        Err(error) if error.kind() == ErrorKind::OutOfMemory => return Err(Status::NoMemory),
-        Err(_) => return Err(Status::BadWords),
-    };
-    for word in arguments.skip(1) {
-        if words.push(word.as_str()).is_err() {
-            return Err(Status::NoMemory);
+// All that stands on the command line, or nothing where a part of it isn't text: then the words are bad.
+fn arguments(rt: &(impl Env + AllocGlobal)) -> Result<Vec<String>, NoMemory> {
+    let mut all = Vec::new(rt.alloc());
+    match env::args(rt) {
+        Ok(arguments) => {
+            for word in arguments {
+                all.push(word)?;
+            }
         }
+        Err(error) if error.kind() == ErrorKind::OutOfMemory => return Err(NoMemory),
+        Err(_) => {}
     }
-    Ok(words)
+    Ok(all)
 }

@@ -13,6 +13,7 @@ use Rattle.alpha_cmd.specs.Decision.{answer_in}
 use Rattle.alpha_cmd.specs.Tried.{TriedBy}
 use Rattle.alpha_cmd.proofs.Endings.{Leaves-not_sink, whole, part, exact_whole, calm_part}
 use Rattle.alpha_cmd.proofs.Trying.{MayTake-sink, Spares-sink}
+use Rattle.alpha_cmd.proofs.Accepted.{accepted_call}
 use Rattle.alpha_cmd.proofs.Alike.{tried_restarts, alike_call}
 use Rattle.alpha_cmd.proofs.top.alpha_top.Goals as goal
 
@@ -133,3 +134,19 @@ returns-in-Err-clause-alike g c = λ options choices force file a asks files inp
     (shelved g.H.Shelf c.args.shelf.now c.decide.new.shelf)
     (sunk g.K.Sink c.args.out.now c.decide.new.out) (sunk g.N.Sink c.args.notes.now c.decide.new.notes)
     asks files input has checked is (λ b read answer. returns-in-Err-clause-exact g c b read quiet fed out notes answer)
+
+pub returns-in-Ok-clause-accepted : goal.returns-in-Ok-clause-accepted
+returns-in-Ok-clause-accepted g c = λ image file asks good safe told there quiet fed out notes.
+    let w = world g.H.Shelf g.S.Source c.args.shelf.now c.args.input.now in
+    accepted_call c.args.words.now image file w c.deliver.result (g.S.Source.left c.decide.new.input)
+    (shelved g.H.Shelf c.args.shelf.now c.decide.new.shelf)
+    (sunk g.K.Sink c.args.out.now c.deliver.new.out) (sunk g.N.Sink c.args.notes.now c.deliver.new.notes)
+    asks good safe told there (λ a read is. returns-in-Ok-clause-exact g c a read quiet fed out notes is)
+
+pub returns-in-Err-clause-accepted : goal.returns-in-Err-clause-accepted
+returns-in-Err-clause-accepted g c = λ image file asks good safe told there quiet fed out notes.
+    let w = world g.H.Shelf g.S.Source c.args.shelf.now c.args.input.now in
+    accepted_call c.args.words.now image file w SinkFault (g.S.Source.left c.decide.new.input)
+    (shelved g.H.Shelf c.args.shelf.now c.decide.new.shelf)
+    (sunk g.K.Sink c.args.out.now c.decide.new.out) (sunk g.N.Sink c.args.notes.now c.decide.new.notes)
+    asks good safe told there (λ a read is. returns-in-Err-clause-exact g c a read quiet fed out notes is)

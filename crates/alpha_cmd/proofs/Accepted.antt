@@ -1,0 +1,75 @@
+-- A file that spells an accepted image meets what the laws of restarts ask.
+use Rattle.std.proofs.Common.{◌≡◌, ◌≤◌, ◌⊎◌, ◌∙◌, ℕ, List, [], ◌∷◌, length, sum_by, Option, IsSome, refl, sym, subst, inl, inr, ⊎_elim, arith}
+use Rattle.std.proofs.lemmas.List.Sums.{sum_by-cons}
+use Rattle.alpha_io.specs.Files.{Files, HasFile}
+use Rattle.alpha_io.specs.Shelved.{Shelved}
+use Rattle.alpha_io.specs.Sunk.{Sunk}
+use Rattle.alpha_image.specs.declared.segment.Segment.{Segment}
+use Rattle.alpha_image.specs.declared.version.Version.{Version}
+use Rattle.alpha_image.specs.declared.version.Version.TheVariants.{One, Two}
+use Rattle.alpha_image.specs.Numbers.{Numbers}
+use Rattle.alpha_image.specs.Layout.{filled_size, size_of}
+use Rattle.alpha_image.specs.Rules.{FieldsFit, size_of_segment}
+use Rattle.alpha_image.specs.Parts.{Parts, IsImage, numbers, spelling}
+use Rattle.alpha_image.proofs.Spelled.{length-spelling}
+use Rattle.alpha_shadow.specs.Broken.{IsAccepted}
+use Rattle.alpha_request.specs.Command.{Command, check}
+use Rattle.alpha_request.specs.Options.{seed, file}
+use Rattle.alpha_imprecise.specs.Pcg.{pcg_word, seeded}
+use Rattle.alpha_cmd.specs.declared.status.Status.{Status}
+use Rattle.alpha_cmd.specs.declared.status.Status.TheVariants.{Done, NoMemory}
+use Rattle.alpha_cmd.specs.Outcome.{goes}
+use Rattle.alpha_cmd.specs.Image.{ImageOf, image_limit}
+use Rattle.alpha_cmd.specs.Choosing.{choices_limit, listed_word}
+use Rattle.alpha_cmd.specs.Asks.{Asks}
+use Rattle.alpha_cmd.specs.Answer.{World, Answer, IsAnswered}
+use Rattle.alpha_cmd.specs.Commands.{IsTold}
+use Rattle.alpha_cmd.specs.Commands.Check.{accepted}
+use Rattle.alpha_cmd.specs.Tried.{AreTold, IsAnswer}
+use Rattle.alpha_cmd.specs.Alike.{IsChecked, HasWords}
+use Rattle.alpha_cmd.proofs.Commands.Check.{accepted_answer}
+
+-- ---- the spelling of a good image is within the limit of an image file
+
+filled_within : (segments : List Segment) → filled_size segments ≤ sum_by size_of_segment segments
+filled_within [] = omega arith
+filled_within (s ∷ rest) =
+    omega (arith, filled_within rest, sum_by-cons (λ (x : Segment). x.filled) s rest, sum_by-cons size_of_segment s rest)
+
+size_within : (version : Version) (n : Numbers) → FieldsFit n → size_of version n ≤ image_limit
+size_within One n fit = omega (arith, fit.words.1, fit.zeroed.0, filled_within n.segments)
+size_within Two n fit = omega (arith, fit.words.1, fit.zeroed.0, fit.segments, filled_within n.segments)
+
+within : (image : Parts) → IsImage image → length (spelling image) ≤ image_limit
+within image good = omega (arith, length-spelling image good, size_within image.version (numbers image) good.fields)
+
+pub spelled : (image : Parts) (files : Files) (name : List ℕ) → IsImage image → HasFile files name (spelling image) → ImageOf files name (goes image)
+spelled image files name good there = (spelling image, (there, within image good), (good, refl))
+
+-- ---- it is checked, and choices have words
+
+pub checked : (image : Parts) (w : World) (name : List ℕ) → IsImage image → IsAccepted image.words → HasFile w.files name (spelling image) → IsChecked name w
+checked image w name good safe there = record {
+  answer = accepted w.input;
+  is = accepted_answer w name image (accepted w.input) (spelled image w.files name good there) (safe, refl) refl;
+  done = refl;
+}
+
+pub seeds : (files : Files) (n : ℕ) → HasWords files (seed n)
+seeds files n = (pcg_word (seeded n), refl)
+
+pub listed : (files : Files) (name bytes : List ℕ) → HasFile files name bytes → length bytes ≤ choices_limit → HasWords files (file name)
+listed files name bytes there short = (listed_word bytes, (bytes, (there, short), refl))
+
+-- ---- a call
+
+pub accepted_call : (words : List (List ℕ)) (image : Parts) (name : List ℕ) (w : World) (status : Status) (left : Option (List ℕ)) (s : Shelved) (out notes : Sunk)
+    → Asks words (check name) → IsImage image → IsAccepted image.words → IsSome w.files → HasFile w.files name (spelling image)
+    → ((a : Answer) → AreTold words w → IsAnswer words w a → IsAnswered a status left s out notes ⊎ (status ≡ NoMemory))
+    → (status ≡ Done 0) ⊎ (status ≡ NoMemory)
+unfolding checked
+accepted_call words image name w status left s out notes asks good safe told there exact =
+    let same : (command : Command) → Asks words command → check name ≡ command = λ command also. (let x = sym asks ∙ also in cc) in
+    let is = checked image w name good safe there in
+    ⊎_elim (λ (h : IsAnswered (accepted w.input) status left s out notes). inl h.status_is) (λ (h : status ≡ NoMemory). inr h)
+    (exact (accepted w.input) (λ command also. subst (λ (c : Command). IsTold c w) (same command also) told) (inr (check name, asks, is.is)))
