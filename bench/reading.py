@@ -1,23 +1,21 @@
 #!/usr/bin/env python3
-"""What somebody reads who wants to know what a clause says: the definitions that it reaches.
+"""Prints what somebody reads who wants to know what a clause says: the definitions that it reaches.
 
-    reading.py [--files] CRATE FUNCTION [CLAUSE ..]
+    bench/reading.py [--files] CRATE FUNCTION [CLAUSE ..]
 
-For each clause of the function (all of them where none is named) this prints how many lines of definitions it reaches by names, through
-all crates of the repository, and by the whole files that those names are imported from. Comments, `use` lines and empty lines don't
-count, and what the kit defines and what is declared in src/ (types, traits, constants) isn't followed. With --files it prints
-also each file with its lines.
+For each clause of the function, or for those that are named, this counts the lines of the definitions that it
+reaches by names, through all crates of the repository, and the lines of the whole files that these are imported
+from. Comments, `use` lines and empty lines don't count. What the kit defines and what stands in src/ (types, traits,
+constants) isn't followed. With --files each file is printed with its lines.
 
-A name is followed where it is imported, declared beside, or reached by a module's name (`runs.steps`); a constructor brings its
-whole type. A variable that has the name of a definition counts as that definition.
+A name is followed where it is imported, declared beside, or reached by a module's name (`runs.steps`); a constructor
+brings its whole type. A variable that has the name of a definition counts as that definition.
 """
-
 import pathlib
 import re
 import sys
 
 ROOT = pathlib.Path(__file__).resolve().parent.parent / "crates"
-WORD = re.compile(r"[^\W\d]\w*(?:[-'][^\W\d]?\w*)*", re.UNICODE)
 HEAD = re.compile(r"^(?:abbrev |unfoldable )?(?:pub )?(?:(data|record) )?([^\W\d]\S*)\b.*?(?: :|\()")
 
 
@@ -89,6 +87,7 @@ class File:
 
 
 def find(text, names, modules, file=None):
+    """The definitions that a text names, by these imports and beside it in this file."""
     found = set()
     for token in re.findall(r"(?:[^\W\d]\w*\.)?[^\s(){}\[\],;.λ]+", text):
         head, dot, tail = token.partition(".")
@@ -104,7 +103,7 @@ def find(text, names, modules, file=None):
 
 
 def reading(text, names, modules):
-    """All that a clause reaches: lines by file, of the definitions alone, and the files that are imported on the way."""
+    """The files of all definitions that a clause reaches, each with how many of its lines these are."""
     done, files = set(), {}
     todo = find(text, names, modules)
     while todo:
@@ -123,7 +122,7 @@ def reading(text, names, modules):
 
 
 def whole(files):
-    """The lines of these files and of all that they import."""
+    """These files and all that they import."""
     done, todo = set(), set(files)
     while todo:
         file = todo.pop()
