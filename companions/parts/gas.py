@@ -1,0 +1,186 @@
+"""Text for GNU as, as gcc writes it for alpha: statements, operands and numbers."""
+import re
+from collections import namedtuple
+
+from . import files
+
+# A statement with the columns from `start` to `end` of its line, its labels left out; `name` is empty where there is none.
+# `relocation` is what stands behind `!`, as `gpdisp`, without its number.
+Statement = namedtuple("Statement", "line start end labels name operands relocation")
+# A number, or a symbol with a number added.
+Expression = namedtuple("Expression", "symbol number")
+
+LABEL = re.compile(r"\s*([A-Za-z_.$][\w.$]*|[0-9]+):(?!=)")
+NAME = re.compile(r"\s*([A-Za-z_.$][\w.$/]*)")
+ASSIGNED = re.compile(r"\s*([A-Za-z_.$][\w.$]*)\s*==?\s*(.*)\Z", re.S)
+RELOCATION = re.compile(r"\s*!([a-z_0-9]+)(?:![0-9]+)?\s*\Z")
+SYMBOL = re.compile(r"([A-Za-z_.$][\w.$]*|[0-9]+[fb]\b)")
+NUMBER = re.compile(r"0[xX][0-9a-fA-F]+|0[bB][01]+|[0-9]+")
+REGISTERS = {f"${n}": n for n in range(32)}
+REGISTERS.update({"$v0": 0, "$fp": 15, "$s6": 15, "$ra": 26, "$pv": 27, "$t12": 27, "$at": 28, "$gp": 29, "$sp": 30,
+                  "$zero": 31})
+REGISTERS.update({f"$t{n}": n + 1 for n in range(8)} | {f"$s{n}": n + 9 for n in range(6)})
+REGISTERS.update({f"$a{n}": n + 16 for n in range(6)} | {f"$t{n}": n + 14 for n in range(8, 12)})
+ESCAPES = {"b": 8, "f": 12, "n": 10, "r": 13, "t": 9, '"': 34, "\\": 92}
+
+
+def pieces(text):
+    """The parts of a text that are statements: (line, first column, one past the last, text), comments left out.
+
+    A comment goes from `#` to the line's end, or from /* to */; statements are parted by `;` and by the line's end.
+    """
+    in_comment = False
+    for number, line in enumerate(text.split("\n"), 1):
+        start, at, kept = 0, 0, []
+        while at < len(line):
+            if in_comment:
+                end = line.find("*/", at)
+                in_comment, stop = end < 0, len(line) if end < 0 else end + 2
+                kept.append(" " * (stop - at))
+                at = stop
+            elif line[at] == '"':
+                stop = string_end(line, at)
+                kept.append(line[at:stop])
+                at = stop
+            elif line[at] == "#":
+                break
+            elif line.startswith("/*", at):
+                in_comment = True
+            elif line[at] == ";":
+                yield number, start, at, "".join(kept)
+                start, at, kept = at + 1, at + 1, []
+            else:
+                kept.append(line[at])
+                at += 1
+        yield number, start, at, "".join(kept)
+
+
+def string_end(line, at):
+    """One past the closing quote of the string that begins there, or the line's end."""
+    at += 1
+    while at < len(line) and line[at] != '"':
+        at += 2 if line[at] == "\\" else 1
+    return min(at + 1, len(line))
+
+
+def statements(text):
+    """The statements of a text, those with labels alone too."""
+    for line, start, _, piece in pieces(text):
+        yield statement_of(line, start, piece)
+
+
+def statement_of(line, start, piece):
+    """The statement of a piece. Its columns are those of its name and operands, without blanks around them."""
+    labels, at = [], 0
+    while match := LABEL.match(piece, at):
+        labels.append(match[1])
+        at = match.end()
+    rest = piece[at:]
+    begin = start + at + len(rest) - len(rest.lstrip())
+    end = start + at + len(rest.rstrip())
+    if match := ASSIGNED.match(rest):
+        return Statement(line, begin, end, labels, ".set", [match[1], match[2].strip()], None)
+    match = NAME.match(rest)
+    if match is None:
+        return Statement(line, begin, max(begin, end), labels, rest.strip(), [], None)
+    operands = rest[match.end():].strip()
+    relocation = None
+    if not operands.startswith('"') and (found := RELOCATION.search(operands)):
+        relocation, operands = found[1], operands[:found.start()]
+    return Statement(line, begin, end, labels, match[1], split(operands), relocation)
+
+
+def split(text):
+    """The operands: parted by commas outside strings and parentheses."""
+    operands, depth, start, at = [], 0, 0, 0
+    while at < len(text):
+        if text[at] == '"':
+            at = string_end(text, at)
+            continue
+        depth += {"(": 1, ")": -1}.get(text[at], 0)
+        if text[at] == "," and depth == 0:
+            operands.append(text[start:at].strip())
+            start = at + 1
+        at += 1
+    last = text[start:].strip()
+    return operands + [last] if last or operands else []
+
+
+def number_of(text):
+    """The value of a number as GNU as reads it, or None."""
+    digits = text.lstrip("+-~ \t")
+    signs = text[:len(text) - len(digits)]
+    if not NUMBER.fullmatch(digits) or "~" in signs:
+        return None
+    base = {"0x": 16, "0b": 2}.get(digits[:2].lower(), 8 if len(digits) > 1 and digits[0] == "0" else 10)
+    try:
+        value = int(digits[2:] if base in (16, 2) else digits, base)
+    except ValueError:
+        return None
+    return -value if signs.count("-") % 2 else value
+
+
+def expression_of(text):
+    """The expression of a text: a number, or a symbol with numbers added; None for any other."""
+    text = text.strip()
+    number = number_of(text)
+    if number is not None:
+        return Expression(None, number)
+    match = SYMBOL.match(text)
+    if match is None:
+        return None
+    total, rest = 0, text[match.end():].strip()
+    while rest:
+        term = re.match(r"[+-]\s*(?:0[xX][0-9a-fA-F]+|[0-9]+)\s*", rest)
+        if term is None or (value := number_of(term[0].replace(" ", "").strip())) is None:
+            return None
+        total += value
+        rest = rest[term.end():]
+    return Expression(match[1], total)
+
+
+def string_bytes(text):
+    """The bytes of a string in quotes, with the escapes of GNU as; None where it is none."""
+    if len(text) < 2 or text[0] != '"' or string_end(text, 0) != len(text) or text[-1] != '"':
+        return None
+    out, at, inner = bytearray(), 0, text[1:-1]
+    while at < len(inner):
+        if inner[at] != "\\":
+            out += inner[at].encode("utf-8", "surrogateescape")
+            at += 1
+        elif match := re.match(r"\\([0-7]{1,3})", inner[at:]):
+            out.append(int(match[1], 8) & 255)
+            at += match.end()
+        elif match := re.match(r"\\[xX]([0-9a-fA-F]+)", inner[at:]):
+            out.append(int(match[1], 16) & 255)
+            at += match.end()
+        elif inner[at + 1:at + 2] in ESCAPES:
+            out.append(ESCAPES[inner[at + 1]])
+            at += 2
+        else:
+            return None
+    return bytes(out)
+
+
+class Faults:
+    """The lines that can't be taken, all of them."""
+
+    MOST = 50
+
+    def __init__(self):
+        self.lines, self.count = [], 0
+
+    def add(self, path, line, why):
+        said = f"{path}:{line}: {why}"
+        if self.lines[-1:] == [said]:
+            return
+        self.count += 1
+        if self.count <= self.MOST:
+            self.lines.append(said)
+
+    def stop(self):
+        """Refuses where there was any."""
+        if self.count > self.MOST:
+            self.lines.append(f"and {self.count - self.MOST} more")
+        if self.count:
+            raise files.Refused("\n".join(self.lines))

@@ -1,0 +1,179 @@
+"""Files of GNU text as one source of the product: names, order of sections, lines."""
+import re
+
+from . import units
+from .instructions import MARK
+
+WIDEST = 1_000
+MARKED = re.compile(f"{MARK}([^{MARK}]*){MARK}([+-][0-9]+)")
+
+
+class Joined:
+    """Several units with their names made those of one source."""
+
+    def __init__(self, parts, faults):
+        self.units, self.faults = parts, faults
+        self.owners, self.names, self.taken, self.mentioned = {}, {}, set(), {}
+        for unit in parts:
+            for name in unit.globals & (set(unit.labels) | set(unit.synonyms)):
+                self.own(name, unit)
+        self.shared = self.share()
+        for name in [*sorted(self.owners), *sorted(self.shared)]:
+            self.name_for(None, name)
+
+    def own(self, name, unit):
+        if name in self.owners:
+            other = self.owners[name]
+            self.faults.add(unit.path, unit.labels.get(name, 1), f"the label {name} is in {other.path} too")
+        else:
+            self.owners[name] = unit
+
+    def share(self):
+        """The symbols of `.comm` that no file defines: the greatest size and alignment."""
+        shared = {}
+        for unit in self.units:
+            for name, (size, power) in unit.common.items():
+                if name in unit.globals and name not in self.owners:
+                    before = shared.get(name, (0, 0))
+                    shared[name] = (max(size, before[0]), max(power, before[1]))
+        return shared
+
+    def name_for(self, unit, name):
+        """The name in the source of a name of a unit, None where it is one of all."""
+        if (unit, name) not in self.names:
+            plain = re.sub(r"[^\w.]", "_", name.lstrip("$."), flags=re.ASCII)
+            if not re.match(r"[A-Za-z_]", plain):
+                plain = f"L{plain}"
+            wanted, count = plain, 1
+            while wanted in self.taken:
+                count += 1
+                wanted = f"{plain}_{count}"
+            self.taken.add(wanted)
+            self.names[unit, name] = wanted
+        return self.names[unit, name]
+
+    def resolved(self, unit, name, steps=0):
+        """The name in the source that a name of a unit means, or None where nothing defines it."""
+        if name in unit.synonyms and steps < 64:
+            return self.resolved(unit, unit.synonyms[name], steps + 1)
+        if name in unit.labels or name in unit.common and name not in unit.globals:
+            return self.name_for(None if name in unit.globals else unit, name)
+        if name in self.shared:
+            return self.name_for(None, name)
+        owner = self.owners.get(name)
+        return None if owner is None or owner is unit or steps >= 64 else self.resolved(owner, name, steps + 1)
+
+    def text(self, unit, text, note):
+        """A line with its marked symbols as names of the source."""
+        def named(match):
+            name = self.resolved(unit, match[1])
+            if name is None:
+                line = int(re.match(r".*?:([0-9]+)", note)[1])
+                self.faults.add(unit.path, line, f"nothing defines {match[1]}")
+                return match[1]
+            return name if int(match[2]) == 0 else name + match[2]
+        return MARKED.sub(named, text)
+
+    def lines(self, entry):
+        """The lines of the source."""
+        if entry not in self.owners:
+            self.faults.add(self.units[0].path, 1, f"no file defines the entry {entry} with .globl: give companions/start.s as a "
+                            "further file, or say --entry NAME")
+            return []
+        lines = [f"\t.entry {self.resolved(self.owners[entry], entry)}", "\t.code"]
+        for unit, section in self.of_kind(units.CODE):
+            lines += self.section_lines(unit, section)
+        data = [line for unit, section in self.of_kind(units.DATA) for line in self.section_lines(unit, section)]
+        zeroed = [line for unit, section in self.of_kind(units.ZEROED) for line in self.section_lines(unit, section)]
+        zeroed += self.shared_lines()
+        return lines + (["\t.data", *data, *zeroed] if data or zeroed else [])
+
+    def of_kind(self, kind):
+        return [(unit, section) for unit in self.units for section in unit.sections.values()
+                if section.kind == kind and section.items]
+
+    def section_lines(self, unit, section):
+        lines = [f"# {unit.name}: section {section.name}"]
+        if section.kind != units.CODE and section.power:
+            lines.append(f"\t.align {section.power}")
+        for item in section.items:
+            mark = " function" if isinstance(item, units.Label) and item.name in unit.functions else ""
+            for text in self.item_texts(unit, section, item):
+                lines.append(f"{text}\t# {item.note}{mark}")
+        return lines
+
+    def is_named(self, unit, label):
+        """Whether a label says something: compilers write many of their own, for debuggers, that no statement names."""
+        if unit not in self.mentioned:
+            texts = [text for section in unit.sections.values() for item in section.items
+                     for text in (item.items if isinstance(item, units.Values) else [getattr(item, "text", "")])]
+            self.mentioned[unit] = {match[1] for text in texts if isinstance(text, str) for match in MARKED.finditer(text)}
+            self.mentioned[unit].update(unit.synonyms.values())
+        return not label.startswith(("$", ".L")) or label in self.mentioned[unit]
+
+    def item_texts(self, unit, section, item):
+        if isinstance(item, units.Label):
+            if not self.is_named(unit, item.name):
+                return []
+            return [f"{self.name_for(None if item.name in unit.globals else unit, item.name)}:"]
+        if isinstance(item, units.Line):
+            return ["\t" + self.text(unit, item.text, item.note)]
+        if isinstance(item, units.Align):
+            return [f"\t.align {item.power}"]
+        if section.kind == units.ZEROED:
+            return [f"\t.zero {self.zeros(unit, item)}"]
+        if isinstance(item, units.Values):
+            return self.value_texts(unit, item)
+        content = item.content if isinstance(item, units.Bytes) else bytes(item.count)
+        return byte_texts(content)
+
+    def zeros(self, unit, item):
+        """The number of bytes of an item, which must all be 0."""
+        if isinstance(item, units.Zeros):
+            return item.count
+        if isinstance(item, units.Bytes) and not any(item.content):
+            return len(item.content)
+        if isinstance(item, units.Values) and all(value == 0 for value in item.items):
+            return item.size * len(item.items)
+        line = int(re.match(r".*?:([0-9]+)", item.note)[1])
+        self.faults.add(unit.path, line, "a value in a section of zeros")
+        return 0
+
+    def value_texts(self, unit, item):
+        """A list of values, cut where a line of the source would be too long."""
+        directive = {1: ".byte", 2: ".word", 4: ".long", 8: ".quad"}[item.size]
+        texts, row = [], []
+        for value in item.items:
+            text = str(value) if isinstance(value, int) else self.text(unit, value, item.note)
+            if row and len(",".join([*row, text])) > WIDEST // 2:
+                texts.append(f"\t{directive} {','.join(row)}")
+                row = []
+            row.append(text)
+        return [*texts, f"\t{directive} {','.join(row)}"] if row else texts
+
+    def shared_lines(self):
+        lines = []
+        shared = [(self.name_for(None, name), *self.shared[name], self.units[0].name) for name in sorted(self.shared)]
+        for unit in self.units:
+            shared += [(self.name_for(unit, name), *numbers, unit.name) for name, numbers in sorted(unit.common.items())
+                       if name not in unit.globals]
+        for name, size, power, file in shared:
+            lines += [f"\t.align {power}", f"{name}:\t# {file}: shared or local zeros", f"\t.zero {size}"]
+        return lines
+
+
+def byte_texts(content):
+    """Bytes as texts where they are mostly printable, and as values else."""
+    texts = []
+    for start in range(0, len(content), 64):
+        part = content[start:start + 64]
+        if any(32 <= byte < 127 for byte in part):
+            texts.append(f'\t.ascii "{"".join(map(escaped, part))}"')
+        else:
+            texts.append(f"\t.byte {','.join(map(str, part))}")
+    return texts
+
+
+def escaped(byte):
+    special = {10: "\\n", 9: "\\t", 92: "\\\\", 34: '\\"'}
+    return special.get(byte) or (chr(byte) if 32 <= byte < 127 else f"\\x{byte:02x}")

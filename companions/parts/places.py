@@ -1,0 +1,152 @@
+"""Where an address comes from: the line of a source, the line of a listing, the symbol of a map."""
+import bisect
+import os
+import re
+
+from . import files, gas
+
+FIELDS = (".codebase", ".database", ".segment")
+SIZES = {".byte": 1, ".word": 2, ".long": 4, ".quad": 8}
+MAP_LINE = re.compile(r"([0-9a-f]{16}) ([0-9a-f]{8,16}) (func|object|label) (\S.*)")
+FUNCTION = re.compile(r"#\s*\S+:[0-9]+( \S+:[0-9]+)? function\s*\Z")
+ORIGIN = re.compile(r"#\s*(\S+:[0-9]+.*?)\s*\Z")
+
+
+class Names:
+    """Labels and symbols by address."""
+
+    def __init__(self):
+        self.rows = []
+
+    def add(self, address, name, size=0):
+        self.rows.append((address, name, size))
+
+    def near(self, address):
+        """The name at an address or before it, with the distance, or None. A name with a size ends there."""
+        rows = self.sorted()
+        at = bisect.bisect_right(rows, (address, "\U0010ffff", 0))
+        for start, name, size in reversed(rows[max(0, at - 16):at]):
+            if size == 0 or address < start + size:
+                return name if address == start else f"{name}+{address - start:#x}"
+        return None
+
+    def sorted(self):
+        if self.rows != sorted(self.rows):
+            self.rows.sort()
+        return self.rows
+
+
+class Source:
+    """The lines of a source by their addresses, laid out as docs/source.md says. It takes a source that `asm` takes."""
+
+    def __init__(self, path):
+        self.path, self.lines, self.names, self.functions = path, {}, Names(), Names()
+        self.text = files.read_text(path).split("\n")
+        statements = list(gas.statements("\n".join(line.removesuffix("\r") for line in self.text)))
+        at = {"code": 0x10000, "data": 0x10000000}
+        for statement in statements:
+            if statement.name in FIELDS[:2]:
+                at["code" if statement.name == ".codebase" else "data"] = self.number(statement)
+        self.begin, section = at["data"], "code"
+        for statement in statements:
+            section = self.lay(statement, at, section)
+
+    def refuse(self, statement, why):
+        raise files.Refused(f"{self.path}:{statement.line}: {why}: is it a source that `asm` takes?")
+
+    def number(self, statement):
+        try:
+            text, = statement.operands
+            return int(text, 16 if text[:2] == "0x" else 10)
+        except ValueError:
+            self.refuse(statement, f"{statement.name} without its number")
+
+    def lay(self, statement, at, section):
+        """Gives a statement its address; the section behind it."""
+        name = statement.name
+        for label in statement.labels:
+            is_function = FUNCTION.search(self.text[statement.line - 1])
+            (self.functions if is_function else self.names).add(at[section], label)
+        if name in (".code", ".data"):
+            return name[1:]
+        if name == ".segment":
+            at["data"] = self.begin = self.number(statement)
+            return "data"
+        if name and not name.startswith("."):
+            if section != "code":
+                self.refuse(statement, "an instruction in data")
+            self.lines[at["code"]] = statement.line
+            at["code"] += 4
+        elif name in SIZES:
+            at["data"] += SIZES[name] * len(statement.operands)
+        elif name == ".ascii":
+            at["data"] += len(gas.string_bytes(statement.operands[0]) or b"") if statement.operands else 0
+        elif name == ".zero":
+            at["data"] += self.number(statement)
+        elif name == ".align":
+            step = 1 << self.number(statement)
+            at["data"] += -(at["data"] - self.begin) % step
+        return section
+
+    def tell(self, address, with_text):
+        """The line of an address, what its comment says of where it was made from, and its text where it is wanted."""
+        line = self.lines.get(address)
+        if line is None:
+            return None
+        text = self.text[line - 1]
+        code = next(piece for _, _, _, piece in gas.pieces(text)).split(":")[-1].strip()
+        origin = ORIGIN.search(text)
+        return f"{os.path.basename(self.path)}:{line}" + (f" ({origin[1]})" if origin else "") + (f": {code}" if with_text else "")
+
+
+class Places:
+    """What is told of an image: a source, a map, its listing, each where it is given."""
+
+    def __init__(self, source=None, symbols=None, listing=None, base=0):
+        self.source = Source(source) if source is not None else None
+        self.listing, self.base = listing, base
+        self.names = read_map(symbols) if symbols is not None else None
+
+    def tell(self, address, with_text=False):
+        """All that is known of an address: the symbol, the line of the source, the line of the listing."""
+        told = [self.near(address)]
+        if self.source is not None:
+            told.append(self.source.tell(address, with_text))
+        if self.listing is not None:
+            told.append(self.listed(address))
+        return ", ".join(text for text in told if text)
+
+    def near(self, address):
+        """The symbol of the map, or the function or label of the source, at an address or before it."""
+        if self.names is not None:
+            return self.names.near(address)
+        if self.source is None:
+            return None
+        in_code = address in self.source.lines
+        return in_code and self.source.functions.near(address) or self.source.names.near(address)
+
+    def listed(self, address):
+        """The line of the listing, by its number, with its text."""
+        place, rest = divmod(address - self.base, 4)
+        start = self.listing.index(".code") + 1
+        if rest or place < 0 or start + place >= len(self.listing):
+            return None
+        text = self.listing[start + place]
+        return None if text.startswith((".data", ".segment", ".byte", ".zero")) else f"line {start + place + 1} of the listing: {text}"
+
+
+def read_map(path):
+    names = Names()
+    for number, line in enumerate(files.read_text(path).splitlines(), 1):
+        match = MAP_LINE.fullmatch(line)
+        if match is None:
+            raise files.Refused(f"{path}:{number}: no line `ADDRESS SIZE KIND NAME` of a map")
+        names.add(int(match[1], 16), match[4], int(match[2], 16))
+    return names
+
+
+def with_places(parser):
+    """The arguments for where an image comes from."""
+    parser.add_argument("--source", metavar="FILE", help="the source that the image was assembled of")
+    parser.add_argument("--map", metavar="FILE", help="the map of symbols that elf2image kept")
+    return parser
