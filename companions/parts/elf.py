@@ -19,7 +19,7 @@ class Elf:
         self.path, self.content = path, files.read_bytes(path)
         try:
             self.read()
-        except (struct.error, IndexError) as error:
+        except (struct.error, IndexError, ValueError) as error:
             raise files.Refused(f"{path}: damaged: it ends within a table, or names a section that isn't there") from error
 
     def refuse(self, why):

@@ -23,6 +23,8 @@ MEMORY, BRANCHES = set(table.MEMORY.values()), set(table.BRANCH.values())
 PAIRS = {"negl": "subl", "negq": "subq", "negl/v": "subl/v", "negq/v": "subq/v", "not": "ornot", "sextl": "addl"}
 ALONE = {"nop", "unop", "trapb", "excb", "mb", "wmb"} | set(table.PAL.values())
 DIVISIONS = {f"{what}{size}{sign}" for what in ("div", "rem") for size in "lq" for sign in ("", "u")}
+TRIGGER = re.compile(r"(addl|addq|subl|subq|mull|mulq|negl|negq)(?:v|/v)\Z")
+BARRIERS = {"trapb", "excb", "draint", "call_pal", "rduniq", "wruniq"} | set(table.PAL.values())
 FLOATING = ("ldt", "lds", "ldf", "ldg", "stt", "sts", "stf", "stg", "cpys", "cvt", "addt", "adds", "subt", "subs", "mult",
             "muls", "divt", "divs", "cmpt", "fcmov", "fb", "itof", "ftoi", "sqrt", "mf_fpcr", "mt_fpcr", "fnop")
 LITERAL_USES = {None, "lituse_base", "lituse_bytoff", "lituse_addr"}
@@ -72,12 +74,28 @@ def sets_up_gp(statement):
     return statement.name == "ldgp" or statement.relocation == "gpdisp"
 
 
+def namers(statements, wanted):
+    """The statements that name a register, but for those that shadowfix made: a /V word into it, a barrier, and a move from
+    it. Behind these nothing is in it that anybody needs."""
+    names = sorted(name for name, number_of_it in gas.REGISTERS.items() if number_of_it == wanted)
+    named = re.compile("(?:" + "|".join(map(re.escape, names)) + r")(?![\w$])")
+    said = [statement for statement in statements if statement.name]
+    repaired = set()
+    for n in range(len(said) - 2):
+        one, barrier, move = said[n:n + 3]
+        if TRIGGER.match(one.name) and barrier.name in BARRIERS and move.name == "mov" and move.operands[:1] == one.operands[-1:]:
+            repaired |= {n, n + 2}
+    return [statement for n, statement in enumerate(said) if n not in repaired and
+            any(named.search(text) for text in statement.operands if not text.startswith('"'))]
+
+
 class Translator:
-    """Translates the instructions of one file. `spare_at` says that the file never names $28, `has_gp` that $29 is set up
-    in it as the pointer to a table of addresses, which the product hasn't."""
+    """Translates the instructions of one file. `spare_at` says that nothing in it is kept in $28, `has_gp` that $29 is set
+    up in it as the pointer to a table of addresses, which the product hasn't."""
 
     def __init__(self, spare_at, has_gp):
         self.spare_at, self.has_gp = spare_at, has_gp
+        self.is_level_two = False
 
     def lines(self, statement):
         """The lines for an instruction; none where it only sets up $29, which nothing here needs."""
@@ -109,6 +127,7 @@ class Translator:
         if name in PAIRS and len(operands) == 2:
             return [self.operate(PAIRS[name], ["$31", *operands])]
         if name in table.UNARY:
+            self.is_level_two |= name in table.LEVEL_TWO
             return [self.unary(name, operands)]
         if name == "mov" and len(operands) == 2:
             source = operands[0] if operands[0].startswith("$") else number(operands[0], -32768, 32767)

@@ -39,8 +39,8 @@ class Unit:
         self.sections, self.stack = {}, []
         self.numbered, self.sources, self.place, self.functions = {}, {}, "", set()
         statements = list(gas.statements(text))
-        spare_at = not any("$28" in text or "$at" in text for s in statements for text in s.operands)
-        self.translator = instructions.Translator(spare_at, any(map(instructions.sets_up_gp, statements)))
+        keeps_at = bool(instructions.namers(statements, instructions.AT))
+        self.translator = instructions.Translator(not keeps_at, any(map(instructions.sets_up_gp, statements)))
         self.section = self.before = self.known(".text", CODE)
         for statement in statements:
             try:
