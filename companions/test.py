@@ -12,6 +12,7 @@ import json
 import os
 import random
 import re
+import shutil
 import struct
 import subprocess
 import sys
@@ -41,6 +42,10 @@ def test(needs_program=False):
 
 class Failed(Exception):
     pass
+
+
+class Lacking(Exception):
+    """What a test needs isn't there."""
 
 
 def want(given, wanted, what=""):
@@ -147,6 +152,7 @@ def gas2source_names_what_it_cannot_say(folder):
              ("\t.section .tbss,\"awT\",@nobits", 1, "thread-local"), ("\t.section .init_array,\"aw\"", 1, "starts"),
              ("\t.data\n\t.long _start", 2, "8"), ("\t.data\n\t.string \"\\q\"", 2, "escape"), ("_start:", 1, "there already"),
              ("\t.section .rodata\n\t.gprel32 x", 2, "-fno-jump-tables"), ("\tdivq $1,$2,$3", 1, "macro"), ("\t)", 1, "no statement"),
+             ("\tldah $1,x($29) !gprelhigh\n\tldq $2,x+16($1) !gprellow\n\t.data\n\t.zero 32752\nx:\t.zero 32", 1, "upper half"),
              ("\tstl $1,x\n\tmov $28,$2\n\t.comm x,4", 1, "-ffixed-28"), ("\t.bss\n\t.long 5", 2, "zeros")]
     for text, line, said in cases:
         with open(path, "w", encoding="ascii") as file:
@@ -167,7 +173,7 @@ def gas2source_says_what_gnu_as_says(folder):
     want(asked.call("asm", source, made), (0, b"", ""), "asm")
     want(asked.code_lines(made), LISTED, "listing")
     want(image.read_image(made).segments[0].data, DATA_BYTES, "data")
-    want(image.read_image(made).segments[0].zeroed, 32, "zeroed bytes")
+    want(image.read_image(made).segments[0].zeroed, 40, "zeroed bytes")
 
 
 GAS = r"""
@@ -359,6 +365,21 @@ def numbers_are_those_of_gnu_as(_):
         want(found and tuple(found), value, text)
 
 
+@test(needs_program=True)
+def the_page_shows_what_its_commands_do(folder):
+    """Runs the commands of docs/from-a-compiler.md one after another, and holds what they write against the page."""
+    if shutil.which("alpha-linux-gnu-gcc") is None:
+        raise Lacking("there is no alpha-linux-gnu-gcc on the path")
+    os.symlink(HERE, os.path.join(folder, "companions"))
+    os.symlink(os.path.abspath(ASKED), os.path.join(folder, "alpha"))
+    page = read(os.path.join(TOP, "docs/from-a-compiler.md"))
+    for block in re.findall(r"^```console\n(.*?)^```$", page, re.S | re.M):
+        for command, shown in re.findall(r"^\$ (.*)\n((?:(?!\$ ).*\n)*)", block, re.M):
+            done = subprocess.run(["bash", "-c", command], cwd=folder, stdout=subprocess.PIPE, stderr=subprocess.STDOUT,
+                                  env=os.environ | {"ALPHA": os.path.abspath(ASKED)}, check=False)
+            want(done.stdout.decode("utf-8", "replace"), shown, command)
+
+
 def main():
     started = time.time()
     counts = {"passed": 0, "failed": 0, "skipped": 0}
@@ -372,6 +393,9 @@ def main():
             with tempfile.TemporaryDirectory() as folder:
                 function(folder)
             counts["passed"] += 1
+        except Lacking as lacking:
+            counts["skipped"] += 1
+            print(f"skipped: {name}: {lacking}")
         except Exception as error:  # a test that fails may fail in any way, and the others go on
             counts["failed"] += 1
             print(f"FAILED: {name}: {error if isinstance(error, Failed) else traceback.format_exc()}")

@@ -96,6 +96,8 @@ class Translator:
     def __init__(self, spare_at, has_gp):
         self.spare_at, self.has_gp = spare_at, has_gp
         self.is_level_two = False
+        # The symbols, with the numbers added, whose halves stand in words apart: (symbol, number) of each.
+        self.highs, self.lows = set(), set()
 
     def lines(self, statement):
         """The lines for an instruction; none where it only sets up $29, which nothing here needs."""
@@ -103,7 +105,7 @@ class Translator:
             return []
         lines = self.told(statement)
         if self.has_gp and any(USES_GP.search(line) for line in lines):
-            raise Untold("$29 is used as a value, and has none here: compile with -fno-jump-tables and without -fpic")
+            raise Untold("$29 is used as a value, and has none here: compile with -fno-jump-tables")
         return lines
 
     def told(self, statement):
@@ -115,7 +117,7 @@ class Translator:
             return self.jump(name, operands, relocation)
         if name in BRANCHES:
             return [self.branch(name, operands, relocation)]
-        if relocation is not None:
+        if relocation is not None and not name.startswith(FLOATING):
             raise Untold(f"!{relocation} at {statement.name}")
         return self.plain(name, statement.name, operands)
 
@@ -197,8 +199,10 @@ class Translator:
     def symbolic(self, name, target, expression, base, relocation):
         symbol = marked(expression)
         if relocation == "gprelhigh" and name == "ldah" and base == GP:
+            self.highs.add(expression)
             return [f"ldah ${target},%hi({symbol})($31)"]
         if relocation == "gprellow" and base not in (None, GP) and name != "ldah":
+            self.lows.add(expression)
             return [f"{name} ${target},%lo({symbol})(${base})"]
         if relocation == "literal" and name == "ldq" and base == GP or relocation is None and name == "lda" and base is None:
             return address_lines(target, expression)

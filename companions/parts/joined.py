@@ -1,10 +1,10 @@
 """Files of GNU text as one source of the product: names, order of sections, lines."""
 import re
 
-from . import units
+from . import places, units
 from .instructions import MARK
 
-WIDEST = 1_000
+WIDEST, WHOLE = 1_000, 4
 MARKED = re.compile(f"{MARK}([^{MARK}]*){MARK}([+-][0-9]+)")
 
 
@@ -86,7 +86,22 @@ class Joined:
         data = [line for unit, section in self.of_kind(units.DATA) for line in self.section_lines(unit, section)]
         zeroed = [line for unit, section in self.of_kind(units.ZEROED) for line in self.section_lines(unit, section)]
         zeroed += self.shared_lines()
-        return lines + (["\t.data", *data, *zeroed] if data or zeroed else [])
+        # A byte is loaded by the quadword that it lies in, so the last one is made whole.
+        return lines + (["\t.data", *data, *zeroed, f"\t.align {WHOLE}"] if data or zeroed else [])
+
+    def look_at_halves(self, lines):
+        """Two words that make an address by its halves may name one symbol with two numbers added: then the upper halves
+        must be the same in the source, as they were where the compiler laid out the data."""
+        laid = places.Source("the source", "\n".join(lines))
+        at = {name: address for names in (laid.names, laid.functions) for address, name, _ in names.rows}
+        for unit in self.units:
+            highs, lows = unit.translator.highs, unit.translator.lows
+            for low in sorted(lows - highs):
+                address = at[self.resolved(unit, low.symbol)]
+                for high in highs:
+                    if high.symbol == low.symbol and upper(address + high.number) != upper(address + low.number):
+                        self.faults.add(unit.path, 1, f"{low.symbol}{low.number:+d} is reached by the upper half of the address "
+                                        f"of {high.symbol}{high.number:+d}, which is another one here")
 
     def of_kind(self, kind):
         return [(unit, section) for unit in self.units for section in unit.sections.values()
@@ -160,6 +175,11 @@ class Joined:
         for name, size, power, file in shared:
             lines += [f"\t.align {power}", f"{name}:\t# {file}: shared or local zeros", f"\t.zero {size}"]
         return lines
+
+
+def upper(address):
+    """The %hi of an address."""
+    return (address + 32_768) // 65_536
 
 
 def byte_texts(content):

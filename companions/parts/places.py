@@ -39,9 +39,9 @@ class Names:
 class Source:
     """The lines of a source by their addresses, laid out as docs/source.md says. It takes a source that `asm` takes."""
 
-    def __init__(self, path):
+    def __init__(self, path, text=None):
         self.path, self.lines, self.names, self.functions = path, {}, Names(), Names()
-        self.text = files.read_text(path).split("\n")
+        self.text = (files.read_text(path) if text is None else text).split("\n")
         statements = list(gas.statements("\n".join(line.removesuffix("\r") for line in self.text)))
         at = {"code": 0x10000, "data": 0x10000000}
         for statement in statements:

@@ -138,7 +138,7 @@ class Unit:
         if name in (".comm", ".lcomm"):
             self.share(name, operands)
         elif name == ".set":
-            self.set(operands)
+            self.set(operands, statement.line)
         elif self.section.kind == DROPPED:
             return
         elif name in (".align", ".p2align", ".balign"):
@@ -237,10 +237,13 @@ class Unit:
             self.globals.add(operands[0])
         self.common[operands[0]] = (size, max(alignment, 1).bit_length() - 1)
 
-    def set(self, operands):
+    def set(self, operands, line):
         if operands and len(operands) == 1 and operands[0] in SETTINGS:
             return
         expression = gas.expression_of(operands[1]) if len(operands) == 2 else None
+        if expression == gas.Expression(".", 0):
+            self.label(operands[0], line)
+            return
         if expression is None or expression.symbol in (None, ".") or expression.number:
             raise instructions.Untold(f".set {','.join(operands)} is not known here")
         self.synonyms[operands[0]] = expression.symbol
