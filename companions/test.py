@@ -173,7 +173,7 @@ def gas2source_says_what_gnu_as_says(folder):
     want(asked.call("asm", source, made), (0, b"", ""), "asm")
     want(asked.code_lines(made), LISTED, "listing")
     want(image.read_image(made).segments[0].data, DATA_BYTES, "data")
-    want(image.read_image(made).segments[0].zeroed, 40, "zeroed bytes")
+    want(image.read_image(made).segments[0].zeroed, 32, "zeroed bytes")
 
 
 GAS = r"""
@@ -188,20 +188,20 @@ $x..ng: lda $1,y+8
  .section .rodata
 y: .quad -1, _start
  .byte 1
-z: .long 2
+v: z: .long 2
  .ascii "a\"\\\n\101", "\0"
  .comm shared,16,8
  .bss
  .zero 3
 w: .quad 0
  .data
- .quad z, w, shared
+ .quad z, w, shared, v
 """
 LISTED = """br $27,.+4|bis $1,$2,$3|addq/v $1,5,$1|bne $3,.-8|lda $4,-1($31)|bic $1,31,$2|eqv $1,8,$2|subq/v $31,$5,$6|bis $31,3,$7
 ldah $1,4096($31)|lda $1,8($1)|ldah $2,4096($31)|ldl $2,0($2)|ldah $28,4096($31)|stl $2,4($28)|ret $31,($26),1|jmp $31,($1),0
 jsr $26,($27),0|rdunique|trapb|callsys""".replace("\n", "|").split("|")
 DATA_BYTES = (struct.pack("<qQB3xI", -1, 0x10000, 1, 2) + b'a"\\\nA\0' + bytes(2) +
-              struct.pack("<QQQ", 0x10000014, 0x10000040, 0x10000048))
+              struct.pack("<QQQQ", 0x10000014, 0x10000048, 0x10000050, 0x10000011))
 
 
 @test(needs_program=True)
@@ -366,18 +366,34 @@ def numbers_are_those_of_gnu_as(_):
 
 
 @test(needs_program=True)
-def the_page_shows_what_its_commands_do(folder):
-    """Runs the commands of docs/from-a-compiler.md one after another, and holds what they write against the page."""
+def the_pages_show_what_the_companions_do(folder):
+    """Runs the blocks of commands in which companions stand."""
+    for page in ("README.md", "docs/trap-shadows.md"):
+        runs_as_shown(folder, page, [block for block in blocks(page) if "$ companions/" in block])
+
+
+@test(needs_program=True)
+def a_c_program_goes_the_way_of_the_page(folder):
     if shutil.which("alpha-linux-gnu-gcc") is None:
         raise Lacking("there is no alpha-linux-gnu-gcc on the path")
-    os.symlink(HERE, os.path.join(folder, "companions"))
-    os.symlink(os.path.abspath(ASKED), os.path.join(folder, "alpha"))
-    page = read(os.path.join(TOP, "docs/from-a-compiler.md"))
-    for block in re.findall(r"^```console\n(.*?)^```$", page, re.S | re.M):
+    runs_as_shown(folder, "docs/from-a-compiler.md", blocks("docs/from-a-compiler.md"))
+
+
+def blocks(page):
+    return re.findall(r"^```(?:console|shell-session)\n(.*?)^```$", read(os.path.join(TOP, page)), re.S | re.M)
+
+
+def runs_as_shown(folder, page, shown_blocks):
+    """Runs the commands of a page one after another, and holds what they write against the page."""
+    for name, path in (("companions", HERE), ("alpha", os.path.abspath(ASKED)), ("examples", os.path.join(TOP, "examples"))):
+        if not os.path.exists(os.path.join(folder, name)):
+            os.symlink(path, os.path.join(folder, name))
+    want(bool(shown_blocks), True, page)
+    for block in shown_blocks:
         for command, shown in re.findall(r"^\$ (.*)\n((?:(?!\$ ).*\n)*)", block, re.M):
             done = subprocess.run(["bash", "-c", command], cwd=folder, stdout=subprocess.PIPE, stderr=subprocess.STDOUT,
                                   env=os.environ | {"ALPHA": os.path.abspath(ASKED)}, check=False)
-            want(done.stdout.decode("utf-8", "replace"), shown, command)
+            want(done.stdout.decode("utf-8", "replace"), shown, f"{page}: {command}")
 
 
 def main():

@@ -19,7 +19,7 @@ MEANINGLESS = set(""".addrsig .arch .cfi_sections .eflag .end .ent .aent .fmask 
 SETTINGS = {"noreorder", "reorder", "volatile", "novolatile", "noat", "at", "nomacro", "macro", "move", "nomove"}
 SIZES = {".byte": 1, ".word": 2, ".short": 2, ".hword": 2, ".2byte": 2, ".uword": 2, ".long": 4, ".int": 4, ".4byte": 4,
          ".ulong": 4, ".quad": 8, ".8byte": 8, ".uquad": 8}
-ALIGNED_BY_ITSELF = {".word", ".long", ".int", ".quad"}
+ALIGNED_BY_ITSELF = {".word", ".short", ".hword", ".long", ".int", ".quad"}
 STARTERS = (".init", ".fini", ".ctors", ".dtors", ".preinit_array")
 
 
@@ -42,6 +42,7 @@ class Unit:
         keeps_at = bool(instructions.namers(statements, instructions.AT))
         self.translator = instructions.Translator(not keeps_at, any(map(instructions.sets_up_gp, statements)))
         self.section = self.before = self.known(".text", CODE)
+        self.last_label = None
         for statement in statements:
             try:
                 self.take(statement)
@@ -73,7 +74,8 @@ class Unit:
         if name in self.labels:
             raise instructions.Untold(f"the label {name} is there already, from line {self.labels[name]}")
         self.labels[name] = line
-        self.section.items.append(Label(name, self.note(line)))
+        self.last_label = Label(name, self.note(line))
+        self.section.items.append(self.last_label)
 
     def symbol(self, name):
         """The label that a name in an operand means: `1b` and `1f` are the numbered ones before and behind."""
@@ -112,7 +114,7 @@ class Unit:
 
     def enter(self, name, kind):
         self.before, self.section = self.section, self.known(name, kind)
-        self.section.aligns = True
+        self.section.aligns, self.last_label = True, None
 
     def change_section(self, statement):
         """Whether the directive says a section."""
@@ -184,8 +186,8 @@ class Unit:
         self.pad(value, note, behind_label=True)
 
     def pad(self, power, note, behind_label):
-        """Aligns the data in hand; the code need not be aligned. GNU as moves a label that stands directly before a value
-        behind the padding of this value."""
+        """Aligns the data in hand; the code need not be aligned. GNU as moves the last label before a value behind the padding
+        of this value, where it stands directly before it."""
         section = self.section
         if section.kind == CODE or power == 0:
             return
@@ -193,7 +195,7 @@ class Unit:
         if section.size % (1 << power) == 0:
             return
         at = len(section.items)
-        while not behind_label and at and isinstance(section.items[at - 1], Label):
+        if not behind_label and at and section.items[at - 1] is self.last_label:
             at -= 1
         section.items.insert(at, Align(power, note))
         section.size = -(-section.size >> power) << power
