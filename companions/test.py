@@ -97,7 +97,7 @@ def the_table_has_the_words_of_the_program(folder):
     write_image(path, good, 2)
     asked.verdict(path)
     # An image has the first word outside the table as its fault: each of these must be it, in an image of its own.
-    for word in chosen.sample(bad, 200):
+    for word in chosen.sample(bad, 120):
         write_image(path, [0x47FF041F, word], 2)
         want(asked.call("check", path)[2], f"image kind 5 first 1 second {word}\n", f"{word:08x}")
 
@@ -272,6 +272,9 @@ def elf2image_sets_barriers_and_lists_other_words(folder):
     want(0x60000000 in struct.unpack(f"<{text.size // 4}I", text.content), True, "GNU's word of trapb")
     want((0x60000000 in made.words, made.words.count(0x63FF0000)), (False, 12), "barriers")
     keep = read(out, "rb")
+    companion("elf2image", data("sum.elf"), out, "--map", os.path.join(folder, "no-folder", "map"), status=1)
+    companion("elf2image", data("sum.elf"), folder, status=1)
+    want((read(out, "rb"), os.listdir(folder)), (keep, ["a.img"]), "files after a refusal")
     struct.pack_into("<III", content, at + 8, 0x5FFF041F, 0x63E0C000, 0x0000009D)
     with open(path, "wb") as file:
         file.write(content)
@@ -287,8 +290,8 @@ def damaged_files_are_refused_whole(folder):
     """An ELF file cut short anywhere or with other bytes gives an image or a line, and never a part of a file."""
     path, out = os.path.join(folder, "a.elf"), os.path.join(folder, "a.img")
     content, chosen = read(data("sum.elf"), "rb"), random.Random(3)
-    damaged = [content[:chosen.randrange(len(content))] for _ in range(12)]
-    for _ in range(25):
+    damaged = [content[:chosen.randrange(len(content))] for _ in range(8)]
+    for _ in range(16):
         other = bytearray(content)
         for _ in range(3):
             start = chosen.choice((0, len(content) - 900))
@@ -354,6 +357,17 @@ def lanes_are_free_again_behind_a_shadow(_):
     stretches = [Stretch(0, 4), Stretch(1, 2), Stretch(2, 9), Stretch(3, 5), Stretch(5, 6)]
     want(drawing.lanes(stretches, 3), [0, 1, 2, 1, 0], "lanes")
     want(drawing.lanes(stretches, 2), [0, 1, None, 1, 0], "two lanes")
+
+
+@test()
+def a_source_is_laid_out(folder):
+    path = os.path.join(folder, "a.as")
+    with open(path, "w", encoding="ascii") as file:
+        file.write("\t.entry s\n\t.data\na:\t.ascii \"\\x41b,\\n\\\"#\"  # x\nb: .byte 010,2\n.align 3\nc: .zero 010\nd:\n"
+                   "\t.code\ns: nop\n# t.c:1\nt:\tbr s\t# t.c:7 t.x:9\n")
+    out, _ = companion("where", "--source", path, "10000000", "10000006", "10000008", "10000012", "10004", "20000")
+    want(out.split("\n")[:6], ["0000000010000000 a", "0000000010000006 b", "0000000010000008 c", "0000000010000012 d",
+                               "0000000000010004 t, a.as:11 (t.c:7 t.x:9): br s", "0000000000020000 nothing is known of it"], "where")
 
 
 @test()

@@ -25,26 +25,32 @@ def read_text(path):
 
 
 def keep(path, content):
-    """Makes the file anew: all of it, or as it was. It is written under another name first, and then renamed."""
-    if isinstance(content, str):
-        content = content.encode("utf-8", "surrogateescape")
-    folder = os.path.dirname(os.path.abspath(path))
-    temporary = None
+    """Makes the file anew: all of it, or it is as it was."""
+    keep_all([(path, content)])
+
+
+def keep_all(contents):
+    """Makes files anew. They are all written under other names first, and then renamed."""
+    mask = os.umask(0)
+    os.umask(mask)
+    written = []
     try:
-        if os.path.isdir(path):
-            raise Refused(f"{path}: is a folder")
-        with tempfile.NamedTemporaryFile(dir=folder, prefix=".keep-", delete=False) as file:
-            temporary = file.name
-            file.write(content)
-        mask = os.umask(0)
-        os.umask(mask)
-        os.chmod(temporary, 0o666 & ~mask)
-        os.replace(temporary, path)
-        temporary = None
+        for path, content in contents:
+            path = os.path.realpath(path)
+            if os.path.exists(path) and not os.path.isfile(path):
+                raise Refused(f"{path}: is no file that can be replaced")
+            with tempfile.NamedTemporaryFile(dir=os.path.dirname(path), prefix=".keep-", delete=False) as file:
+                written.append((file.name, path))
+                file.write(content if isinstance(content, bytes) else content.encode("utf-8", "surrogateescape"))
+        while written:
+            temporary, path = written[0]
+            os.chmod(temporary, 0o666 & ~mask)
+            os.replace(temporary, path)
+            del written[0]
     except OSError as error:
         raise Refused(f"{path}: {error.strerror}") from error
     finally:
-        if temporary is not None:
+        for temporary, _ in written:
             os.unlink(temporary)
 
 
@@ -63,8 +69,9 @@ def arguments(name, text, epilog=None):
 
 
 def with_program(parser):
-    parser.add_argument("--alpha", metavar="PROGRAM", default=os.environ.get("ALPHA", os.path.join(TOP, "alpha")),
-                        help="the program to ask; else the variable ALPHA says which, else it is ./alpha at the top of the repository")
+    here = "alpha" if os.path.isfile("alpha") else os.path.join(TOP, "alpha")
+    parser.add_argument("--alpha", metavar="PROGRAM", default=os.environ.get("ALPHA", here),
+                        help="the program to ask; else the variable ALPHA says which, else it is ./alpha, or that of the repository")
     return parser
 
 

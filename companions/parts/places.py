@@ -9,6 +9,8 @@ FIELDS = (".codebase", ".database", ".segment")
 SIZES = {".byte": 1, ".word": 2, ".long": 4, ".quad": 8}
 MAP_LINE = re.compile(r"([0-9a-f]{16}) ([0-9a-f]{8,16}) (func|object|label) (\S.*)")
 FUNCTION = re.compile(r"#\s*\S+:[0-9]+( \S+:[0-9]+)? function\s*\Z")
+# A byte of a string of the source language: `\xHH` has just two digits.
+STRING_BYTE = re.compile(r"\\x[0-9a-fA-F]{2}|\\.|[^\\]")
 ORIGIN = re.compile(r"#\s*(\S+:[0-9]+.*?)\s*\Z")
 
 
@@ -48,8 +50,10 @@ class Source:
             if statement.name in FIELDS[:2]:
                 at["code" if statement.name == ".codebase" else "data"] = self.number(statement)
         self.begin, section = at["data"], "code"
+        code_base, self.ends = at["code"], {}
         for statement in statements:
             section = self.lay(statement, at, section)
+            self.ends[code_base], self.ends[self.begin] = at["code"], at["data"]
 
     def refuse(self, statement, why):
         raise files.Refused(f"{self.path}:{statement.line}: {why}: is it a source that `asm` takes?")
@@ -80,13 +84,17 @@ class Source:
         elif name in SIZES:
             at["data"] += SIZES[name] * len(statement.operands)
         elif name == ".ascii":
-            at["data"] += len(gas.string_bytes(statement.operands[0]) or b"") if statement.operands else 0
+            at["data"] += len(STRING_BYTE.findall(",".join(statement.operands)[1:-1]))
         elif name == ".zero":
             at["data"] += self.number(statement)
         elif name == ".align":
             step = 1 << self.number(statement)
             at["data"] += -(at["data"] - self.begin) % step
         return section
+
+    def has(self, address):
+        """Whether the code or a segment of the data has the address. That of its end counts, where a label may stand."""
+        return any(start <= address <= end for start, end in self.ends.items())
 
     def tell(self, address, with_text):
         """The line of an address, what its comment says of where it was made from, and its text where it is wanted."""
@@ -120,7 +128,7 @@ class Places:
         """The symbol of the map, or the function or label of the source, at an address or before it."""
         if self.names is not None:
             return self.names.near(address)
-        if self.source is None:
+        if self.source is None or not self.source.has(address):
             return None
         in_code = address in self.source.lines
         return in_code and self.source.functions.near(address) or self.source.names.near(address)
