@@ -19,6 +19,7 @@ import sys
 import tempfile
 import time
 import traceback
+from concurrent.futures import ThreadPoolExecutor
 
 sys.dont_write_bytecode = True
 HERE = os.path.dirname(os.path.abspath(__file__))
@@ -410,25 +411,31 @@ def runs_as_shown(folder, page, shown_blocks):
             want(done.stdout.decode("utf-8", "replace"), shown, f"{page}: {command}")
 
 
+def outcome(function, needs_program):
+    """What a test comes to, and the line that is to be said of it."""
+    name = function.__name__.replace("_", " ")
+    if needs_program and not HAS_PROGRAM:
+        return "skipped", f"skipped: {name}: there is no program at {ASKED}; give its path"
+    try:
+        with tempfile.TemporaryDirectory() as folder:
+            function(folder)
+        return "passed", None
+    except Lacking as lacking:
+        return "skipped", f"skipped: {name}: {lacking}"
+    except Failed as failed:
+        return "failed", f"FAILED: {name}: {failed}"
+    except Exception:  # a test that fails may fail in any way, and the others go on
+        return "failed", f"FAILED: {name}: {traceback.format_exc()}"
+
+
 def main():
     started = time.time()
     counts = {"passed": 0, "failed": 0, "skipped": 0}
-    for function, needs_program in TESTS:
-        name = function.__name__.replace("_", " ")
-        if needs_program and not HAS_PROGRAM:
-            counts["skipped"] += 1
-            print(f"skipped: {name}: there is no program at {ASKED}; give its path")
-            continue
-        try:
-            with tempfile.TemporaryDirectory() as folder:
-                function(folder)
-            counts["passed"] += 1
-        except Lacking as lacking:
-            counts["skipped"] += 1
-            print(f"skipped: {name}: {lacking}")
-        except Exception as error:  # a test that fails may fail in any way, and the others go on
-            counts["failed"] += 1
-            print(f"FAILED: {name}: {error if isinstance(error, Failed) else traceback.format_exc()}")
+    with ThreadPoolExecutor(2) as pool:
+        for kind, line in pool.map(lambda one: outcome(*one), TESTS):
+            counts[kind] += 1
+            if line is not None:
+                print(line)
     print(f"{counts['passed']} passed, {counts['failed']} failed, {counts['skipped']} skipped in {time.time() - started:.0f} s")
     return 1 if counts["failed"] else 0
 
