@@ -9,7 +9,7 @@ ghost use Rattle.alpha_image.specs.ImageFault.{Refuses, Tells, is_there, word_fa
 
 use crate::ImageFault;
 use crate::number::{longword_at, push_longword};
-use alpha_table::{Insn, decode, encode, level_of};
+use alpha_table::{Insn, decode_inline, encode, level_of};
 use alpha_words::{Level, Word};
 use std::alloc::{AllocError, Global};
 
@@ -71,7 +71,7 @@ fn insn_at(level: Level, word: Word) -> Option<Insn>
     ensures found { IfSome result (λ insn. decoded word.0 ≡ Some insn) }
     ensures value { is_some result ≡ is_there level (decoded word.0) }
 {
-    let insn = decode(word)?;
+    let insn = decode_inline(word)?;
     if level == Level::Two || level_of(&insn) == Level::One {
         Some(insn)
     } else {

@@ -2,3 +2,4 @@ pub mod Lookups
 pub mod Decoding
 pub mod Words
 pub mod Naming
+pub mod Operands

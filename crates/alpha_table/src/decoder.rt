@@ -1,6 +1,7 @@
-ghost use Rattle.std.specs.Prelude.{◌≡◌, ◌≢◌, ℕ, IfSome, IfNone};
+ghost use Rattle.std.specs.Prelude.{◌≡◌, ◌≢◌, ◌↔◌, ℕ, IsTrue, IfSome, IfNone};
 ghost use Rattle.alpha_words.specs.Field.{field};
-ghost use Rattle.alpha_table.specs.Row.{Row, SourceField};
+ghost use Rattle.alpha_table.specs.Op.{op_row};
+ghost use Rattle.alpha_table.specs.Row.{Row, SourceField, OperandsFit};
 ghost use Rattle.alpha_table.specs.Decoded.{decoded};
 ghost use Rattle.alpha_table.specs.declared.form.Form.TheVariants.{Mem, Branch, Jump, Operate, Misc, Fetch, Pal};
 
@@ -97,6 +98,19 @@ fn source(w: Word) -> Option<Src>
     }
 }
 
+// Whether the operands are as the row of an instruction with this opcode requires. Only two opcodes have rows that
+// require anything.
+#[inline(always)]
+fn fits(opcode: u8, op: Op, ra: Reg, src: &Src) -> bool
+    requires { (op_row op).opcode ≡ opcode }
+    ensures { IsTrue result ↔ OperandsFit (op_row op).operands ra src.now }
+{
+    match opcode {
+        0x10 | 0x12 | 0x13 => true,
+        _ => operands_fit(op.operands(), ra, src),
+    }
+}
+
 #[inline(always)]
 fn operate(w: Word) -> Option<Form>
     ensures found { IfSome result (λ form. Row w.0 form) }
@@ -105,7 +119,7 @@ fn operate(w: Word) -> Option<Form>
     let op = Op::at(w.opcode(), w.function())?;
     let src = source(w)?;
     let ra = w.ra();
-    if !operands_fit(op.operands(), ra, &src) {
+    if !fits(w.opcode(), op, ra, &src) {
         return None;
     }
     Some(Form::Operate {
@@ -133,7 +147,8 @@ fn common_form(w: Word) -> Option<Form>
     }
 }
 
-// The instruction in the one format that words of this opcode have.
+// The instruction in the one format that words of this opcode have. Each opcode of operate instructions has an arm of
+// its own, in which the opcode is a constant: so the function alone is looked up there.
 #[inline(always)]
 fn form_of(w: Word) -> Option<Form>
     ensures found { IfSome result (λ form. Row w.0 form) }
@@ -141,6 +156,11 @@ fn form_of(w: Word) -> Option<Form>
 {
     match w.opcode() {
         0x00 => pal(w),
+        0x10 => operate(w),
+        0x11 => operate(w),
+        0x12 => operate(w),
+        0x13 => operate(w),
+        0x1c => operate(w),
         0x18 => match misc(w) {
             Some(form) => Some(form),
             None => fetch(w),
