@@ -1,7 +1,7 @@
 #!/usr/bin/env python3
 """Measures `check` on large images: how long it takes, beside `cat` of the same file and, where it is installed,
-GNU objdump for alpha over the same code; and how many host instructions the verdict takes a word. For that an
-image of the same words whose first one breaks its shadow is measured too, and subtracted.
+GNU objdump for alpha over the same code; and how many host instructions the command takes a word, its reading of
+the file included. Only what it takes for an image of one word is subtracted.
 
     bench/check.py [PROGRAM]
 """
@@ -74,10 +74,9 @@ def main():
     milliseconds(program, "short shadows, 16 MiB of data", image(short, data))
     milliseconds(program, "short shadows, 8 segments of 2 MiB", level_image(short, 8, data))
     if counts_instructions():
+        start = counted(program, image([NOP]))
         for name, code in cases.items():
-            whole = counted(program, image(code))
-            first = counted(program, image([addqv(31)] + code[1:]))
-            print(f"{name}: {(whole - first) / WORDS:.1f} instructions a word")
+            print(f"{name}: {(counted(program, image(code)) - start) / WORDS:.1f} instructions a word")
 
 
 if __name__ == "__main__":
