@@ -89,7 +89,7 @@ fn displace(code: &mut Vec<Insn>, place: usize, displacement: Displacement)
     }
 }
 
-// Lets an instruction reach an address. Whether it does.
+// Puts an address into an instruction, and answers whether it fits there.
 fn put_insn(
     bases: &Bases<'_, '_>,
     by: Use,

@@ -77,7 +77,7 @@ pub(crate) struct Labels<'a> {
 }
 
 impl<'a> Labels<'a> {
-    /// None, of a source.
+    /// No labels; the source seeds the hash.
     pub(crate) fn new(alloc: Global, source: &[u8]) -> Labels<'a>
         ensures { (name : List ℕ) → spot_named result name ≡ None }
     {

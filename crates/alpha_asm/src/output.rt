@@ -72,7 +72,7 @@ pub(crate) fn push_entry<'a>(
 }
 
 impl<'a> Output<'a> {
-    /// That of no statement.
+    /// The output of no statement.
     pub(crate) fn new(alloc: Global) -> Output<'a>
         ensures code { result.code.items ≡ [] }
         ensures bytes { result.bytes.items ≡ [] }

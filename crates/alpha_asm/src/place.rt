@@ -67,7 +67,7 @@ fn padding(n: u8, size: u64) -> u16
 }
 
 impl Place {
-    /// That of the first item.
+    /// The place of the first item.
     pub(crate) fn start(alloc: Global) -> Place
         ensures place { seen 0 result ≡ start }
     {

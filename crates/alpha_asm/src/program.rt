@@ -40,7 +40,7 @@ fn all_segments(earlier: Vec<Segment>, last: Segment, base: u64) -> Result<Vec<S
     Ok(all)
 }
 
-// Those that the image has.
+// The segments that the image has.
 fn own_segments(level: Option<u8>, all: &[Segment]) -> &[Segment]
     ensures { result.now ≡ own_segments level all.now }
 {

@@ -1,4 +1,5 @@
-//! `check FILE`: whether the image's code can be restarted after a late overflow trap.
+//! `check FILE`: whether the image's code is accepted, and so can be restarted after a late
+//! overflow trap.
 
 ghost use Rattle.std.specs.Prelude.{◌≢◌};
 ghost use Rattle.alpha_io.specs.Faults.{Rose};

@@ -9,9 +9,11 @@ use alpha_trap::Lost;
 /// How a call of the program ended. The exit status of each is its [`Status::number`].
 #[derive(Clone, Copy, Debug, PartialEq, Eq)]
 pub enum Status {
-    /// It did what was asked. The number is 0.
+    /// It did what was asked. The number is how many words a run of the imprecise machine drew,
+    /// modulo 2^64, and 0 for all else.
     Done(u64),
-    /// The image's code can't be restarted after a late trap: the least broken place.
+    /// A place of the image's code is broken: the least one. The program may still survive a late
+    /// trap.
     NotRestartable(Broken),
     /// The words are no command.
     BadWords,

@@ -93,7 +93,7 @@ fn alone(name: &[u8]) -> Command
     }
 }
 
-// The same of a word that moves nothing.
+// The command of a word that makes no step.
 fn asking(name: &[u8]) -> Command
     ensures { result ≡ asking name.now }
 {

@@ -32,7 +32,7 @@ pub(crate) struct Debugger {
 /// Whether a session goes on.
 #[derive(Clone, Copy, Debug, PartialEq, Eq)]
 pub(crate) enum Talk {
-    /// It does.
+    /// The session goes on.
     GoesOn,
     /// `quit` came.
     Quits,

@@ -45,7 +45,7 @@ impl Header {
         }
     }
 
-    // Those of bytes of version 1.
+    // The header in bytes of version 1.
     #[tactic(auto, unfolding(crate::specs::ImageFault::front_fault))]
     fn read_first(bytes: &[u8]) -> Result<Header, ImageFault>
         ensures fault { Tells result (front_fault Version.One bytes.now) }
@@ -78,7 +78,7 @@ impl Header {
         })
     }
 
-    // Those of bytes of version 2.
+    // The header in bytes of version 2.
     #[tactic(auto, unfolding(crate::specs::ImageFault::front_fault))]
     fn read_level(bytes: &[u8]) -> Result<Header, ImageFault>
         ensures fault { Tells result (front_fault Version.Two bytes.now) }

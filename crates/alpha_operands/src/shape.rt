@@ -11,7 +11,7 @@ pub enum Shape {
     Memory,
     /// A register and a target.
     Branch,
-    /// The same, where the register may be left out.
+    /// A register and a target, where the register may be left out.
     Call,
     /// A register, a register or a literal, and the destination.
     Operate,
@@ -23,7 +23,7 @@ pub enum Shape {
     Single,
     /// A register, the register with the address, and a hint, which may be left out.
     Jump,
-    /// The same, or nothing at all.
+    /// The operands of a jump, or none.
     Return,
     /// Nothing.
     Alone,

@@ -10,7 +10,8 @@ use std::alloc::Global;
 /// What good words ask for.
 #[derive(Clone, Copy, Debug, PartialEq, Eq)]
 pub enum Request<'a> {
-    /// `check FILE`: whether the code of the image FILE can be restarted after a late trap.
+    /// `check FILE`: whether the code of the image FILE is accepted, and so can be restarted after
+    /// a late trap.
     Check {
         /// The name of the file.
         file: &'a str,
@@ -40,7 +41,7 @@ pub enum Request<'a> {
         options: RunOptions,
         /// Where the machine's choices come from.
         choices: Choices<'a>,
-        /// `--force`: whether it is run though its code can't be restarted after a late trap.
+        /// `--force`: whether it is run without a verdict.
         force: bool,
         /// The name of the file.
         file: &'a str,

@@ -1,6 +1,6 @@
-//! The checker of trap shadows: whether code can be restarted after an overflow trap that is
-//! reported late, or the least place that breaks a shadow (Architecture Handbook, arithmetic trap
-//! completion; the exact form is this project's own).
+//! The checker of trap shadows: it accepts code that can be restarted after an overflow trap that
+//! is reported late, or names the least place that breaks a shadow (Architecture Handbook,
+//! arithmetic trap completion; the exact form is this project's own).
 //!
 //! - [`Condition`] is one of the nine conditions, C1 to C9, and [`Broken`] a broken place.
 //! - [`judge`] is the verdict on the instructions that a [`Fetch`] gives. It looks at each word once at

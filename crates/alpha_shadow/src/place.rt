@@ -54,7 +54,7 @@ fn broken_by_trigger(window: &Window, at: u32, word: &Columns) -> Option<Broken>
     lesser(found, at, Condition::SameDestination, same)
 }
 
-// The same at a plain word.
+// The least broken place at a plain word.
 fn broken_by_register(window: &Window, at: u32, word: &Columns) -> Option<Broken>
     requires { word.now.kind ≡ kinds.Plain }
     ensures { (code : List ℕ) → Summarizes code window.now at → IsUnbroken code at
@@ -68,7 +68,7 @@ fn broken_by_register(window: &Window, at: u32, word: &Columns) -> Option<Broken
     )
 }
 
-// The same at a branch or a jump.
+// The least broken place at a branch or a jump.
 fn broken_by_turn(window: &Window, at: u32, word: &Columns) -> Option<Broken>
     requires { word.now.kind ≡ kinds.Turn }
     ensures { (code : List ℕ) → Summarizes code window.now at → IsUnbroken code at
@@ -83,7 +83,7 @@ fn broken_by_turn(window: &Window, at: u32, word: &Columns) -> Option<Broken>
     lesser(found, at, Condition::Turn, window.first())
 }
 
-// The same at a word that makes an access.
+// The least broken place at a word that makes an access.
 fn broken_by_access(window: &Window, at: u32, word: &Columns) -> Option<Broken>
     requires { (word.now.kind ≡ kinds.Load) ⊎ (word.now.kind ≡ kinds.Store)
         ⊎ (word.now.kind ≡ kinds.Locked) }

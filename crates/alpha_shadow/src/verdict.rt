@@ -7,9 +7,9 @@ use crate::window::Window;
 use crate::{Broken, Condition, Fetch};
 use alpha_table::InsnKind;
 
-/// Whether a trap that is reported late leaves the code restartable: `Ok` exactly where no place is
-/// broken, else the least broken place, by its place, then by its trigger, then by its condition
-/// (Architecture Handbook, arithmetic trap completion).
+/// The verdict on the code, which may survive late traps even where it is refused: `Ok` exactly
+/// where no place is broken, else the least broken place, by its place, then by its trigger, then
+/// by its condition (Architecture Handbook, arithmetic trap completion).
 ///
 /// It looks at each word once at most, and takes no memory.
 pub fn judge<F: Fetch>(code: &mut F) -> Result<(), Broken>

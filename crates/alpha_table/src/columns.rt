@@ -9,7 +9,7 @@ use alpha_words::{Level, Reg, RegSet};
 /// What an instruction is to a trap shadow (Architecture Handbook, arithmetic trap completion).
 #[derive(Clone, Copy, Debug, PartialEq, Eq)]
 pub enum InsnKind {
-    /// None of the others.
+    /// It is of none of the other kinds.
     Plain,
     /// It may trap on overflow.
     Trigger,

@@ -13,7 +13,7 @@ use alpha_table::Insn;
 /// A statement of a line.
 #[derive(Clone, Copy, Debug)]
 pub enum Statement<'a> {
-    /// None.
+    /// The line has no statement.
     Empty,
     /// An instruction.
     Code(Insn),

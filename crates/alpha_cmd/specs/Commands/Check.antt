@@ -1,4 +1,4 @@
--- `check FILE`: whether the image's code can be restarted after a late overflow trap.
+-- `check FILE`: whether the image's code is accepted, and so can be restarted after a late overflow trap.
 use Rattle.std.specs.Prelude.{ℕ, List, [], ◌∷◌, ◌++◌, codes, Option}
 use Rattle.alpha_cmd.specs.Outcome.{Outcome, Then, Gives}
 use Rattle.alpha_cmd.specs.Image.{ImageOf, Judges}
