@@ -6,15 +6,18 @@
   the index is one, and the section of its crate names each of its clauses.
 - Each must-fail edit that a table of docs/theorems.md names is there.
 - Each file of a reading order has as many lines as the table says, and each name of a table of names stands in its file.
+- Each clause of the table of clauses reaches as many lines of definitions as it says (bench/reading.py).
 
     bench/quotes.py [--write]
 
-With `--write` the tables get the numbers of lines, and a block whose first words are `ensures NAME` the clause as it
+With `--write` these tables get the numbers of lines, and a block whose first words are `ensures NAME` the clause as it
 stands in its file; whoever does so reads the words beside it again. It ends with 1 where something is wrong.
 """
 import pathlib
 import re
 import sys
+
+import reading
 
 TOP = pathlib.Path(__file__).resolve().parent.parent
 THEOREMS = TOP / "docs" / "theorems.md"
@@ -24,6 +27,7 @@ INDEXED = re.compile(r"^\| `((?:laws|limits)_of_\w+)` \| `(alpha_\w+)` \|", re.M
 EDIT = re.compile(r"^\| `(alpha_\w+)` \| `(\w+)` \|", re.M)
 COUNTED = re.compile(r"^\| `(crates/\S+\.(?:antt|rt))` \| ([\d,]+) \|", re.M)
 NAMED = re.compile(r"^\| `(crates/\S+\.(?:antt|rt))` \| (`[^|]*) \|$", re.M)
+REACHED = re.compile(r"^\| `(\w+)` of `(\w+)` of `(alpha_\w+)`([^|\n]*) \| (.* files) \| (.*) \|$", re.M)
 CLAUSE = re.compile(r"ensures (\w+) \{")
 
 
@@ -77,6 +81,28 @@ def check_counts(text, write, wrong):
     return COUNTED.sub(checked, text)
 
 
+def reached(crate, function, clause):
+    """What a clause reaches, and the whole files of that with all that they import."""
+    rows, names, modules = reading.clauses(crate, function)
+    files = reading.reading(dict(rows).get(clause, ""), names, modules)
+    everything = reading.whole(files)
+    lines = sum(len(file.body) for file in everything)
+    return f"{sum(files.values()):,} lines of {len(files)} files", f"{lines:,} lines of {len(everything)}"
+
+
+def check_reached(text, write, wrong):
+    def checked(found):
+        clause, function, crate, words, *said = found.groups()
+        now = reached(crate, function, clause)
+        if list(now) == said:
+            return found.group()
+        if not write:
+            wrong.append(f"{clause} of {function} reaches {now[0]}, whole {now[1]}")
+        return f"| `{clause}` of `{function}` of `{crate}`{words} | {now[0]} | {now[1]} |"
+
+    return REACHED.sub(checked, text)
+
+
 def check_names(text, wrong):
     for path, names in NAMED.findall(text):
         file = TOP / path
@@ -111,12 +137,12 @@ def main():
         text = page.read_text()
         new = check_blocks(page.relative_to(TOP), text, write, wrong)
         if page == THEOREMS:
-            new = check_counts(new, write, wrong)
+            new = check_reached(check_counts(new, write, wrong), write, wrong)
             check_names(new, wrong)
             check_laws(new, wrong)
             wrong.extend(f"there is no edit {edit} of {crate}" for crate, edit in EDIT.findall(new)
                          if not (TOP / "crates" / crate / "must-fail" / f"{edit}.edit").exists())
-        if new != text:
+        if write and new != text:
             page.write_text(new)
     print("\n".join(wrong) or "the pages say what the sources say")
     sys.exit(1 if wrong else 0)
