@@ -232,7 +232,7 @@ broken code trigger at c = told
 -- the least broken place
 
 -- no place past the end is broken
-not_past_end : (code : List ℕ) (trigger at : ℕ) (c : Condition) → length code < at → IsBroken code trigger at c → ⊥
+pub not_past_end : (code : List ℕ) (trigger at : ℕ) (c : Condition) → length code < at → IsBroken code trigger at c → ⊥
 not_past_end code trigger at ZeroDestination past b = let w = kind_within code trigger kinds.Trigger b.trigger_kind in omega (arith, b.holds.0)
 not_past_end code trigger at SourceLost past b = let n = past_end code at (omega arith) in let s = b.holds.sets in cc
 not_past_end code trigger at SameDestination past b = let n = past_end code at (omega arith) in let s = b.holds.1 in cc
