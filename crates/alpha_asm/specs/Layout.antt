@@ -126,6 +126,12 @@ defined_at name x = if has_label name x.item.label then Some (spot x.place) else
 abbrev pub spot_of : List Placed → List ℕ → Option Spot
 spot_of xs name = first (defined_at name) xs
 
+-- whether that is a word of the code
+abbrev pub is_of_code : Option Spot → Bool
+is_of_code None = false
+is_of_code (Some (spots.Code words)) = true
+is_of_code (Some (spots.Data segment offset)) = false
+
 -- the field statements
 pub record Fields : Type 0 where
   pub code_base : Option ℕ

@@ -29,8 +29,8 @@ pub fn assemble(alloc: Global, source: &[u8]) -> Result<Image, AsmFault>
     }
 }
 
-// Goes over all lines.
-fn read_lines(alloc: Global, source: &[u8]) -> Result<Pass<'_>, AsmFault>
+/// Goes over all lines.
+pub(crate) fn read_lines(alloc: Global, source: &[u8]) -> Result<Pass<'_>, AsmFault>
     requires { length source.now < 2 ^ 32 }
     ensures stands { IfOk result (Stands (map item_at (lines source.now))) }
     ensures taken { OnOk result (first_refused [] (lines source.now) ≡ None) }

@@ -1,6 +1,7 @@
 //! The assembler: from a source to the image that it defines.
 //!
 //! - [`assemble`] gives the image of a source, or the first refusal, an [`AsmFault`].
+//! - [`Symbols`] says of a source whose lines are read which labels name words of the code.
 //!
 //! It goes over the lines once. What it knows of the lines so far is a [`Pass`](pass::Pass): where the
 //! next item stands, the instructions and data bytes, the labels, the field statements, and a patch for
@@ -35,6 +36,7 @@ mod patch;
 mod place;
 mod program;
 mod statement;
+mod symbols;
 #[cfg(test)]
 mod tests;
 
@@ -43,3 +45,4 @@ pub use fault::AsmFault;
 pub use patch::Displacement;
 pub use place::{Section, Spot};
 pub use statement::Use;
+pub use symbols::Symbols;
