@@ -9,3 +9,4 @@ pub mod Names
 pub mod Registers
 pub mod Round
 pub mod Spelling
+pub mod Returns

@@ -66,13 +66,13 @@ number_more-within b s =
     either (eqb (hex_len b s) 0) refl
 
 -- a token has no more bytes than there are
-abbrev Within : ℕ → Option (TokenKind × ℕ) → Type 0
+abbrev pub Within : ℕ → Option (TokenKind × ℕ) → Type 0
 Within n found = (v : TokenKind × ℕ) → found ≡ Some v → v.1 ≤ n
 
-found-within : (n more : ℕ) (kind : TokenKind) → more ≤ n → Within n (Some (kind, more))
+pub found-within : (n more : ℕ) (kind : TokenKind) → more ≤ n → Within n (Some (kind, more))
 found-within n more kind l v h = let same : (let w : TokenKind × ℕ = (kind, more) in w) ≡ v = cc in let e : more ≡ v.1 = ap (λ (w : TokenKind × ℕ). w.1) same in omega arith
 
-any-within : (n more : ℕ) (kind : TokenKind) → more ≤ n → Within n (if_any kind more)
+pub any-within : (n more : ℕ) (kind : TokenKind) → more ≤ n → Within n (if_any kind more)
 any-within n more kind l = choose (Within n) (eqb more 0) _ _ (λ e v h. cc) (λ e. found-within n more kind l)
 
 text-within : (s : List ℕ) → Within (length s) (option_map (λ n. (Text, suc n)) (quoted_len 0 s))
@@ -82,7 +82,7 @@ text-within s v h =
     let l : n < length s = quoted_len-within 0 s n f in
     omega arith
 
-mark-within : (n : ℕ) (o : Option TokenKind) → Within n (option_map (λ kind. (kind, 0)) o)
+pub mark-within : (n : ℕ) (o : Option TokenKind) → Within n (option_map (λ kind. (kind, 0)) o)
 mark-within n o v h =
     let (kind, f, same) = mapped (λ (kind : TokenKind). (kind, 0)) o v h in
     let e : 0 ≡ v.1 = ap (λ (w : TokenKind × ℕ). w.1) same in
@@ -98,7 +98,7 @@ token-within b s =
     choose (Within (length s)) (eqb b 34) _ _ (λ e. text-within s) (λ e. mark-within (length s) (mark b))))))
 
 -- a token that ends before n bytes is the same in a second text
-abbrev Kept : ℕ → Option (TokenKind × ℕ) → Option (TokenKind × ℕ) → Type 0
+abbrev pub Kept : ℕ → Option (TokenKind × ℕ) → Option (TokenKind × ℕ) → Type 0
 Kept n whole cut = (v : TokenKind × ℕ) → whole ≡ Some v → v.1 ≤ n → cut ≡ Some v
 
 found-kept : (n : ℕ) (kind : ℕ → TokenKind) (whole cut : ℕ) → (whole ≤ n → cut ≡ whole) → Kept n (Some (kind whole, whole)) (Some (kind cut, cut))
@@ -119,7 +119,7 @@ text-kept a c v h l =
     let e : suc n ≡ v.1 = ap (λ (w : TokenKind × ℕ). w.1) same in
     rw (quoted_len-front 0 a c n f (omega arith)) (ap Some same)
 
-token-kept : (b : ℕ) (a c : List ℕ) → Kept (length a) (token_at b (a ++ c)) (token_at b a)
+pub token-kept : (b : ℕ) (a c : List ℕ) → Kept (length a) (token_at b (a ++ c)) (token_at b a)
 unfolding token_at
 token-kept b a c =
     choose_both (Kept (length a)) (begins_name b) _ _ _ _ (found-kept (length a) (name_kind b) (prefix_len goes_on_name (a ++ c)) (prefix_len goes_on_name a) (prefix_len-front goes_on_name a c)) (

@@ -5,3 +5,4 @@ pub mod Order
 pub mod Reading
 pub mod Strings
 pub mod Texts
+pub mod Returns

@@ -50,7 +50,7 @@ byte_at-front b a c v h l =
     choose_both (λ (r t : Option (ℕ × ℕ)). r ≡ Some v → t ≡ Some v) (eqb b 92) (escape (a ++ c)) _ (escape a) _ (λ k. escape-front a c v k l) (λ k. k) h
 
 -- a string that is closed: its first byte, and how many bytes stand before the closing quote behind that one
-opened : (b : ℕ) (s : List ℕ) (n : ℕ) → eqb b 34 ≡ false → quoted_len 0 (b ∷ s) ≡ Some n →
+pub opened : (b : ℕ) (s : List ℕ) (n : ℕ) → eqb b 34 ≡ false → quoted_len 0 (b ∷ s) ≡ Some n →
     (v : ℕ × ℕ) × (byte_at (b ∷ s) ≡ Some v) × ((m : ℕ) × (quoted_len v.1 s ≡ Some m) × (suc m ≡ n))
 opened b s n plain h =
     let k : option_and_then (λ v. option_map suc (quoted_len v.1 s)) (byte_at (b ∷ s)) ≡ Some n = rw plain at h in

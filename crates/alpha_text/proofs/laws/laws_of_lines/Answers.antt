@@ -1,5 +1,6 @@
 use Rattle.alpha_text.proofs.LineFaults.{read-fault}
 use Rattle.alpha_text.proofs.Lines.{read-is}
+use Rattle.alpha_text.proofs.Returns.{read-returned}
 use Rattle.alpha_text.proofs.Round.{reads_back, different}
 use Rattle.alpha_text.proofs.laws.laws_of_lines.Goals as goal
 
@@ -11,6 +12,9 @@ returns-clause-fault c = read-fault
 
 pub returns-clause-reads_back : goal.returns-clause-reads_back
 returns-clause-reads_back c = reads_back
+
+pub returns-clause-returned : goal.returns-clause-returned
+returns-clause-returned c = read-returned
 
 pub returns-clause-different : goal.returns-clause-different
 returns-clause-different c = different
