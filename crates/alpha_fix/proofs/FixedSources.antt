@@ -1,0 +1,27 @@
+-- The laws of fixed sources.
+use Rattle.std.proofs.Common.{◌≡◌, ◌<◌, ◌+◌, ℕ, List, [], ◌∷◌, length, Some, slice_get, refl, sym, ◌∙◌, ap, subst}
+use Rattle.std.proofs.lemmas.Option.{slice_get_within}
+use Rattle.alpha_text.proofs.Returns.{read-returned}
+use Rattle.alpha_shadow.specs.Broken.{IsAccepted}
+use Rattle.alpha_fix.specs.Cuts.{AreCuts, without, HasBroken}
+use Rattle.alpha_fix.specs.FixedSource.{fixed_source}
+use Rattle.alpha_fix.specs.Fix.{HasImage, IsFixedSource}
+use Rattle.alpha_fix.proofs.FixedItems.{unchanged}
+use Rattle.alpha_fix.proofs.Sources.{source_accepted, source_needed}
+
+image_of : (source text : List ℕ) (f : IsFixedSource source text) → HasImage (fixed_source source f.cuts) f.fixed
+image_of source text f = subst (λ (s : List ℕ). HasImage s f.fixed) f.text_is f.has_image
+
+pub is_accepted : (source text : List ℕ) (f : IsFixedSource source text) → IsAccepted f.fixed.words
+is_accepted source text f = source_accepted read-returned source f.cuts f.image f.fixed f.has_cuts f.free (image_of source text f)
+
+pub is_needed : (source text : List ℕ) (f : IsFixedSource source text) (j cut : ℕ) → slice_get f.cuts j ≡ Some cut → HasBroken (without (cut + j) f.fixed.words)
+is_needed source text f j cut e =
+    source_needed read-returned source f.cuts f.image f.fixed j cut f.has_cuts f.free (image_of source text f) e (slice_get_within f.cuts j cut e)
+
+no_cut : (code cuts : List ℕ) → IsAccepted code → AreCuts code cuts → cuts ≡ []
+no_cut code [] accepted are = refl
+no_cut code (cut ∷ cuts) accepted (next, more) = let b = next.breaks in absurd (accepted b.trigger cut b.condition b.broken)
+
+pub is_unchanged : (source text : List ℕ) (f : IsFixedSource source text) → IsAccepted f.image.words → text ≡ source
+is_unchanged source text f accepted = f.text_is ∙ (ap (fixed_source source) (no_cut f.image.words f.cuts accepted f.has_cuts.are_cuts) ∙ unchanged source)

@@ -1,0 +1,11 @@
+use Rattle.alpha_fix.proofs.FixedSources.{is_accepted, is_needed, is_unchanged}
+use Rattle.alpha_fix.proofs.laws.laws_of_fixed_sources.Goals as goal
+
+pub returns-clause-accepted : goal.returns-clause-accepted
+returns-clause-accepted c = is_accepted
+
+pub returns-clause-needed : goal.returns-clause-needed
+returns-clause-needed c = is_needed
+
+pub returns-clause-unchanged : goal.returns-clause-unchanged
+returns-clause-unchanged c = is_unchanged

@@ -1,0 +1,6 @@
+pub mod Cuts
+pub mod SourceLines
+pub mod FixedSource
+pub mod FixedLines
+pub mod Fix
+pub mod Lines

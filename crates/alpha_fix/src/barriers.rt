@@ -1,0 +1,166 @@
+ghost use Rattle.std.specs.Prelude.{◌≡◌, ◌+◌, ◌<◌, ◌≤◌, ◌^◌, ◌++◌, ◌==◌, ◌&&◌, ℕ, [], length, is_some, None, OnOk, IfOk, IfErr};
+ghost use Rattle.std.specs.List.{flat_map};
+ghost use Rattle.std.specs.Str.Lines.{lines};
+ghost use Rattle.alpha_text.specs.Statements.{said};
+ghost use Rattle.alpha_asm.specs.Statement.{coded};
+ghost use Rattle.alpha_asm.specs.Assembled.{item_at, first_refused};
+ghost use Rattle.alpha_fix.specs.Cuts.{Rise};
+ghost use Rattle.alpha_fix.specs.SourceLines.{SourceLine, line_bytes};
+ghost use Rattle.alpha_fix.specs.FixedSource.{is_cut, has_insn, word_count, trapb_line, bar_if, then_bar, fixed_source};
+ghost use Rattle.alpha_fix.specs.FixedLines.{items_of, is_fixed, names_code, code_base, fixed_line};
+ghost use Rattle.alpha_fix.specs.Lines.{Is, role, Hinders};
+
+use crate::FixFault;
+use crate::fixed_line::is_fixed;
+use crate::line::Line;
+use alpha_asm::Symbols;
+use alpha_text::{Statement, read_line};
+use std::alloc::{AllocError, Global};
+
+/// The line of a barrier.
+const TRAPB: &[u8] = b"trapb\n";
+
+// Whether a statement is an instruction.
+fn is_insn(statement: &Statement<'_>) -> bool
+    ensures { result ≡ is_some (coded (said statement.now)) }
+{
+    match *statement {
+        Statement::Code(_) => true,
+        Statement::Target { .. } => true,
+        Statement::High { .. } => true,
+        Statement::Low { .. } => true,
+        _ => false,
+    }
+}
+
+// What a line is to the barriers.
+enum Role {
+    /// It fixes where words stand.
+    FixedLine,
+    /// It has an instruction.
+    Insn,
+    Other,
+}
+
+// What a line with a statement is.
+fn role_by<'a>(symbols: &Symbols<'a>, base: u64, statement: &Statement<'a>) -> Role
+    ensures { let s = said statement.now in
+        result ≡ role (is_fixed (names_code (items_of symbols.now)) base s) (is_some (coded s)) }
+{
+    if is_fixed(symbols, base, statement) {
+        Role::FixedLine
+    } else if is_insn(statement) {
+        Role::Insn
+    } else {
+        Role::Other
+    }
+}
+
+// What a line of a source is.
+fn role_of<'a>(symbols: &Symbols<'a>, base: u64, text: &'a [u8]) -> Role
+    requires { length text.now ≤ 1024 }
+    ensures { let i = item_at text.now in
+        result ≡ role (is_fixed (names_code (items_of symbols.now)) base i.statement) (has_insn i) }
+{
+    match read_line(text) {
+        Ok(item) => role_by(symbols, base, &item.statement),
+        Err(_) => Role::Other,
+    }
+}
+
+// Whether a place is the first of the cuts that are left, and those behind the place.
+fn take_cut(cuts: &[u32], place: u32) -> (bool, &[u32])
+    requires { Rise place cuts.now }
+    ensures cut { result.0 ≡ is_cut cuts.now place }
+    ensures later { (k : ℕ) → place < k → is_cut cuts.now k ≡ is_cut result.1.now k }
+    ensures rise { Rise (place + 1) result.1.now }
+{
+    match cuts {
+        [cut, more @ ..] => {
+            if *cut == place {
+                (true, more)
+            } else {
+                (false, cuts)
+            }
+        }
+        [] => (false, cuts),
+    }
+}
+
+// Whether the last of so many words stands at a place, with a cut behind it.
+fn ends_cut(cuts: &[u32], place: u32, words: u32) -> bool
+    requires rise { Rise (place + 1) cuts.now }
+    requires place { place < words }
+    ensures { result ≡ (place + 1 == words && is_cut cuts.now words) }
+{
+    if place + 1 == words {
+        take_cut(cuts, words).0
+    } else {
+        false
+    }
+}
+
+// Appends a line, with a barrier before it and behind it where there is to be one.
+fn put_line(text: &mut Vec<u8>, line: &Line<'_>, before: bool, behind: bool) -> Result<(), AllocError>
+    ensures { OnOk result ((l : SourceLine) → Is l line.now →
+        text.new.items ≡ text.old.items ++ flat_map line_bytes (bar_if before trapb_line ++ then_bar behind l)) }
+{
+    if before {
+        text.extend_from_slice(TRAPB)?;
+    }
+    text.extend_from_slice(line.bytes)?;
+    if behind {
+        if !line.ended {
+            text.push(b'\n')?;
+        }
+        text.extend_from_slice(TRAPB)?;
+    }
+    Ok(())
+}
+
+/// A source of so many words, with a barrier at each of the cuts.
+///
+/// # Errors
+///
+/// `Fixed` with the first fixed line.
+pub(crate) fn with_barriers<'a>(
+    alloc: Global,
+    symbols: &Symbols<'a>,
+    source: &'a [u8],
+    base: u64,
+    words: u32,
+    cuts: &[u32],
+) -> Result<Vec<u8>, FixFault>
+    requires symbols { symbols.now ≡ source.now }
+    requires base { base ≡ code_base (items_of source.now) }
+    requires words { words ≡ word_count source.now }
+    requires rise { Rise 0 cuts.now }
+    requires taken { first_refused [] (lines source.now) ≡ None }
+    requires size { length source.now < 2 ^ 31 }
+    ensures ok { IfOk result (λ text. text.items ≡ fixed_source source.now cuts.now) }
+    ensures free { OnOk result (fixed_line source.now ≡ None) }
+    ensures refused { IfErr result (Hinders source.now) }
+{
+    let mut text = Vec::with_capacity(alloc, source.len() + 6 * cuts.len() + 1)?;
+    let mut rest = source;
+    let mut number: u32 = 1;
+    let mut place: u32 = 0;
+    let mut left = cuts;
+    while !rest.is_empty() {
+        let line = Line::first(rest);
+        match role_of(symbols, base, line.text) {
+            Role::FixedLine => return Err(FixFault::Fixed(number)),
+            Role::Insn => {
+                let (before, later) = take_cut(left, place);
+                let behind = ends_cut(later, place, words);
+                put_line(&mut text, &line, before, behind)?;
+                place += 1;
+                left = later;
+            }
+            Role::Other => put_line(&mut text, &line, false, false)?,
+        }
+        rest = line.rest;
+        number += 1;
+    }
+    Ok(text)
+}

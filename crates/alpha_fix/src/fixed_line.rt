@@ -1,0 +1,121 @@
+ghost use Rattle.std.specs.Prelude.{◌≡◌, [], ◌∷◌, length, map};
+ghost use Rattle.std.specs.List.{list_any, filter_map};
+ghost use Rattle.alpha_operands.specs.Values.{view};
+ghost use Rattle.alpha_text.specs.Statements.{said};
+ghost use Rattle.alpha_asm.specs.Statement.{cell_of, values_up_to};
+ghost use Rattle.alpha_asm.specs.Patches.{reference_of};
+ghost use Rattle.alpha_fix.specs.FixedLines.{items_of, is_over_distance, is_address, takes_half, enters_within, cell_reference, references, is_off, is_fixed, names_code};
+
+use alpha_asm::Symbols;
+use alpha_table::{Form, Insn, MemOp};
+use alpha_text::{Expr, ListValue, Statement, next_value};
+
+// Whether a statement is a branch over a distance.
+fn is_over_distance(statement: &Statement<'_>) -> bool
+    ensures { result ≡ is_over_distance (said statement.now) }
+{
+    match *statement {
+        Statement::Code(insn) => matches!(insn.form(), Form::Branch { .. }),
+        _ => false,
+    }
+}
+
+// Whether an instruction is LDA or LDAH.
+fn is_address(insn: &Insn) -> bool
+    ensures { result ≡ is_address insn.now }
+{
+    match insn.form() {
+        Form::Mem { op, .. } => matches!(op, MemOp::Lda | MemOp::Ldah),
+        _ => false,
+    }
+}
+
+// Whether a statement has half of the address of a label that names code, in another instruction.
+fn takes_half<'a>(symbols: &Symbols<'a>, statement: &Statement<'a>) -> bool
+    ensures { result ≡ takes_half (names_code (items_of symbols.now)) (said statement.now) }
+{
+    match *statement {
+        Statement::High { insn, address } => {
+            symbols.names_code(address.label) && !is_address(&insn)
+        }
+        Statement::Low { insn, address } => {
+            symbols.names_code(address.label) && !is_address(&insn)
+        }
+        _ => false,
+    }
+}
+
+// Whether a statement is an entry at an address that isn't the code base.
+fn enters_within(base: u64, statement: &Statement<'_>) -> bool
+    ensures { result ≡ enters_within base (said statement.now) }
+{
+    match *statement {
+        Statement::EntryAt(n) => n != base,
+        _ => false,
+    }
+}
+
+// Whether an address is some way off a label that names code.
+fn is_off<'a>(symbols: &Symbols<'a>, reference: &Expr<'a>) -> bool
+    ensures { result ≡ is_off (names_code (items_of symbols.now)) (reference_of reference.now) }
+{
+    reference.offset != 0 && symbols.names_code(reference.label)
+}
+
+// Whether a value of a list is.
+fn is_value_off<'a>(symbols: &Symbols<'a>, bytes: u8, value: &ListValue<'a>) -> bool
+    ensures { result ≡ list_any (is_off (names_code (items_of symbols.now)))
+        (filter_map cell_reference (cell_of bytes (view value.now) ∷ [])) }
+{
+    match value {
+        ListValue::Number(_) => false,
+        ListValue::Label(reference) => is_off(symbols, reference),
+    }
+}
+
+// Whether one of the values of a list is. There are no more of them than it has bytes.
+fn is_any_off<'a>(symbols: &Symbols<'a>, bytes: u8, list: &'a [u8]) -> bool
+    ensures { result ≡ list_any (is_off (names_code (items_of symbols.now)))
+        (filter_map cell_reference (map (cell_of bytes) (values_up_to (length list.now) bytes list.now))) }
+{
+    let mut rest = list;
+    for _ in 0..list.len() {
+        match next_value(rest, bytes) {
+            Some((value, more)) => {
+                if is_value_off(symbols, bytes, &value) {
+                    return true;
+                }
+                rest = more;
+            }
+            None => return false,
+        }
+    }
+    false
+}
+
+// Whether an address that a statement names is some way off a label that names code.
+#[tactic(auto, unfolding(alpha_asm::specs::Statement::cells))]
+fn names_off<'a>(symbols: &Symbols<'a>, statement: &Statement<'a>) -> bool
+    ensures { result ≡ list_any (is_off (names_code (items_of symbols.now))) (references (said statement.now)) }
+{
+    match *statement {
+        Statement::Target { target, .. } => is_off(symbols, &target),
+        Statement::High { address, .. } => is_off(symbols, &address),
+        Statement::Low { address, .. } => is_off(symbols, &address),
+        Statement::EntryLabel(entry) => is_off(symbols, &entry),
+        Statement::Values { bytes, list } => is_any_off(symbols, bytes, list),
+        Statement::Text(_) => false,
+        _ => false,
+    }
+}
+
+/// Whether a statement fixes where words of the code stand, by the labels of its source and the code
+/// base.
+pub(crate) fn is_fixed<'a>(symbols: &Symbols<'a>, base: u64, statement: &Statement<'a>) -> bool
+    ensures { result ≡ is_fixed (names_code (items_of symbols.now)) base (said statement.now) }
+{
+    is_over_distance(statement)
+        || names_off(symbols, statement)
+        || takes_half(symbols, statement)
+        || enters_within(base, statement)
+}

@@ -1,0 +1,95 @@
+ghost use Rattle.std.specs.Prelude.{◌≡◌, ◌≢◌, ◌<◌, ◌^◌, [], length, Ok, OnOk, IfOk, IfErr};
+ghost use Rattle.alpha_asm.specs.Program.{program_of};
+ghost use Rattle.alpha_asm.specs.Assembled.{assembled};
+ghost use Rattle.alpha_image.specs.Parts.{Parts};
+ghost use Rattle.alpha_fix.specs.Fix.{HasImage, HasCuts, IsFixedSource, IsFar, Refuses};
+
+use crate::barriers::with_barriers;
+use crate::{CutFault, FixFault, cuts_of};
+use alpha_asm::{AsmFault, Symbols, assemble};
+use alpha_image::Image;
+use std::alloc::Global;
+
+/// The source with a barrier, a line `trapb`, at each cut of its code, so that the checker accepts
+/// its image and needs each of the added barriers. A source that is accepted comes back unchanged.
+///
+/// # Errors
+///
+/// The first of [`FixFault`] that applies. `NoMemory` may come in place of any answer.
+pub fn fix(alloc: Global, source: &[u8]) -> Result<Vec<u8>, FixFault>
+    requires { length source.now < 2 ^ 31 }
+    ensures ok { IfOk result (λ text. IsFixedSource source.now text.items) }
+    ensures refused { IfErr result (Refuses source.now) }
+{
+    match assemble(alloc, source) {
+        Ok(image) => fix_image(alloc, source, &image),
+        Err(AsmFault::NoMemory) => Err(FixFault::NoMemory),
+        Err(fault) => Err(FixFault::Source(fault)),
+    }
+}
+
+// The same for a source of an image.
+fn fix_image(alloc: Global, source: &[u8], image: &Image) -> Result<Vec<u8>, FixFault>
+    requires size { length source.now < 2 ^ 31 }
+    requires image { assembled source.now ≡ Ok (program_of image.now) }
+    ensures ok { IfOk result (λ text. IsFixedSource source.now text.items) }
+    ensures refused { IfErr result (Refuses source.now) }
+{
+    let words = image.words();
+    match cuts_of(alloc, image) {
+        Ok(cuts) => {
+            if cuts.is_empty() {
+                Ok(Vec::from_slice(alloc, source)?)
+            } else {
+                let base = image.code_base();
+                fix_at(alloc, source, base, words, &cuts, image)
+            }
+        }
+        Err(CutFault::Unfixable(broken)) => Err(FixFault::Unfixable(broken)),
+        Err(CutFault::NoMemory) => Err(FixFault::NoMemory),
+    }
+}
+
+// The same for cuts.
+fn fix_at(
+    alloc: Global,
+    source: &[u8],
+    base: u64,
+    words: u32,
+    cuts: &[u32],
+    image: &Image,
+) -> Result<Vec<u8>, FixFault>
+    requires size { length source.now < 2 ^ 31 }
+    requires cuts { HasCuts source.now image.now cuts.now }
+    requires some { cuts.now ≢ [] }
+    requires base { base ≡ image.now.code_base }
+    requires words { words ≡ length image.now.words }
+    ensures ok { IfOk result (λ text. IsFixedSource source.now text.items) }
+    ensures refused { IfErr result (Refuses source.now) }
+{
+    match Symbols::of(alloc, source) {
+        Ok(symbols) => {
+            let text = with_barriers(alloc, &symbols, source, base, words, cuts)?;
+            checked(alloc, text)
+        }
+        Err(_) => Err(FixFault::NoMemory),
+    }
+}
+
+// A text that has an image.
+fn checked(alloc: Global, text: Vec<u8>) -> Result<Vec<u8>, FixFault>
+    requires { length text.items < 2 ^ 32 }
+    ensures ok { IfOk result (λ same. same.items ≡ text.items) }
+    ensures image { OnOk result ((image : Parts) × HasImage text.items image) }
+    ensures refused { IfErr result (IsFar text.items) }
+{
+    match assemble(alloc, &text) {
+        Ok(image) => {
+            // An image that tells how many words it has is a good one.
+            let _words = image.words();
+            Ok(text)
+        }
+        Err(AsmFault::NoMemory) => Err(FixFault::NoMemory),
+        Err(fault) => Err(FixFault::Far(fault)),
+    }
+}

@@ -1,0 +1,42 @@
+//! The barrier inserter: from a source to one that the checker accepts, with `trapb` lines added
+//! where, and only where, they are needed.
+//!
+//! - [`fix`] gives the fixed source of a source, or says why there is none, a [`FixFault`].
+//! - [`cuts_of`] gives the cuts of code: the places before which a barrier is needed, or at the end
+//!   behind the last word; or a [`CutFault`].
+//! - [`laws_of_cuts`] says that code with a barrier at each cut is accepted and needs each of them,
+//!   [`laws_of_fixed_sources`] that the image of a fixed source is accepted, needs each of the added
+//!   barriers, and that a source whose image is accepted comes back unchanged.
+//!
+//! The image of a fixed source hasn't the words of the source's image with barriers between: labels
+//! of the code name other addresses, so branches, LDA and LDAH have other displacements. No
+//! condition of a shadow depends on these. Some lines fix where words stand, by a distance or an
+//! address: a source with such a line is refused where it needs a barrier.
+//!
+//! `specs/Cuts.antt` has the cuts and the code with barriers, `specs/SourceLines.antt` the lines of a
+//! source with their ends, `specs/FixedSource.antt` the source with barriers, `specs/FixedLines.antt`
+//! which lines fix where words stand, and `specs/Fix.antt` what `fix` answers.
+//!
+//! `cuts.rt` judges the code, and again from each cut on. `line.rt` cuts a source into lines,
+//! `fixed_line.rt` tests a line, `barriers.rt` builds the text, and `inserter.rt` puts the steps
+//! together.
+//!
+//! `proofs/Alike.antt` says that a shadow is broken by the columns of its words, wherever it stands;
+//! `Barring.antt` and `Walking.antt` have the cuts. `Splitting.antt` has the lines of a text,
+//! `FixedItems.antt` their items, `Cores.antt` where these stand, `Steady.antt` what a verdict needs
+//! of a word, `Transfer.antt` and `Marks.antt` the words of the text, `Sources.antt` and
+//! `FixedSources.antt` the laws. `Values.antt`, `Lining.antt`, `Building.antt` and `Answering.antt` follow the code.
+#![tactic(auto)]
+
+mod barriers;
+mod cuts;
+mod fault;
+mod fixed_line;
+mod inserter;
+mod laws;
+mod line;
+
+pub use cuts::cuts_of;
+pub use fault::{CutFault, FixFault};
+pub use inserter::fix;
+pub use laws::{laws_of_cuts, laws_of_fixed_sources};

@@ -1,0 +1,52 @@
+ghost use Rattle.std.specs.Prelude.{◌≡◌, ◌<◌, length};
+ghost use Rattle.std.specs.Str.Lines.{strip_carriage_return};
+ghost use Rattle.alpha_fix.specs.Lines.{IsFirst};
+
+use memchr::memchr;
+
+/// The first line of a source, and the source behind it.
+#[derive(Clone, Copy)]
+pub(crate) struct Line<'a> {
+    /// What it says, without its end.
+    pub text: &'a [u8],
+    /// Its bytes with its end.
+    pub bytes: &'a [u8],
+    /// Whether it ends with a line feed.
+    pub ended: bool,
+    /// What stands behind it.
+    pub rest: &'a [u8],
+}
+
+// A line without the one carriage return at its end, if it has one.
+fn without_return(line: &[u8]) -> &[u8]
+    ensures { result.now ≡ strip_carriage_return line.now }
+{
+    match line {
+        [text @ .., b'\r'] => text,
+        _ => line,
+    }
+}
+
+impl<'a> Line<'a> {
+    /// The first line of a source that isn't empty.
+    pub(crate) fn first(source: &'a [u8]) -> Line<'a>
+        requires { 0 < length source.now }
+        ensures first { IsFirst source.now result }
+        ensures shorter { length result.rest.now < length source.now }
+    {
+        match memchr(b'\n', source) {
+            Some(n) => Line {
+                text: without_return(&source[..n]),
+                bytes: &source[..n + 1],
+                ended: true,
+                rest: &source[n + 1..],
+            },
+            None => Line {
+                text: source,
+                bytes: source,
+                ended: false,
+                rest: &[],
+            },
+        }
+    }
+}
