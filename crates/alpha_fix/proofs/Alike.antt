@@ -97,8 +97,7 @@ module _ (code : List ℕ) (p at : ℕ) (other : List ℕ) (q there : ℕ) (s : 
       (omega arith, sym w.same_kind ∙ h.1, sym w.same_destination ∙ (h.2 ∙ v.same_destination))
   holds_along o WildBase h =
       let w = s.alike at there (omega arith) (omega arith) s.shift in
-      let e : there + p ≡ at + q = s.shift in let l : p < at = h.0 in
-      (
+      let e : there + p ≡ at + q = s.shift in let l : p < at = h.0 in (
         omega arith,
         record {
           access = h.1.access;

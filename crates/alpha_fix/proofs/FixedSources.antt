@@ -7,7 +7,9 @@ use Rattle.alpha_fix.specs.Cuts.{AreCuts, without, HasBroken}
 use Rattle.alpha_fix.specs.FixedSource.{fixed_source}
 use Rattle.alpha_fix.specs.Fix.{HasImage, IsFixedSource}
 use Rattle.alpha_fix.proofs.FixedItems.{unchanged}
-use Rattle.alpha_fix.proofs.Sources.{source_accepted, source_needed}
+use Rattle.alpha_fix.proofs.Barring.{one}
+use Rattle.alpha_fix.proofs.Steady.{cuts_alike}
+use Rattle.alpha_fix.proofs.Sources.{by_code, source_accepted, source_needed}
 
 image_of : (source text : List ℕ) (f : IsFixedSource source text) → HasImage (fixed_source source f.cuts) f.fixed
 image_of source text f = subst (λ (s : List ℕ). HasImage s f.fixed) f.text_is f.has_image
@@ -25,3 +27,10 @@ no_cut code (cut ∷ cuts) accepted (next, more) = let b = next.breaks in absurd
 
 pub is_unchanged : (source text : List ℕ) (f : IsFixedSource source text) → IsAccepted f.image.words → text ≡ source
 is_unchanged source text f accepted = f.text_is ∙ (ap (fixed_source source) (no_cut f.image.words f.cuts accepted f.has_cuts.are_cuts) ∙ unchanged source)
+
+-- images of one source have the same cuts
+pub is_one : (source a b : List ℕ) → IsFixedSource source a → IsFixedSource source b → a ≡ b
+is_one source a b f g =
+    let alike = by_code source f.image f.has_cuts.has_image ∙ sym (by_code source g.image g.has_cuts.has_image) in
+    let same = one g.image.words f.cuts g.cuts (cuts_alike f.image.words g.image.words 0 f.cuts alike f.has_cuts.are_cuts) g.has_cuts.are_cuts in
+    f.text_is ∙ (ap (fixed_source source) same ∙ sym g.text_is)

@@ -232,7 +232,7 @@ code_classes cut n is s =
     ∙ ap (marked bar_class cut n 0) (sym (classes_code (known is) (placed start 1 is))))
 
 -- the words of an image by the instructions of its source
-by_code : (source : List ℕ) (image : Parts) → HasImage source image → map word_class image.words ≡ map (λ c. Some c) (map form_class (code_of (items_of source)))
+pub by_code : (source : List ℕ) (image : Parts) → HasImage source image → map word_class image.words ≡ map (λ c. Some c) (map form_class (code_of (items_of source)))
 by_code source image h =
     words_classes image.level image.words h.good.words ∙ ap (λ (fs : List Form). map (λ c. Some c) (map form_class fs)) (code_is source (program_of image) h.assembles)
 
@@ -286,6 +286,7 @@ size_step true c m l r1 r2 ls n f g = by c m
     feeds : (x : SourceLine) → length (line_bytes (with_feed x)) ≤ length (line_bytes x) + 1
     feeds (ended t) = omega arith
     feeds (unended t) = omega (arith, length-append t (10 ∷ []))
+
     by : (a b : Bool) → length (flat_map line_bytes (bar_if a trapb_line ++ (then_bar b l ++ r1))) ≤ length (flat_map line_bytes (l ∷ ls)) + 13 * length (l ∷ []) + 13 * n
     by false false = omega (arith, length-append (line_bytes l) (flat_map line_bytes r1), length-append (line_bytes l) (flat_map line_bytes ls))
     by true false = omega (arith, length-append (line_bytes l) (flat_map line_bytes r1), length-append (line_bytes l) (flat_map line_bytes ls))

@@ -1,5 +1,5 @@
 -- Classes of words but for the displacements of branches, LDA and LDAH: a verdict depends on no more.
-use Rattle.std.proofs.Common.{◌≡◌, ◌<◌, ◌≤◌, ◌+◌, ℕ, ℤ, pos, Option, Some, None, List, length, map, slice_get, refl, sym, ◌∙◌, ap, subst, arith}
+use Rattle.std.proofs.Common.{◌≡◌, ◌<◌, ◌≤◌, ◌+◌, ℕ, ℤ, pos, Option, Some, None, List, [], ◌∷◌, length, map, slice_get, refl, sym, ◌∙◌, ap, subst, arith}
 use Rattle.std.specs.Option.{option_map, option_and_then}
 use Rattle.std.proofs.lemmas.Option.{slice_get-map}
 use Rattle.std.proofs.lemmas.List.{length-map}
@@ -8,7 +8,7 @@ use Rattle.alpha_table.specs.Decoded.{decoded}
 use Rattle.alpha_table.specs.Code.{class_at, kind, sets, uses, access, trap_rc}
 use Rattle.alpha_shadow.specs.declared.broken.Condition.{Condition}
 use Rattle.alpha_shadow.specs.Broken.{IsBroken, IsAccepted}
-use Rattle.alpha_fix.specs.Cuts.{HasBroken}
+use Rattle.alpha_fix.specs.Cuts.{BreaksAbove, AreCutsAbove, HasBroken}
 use Rattle.alpha_fix.proofs.Alike.{LooksAlike, Stretch, broken_along}
 
 abbrev pub steady : Class → Class
@@ -109,3 +109,24 @@ accepted_alike code other e accepted t at c b = accepted t at c (broken_alike co
 
 pub has_broken_alike : (code other : List ℕ) → AreAlike code other → HasBroken code → HasBroken other
 has_broken_alike code other e h = record { trigger = h.trigger; at = h.at; condition = h.condition; broken = broken_alike code other h.trigger h.at h.condition e h.broken }
+
+-- so they have the same cuts
+
+breaks_alike : (code other : List ℕ) (from at : ℕ) → AreAlike code other → BreaksAbove code from at → BreaksAbove other from at
+breaks_alike code other from at e h = record {
+  above = h.above;
+  trigger = h.trigger;
+  since = h.since;
+  condition = h.condition;
+  broken = broken_alike code other h.trigger at h.condition e h.broken;
+}
+
+pub cuts_alike : (code other : List ℕ) (from : ℕ) (cuts : List ℕ) → AreAlike code other → AreCutsAbove code from cuts → AreCutsAbove other from cuts
+cuts_alike code other from [] e none = λ at h. none at (breaks_alike other code from at (sym e) h)
+cuts_alike code other from (cut ∷ cuts) e (next, more) = (
+  record {
+    breaks = breaks_alike code other from cut e next.breaks;
+    least = λ at h. next.least at (breaks_alike other code from at (sym e) h);
+  },
+  cuts_alike code other cut cuts e more,
+)

@@ -22,10 +22,13 @@ shifted : (from at trigger other place : ℕ) (c d : Condition) → from ≤ oth
     → (from + at < place) ⊎ ((from + at ≡ place) × ((from + trigger < other) ⊎ ((from + trigger ≡ other) × (condition_number c ≤ condition_number d))))
 shifted from at trigger other place c d h k o = ⊎_elim
     (λ (l : at < place - from). inl (omega arith))
-    (λ w. let e : at ≡ place - from = w.0 in inr (omega arith, ⊎_elim
-    (λ (l : trigger < other - from). inl (omega arith))
-    (λ v. let f : trigger ≡ other - from = v.0 in inr (omega arith, v.1))
-    w.1))
+    (λ w. let e : at ≡ place - from = w.0 in inr (
+      omega arith,
+      ⊎_elim
+          (λ (l : trigger < other - from). inl (omega arith))
+          (λ v. let f : trigger ≡ other - from = v.0 in inr (omega arith, v.1))
+          w.1,
+    ))
     o
 
 pub least_from : (code rest : List ℕ) (from : ℕ) (b : Broken) → from ≤ length code → rest ≡ drop from code → IsLeastBroken rest b

@@ -101,7 +101,12 @@ fn ends_cut(cuts: &[u32], place: u32, words: u32) -> bool
 }
 
 // Appends a line, with a barrier before it and behind it where there is to be one.
-fn put_line(text: &mut Vec<u8>, line: &Line<'_>, before: bool, behind: bool) -> Result<(), AllocError>
+fn put_line(
+    text: &mut Vec<u8>,
+    line: &Line<'_>,
+    before: bool,
+    behind: bool,
+) -> Result<(), AllocError>
     ensures { OnOk result ((l : SourceLine) → Is l line.now →
         text.new.items ≡ text.old.items ++ flat_map line_bytes (bar_if before trapb_line ++ then_bar behind l)) }
 {

@@ -17,11 +17,13 @@ pub fn laws_of_cuts()
 
 /// The laws of fixed sources. The image of a fixed source is accepted; without the word of any one of
 /// the added barriers, which stands behind the words before its cut and the barriers before it, a
-/// place is broken. A source whose image is accepted is its own fixed source.
+/// place is broken. A source whose image is accepted is its own fixed source. A source has one fixed
+/// source at most.
 pub fn laws_of_fixed_sources()
     ensures accepted { (source text : List ℕ) (f : IsFixedSource source text) → IsAccepted f.fixed.words }
     ensures needed { (source text : List ℕ) (f : IsFixedSource source text) (j cut : ℕ) →
         slice_get f.cuts j ≡ Some cut → HasBroken (without (cut + j) f.fixed.words) }
     ensures unchanged { (source text : List ℕ) (f : IsFixedSource source text) →
         IsAccepted f.image.words → text ≡ source }
+    ensures one { (source a b : List ℕ) → IsFixedSource source a → IsFixedSource source b → a ≡ b }
 {}

@@ -1,5 +1,5 @@
 -- A line that reads with a carriage return behind it reads the same without.
-use Rattle.std.proofs.Common.{◌≡◌, ℕ, ℤ, suc, ◌+◌, ◌-◌, ◌≤◌, ◌++◌, List, [], ◌∷◌, length, take, drop, Bool, true, false, cond, ◌&&◌, eqb, Option, None, Some, Result, Ok, Err, slice_index, refl, sym, ◌∙◌, ap, subst, arith, eqb-true, length-append}
+use Rattle.std.proofs.Common.{◌≡◌, ℕ, suc, ◌-◌, ◌≤◌, ◌++◌, List, [], ◌∷◌, length, take, drop, Bool, true, false, cond, ◌&&◌, eqb, Option, None, Some, Result, Ok, Err, slice_index, refl, sym, ◌∙◌, ap, subst, arith, eqb-true, length-append}
 use Rattle.std.specs.List.{prefix_len}
 use Rattle.std.proofs.lemmas.List.{take-append-le, drop-append-le}
 use Rattle.std.proofs.lemmas.List.Sums.{prefix_len-le-length}
@@ -36,7 +36,6 @@ use Rattle.alpha_text.specs.declared.head.Own.{Own}
 use Rattle.alpha_text.specs.declared.head.Own.TheVariants as owns
 use Rattle.alpha_text.specs.declared.head.Head.{Head}
 use Rattle.alpha_text.specs.declared.head.Head.TheVariants as heads
-use Rattle.alpha_text.specs.declared.reader.LineFault.{LineFault}
 use Rattle.alpha_text.specs.Heads.{head_of, shape_of}
 use Rattle.alpha_text.specs.Statements.{Said, code, memory_said, branch_said, operate_form, insn_said, move_said, pseudo_form, entry_said, directive_said, own_said, said_by}
 use Rattle.alpha_text.specs.Reading.{LineSaid, list_in, with_operands, with_head, named, statement_of, is_labelled, labelled, behind_label, line_of, located, read}

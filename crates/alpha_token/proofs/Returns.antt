@@ -1,5 +1,5 @@
 -- A carriage return behind a line begins no token: the line's tokens are the same, or a bad one stands there.
-use Rattle.std.proofs.Common.{◌≡◌, ◌⊎◌, ℕ, List, [], ◌∷◌, ◌++◌, ◌≤◌, ◌<◌, ◌+◌, Bool, true, false, cond, eqb, ◌&&◌, Option, None, Some, drop, take, length, refl, sym, ◌∙◌, ap, inl, inr, arith}
+use Rattle.std.proofs.Common.{◌≡◌, ◌⊎◌, ℕ, List, [], ◌∷◌, ◌++◌, ◌≤◌, ◌<◌, ◌+◌, Bool, true, false, cond, eqb, ◌&&◌, Option, None, Some, drop, take, length, refl, ◌∙◌, ap, inl, inr, arith}
 use Prim.Native.Nat.{zero, suc}
 use Rattle.std.specs.List.{prefix_len}
 use Rattle.std.specs.Option.{option_map}
@@ -102,10 +102,9 @@ put-returned : (b : ℕ) (a : List ℕ) (whole cut : Option (TokenKind × ℕ)) 
 put-returned b a None cut within kept behind = bad-returned (put_before (b ∷ a) cut (λ more. tokens_after more a) b a) (length (b ∷ returned a))
 put-returned b a (Some v) cut within kept behind =
     let m : v.1 ≤ length a = within v refl in
-    rw (kept v refl m)
-    (
+    rw (kept v refl m) (
       ap (λ (x : List ℕ). (let t : Lexeme = record { kind = v.0; text = b ∷ x; rest = drop v.1 (returned a) } in t)) (take-append-le v.1 a (13 ∷ []) m)
-      ∙ ap (λ (x : List ℕ). (let t : Lexeme = record { kind = v.0; text = b ∷ take v.1 a; rest = x } in t)) (drop-append-le v.1 a (13 ∷ []) m),
+          ∙ ap (λ (x : List ℕ). (let t : Lexeme = record { kind = v.0; text = b ∷ take v.1 a; rest = x } in t)) (drop-append-le v.1 a (13 ∷ []) m),
       behind v.1 m,
     )
 
