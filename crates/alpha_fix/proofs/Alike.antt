@@ -1,5 +1,5 @@
 -- A place is broken by the columns of the words of its shadow, wherever the shadow stands.
-use Rattle.std.proofs.Common.{◌≡◌, ◌<◌, ◌≤◌, ◌+◌, ◌-◌, ℕ, Some, List, length, slice_get, sym, ◌∙◌, ap, subst, arith, IsTrue}
+use Rattle.std.proofs.Common.{◌≡◌, ◌<◌, ◌≤◌, ◌+◌, ◌-◌, ℕ, List, length, slice_get, sym, ◌∙◌, ap, subst, arith, IsTrue}
 use Rattle.std.specs.Option.{option_map, option_and_then}
 use Rattle.alpha_table.specs.Class.{class_of}
 use Rattle.alpha_table.specs.Decoded.{decoded}

@@ -1,5 +1,5 @@
 -- What is answered for a source with barriers.
-use Rattle.std.proofs.Common.{◌≡◌, ◌≢◌, ℕ, List, [], Option, None, Result, Ok, Err, OnOk, IfOk, IfErr, sym, ◌∙◌, ap, inr, subst}
+use Rattle.std.proofs.Common.{◌≡◌, ◌≢◌, ℕ, List, [], None, Result, Ok, Err, OnOk, IfOk, IfErr, sym, ◌∙◌, ap, inr, subst}
 use Rattle.alpha_image.specs.Parts.{Parts}
 use Rattle.alpha_asm.specs.Assembled.{assembled}
 use Rattle.alpha_fix.specs.declared.fault.FixFault.{FixFault}

@@ -2,15 +2,16 @@
 use Rattle.std.proofs.Common.{◌≡◌, ◌<◌, ◌≤◌, ◌+◌, ◌-◌, ◌++◌, ℕ, zero, suc, Some, List, [], ◌∷◌, length, take, drop, slice_get, refl, inr, sym, ◌∙◌, ap, subst, ⊎_elim, arith, length-append, length-take, length-drop}
 use Rattle.std.proofs.lemmas.Bool.{cases_lt}
 use Rattle.alpha_table.specs.declared.columns.InsnKind.TheVariants as kinds
+use Rattle.alpha_table.specs.Code.{class_at}
+use Rattle.alpha_table.specs.Decoded.{decoded, memory_form, branch_form, jump_form, operate_form, misc_form}
 use Rattle.alpha_shadow.specs.declared.broken.Condition.{Condition}
 use Rattle.alpha_shadow.specs.declared.broken.Condition.TheVariants.{ZeroDestination, SourceLost, SameDestination, WildBase, LoadThenStore, Locked, Turn, Open, Long}
 use Rattle.alpha_shadow.specs.Code.{kind_at}
 use Rattle.alpha_shadow.specs.Broken.{IsBroken, IsAccepted}
 use Rattle.alpha_shadow.proofs.Tables.{kind_within, no_access, no_set}
 use Rattle.alpha_shadow.proofs.Decided.{not_past_end}
-use Rattle.alpha_shadow.proofs.Barriers.{trapb_kind}
 use Rattle.alpha_fix.specs.Cuts.{BreaksAbove, IsNextCut, AreCutsAbove, AreCuts, trapb, barred_from, barred, without, HasBroken, NoneAlone}
-use Rattle.alpha_fix.proofs.Alike.{LooksAlike, same_word, Stretch, broken_along}
+use Rattle.alpha_fix.proofs.Alike.{same_word, Stretch, broken_along}
 
 -- the items of a list in parts
 
@@ -104,6 +105,11 @@ behind front x rest t at o = record {
   within = λ h. omega (arith, length-append front (x ∷ rest));
   ends = λ h. omega (arith, length-append front (x ∷ rest));
 }
+
+-- the word of TRAPB is a barrier
+trapb_kind : (code : List ℕ) (at : ℕ) → slice_get code at ≡ Some trapb → kind_at code at ≡ Some kinds.Barrier
+unfolding class_at decoded memory_form branch_form jump_form operate_form misc_form
+trapb_kind code at is = rw is refl
 
 -- a barrier breaks nothing by itself
 barrier_sound : (code : List ℕ) (t at : ℕ) (c : Condition) → kind_at code at ≡ Some kinds.Barrier → IsBroken code t at c → ⊥

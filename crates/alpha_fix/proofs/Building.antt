@@ -1,5 +1,5 @@
 -- The text with barriers, built line by line.
-use Rattle.std.proofs.Common.{◌≡◌, ℕ, zero, suc, ◌+◌, ◌<◌, ◌≤◌, List, [], ◌∷◌, ◌++◌, length, filter, map, get_or, Bool, true, false, cond, ◌&&◌, ◌||◌, eqb, nat_eq, Option, None, Some, refl, sym, ◌∙◌, ap, subst, append_assoc, length-append, arith}
+use Rattle.std.proofs.Common.{◌≡◌, ℕ, suc, ◌+◌, ◌<◌, ◌≤◌, List, [], ◌∷◌, ◌++◌, length, filter, map, get_or, Bool, true, false, cond, ◌&&◌, ◌||◌, eqb, nat_eq, None, Some, refl, sym, ◌∙◌, ap, subst, append_assoc, arith}
 use Rattle.std.specs.List.{flat_map}
 use Rattle.std.specs.Str.Lines.{lines}
 use Rattle.std.proofs.lemmas.List.{append-nil}
@@ -9,7 +9,6 @@ use Rattle.alpha_text.specs.Statements.{Said}
 use Rattle.alpha_text.specs.Reading.{LineSaid}
 use Rattle.alpha_asm.specs.Assembled.{item_at, first_refused}
 use Rattle.alpha_fix.specs.declared.line.Line.{Line}
-use Rattle.alpha_fix.specs.declared.barriers.Role.{Role}
 use Rattle.alpha_fix.specs.declared.barriers.Role.TheVariants.{FixedLine, Insn, Other}
 use Rattle.alpha_fix.specs.Cuts.{Rise}
 use Rattle.alpha_fix.specs.SourceLines.{SourceLine, line_bytes, line_text, source_lines, line_item}

@@ -1,7 +1,6 @@
 -- What a place knows beside how many words stand before it: a barrier leaves it.
-use Rattle.std.proofs.Common.{◌≡◌, ℕ, ◌+◌, List, [], ◌∷◌, ◌++◌, length, Bool, true, false, cond, ◌&&◌, ◌||◌, nat_eq, Option, Some, None, refl, sym, ◌∙◌, ap, arith}
+use Rattle.std.proofs.Common.{◌≡◌, ℕ, ◌+◌, List, [], ◌∷◌, ◌++◌, Bool, true, false, cond, ◌&&◌, ◌||◌, nat_eq, Option, Some, None, refl, sym, ◌∙◌, ap, arith}
 use Rattle.std.specs.Option.{option_map, option_or, unwrap_or}
-use Rattle.std.specs.Str.{bytes_eq}
 use Rattle.alpha_text.specs.Statements.{Said}
 use Rattle.alpha_text.specs.Reading.{LineSaid}
 use Rattle.alpha_image.specs.declared.segment.Segment.{Segment}
@@ -9,9 +8,9 @@ use Rattle.alpha_asm.specs.declared.place.Section.{Section}
 use Rattle.alpha_asm.specs.declared.place.Section.TheVariants as sections
 use Rattle.alpha_asm.specs.declared.place.Spot.{Spot}
 use Rattle.alpha_asm.specs.declared.place.Spot.TheVariants.{Code, Data}
-use Rattle.alpha_asm.specs.Statement.{cells, code_base_in, data_base_in, stack_in, entry_in}
-use Rattle.alpha_asm.specs.Layout.{Place, Placed, start, behind, behind_all, placed, layout, end, first, spot_in, spot, defined_at, has_label, spot_of, field, fields, is_of_code}
-use Rattle.alpha_asm.specs.Program.{Known, known, segments_of, based, data_base_of, code_base_of}
+use Rattle.alpha_asm.specs.Statement.{cells, code_base_in, data_base_in}
+use Rattle.alpha_asm.specs.Layout.{Place, Placed, start, behind, behind_all, placed, layout, end, first, spot_in, spot, defined_at, has_label, spot_of, field, fields}
+use Rattle.alpha_asm.specs.Program.{segments_of, based, code_base_of}
 use Rattle.alpha_fix.specs.FixedSource.{has_insn, bar_if}
 use Rattle.alpha_fix.proofs.FixedItems.{trapb_said, trapb_item, fixed_items}
 

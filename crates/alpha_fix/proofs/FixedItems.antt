@@ -1,7 +1,6 @@
 -- The items of a source with barriers.
 use Rattle.std.proofs.Common.{◌≡◌, ℕ, ◌+◌, List, [], ◌∷◌, ◌++◌, map, Bool, true, false, cond, nat_eq, ◌&&◌, None, codes, refl, sym, ◌∙◌, ap, subst}
 use Rattle.std.specs.List.{flat_map}
-use Rattle.std.specs.Str.Lines.{lines}
 use Rattle.std.proofs.lemmas.Simd.{map-map}
 use Rattle.alpha_table.specs.declared.form.Form.TheVariants.{Misc}
 use Rattle.alpha_table.specs.declared.rows.MiscOp.TheVariants.{Trapb}

@@ -13,3 +13,4 @@ pub mod Lining
 pub mod Building
 pub mod Answering
 pub mod FixedSources
+pub mod Existing

@@ -1,8 +1,8 @@
 -- What a source assembles to, and what it assembles to with barriers.
 use Rattle.std.proofs.Common.{◌≡◌, ◌<◌, ◌≤◌, ◌+◌, ◌-◌, ◌*◌, ◌^◌, ◌++◌, ◌⊎◌, ℕ, suc, Bool, true, false, cond, not, ◌&&◌, ◌||◌, eqb, nat_eq, nat_lt, List, [], ◌∷◌, length, filter, map, take, Option, Some, None, is_some, Result, Ok, Err, slice_index, slice_get, refl, sym, ◌∙◌, ap, subst, inl, ⊎_elim, arith, length-append, codes}
-use Rattle.std.specs.Option.{option_map, option_map_or, option_or, unwrap_or}
+use Rattle.std.specs.Option.{option_map, option_map_or, option_or}
 use Rattle.std.specs.Result.{result_unwrap_or}
-use Rattle.std.specs.List.{flat_map, filter_map}
+use Rattle.std.specs.List.{flat_map}
 use Rattle.std.specs.Str.Lines.{lines, strip_carriage_return}
 use Rattle.std.proofs.lemmas.Bool.Decides.{nat_tests}
 use Rattle.alpha_table.specs.declared.form.Form.{Form}
@@ -18,24 +18,24 @@ use Rattle.alpha_text.proofs.Round.{reads_back}
 use Rattle.alpha_image.specs.Parts.{Parts, IsImage}
 use Rattle.alpha_shadow.specs.Broken.{IsAccepted}
 use Rattle.alpha_asm.specs.declared.fault.AsmFault.{AsmFault}
-use Rattle.alpha_asm.specs.declared.fault.AsmFault.TheVariants.{Undefined, ImageField, Reach, LongLine, Line}
+use Rattle.alpha_asm.specs.declared.fault.AsmFault.TheVariants.{Undefined, ImageField, Reach, LongLine}
 use Rattle.alpha_asm.specs.Statement.{Coded, coded, Entry}
-use Rattle.alpha_asm.specs.Layout.{Place, Placed, start, behind, placed, layout, end, first, fields, is_of_code}
-use Rattle.alpha_asm.specs.Program.{Program, program_of, names_in, undefined_line, unmet_line, code_in, known, code_base_of, numbers_of, program, insn_in}
+use Rattle.alpha_asm.specs.Layout.{Place, Placed, start, behind, placed, layout, first, fields, is_of_code}
+use Rattle.alpha_asm.specs.Program.{Program, program_of, names_in, undefined_line, unmet_line, code_in, known, numbers_of, program, insn_in}
 use Rattle.alpha_asm.specs.Assembled.{item_at, refused_read, refused, first_refused, unless, made_at, made, assembled}
 use Rattle.alpha_image.specs.Rules.{least_bad_field}
-use Rattle.alpha_fix.specs.Cuts.{AreCuts, NoneAlone, trapb, barred, without, HasBroken}
+use Rattle.alpha_fix.specs.Cuts.{trapb, barred, without, HasBroken}
 use Rattle.alpha_fix.specs.SourceLines.{SourceLine, ended, unended, line_bytes, line_text, with_feed, source_lines, line_item}
 use Rattle.alpha_fix.specs.FixedSource.{is_cut, trapb_line, has_insn, has_word, word_count, bar_if, then_bar, fixed_lines, fixed_source}
-use Rattle.alpha_fix.specs.FixedLines.{items_of, is_over_distance, is_off, references, is_address, takes_half, enters_within, is_fixed, least_line, names_code, code_base, fixed_line}
+use Rattle.alpha_fix.specs.FixedLines.{items_of, is_over_distance, is_address, takes_half, enters_within, is_fixed, least_line, names_code, code_base, fixed_line}
 use Rattle.alpha_fix.specs.Fix.{HasImage, HasCuts, IsFixedSource}
 use Rattle.alpha_fix.proofs.Barring.{accepted, needed}
 use Rattle.alpha_fix.proofs.Splitting.{joined, texts_of}
 use Rattle.alpha_fix.proofs.FixedItems.{trapb_item, fixed_items, EndsAlike, items_by_lines, items_of_fixed, unchanged}
 use Rattle.alpha_fix.proofs.Cores.{spots_same, code_base_same, segments_same}
-use Rattle.alpha_fix.proofs.Steady.{steady, word_class, AreAlike, accepted_alike, has_broken_alike}
+use Rattle.alpha_fix.proofs.Steady.{word_class, AreAlike, accepted_alike, has_broken_alike}
 use Rattle.alpha_fix.proofs.Marks.{marked, map-marked, marked_barred, without_barrier, map-without}
-use Rattle.alpha_fix.proofs.Transfer.{form_class, KnownAlike, SteadyCoded, AreSteady, classes, classes_code, bar_class, classes_marked, words_classes, words_length}
+use Rattle.alpha_fix.proofs.Transfer.{form_class, KnownAlike, SteadyCoded, AreSteady, classes_code, bar_class, classes_marked, words_classes, words_length}
 
 -- the line of a barrier reads as one
 

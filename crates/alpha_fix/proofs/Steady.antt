@@ -1,5 +1,5 @@
 -- Classes of words but for the displacements of branches, LDA and LDAH: a verdict depends on no more.
-use Rattle.std.proofs.Common.{◌≡◌, ◌<◌, ◌≤◌, ◌+◌, ℕ, ℤ, pos, Option, Some, None, List, [], ◌∷◌, length, map, slice_get, refl, sym, ◌∙◌, ap, subst, arith}
+use Rattle.std.proofs.Common.{◌≡◌, ℕ, pos, Option, Some, None, List, [], ◌∷◌, length, map, slice_get, refl, sym, ◌∙◌, ap, subst, arith}
 use Rattle.std.specs.Option.{option_map, option_and_then}
 use Rattle.std.proofs.lemmas.Option.{slice_get-map}
 use Rattle.std.proofs.lemmas.List.{length-map}
@@ -9,7 +9,7 @@ use Rattle.alpha_table.specs.Code.{class_at, kind, sets, uses, access, trap_rc}
 use Rattle.alpha_shadow.specs.declared.broken.Condition.{Condition}
 use Rattle.alpha_shadow.specs.Broken.{IsBroken, IsAccepted}
 use Rattle.alpha_fix.specs.Cuts.{BreaksAbove, AreCutsAbove, HasBroken}
-use Rattle.alpha_fix.proofs.Alike.{LooksAlike, Stretch, broken_along}
+use Rattle.alpha_fix.proofs.Alike.{LooksAlike, broken_along}
 
 abbrev pub steady : Class → Class
 steady (operate op ra src rc) = operate op ra src rc

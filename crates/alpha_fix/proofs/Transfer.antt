@@ -1,6 +1,6 @@
 -- The words of a source with barriers look like those of the source with the words of barriers between.
-use Rattle.std.proofs.Common.{◌≡◌, ◌≢◌, ◌<◌, ◌≤◌, ◌+◌, ◌++◌, ◌⊎◌, ℕ, ℤ, zero, suc, pos, negsuc, ◌+ℤ◌, ◌-ℤ◌, ◌/◌, ◌%◌, ◌*◌, ◌^◌, neg_ℤ, Bool, true, false, cond, not, ◌&&◌, ◌||◌, eqb, nat_eq, nat_lt, nat_le, List, [], ◌∷◌, length, filter, map, Option, Some, None, is_some, Result, Ok, Err, slice_get, refl, sym, ◌∙◌, ap, subst, arith, IsSomeAnd}
-use Rattle.std.specs.Option.{option_map, option_map_or, option_and_then, unwrap_or}
+use Rattle.std.proofs.Common.{◌≡◌, ◌+◌, ◌++◌, ℕ, ℤ, suc, pos, negsuc, ◌+ℤ◌, ◌-ℤ◌, ◌/◌, ◌%◌, ◌*◌, ◌^◌, neg_ℤ, Bool, true, false, cond, ◌&&◌, eqb, nat_eq, nat_lt, nat_le, List, [], ◌∷◌, length, map, Option, Some, None, is_some, slice_get, refl, sym, ◌∙◌, ap, IsSomeAnd}
+use Rattle.std.specs.Option.{option_map, option_map_or}
 use Rattle.std.specs.List.{flat_map, filter_map, All, cons_option}
 use Rattle.std.proofs.lemmas.List.{map-append}
 use Rattle.std.proofs.lemmas.List.Elements.{All-head, All-tail}
@@ -10,23 +10,21 @@ use Rattle.alpha_table.specs.declared.form.Form.{Form}
 use Rattle.alpha_table.specs.declared.form.Form.TheVariants.{Mem, Branch, Jump, Operate, Misc, Fetch, Pal}
 use Rattle.alpha_table.specs.Class.{Class, barrier, class_of}
 use Rattle.alpha_table.specs.Decoded.{decoded}
-use Rattle.alpha_text.specs.Statements.{Said}
 use Rattle.alpha_text.specs.Reading.{LineSaid}
 use Rattle.alpha_image.specs.Parts.{IsCodeWord}
 use Rattle.alpha_words.specs.declared.Level.{Level}
 use Rattle.alpha_asm.specs.declared.statement.Use.TheVariants.{Branch as branches, High, Low}
-use Rattle.alpha_asm.specs.declared.patch.Displacement.{Displacement}
 use Rattle.alpha_asm.specs.declared.patch.Displacement.TheVariants.{Words, Bytes}
 use Rattle.alpha_asm.specs.declared.place.Spot.{Spot}
 use Rattle.alpha_asm.specs.declared.place.Spot.TheVariants.{Code, Data}
 use Rattle.alpha_asm.specs.declared.statement.Use.{Use}
 use Rattle.alpha_asm.specs.Statement.{Reference, Coded, coded}
-use Rattle.alpha_asm.specs.Layout.{Place, Placed, behind, placed, layout, is_of_code}
-use Rattle.alpha_asm.specs.Program.{Known, spot_address, address_of, words_over, high_half, low_half, halved, reached, displaced, insn_in, code_in}
-use Rattle.alpha_fix.specs.FixedSource.{has_insn, bar_if}
+use Rattle.alpha_asm.specs.Layout.{Place, Placed, behind, placed, is_of_code}
+use Rattle.alpha_asm.specs.Program.{Known, spot_address, address_of, words_over, high_half, low_half, halved, displaced, insn_in, code_in}
+use Rattle.alpha_fix.specs.FixedSource.{bar_if}
 use Rattle.alpha_fix.specs.FixedLines.{is_address, is_address_op}
 use Rattle.alpha_fix.proofs.FixedItems.{trapb_said, trapb_item, fixed_items}
-use Rattle.alpha_fix.proofs.Cores.{blur, blur_spot, at}
+use Rattle.alpha_fix.proofs.Cores.{blur}
 use Rattle.alpha_fix.proofs.Steady.{steady, word_class}
 use Rattle.alpha_fix.proofs.Marks.{marked}
 

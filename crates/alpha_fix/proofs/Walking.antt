@@ -4,8 +4,8 @@ use Rattle.std.proofs.lemmas.List.{append-nil}
 use Rattle.std.proofs.lemmas.Bool.{cases_lt}
 use Rattle.alpha_shadow.specs.declared.broken.Condition.{Condition}
 use Rattle.alpha_shadow.specs.declared.broken.Broken.{Broken}
-use Rattle.alpha_shadow.specs.Broken.{IsBroken, IsAccepted, condition_number, NoLater, IsLeastBroken}
-use Rattle.alpha_fix.specs.Cuts.{BreaksAbove, IsNextCut, AreCutsAbove, AreCuts, IsBrokenAlone, NoneAlone, NoneFrom, IsLeastFrom}
+use Rattle.alpha_shadow.specs.Broken.{IsBroken, IsAccepted, condition_number, IsLeastBroken}
+use Rattle.alpha_fix.specs.Cuts.{IsNextCut, AreCutsAbove, AreCuts, IsBrokenAlone, NoneAlone, NoneFrom, IsLeastFrom}
 use Rattle.alpha_fix.specs.Fix.{IsLeastAlone}
 use Rattle.alpha_fix.proofs.Alike.{broken_along}
 use Rattle.alpha_fix.proofs.Barring.{down, up, broken_within}

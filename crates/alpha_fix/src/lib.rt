@@ -22,7 +22,7 @@
 //! together.
 //!
 //! `proofs/Alike.antt` says that a shadow is broken by the columns of its words, wherever it stands;
-//! `Barring.antt` and `Walking.antt` have the cuts. `Splitting.antt` has the lines of a text,
+//! `Barring.antt`, `Walking.antt` and `Existing.antt` have the cuts. `Splitting.antt` has the lines of a text,
 //! `FixedItems.antt` their items, `Cores.antt` where these stand, `Steady.antt` what a verdict needs
 //! of a word, `Transfer.antt` and `Marks.antt` the words of the text, `Sources.antt` and
 //! `FixedSources.antt` the laws. `Values.antt`, `Lining.antt`, `Building.antt` and `Answering.antt` follow the code.

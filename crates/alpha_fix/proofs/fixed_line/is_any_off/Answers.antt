@@ -1,4 +1,4 @@
-use Rattle.std.proofs.Common.{length, map, sym, ◌∙◌}
+use Rattle.std.proofs.Common.{length, map}
 use Rattle.alpha_operands.specs.Values.{view}
 use Rattle.alpha_asm.specs.Statement.{cell_of, values_up_to}
 use Rattle.alpha_fix.specs.FixedLines.{items_of, is_off, names_code}

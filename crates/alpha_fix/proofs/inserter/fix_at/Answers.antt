@@ -1,4 +1,4 @@
-use Rattle.std.proofs.Common.{ℕ, List, length, ap, sym, ◌∙◌, inr, subst, arith}
+use Rattle.std.proofs.Common.{◌∙◌, arith}
 use Rattle.alpha_asm.specs.Program.{program_of}
 use Rattle.alpha_fix.proofs.Answering.{ok_with, err_with, is_fixed_source, refused_far}
 use Rattle.alpha_fix.proofs.Marks.{rise-less, cuts_rise}

@@ -1,4 +1,4 @@
-use Rattle.std.proofs.Common.{length, ap, arith}
+use Rattle.std.proofs.Common.{arith}
 use Rattle.std.proofs.lemmas.Grind.{common_steps}
 use Rattle.alpha_fix.proofs.Sources.{same_source}
 use Rattle.alpha_fix.proofs.inserter.fix_image.Goals as goal
