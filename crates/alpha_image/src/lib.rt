@@ -81,4 +81,5 @@ pub use laws::{laws_of_fields, laws_of_pieces, laws_of_places, laws_of_spelling}
 pub use read::read_image;
 pub use segment::Segment;
 pub use version::Version;
+pub use words::{push_words, read_words};
 pub use write::image_bytes;

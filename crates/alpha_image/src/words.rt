@@ -19,7 +19,7 @@ use std::alloc::{AllocError, Global};
 ///
 /// `BadWord` with the first word outside the instruction table or above the level. `NoMemory` comes only
 /// where there is none.
-pub(crate) fn read_words(alloc: Global, level: Level, code: &[u8]) -> Result<Vec<Insn>, ImageFault>
+pub fn read_words(alloc: Global, level: Level, code: &[u8]) -> Result<Vec<Insn>, ImageFault>
     requires { length code.now < 2 ^ 32 }
     ensures fault { Tells result (word_fault level (words_of code.now)) }
     ensures insns { IfOk result (λ insns.
@@ -80,7 +80,7 @@ fn insn_at(level: Level, word: Word) -> Option<Insn>
 }
 
 /// Appends the words of the instructions, each as four bytes with the lowest first.
-pub(crate) fn push_words(out: &mut Vec<u8>, insns: &[Insn]) -> Result<(), AllocError>
+pub fn push_words(out: &mut Vec<u8>, insns: &[Insn]) -> Result<(), AllocError>
     ensures ok { OnOk result
         (out.new.items ≡ out.old.items ++ flat_map longword (map encoded insns.now)) }
 {
