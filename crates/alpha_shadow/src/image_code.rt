@@ -25,7 +25,9 @@ impl<'a> Model for ImageCode<'a> {
 }
 
 impl<'a> ImageCode<'a> {
-    ghost use Rattle.std.specs.Prelude.{◌≡◌};
+    ghost use Rattle.std.specs.Prelude.{◌≡◌, map};
+    ghost use Rattle.alpha_table.specs.Encoded.{encoded};
+    ghost use Rattle.alpha_shadow.specs.Fetched.{HaveWords};
 
     /// The image's code, not looked at so far.
     pub fn new(image: &'a Image) -> ImageCode<'a>
@@ -36,6 +38,15 @@ impl<'a> ImageCode<'a> {
             insns: image.insns(),
             fetches: 0,
         }
+    }
+
+    /// Instructions that are no image's yet, each that of its word, not looked at so far.
+    pub fn of_insns(insns: &'a [Insn]) -> ImageCode<'a>
+        requires { HaveWords insns.now }
+        ensures code { result.code ≡ map encoded insns.now }
+        ensures fetches { result.fetches ≡ 0 }
+    {
+        ImageCode { insns, fetches: 0 }
     }
 
     /// The code from a place on, not looked at so far.
