@@ -1,0 +1,10 @@
+pub mod Results
+pub mod Formats
+pub mod Numbers
+pub mod HeaderBytes
+pub mod WordBytes
+pub mod SymbolBytes
+pub mod RelocationBytes
+pub mod ModuleBytes
+pub mod Stages
+pub mod Joined

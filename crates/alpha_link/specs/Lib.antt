@@ -1,0 +1,9 @@
+pub mod Bytes
+pub mod Reading
+pub mod Header
+pub mod Symbols
+pub mod Relocations
+pub mod Parts
+pub mod Spelled
+pub mod Module
+pub mod Alike

@@ -1,0 +1,72 @@
+//! Modules: code and data that are assembled apart, judged apart and linked later.
+//!
+//! A module has its code words, its data bytes, a number of zeroed bytes behind them, symbols and
+//! relocations. A symbol is a label that the module defines or names. A relocation is a place that takes
+//! the address of a symbol when modules are linked. A module stands for exactly one list of bytes, in
+//! which all numbers are little-endian:
+//!
+//! | Offset | Field |
+//! |---|---|
+//! | 0 | the 8 bytes `ALPHAOB1` |
+//! | 8, 12, 16 | code words, data bytes and zeroed bytes, of 32 bits each |
+//! | 20, 24 | symbols and relocations, of 32 bits each |
+//! | 28 | the code words, the data bytes, the symbols, the relocations |
+//!
+//! A symbol is its section (0 code, 1 data, 2 undefined), a byte; the length of its name, of 16 bits; its
+//! offset, of 32 bits; its name. A relocation is its kind (0 a branch, 1 an LDAH, 2 an LDA, 3 a quadword of
+//! data), a byte; its offset and the number of its symbol, of 32 bits each; its addend, of 32 bits with
+//! the sign.
+//!
+//! - Names rise, byte by byte, and each is a label of at most 1,024 bytes. An offset of the code is a
+//!   multiple of 4 and at most the code's length, one of the data at most that of the data and zeroed
+//!   bytes together, and an undefined symbol has offset 0.
+//! - The relocations of the code come first, then those of the data. Within each of the two groups
+//!   offsets rise. What a relocation stands at has displacement 0, or is eight zero bytes, which no other
+//!   relocation shares. The addend lies from -(2^31 - 1) to 2^31 - 1.
+//!
+//! [`Module`] is a good module, whose parts a clause sees; the code is kept as instructions. [`ModuleFault`]
+//! says why bytes are none.
+//!
+//! The laws, each with the call that carries it:
+//!
+//! - [`read_module`] gives the module that bytes spell, or their first fault.
+//! - [`module_bytes`] gives the spelling of a module.
+//! - [`laws_of_modules`]: what is read is good and the bytes are its spelling, and each good module is
+//!   read back from its spelling.
+//! - [`verdict`] is the verdict on a module's code: that no place is broken, or the least broken place.
+//! - [`laws_of_joined_code`]: code that consists of accepted parts is accepted, and so is code whose words
+//!   have the columns of accepted code.
+//!
+//! `header.rt` has the sizes at the front, `symbol.rt` and `relocation.rt` have what symbols and
+//! relocations are, `symbols.rt` and `relocations.rt` read and write them, `number.rt` little-endian
+//! numbers; `read.rt` and `write.rt` are the ways in and out, and `judged.rt` has the verdict.
+//!
+//! `specs/Reading.antt` says how bytes are read from the front, `specs/Header.antt`, `specs/Symbols.antt`
+//! and `specs/Relocations.antt` which items there are and which are good, `specs/Parts.antt` what a module
+//! is, `specs/Spelled.antt` its bytes both ways, and `specs/Module.antt` what a [`Module`] keeps;
+//! `specs/Alike.antt` says which words no condition of a trap shadow tells apart.
+#![tactic(auto)]
+
+mod fault;
+mod header;
+mod judged;
+mod laws;
+mod module;
+mod number;
+mod read;
+mod relocation;
+mod relocations;
+mod symbol;
+mod symbols;
+#[cfg(test)]
+mod tests;
+mod write;
+
+pub use fault::ModuleFault;
+pub use judged::verdict;
+pub use laws::{laws_of_joined_code, laws_of_modules};
+pub use module::Module;
+pub use read::read_module;
+pub use relocation::{Relocation, RelocationKind};
+pub use symbol::{Symbol, SymbolSection};
+pub use write::module_bytes;

@@ -1,0 +1,29 @@
+//! Modules.
+
+use crate::relocation::Relocation;
+use crate::symbol::Symbol;
+use alpha_table::Insn;
+use std::marker::Model;
+
+/// A module: code and data that were assembled apart, with the labels that they define and name. A
+/// clause sees its parts. The code is kept as its instructions, each of which has one word.
+#[derive(Debug, Drop)]
+pub struct Module {
+    pub(crate) insns: Vec<Insn>,
+    pub(crate) bytes: Vec<u8>,
+    pub(crate) zeroed: u32,
+    pub(crate) symbols: Vec<Symbol>,
+    pub(crate) relocations: Vec<Relocation>,
+}
+
+impl Model for Module {
+    ghost use Rattle.alpha_link.specs.Parts.{ModuleParts};
+
+    ghost Value = { ModuleParts };
+
+    ghost use Rattle.alpha_link.specs.Module.{parts_in, IsWhole};
+
+    ghost view = { parts_in };
+
+    ghost invariant = { IsWhole };
+}

@@ -1,0 +1,91 @@
+//! Symbols: the labels of a module, by name.
+
+ghost use Rattle.std.specs.Prelude.{◌≡◌};
+ghost use Rattle.std.specs.List.{list_all};
+ghost use Rattle.alpha_link.specs.Symbols.{begins_label, goes_on_label, is_label_name, section_of, section_number};
+
+/// Where a symbol stands.
+#[derive(Clone, Copy, Debug, PartialEq, Eq)]
+pub enum SymbolSection {
+    /// In the code.
+    Code,
+    /// In the data, or in the zeroed bytes behind it.
+    Data,
+    /// In another module.
+    Undefined,
+}
+
+impl SymbolSection {
+    /// The section of a number, `None` exactly above 2.
+    pub(crate) fn of(number: u8) -> Option<SymbolSection>
+        ensures { result ≡ section_of number }
+    {
+        match number {
+            0 => Some(SymbolSection::Code),
+            1 => Some(SymbolSection::Data),
+            2 => Some(SymbolSection::Undefined),
+            _ => None,
+        }
+    }
+
+    /// 0, 1 or 2.
+    pub(crate) fn number(self) -> u8
+        ensures { result ≡ section_number self }
+    {
+        match self {
+            SymbolSection::Code => 0,
+            SymbolSection::Data => 1,
+            SymbolSection::Undefined => 2,
+        }
+    }
+}
+
+/// A label of a module.
+#[derive(Debug, Drop)]
+pub struct Symbol {
+    /// Where it stands.
+    pub section: SymbolSection,
+    /// How many bytes of its section stand before it, 0 where it is undefined.
+    pub offset: u32,
+    /// Its name, a label of at most 1,024 bytes.
+    pub name: Vec<u8>,
+}
+
+/// What stands before a symbol's name in a module's bytes.
+#[derive(Clone, Copy)]
+pub(crate) struct Front {
+    /// The number of its section.
+    pub section: u8,
+    /// How many bytes the name has.
+    pub size: u16,
+    /// How many bytes of the section stand before it.
+    pub offset: u32,
+}
+
+fn begins_label(byte: u8) -> bool
+    ensures { result ≡ begins_label byte }
+{
+    byte.is_ascii_alphabetic() || byte == b'_'
+}
+
+fn goes_on_label(byte: u8) -> bool
+    ensures { result ≡ goes_on_label byte }
+{
+    byte.is_ascii_alphanumeric() || byte == b'_' || byte == b'.'
+}
+
+fn goes_on_label_to_end(bytes: &[u8]) -> bool
+    ensures { result ≡ list_all goes_on_label bytes.now }
+{
+    bytes.iter().all(|b| goes_on_label(*b))
+}
+
+/// Whether bytes are a whole label: a letter or `_`, and then letters, digits, `_` and `.`.
+pub(crate) fn is_label_name(name: &[u8]) -> bool
+    ensures { result ≡ is_label_name name.now }
+{
+    match name {
+        [] => false,
+        [first, others @ ..] => begins_label(*first) && goes_on_label_to_end(others),
+    }
+}

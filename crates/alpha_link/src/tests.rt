@@ -1,0 +1,96 @@
+//! Bytes of modules that were laid out by hand.
+
+use crate::{ModuleFault, module_bytes, read_module, verdict};
+use alpha_shadow::{Broken, Condition};
+use std::test::Fail;
+
+// `start: bsr $26,sum`, `lda $0,1($31)`, `callsys`: `start` is defined and `sum` isn't.
+const START: [u8; 75] = [
+    0x41, 0x4c, 0x50, 0x48, 0x41, 0x4f, 0x42, 0x31, 0x03, 0x00, 0x00, 0x00, 0x00, 0x00, 0x00, 0x00,
+    0x00, 0x00, 0x00, 0x00, 0x02, 0x00, 0x00, 0x00, 0x01, 0x00, 0x00, 0x00, 0x00, 0x00, 0x40, 0xd3,
+    0x01, 0x00, 0x1f, 0x20, 0x83, 0x00, 0x00, 0x00, 0x00, 0x05, 0x00, 0x00, 0x00, 0x00, 0x00, 0x73,
+    0x74, 0x61, 0x72, 0x74, 0x02, 0x03, 0x00, 0x00, 0x00, 0x00, 0x00, 0x73, 0x75, 0x6d, 0x00, 0x00,
+    0x00, 0x00, 0x00, 0x01, 0x00, 0x00, 0x00, 0x00, 0x00, 0x00, 0x00,
+];
+
+// Each with one byte of `START` changed: its offset, the byte, and the fault, if there is one.
+const CHANGES: [(usize, u8, Option<ModuleFault>); 24] = [
+    (0, 0x40, Some(ModuleFault::Header)),
+    (7, 0x32, Some(ModuleFault::Header)),
+    (10, 0x04, Some(ModuleFault::Size(1))),
+    (15, 0x02, Some(ModuleFault::Size(2))),
+    (19, 0x02, Some(ModuleFault::Size(3))),
+    (18, 0xff, None),
+    (12, 0x30, Some(ModuleFault::Cut(75))),
+    (20, 0x03, Some(ModuleFault::Symbol(2))),
+    (20, 0x01, Some(ModuleFault::Relocation(0))),
+    (24, 0x00, Some(ModuleFault::Rest(62))),
+    (31, 0x04, Some(ModuleFault::Word(0))),
+    (28, 0x01, Some(ModuleFault::Relocation(0))),
+    (36, 0x82, Some(ModuleFault::Word(2))),
+    (40, 0x03, Some(ModuleFault::Symbol(0))),
+    (41, 0x04, Some(ModuleFault::Cut(75))),
+    (43, 0x0c, None),
+    (43, 0x10, Some(ModuleFault::Symbol(0))),
+    (43, 0x02, Some(ModuleFault::Symbol(0))),
+    (47, 0x74, Some(ModuleFault::Symbol(1))),
+    (48, 0x2f, Some(ModuleFault::Symbol(0))),
+    (55, 0x04, Some(ModuleFault::Symbol(1))),
+    (62, 0x02, Some(ModuleFault::Relocation(0))),
+    (67, 0x02, Some(ModuleFault::Relocation(0))),
+    (74, 0x80, Some(ModuleFault::Relocation(0))),
+];
+
+#[test]
+fn a_module_is_written_as_it_was_read(rt: HostRuntime) -> Result<(), Fail> {
+    let start = read_module(rt.alloc(), &START)?;
+    let bytes = module_bytes(rt.alloc(), &start)?;
+    assert_eq!(rt; bytes.as_slice(), START.as_slice());
+    assert_eq!(rt; verdict(&start), Ok(()));
+    Ok(())
+}
+
+#[test]
+fn a_byte_that_is_changed_is_refused_or_read(rt: HostRuntime) {
+    for (offset, byte, fault) in CHANGES {
+        let mut bytes = START;
+        if let Some(changed) = bytes.get_mut(offset) {
+            *changed = byte;
+        }
+        assert_eq!(rt; read_module(rt.alloc(), &bytes).err(), fault, "at {offset}");
+    }
+}
+
+#[test]
+fn the_front_of_a_module_is_cut(rt: HostRuntime) {
+    for length in 0..START.len() {
+        let fault = if length < 28 {
+            ModuleFault::Header
+        } else {
+            ModuleFault::Cut(length as u64)
+        };
+        assert_eq!(rt;
+            read_module(rt.alloc(), &START[..length]).err(),
+            Some(fault)
+        );
+    }
+}
+
+// `addq/v $1,$2,$3` alone, whose shadow is open at the end of the code.
+#[test]
+fn an_open_shadow_breaks_a_module(rt: HostRuntime) -> Result<(), Fail> {
+    let mut bytes = START;
+    let (header, behind) = bytes.split_at_mut(28);
+    header[8] = 1;
+    header[20] = 0;
+    header[24] = 0;
+    behind[..4].copy_from_slice(&[0x03, 0x0c, 0x22, 0x40]);
+    let open = read_module(rt.alloc(), &bytes[..32])?;
+    let broken = Broken {
+        trigger: 0,
+        at: 1,
+        condition: Condition::Open,
+    };
+    assert_eq!(rt; verdict(&open), Err(broken));
+    Ok(())
+}
