@@ -144,7 +144,7 @@ part_rejects whole part from s accepted p at c within h =
     }))
     (cases_lt i (length part))
 
-same_columns : (c d : Option Class) → c ≡ d → HaveSameColumns c d
+pub same_columns : (c d : Option Class) → c ≡ d → HaveSameColumns c d
 same_columns c d e = subst (HaveSameColumns c) e (record { kind = refl; sets = refl; uses = λ r. refl; access = refl; destination = refl })
 
 -- words at the front, and behind it

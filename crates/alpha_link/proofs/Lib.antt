@@ -8,3 +8,4 @@ pub mod RelocationBytes
 pub mod ModuleBytes
 pub mod Stages
 pub mod Joined
+pub mod Linked

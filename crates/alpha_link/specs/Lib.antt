@@ -7,3 +7,4 @@ pub mod Parts
 pub mod Spelled
 pub mod Module
 pub mod Alike
+pub mod Linked

@@ -1,4 +1,4 @@
-//! Why bytes are no module.
+//! Why bytes are no module, and why modules link to no image.
 
 ghost use Rattle.std.specs.Prelude.{◌≡◌};
 ghost use Rattle.alpha_link.specs.declared.fault.ModuleFault.TheVariants.{NoMemory};
@@ -51,4 +51,28 @@ impl<T: Drop> From<AllocFailed<T>> for ModuleFault {
     fn from(_: AllocFailed<T>) -> Self {
         ModuleFault::NoMemory
     }
+}
+
+/// Why modules link to no image. Modules, symbols and relocations are numbered from 0. The first refusal
+/// in the order of the variants is told, each with the least numbers.
+#[derive(Clone, Copy, Debug, PartialEq, Eq, Error)]
+pub enum LinkFault {
+    /// A module and its symbol that an earlier module defines too.
+    #[error("symbol {1} of module {0} is defined before")]
+    Duplicate(u32, u32),
+    /// A module and its symbol that no module defines.
+    #[error("symbol {1} of module {0} has no definition")]
+    Undefined(u32, u32),
+    /// The entry names no word of the code.
+    #[error("the entry names no word of the code")]
+    Entry,
+    /// The image would have a bad field: the least one's number.
+    #[error("field {0} of the image is bad")]
+    ImageField(u8),
+    /// A module and its relocation whose address doesn't fit.
+    #[error("relocation {1} of module {0} doesn't fit")]
+    Reach(u32, u32),
+    /// Memory ran out.
+    #[error("out of memory")]
+    NoMemory,
 }

@@ -1,10 +1,13 @@
 //! What holds of modules and bytes, whatever is read or written. The functions do nothing.
 
-ghost use Rattle.std.specs.Prelude.{◌≡◌, List, ℕ, All, Ok};
+ghost use Rattle.std.specs.Prelude.{◌≡◌, List, ℕ, All, Ok, IsSome};
 ghost use Rattle.std.specs.List.{concat};
-ghost use Rattle.alpha_image.specs.Parts.{IsByte};
+ghost use Rattle.alpha_table.specs.Decoded.{decoded};
+ghost use Rattle.alpha_image.specs.Parts.{Parts, IsByte, IsImage};
+ghost use Rattle.alpha_asm.specs.Program.{program_of};
 ghost use Rattle.alpha_shadow.specs.Broken.{IsAccepted};
 ghost use Rattle.alpha_link.specs.Alike.{AreAlike};
+ghost use Rattle.alpha_link.specs.Linked.{linked};
 ghost use Rattle.alpha_link.specs.Parts.{ModuleParts, IsModule};
 ghost use Rattle.alpha_link.specs.Spelled.{module_at, spelling};
 
@@ -24,4 +27,13 @@ pub fn laws_of_modules()
 pub fn laws_of_joined_code()
     ensures joined { (parts : List (List ℕ)) → All IsAccepted parts → IsAccepted (concat parts) }
     ensures alike { (a b : List ℕ) → AreAlike a b → IsAccepted a → IsAccepted b }
+{}
+
+/// Modules that were judged apart need not be judged again: where the code of each one is accepted, the
+/// image that they link to is accepted, whatever addresses are put in.
+pub fn laws_of_linked_code()
+    ensures accepted { (modules : List ModuleParts) (entry : List ℕ) (image : Parts) → IsImage image →
+        linked modules entry ≡ Ok (program_of image) →
+        All (λ m. All (λ word. IsSome (decoded word)) m.words × IsAccepted m.words) modules →
+        IsAccepted image.words }
 {}

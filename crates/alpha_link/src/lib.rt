@@ -36,6 +36,9 @@
 //! - [`verdict`] is the verdict on a module's code: that no place is broken, or the least broken place.
 //! - [`laws_of_joined_code`]: code that consists of accepted parts is accepted, and so is code whose words
 //!   have the columns of accepted code.
+//! - [`laws_of_linked_code`]: where the code of each module is accepted, the image that the modules link to
+//!   is accepted. [`LinkFault`] says why modules link to none. `specs/Linked.antt` defines the image; no
+//!   call here makes it yet.
 //!
 //! `header.rt` has the sizes at the front, `symbol.rt` and `relocation.rt` have what symbols and
 //! relocations are, `symbols.rt` and `relocations.rt` read and write them, `number.rt` little-endian
@@ -62,9 +65,9 @@ mod symbols;
 mod tests;
 mod write;
 
-pub use fault::ModuleFault;
+pub use fault::{LinkFault, ModuleFault};
 pub use judged::verdict;
-pub use laws::{laws_of_joined_code, laws_of_modules};
+pub use laws::{laws_of_joined_code, laws_of_linked_code, laws_of_modules};
 pub use module::Module;
 pub use read::read_module;
 pub use relocation::{Relocation, RelocationKind};

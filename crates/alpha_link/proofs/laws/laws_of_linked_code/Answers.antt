@@ -1,0 +1,5 @@
+use Rattle.alpha_link.proofs.Linked.{linked_accepted}
+use Rattle.alpha_link.proofs.laws.laws_of_linked_code.Goals as goal
+
+pub returns : goal.returns
+returns c = record { accepted = λ modules entry image good e all. linked_accepted modules entry image good e all }
