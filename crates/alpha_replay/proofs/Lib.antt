@@ -1,0 +1,5 @@
+pub mod ItemBytes
+pub mod Parsing
+pub mod Fields
+pub mod FrontBytes
+pub mod Spelled

@@ -1,0 +1,59 @@
+//! Journals: a run of the imprecise machine, step by step, as a file. A journal stands for exactly one
+//! list of bytes, and every other list of bytes is refused with its first fault.
+//!
+//! All numbers are little-endian:
+//!
+//! | Offset | Field |
+//! |---|---|
+//! | 0 | the 8 bytes `ALPHAJR1` |
+//! | 8 | the completion, a byte: 0 wrap, 1 saturate, 2 stop |
+//! | 9 | the kind of the ending, a byte |
+//! | 10, 18 | its two numbers, of 64 bits each |
+//! | 26, 30, 34 | how many bytes of input, bytes of output and items, of 32 bits each |
+//! | 38 | the input, then the output, then the items |
+//!
+//! The kinds of the ending: 0 none, 1 exit with a value, 2 signal with a code and a PC, 3 fetch with a PC,
+//! 4 access and 5 align, each with a PC and an address, 6 a lost trap with a PC and the bits of its mask,
+//! 7 an overflow with a PC. Numbers that a kind doesn't use are 0. Codes, addresses and masks may be such
+//! as no run has.
+//!
+//! An item is a byte and its numbers: 0 Units, with a number of 32 bits, at least 1; 1 Trigger, with a
+//! value of 64 bits; 2 Wait, with a flag, a byte that is 0 or 1, and a value of 64 bits; 3 Report. No
+//! Units follows a Units. Input and output have at most 8,388,608 bytes each, and there are at most
+//! 1,048,576 items, which use at most 1,000,000,000 units.
+//!
+//! - [`Journal`] is a good journal, and [`Item`] and [`Ending`] are parts of it. A clause sees its `Parts`.
+//! - [`read_journal`] answers the journal that bytes spell, or a [`JournalFault`]. [`journal_bytes`] gives
+//!   the spelling.
+//! - [`laws_of_journals`]: bytes have no fault exactly where they are the spelling of a good journal, and
+//!   that is one journal.
+//!
+//! `src/front.rt` reads what stands before the input, `src/items.rt` the items; `src/read.rt` and
+//! `src/write.rt` are the ways in and out. All tests of bytes come before the first memory is taken.
+//!
+//! `specs/Journal.antt` has what a journal is and its spelling, over the `specs/Items.antt` and the
+//! `specs/Endings.antt`; `specs/Reading.antt` what bytes say of a journal, and `specs/JournalFault.antt`
+//! their first fault. `specs/Inside.antt`, `specs/Front.antt` and `specs/Scanned.antt` say what the code
+//! keeps of them.
+#![tactic(auto)]
+
+mod ending;
+mod fault;
+mod front;
+mod item;
+mod items;
+mod journal;
+mod laws;
+mod number;
+mod read;
+#[cfg(test)]
+mod tests;
+mod write;
+
+pub use ending::Ending;
+pub use fault::JournalFault;
+pub use item::Item;
+pub use journal::Journal;
+pub use laws::laws_of_journals;
+pub use read::read_journal;
+pub use write::journal_bytes;
