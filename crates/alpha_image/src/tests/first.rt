@@ -52,7 +52,11 @@ fn words_and_places_end_with_the_code(rt: HostRuntime) -> Result<(), Fail> {
         (5, None),
     ] {
         assert_eq!(rt; code_word(&image, n), word);
-        assert_eq!(rt; image.insn(n), word.and_then(decode));
+        let insn = match word {
+            Some(word) => decode(word),
+            None => None,
+        };
+        assert_eq!(rt; image.insn(n), insn);
     }
     let places = [
         (0x1_0000, Some(0)),
