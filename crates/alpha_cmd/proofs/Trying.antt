@@ -1,11 +1,13 @@
 -- What a command tries, by its form.
-use Rattle.std.proofs.Common.{◌≡◌, ◌≢◌, ◌⊎◌, ◌∙◌, refl, sym, ap, subst, inl, inr}
+use Rattle.std.proofs.Common.{◌≡◌, ◌≢◌, ◌⊎◌, ◌∙◌, ℕ, List, Option, None, refl, sym, ap, subst, inl, inr}
 use Rattle.alpha_io.specs.Files.{Files}
+use Rattle.alpha_cmd.specs.declared.decision.Decision.{Decision}
 use Rattle.alpha_cmd.specs.declared.status.Status.{Status}
 use Rattle.alpha_cmd.specs.declared.status.Status.TheVariants.{ShelfFault, InputFault, SinkFault, NoMemory}
 use Rattle.alpha_cmd.specs.Status.{status_line}
 use Rattle.alpha_cmd.specs.Outcome.{stops}
 use Rattle.alpha_cmd.specs.Answer.{World, Answer, said}
+use Rattle.alpha_cmd.specs.Decision.{answer_in, SaysBy}
 use Rattle.alpha_cmd.specs.Form.{Form, Kind, MayTakeBy, SparesBy}
 use Rattle.alpha_cmd.specs.Tries.{CutBy, IsCutBy, FailsBy, TriesBy}
 use Rattle.alpha_cmd.proofs.Forms.{IsPlain, is_fault}
@@ -21,6 +23,12 @@ pub stopped : (shelf input : Type 0) (f : Form) (w : World) (s : Status) (t : An
     → TriesBy shelf input f w t
 stopped shelf input f w s t (inl h) is = inl (stops s (status_line s), h, is)
 stopped shelf input f w s t (inr h) is = inr (inl (cut_short shelf f w s t h is))
+
+-- with a line of its own
+pub stopped_by : (shelf input : Type 0) (f : Form) (w : World) (s : Status) (line : List ℕ) (t : Answer)
+    → f.steps w (stops s line) ⊎ (CutBy shelf s × (line ≡ status_line s)) → t ≡ said w.input s line → TriesBy shelf input f w t
+stopped_by shelf input f w s line t (inl h) is = inl (stops s line, h, is)
+stopped_by shelf input f w s line t (inr h) is = inr (inl (cut_short shelf f w s t h.0 (is ∙ ap (said w.input s) h.1)))
 
 -- without memory
 pub starts_not : (shelf input : Type 0) (f : Form) (w : World) (t : Answer) → t ≡ said w.input NoMemory (status_line NoMemory) → TriesBy shelf input f w t
@@ -84,3 +92,18 @@ MayTake-sink k s h = (h.0, inr (inr (inl refl)))
 pub Spares-sink : (k : Kind) (s : Status) (old new : Files) → SparesBy k s old new → SparesBy k SinkFault old new
 Spares-sink k s old new (inl h) = inl h
 Spares-sink k s old new (inr h) = inr (h.0, (h.1.0, inr (inr refl)), h.2)
+
+-- ---- a decision that says a status by a line
+
+-- what is cut short is said by the status's own line
+pub cut_line : (shelf : Type 0) (R : Type 0) (s : Status) → R ⊎ CutBy shelf s → R ⊎ (CutBy shelf s × (status_line s ≡ status_line s))
+cut_line shelf R s (inl h) = inl h
+cut_line shelf R s (inr h) = inr (h, refl)
+
+pub says_by : (Why : Status → List ℕ → Type 0) (d : Decision) (s : Status) (line : List ℕ) → ((left : Option (List ℕ)) → answer_in left d ≡ said left s line) → Why s line → SaysBy Why d
+says_by Why d s line is why =
+    let e = is None in
+    record {
+      why = subst (λ (a : Answer). Why a.status a.line) (sym e) why;
+      alone = ap (λ (a : Answer). a.output) e;
+    }

@@ -1,5 +1,5 @@
 -- The commands: the form of each, its kind, and the files that are there where it meets no missing one.
-use Rattle.alpha_request.specs.Command.{Command, check, dis, asm, run, imprecise, debug, trial}
+use Rattle.alpha_request.specs.Command.{Command, check, dis, asm, fix, run, imprecise, debug, trial}
 use Rattle.std.specs.Prelude.{ℕ, List}
 use Rattle.alpha_io.specs.Files.{Files}
 use Rattle.alpha_cmd.specs.declared.status.Status.{Status}
@@ -9,6 +9,7 @@ use Rattle.alpha_cmd.specs.Commands.Asm as assemblies
 use Rattle.alpha_cmd.specs.Commands.Check as checks
 use Rattle.alpha_cmd.specs.Commands.Debug as sessions
 use Rattle.alpha_cmd.specs.Commands.Dis as listings
+use Rattle.alpha_cmd.specs.Commands.Fix as fixes
 use Rattle.alpha_cmd.specs.Commands.Imprecise as wilds
 use Rattle.alpha_cmd.specs.Commands.Run as runs
 use Rattle.alpha_cmd.specs.Commands.Trial as trials
@@ -16,6 +17,7 @@ pub mod Asm
 pub mod Check
 pub mod Debug
 pub mod Dis
+pub mod Fix
 pub mod Imprecise
 pub mod Run
 pub mod Trial
@@ -24,6 +26,7 @@ abbrev pub form_of : Command → Form
 form_of (check file) = checks.form file
 form_of (dis file) = listings.form file
 form_of (asm file out) = assemblies.form file out
+form_of (fix file out) = fixes.form file out
 form_of (run options file) = runs.form options file
 form_of (imprecise options choices force file) = wilds.form options choices force file
 form_of (debug file) = sessions.form file
@@ -34,6 +37,7 @@ abbrev pub kind_of : Command → Kind
 kind_of (check file) = checks.kind
 kind_of (dis file) = listings.kind
 kind_of (asm file out) = assemblies.kind out
+kind_of (fix file out) = fixes.kind out
 kind_of (run options file) = runs.kind
 kind_of (imprecise options choices force file) = wilds.kind
 kind_of (debug file) = sessions.kind
@@ -44,6 +48,7 @@ abbrev pub there_of : Command → World → Type 0
 there_of (check file) = checks.there file
 there_of (dis file) = listings.there file
 there_of (asm file out) = assemblies.there file out
+there_of (fix file out) = fixes.there file out
 there_of (run options file) = runs.there file
 there_of (imprecise options choices force file) = wilds.there choices file
 there_of (debug file) = sessions.there file

@@ -7,9 +7,12 @@ use Rattle.alpha_operands.specs.declared.operands.LineFaultKind.TheVariants.{Bad
 use Rattle.alpha_asm.specs.declared.fault.AsmFault.{AsmFault}
 use Rattle.alpha_asm.specs.declared.fault.AsmFault.TheVariants as refusals
 use Rattle.alpha_io.specs.Line.{hex_digits}
+use Rattle.alpha_shadow.specs.declared.broken.Broken.{Broken}
+use Rattle.alpha_shadow.specs.Broken.{condition_number}
+use Rattle.alpha_shadow.specs.Report.{place_address}
 use Rattle.alpha_seq.specs.Notes.{end_line}
 use Rattle.alpha_cmd.specs.declared.status.Status.{Status}
-use Rattle.alpha_cmd.specs.declared.status.Status.TheVariants.{Done, NotRestartable, BadWords, BadSource, BadImage, Stopped, StepsSpent, Lost, ShelfFault, InputFault, SinkFault, TooLarge, NoMemory}
+use Rattle.alpha_cmd.specs.declared.status.Status.TheVariants.{Done, NotRestartable, BadWords, BadSource, BadImage, Stopped, StepsSpent, Lost, ShelfFault, InputFault, SinkFault, TooLarge, NoMemory, Unfixable, FixedLine, Far}
 
 -- `image kind K first F second S`: the kind of the fault and its numbers, 0 where there is none
 unfoldable pub numbered_line : ℕ → ℕ → ℕ → List ℕ
@@ -24,11 +27,11 @@ fault_line (faults.Length given wanted) = numbered_line 4 given wanted
 fault_line (faults.BadWord place word) = numbered_line 5 place word
 fault_line faults.NoMemory = numbered_line 6 0 0
 
--- `source kind K line L column C detail D`: the kind of the refusal and where it stands, 0 where that is nowhere. The detail is
--- the number of a line's fault, or the field.
-unfoldable pub placed_line : ℕ → ℕ → ℕ → ℕ → List ℕ
-placed_line kind line column detail =
-    codes "source kind " ++ decimal kind ++ codes " line " ++ decimal line ++ codes " column " ++ decimal column ++ codes " detail "
+-- A word and `kind K line L column C detail D`: the kind of the refusal and where it stands, 0 where that is nowhere. The detail
+-- is the number of a line's fault, or the field.
+unfoldable pub placed_line : List ℕ → ℕ → ℕ → ℕ → ℕ → List ℕ
+placed_line word kind line column detail =
+    word ++ codes " kind " ++ decimal kind ++ codes " line " ++ decimal line ++ codes " column " ++ decimal column ++ codes " detail "
     ++ decimal detail ++ 10 ∷ []
 
 abbrev pub kind_number : LineFaultKind → ℕ
@@ -37,16 +40,17 @@ kind_number UnknownName = 2
 kind_number BadOperands = 3
 kind_number OutOfRange = 4
 
-abbrev pub refusal_line : AsmFault → List ℕ
-refusal_line (refusals.Line line fault) = placed_line 1 line fault.column (kind_number fault.kind)
-refusal_line (refusals.Duplicate line) = placed_line 2 line 0 0
-refusal_line (refusals.Undefined line) = placed_line 3 line 0 0
-refusal_line (refusals.Reach line) = placed_line 4 line 0 0
-refusal_line (refusals.Section line) = placed_line 5 line 0 0
-refusal_line refusals.NoEntry = placed_line 6 0 0 0
-refusal_line (refusals.LongLine line) = placed_line 7 line 0 0
-refusal_line (refusals.ImageField field) = placed_line 8 0 0 field
-refusal_line refusals.NoMemory = placed_line 9 0 0 0
+-- the refusal of a source, of which a word says what it is
+abbrev pub refusal_line : List ℕ → AsmFault → List ℕ
+refusal_line word (refusals.Line line fault) = placed_line word 1 line fault.column (kind_number fault.kind)
+refusal_line word (refusals.Duplicate line) = placed_line word 2 line 0 0
+refusal_line word (refusals.Undefined line) = placed_line word 3 line 0 0
+refusal_line word (refusals.Reach line) = placed_line word 4 line 0 0
+refusal_line word (refusals.Section line) = placed_line word 5 line 0 0
+refusal_line word refusals.NoEntry = placed_line word 6 0 0 0
+refusal_line word (refusals.LongLine line) = placed_line word 7 line 0 0
+refusal_line word (refusals.ImageField field) = placed_line word 8 0 0 field
+refusal_line word refusals.NoMemory = placed_line word 9 0 0 0
 
 -- `too large L`
 unfoldable pub limit_line : ℕ → List ℕ
@@ -55,6 +59,16 @@ limit_line limit = codes "too large " ++ decimal limit ++ 10 ∷ []
 -- `lost A mask M`
 unfoldable pub lost_line : ℕ → ℕ → List ℕ
 lost_line pc mask = codes "lost " ++ hex_digits pc ++ codes " mask " ++ decimal mask ++ 10 ∷ []
+
+-- `unfixable trigger A at B condition Cn`: a trigger that is broken at its own place, in an image with this code base
+unfoldable pub unfixable_line : Broken → ℕ → List ℕ
+unfixable_line b code_base =
+    codes "unfixable trigger " ++ hex_digits (place_address code_base b.trigger) ++ codes " at " ++ hex_digits (place_address code_base b.at)
+    ++ codes " condition C" ++ decimal (condition_number b.condition) ++ 10 ∷ []
+
+-- `fixed line L`
+unfoldable pub fixing_line : ℕ → List ℕ
+fixing_line line = codes "fixed line " ++ decimal line ++ 10 ∷ []
 
 -- A call did what was asked. It was refused, by what the words and the files say or by how the program ended. Or a device
 -- failed, or memory ran out.
@@ -71,12 +85,12 @@ pub record Row : Type 0 where
 abbrev pub row : ℕ → List ℕ → Class → Row
 row number line class = record { number = number; line = line; class = class }
 
--- a broken place's own line needs the image's code base, and a failed sink gets none
+-- the line of a broken place needs the image's code base, and a failed sink gets none
 abbrev pub row_of : Status → Row
 row_of (Done n) = row 0 [] done
 row_of (NotRestartable b) = row 1 [] refused
 row_of BadWords = row 2 (codes "words" ++ 10 ∷ []) refused
-row_of (BadSource fault) = row 3 (refusal_line fault) refused
+row_of (BadSource fault) = row 3 (refusal_line (codes "source") fault) refused
 row_of (BadImage fault) = row 4 (fault_line fault) refused
 row_of (Stopped end) = row 5 (end_line end) refused
 row_of StepsSpent = row 6 (codes "steps" ++ 10 ∷ []) refused
@@ -86,6 +100,9 @@ row_of InputFault = row 9 (codes "input" ++ 10 ∷ []) failed
 row_of SinkFault = row 10 [] failed
 row_of (TooLarge limit) = row 11 (limit_line limit) refused
 row_of NoMemory = row 12 (codes "no memory" ++ 10 ∷ []) failed
+row_of (Unfixable b) = row 13 [] refused
+row_of (FixedLine line) = row 14 (fixing_line line) refused
+row_of (Far fault) = row 15 (refusal_line (codes "far") fault) refused
 
 abbrev pub status_number : Status → ℕ
 status_number status = (row_of status).number

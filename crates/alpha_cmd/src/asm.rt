@@ -17,6 +17,7 @@ ghost use Rattle.alpha_cmd.specs.Tries.{CutBy, TriesBy};
 use crate::Status;
 use crate::decision::Decision;
 use crate::image::read_file;
+use crate::keep::keep_as;
 use alpha_asm::{AsmFault, assemble};
 use alpha_image::image_bytes;
 use alpha_io::Shelf;
@@ -40,10 +41,7 @@ pub(crate) fn asm<H: Shelf>(alloc: Global, file: &str, out: &str, shelf: &mut H)
         (H.files shelf.old) (H.files shelf.new) }
 {
     match made(alloc, shelf, file) {
-        Ok(bytes) => match shelf.keep(out, bytes.as_slice()) {
-            Ok(()) => Decision::said(Status::Done(0)),
-            Err(_) => Decision::said(Status::ShelfFault),
-        },
+        Ok(bytes) => keep_as(bytes.as_slice(), out, shelf),
         Err(status) => Decision::said(status),
     }
 }

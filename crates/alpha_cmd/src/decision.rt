@@ -2,7 +2,7 @@ ghost use Rattle.std.specs.Prelude.{◌≡◌, ◌≢◌, ◌⊎◌, ℕ, List, 
 ghost use Rattle.alpha_io.specs.Sunk.{sunk, Puts, Partly, HasFailed};
 ghost use Rattle.alpha_shadow.specs.Report.{broken_line};
 ghost use Rattle.alpha_seq.specs.Notes.{end_line};
-ghost use Rattle.alpha_cmd.specs.Status.{status_line};
+ghost use Rattle.alpha_cmd.specs.Status.{status_line, unfixable_line};
 ghost use Rattle.alpha_cmd.specs.Answer.{said};
 ghost use Rattle.alpha_cmd.specs.Commands.Check.{accepted};
 ghost use Rattle.alpha_cmd.specs.Commands.Imprecise.{drawn_status};
@@ -10,7 +10,7 @@ ghost use Rattle.alpha_cmd.specs.Commands.Run.{end_status};
 ghost use Rattle.alpha_cmd.specs.Decision.{answer_in};
 
 use crate::Status;
-use crate::line::{line_of, text};
+use crate::line::{line_of, text, unfixable_line};
 use alpha_io::{Failed, Line, Sink, write_whole};
 use alpha_seq::{End, line_of_end};
 use alpha_shadow::{Broken, line_of_broken};
@@ -60,6 +60,19 @@ impl Decision {
         let line = line_of_broken(&broken, code_base);
         Decision {
             status: Status::NotRestartable(broken),
+            output: Line::new(),
+            line,
+        }
+    }
+
+    /// A trigger that is broken at its own place, in an image with this code base.
+    pub(crate) fn unfixable(broken: Broken, code_base: u64) -> Decision
+        ensures { (left : Option (List ℕ)) → answer_in left result
+            ≡ said left (Status.Unfixable broken) (unfixable_line broken code_base) }
+    {
+        let line = unfixable_line(&broken, code_base);
+        Decision {
+            status: Status::Unfixable(broken),
             output: Line::new(),
             line,
         }

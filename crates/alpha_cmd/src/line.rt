@@ -2,13 +2,15 @@
 
 ghost use Rattle.std.specs.Prelude.{◌≡◌, ◌≤◌, length};
 ghost use Rattle.alpha_io.specs.declared.line.TheConstants.{LINE_ROOM};
-ghost use Rattle.alpha_cmd.specs.Status.{status_line, fault_line, kind_number, limit_line, lost_line, numbered_line, placed_line, refusal_line};
+ghost use Rattle.alpha_shadow.specs.Report.{place_address};
+ghost use Rattle.alpha_cmd.specs.Status.{status_line, fault_line, fixing_line, kind_number, limit_line, lost_line, numbered_line, placed_line, refusal_line, unfixable_line};
 
 use crate::Status;
 use alpha_asm::AsmFault;
 use alpha_image::ImageFault;
 use alpha_io::Line;
 use alpha_seq::line_of_end;
+use alpha_shadow::Broken;
 use alpha_text::{LineFault, LineFaultKind};
 use alpha_trap::Lost;
 
@@ -17,9 +19,10 @@ pub(crate) fn line_of(status: &Status) -> Line
     ensures { result ≡ status_line status.now }
 {
     match status {
-        Status::Done(_) | Status::NotRestartable(_) | Status::SinkFault => Line::new(),
+        Status::Done(_) | Status::SinkFault => Line::new(),
+        Status::NotRestartable(_) | Status::Unfixable(_) => Line::new(),
         Status::BadWords => text(b"words\n"),
-        Status::BadSource(fault) => refusal_line(fault),
+        Status::BadSource(fault) => refusal_line(b"source", fault),
         Status::BadImage(fault) => fault_line(fault),
         Status::Stopped(end) => line_of_end(end),
         Status::StepsSpent => text(b"steps\n"),
@@ -28,6 +31,8 @@ pub(crate) fn line_of(status: &Status) -> Line
         Status::InputFault => text(b"input\n"),
         Status::TooLarge(limit) => limit_line(*limit),
         Status::NoMemory => text(b"no memory\n"),
+        Status::FixedLine(line) => fixing_line(*line),
+        Status::Far(fault) => refusal_line(b"far", fault),
     }
 }
 
@@ -41,22 +46,29 @@ pub(crate) fn text(bytes: &[u8]) -> Line
     line
 }
 
-// `source kind K line L column C detail D`, the numbers 0 where there is none.
-fn refusal_line(fault: &AsmFault) -> Line
-    ensures { result ≡ refusal_line fault.now }
+// A word and `kind K line L column C detail D`, the numbers 0 where there is none.
+fn refusal_line(word: &[u8], fault: &AsmFault) -> Line
+    requires { length word.now ≤ 8 }
+    ensures { result ≡ refusal_line word.now fault.now }
 {
     match *fault {
         AsmFault::Line(line, LineFault { kind, column }) => {
-            placed_line(1, u64::from(line), u64::from(column), kind_number(kind))
+            placed_line(
+                word,
+                1,
+                u64::from(line),
+                u64::from(column),
+                kind_number(kind),
+            )
         }
-        AsmFault::Duplicate(line) => placed_line(2, u64::from(line), 0, 0),
-        AsmFault::Undefined(line) => placed_line(3, u64::from(line), 0, 0),
-        AsmFault::Reach(line) => placed_line(4, u64::from(line), 0, 0),
-        AsmFault::Section(line) => placed_line(5, u64::from(line), 0, 0),
-        AsmFault::NoEntry => placed_line(6, 0, 0, 0),
-        AsmFault::LongLine(line) => placed_line(7, u64::from(line), 0, 0),
-        AsmFault::ImageField(field) => placed_line(8, 0, 0, u64::from(field)),
-        AsmFault::NoMemory => placed_line(9, 0, 0, 0),
+        AsmFault::Duplicate(line) => placed_line(word, 2, u64::from(line), 0, 0),
+        AsmFault::Undefined(line) => placed_line(word, 3, u64::from(line), 0, 0),
+        AsmFault::Reach(line) => placed_line(word, 4, u64::from(line), 0, 0),
+        AsmFault::Section(line) => placed_line(word, 5, u64::from(line), 0, 0),
+        AsmFault::NoEntry => placed_line(word, 6, 0, 0, 0),
+        AsmFault::LongLine(line) => placed_line(word, 7, u64::from(line), 0, 0),
+        AsmFault::ImageField(field) => placed_line(word, 8, 0, 0, u64::from(field)),
+        AsmFault::NoMemory => placed_line(word, 9, 0, 0, 0),
     }
 }
 
@@ -72,11 +84,13 @@ fn kind_number(kind: LineFaultKind) -> u64
 }
 
 #[tactic(auto, unfolding(crate::specs::Status::placed_line))]
-fn placed_line(kind: u64, line: u64, column: u64, detail: u64) -> Line
-    ensures { result ≡ placed_line kind line column detail }
+fn placed_line(word: &[u8], kind: u64, line: u64, column: u64, detail: u64) -> Line
+    requires { length word.now ≤ 8 }
+    ensures { result ≡ placed_line word.now kind line column detail }
 {
     let mut text = Line::new();
-    text.push(b"source kind ");
+    text.push(word);
+    text.push(b" kind ");
     text.push_decimal(kind);
     text.push(b" line ");
     text.push_decimal(line);
@@ -139,4 +153,38 @@ fn lost_line(lost: &Lost) -> Line
     line.push_decimal(u64::from(lost.mask.bits()));
     line.end();
     line
+}
+
+/// `unfixable trigger A at B condition Cn`, with the addresses of the trigger and of the place.
+#[tactic(auto, unfolding(crate::specs::Status::unfixable_line))]
+pub(crate) fn unfixable_line(broken: &Broken, code_base: u64) -> Line
+    ensures { result ≡ unfixable_line broken.now code_base }
+{
+    let mut line = Line::new();
+    line.push(b"unfixable trigger ");
+    line.push_hex(address(code_base, broken.trigger));
+    line.push(b" at ");
+    line.push_hex(address(code_base, broken.at));
+    line.push(b" condition C");
+    line.push_decimal(u64::from(broken.condition.number()));
+    line.end();
+    line
+}
+
+// The address of a place, modulo 2^64.
+fn address(code_base: u64, place: u32) -> u64
+    ensures { result ≡ place_address code_base place }
+{
+    code_base.wrapping_add(4 * u64::from(place))
+}
+
+#[tactic(auto, unfolding(crate::specs::Status::fixing_line))]
+fn fixing_line(line: u32) -> Line
+    ensures { result ≡ fixing_line line }
+{
+    let mut text = Line::new();
+    text.push(b"fixed line ");
+    text.push_decimal(u64::from(line));
+    text.end();
+    text
 }

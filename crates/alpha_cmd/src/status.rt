@@ -37,6 +37,14 @@ pub enum Status {
     TooLarge(u64),
     /// Memory ran out.
     NoMemory,
+    /// A trigger of the source's code is broken at its own place, where no barrier helps: the first
+    /// one, by its first condition.
+    Unfixable(Broken),
+    /// The source needs a barrier, and a line of it fixes where words stand: the first such line,
+    /// numbered from 1.
+    FixedLine(u32),
+    /// The source with its barriers defines no image: its first refusal.
+    Far(AsmFault),
 }
 
 impl Status {
@@ -60,6 +68,9 @@ impl Status {
             Status::SinkFault => 10,
             Status::TooLarge(_) => 11,
             Status::NoMemory => 12,
+            Status::Unfixable(_) => 13,
+            Status::FixedLine(_) => 14,
+            Status::Far(_) => 15,
         }
     }
 }

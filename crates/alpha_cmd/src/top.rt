@@ -28,6 +28,7 @@ use crate::check::check;
 use crate::debug::debug;
 use crate::decision::Decision;
 use crate::dis::dis;
+use crate::fix::fix;
 use crate::imprecise::{Asked, imprecise};
 use crate::run::run;
 use crate::trial::trial;
@@ -39,7 +40,8 @@ use std::alloc::Global;
 ///
 /// `check FILE` judges the image of the file: `accepted` goes to the output, or the line of the
 /// least broken place to the notes. `dis FILE` writes its listing to the output. `asm FILE OUT`
-/// assembles the source of the file, and keeps its image as OUT. `run FILE` runs an image's
+/// assembles the source of the file, and keeps its image as OUT. `fix FILE OUT` keeps the source with
+/// the barriers that it needs as OUT. `run FILE` runs an image's
 /// program over the input: what it puts goes to the output, and the lines of the run to the notes.
 /// `run --imprecise FILE` does so by the imprecise machine: an image that `check` refuses is refused,
 /// unless `--force` is given, and an accepted one has what `run FILE` has. `debug FILE` answers the
@@ -209,6 +211,7 @@ fn perform<H: Shelf, S: Source, K: Sink, N: Sink>(
         Request::Check { file } => Ok(check(alloc, file, shelf)),
         Request::Dis { file } => dis(alloc, file, shelf, out),
         Request::Asm { file, out } => Ok(asm(alloc, file, out, shelf)),
+        Request::Fix { file, out } => Ok(fix(alloc, file, out, shelf)),
         Request::RunImprecise {
             options,
             choices,

@@ -10,6 +10,7 @@ mod asm;
 mod check;
 mod debug;
 mod dis;
+mod fix;
 mod run;
 mod trial;
 
@@ -26,6 +27,7 @@ pub(crate) fn command_for<'a>(alloc: Global, name: Name) -> Result<Command<'a>, 
         Name::Check => check::command(alloc),
         Name::Dis => dis::command(alloc),
         Name::Asm => asm::command(alloc),
+        Name::Fix => fix::command(alloc),
         Name::Run => run::command(alloc),
         Name::Debug => debug::command(alloc),
         Name::Trial => trial::command(alloc),
@@ -40,6 +42,7 @@ pub(crate) fn request_in<'a>(name: Name, matches: &ArgMatches<'a>) -> Result<Req
         Name::Check => check::request(matches),
         Name::Dis => dis::request(matches),
         Name::Asm => asm::request(matches),
+        Name::Fix => fix::request(matches),
         Name::Run => run::request(matches),
         Name::Debug => debug::request(matches),
         Name::Trial => trial::request(matches),

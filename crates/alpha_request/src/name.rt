@@ -10,6 +10,8 @@ pub(crate) enum Name {
     Dis,
     /// `asm`
     Asm,
+    /// `fix`
+    Fix,
     /// `run`
     Run,
     /// `debug`
@@ -26,6 +28,7 @@ pub(crate) fn name_of(word: &str) -> Option<Name>
         "check" => Some(Name::Check),
         "dis" => Some(Name::Dis),
         "asm" => Some(Name::Asm),
+        "fix" => Some(Name::Fix),
         "run" => Some(Name::Run),
         "debug" => Some(Name::Debug),
         "trial" => Some(Name::Trial),

@@ -28,6 +28,13 @@ pub enum Request<'a> {
         /// The name under which the image is kept.
         out: &'a str,
     },
+    /// `fix FILE OUT`: the source FILE with the barriers that it needs, kept as OUT.
+    Fix {
+        /// The name of the source.
+        file: &'a str,
+        /// The name under which the source with the barriers is kept.
+        out: &'a str,
+    },
     /// `run FILE`: a run of the image FILE by the sequential machine.
     Run {
         /// How it is run.

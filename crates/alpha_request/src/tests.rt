@@ -14,6 +14,7 @@ fn asked(alloc: Global, words: &[&str]) -> Result<Option<(&'static str, String)>
         Ok(Request::Dis { file }) => Ok(Some(("dis", String::from_str(alloc, file)?))),
         Ok(Request::Debug { file }) => Ok(Some(("debug", String::from_str(alloc, file)?))),
         Ok(Request::Asm { file, .. }) => Ok(Some(("asm", String::from_str(alloc, file)?))),
+        Ok(Request::Fix { file, .. }) => Ok(Some(("fix", String::from_str(alloc, file)?))),
         Ok(Request::Run { file, .. } | Request::RunImprecise { file, .. }) => Ok(Some((
             "run",
             String::from_str(alloc, file)?,
@@ -92,14 +93,14 @@ fn a_listing_and_a_debugger_have_one_file(rt: HostRuntime) -> Result<(), Fail> {
     Ok(())
 }
 
-// The source and the name for the image, if the words ask for an assembly.
-fn assembly(alloc: Global, words: &[&str]) -> Result<Option<(String, String)>, Fail> {
+// The source and the name under which something is kept, if the words ask for that.
+fn made(alloc: Global, words: &[&str]) -> Result<Option<(String, String)>, Fail> {
     let mut given = Words::new(alloc);
     for word in words {
         given.push(word)?;
     }
     match request_of(alloc, &given) {
-        Ok(Request::Asm { file, out }) => Ok(Some((
+        Ok(Request::Asm { file, out } | Request::Fix { file, out }) => Ok(Some((
             String::from_str(alloc, file)?,
             String::from_str(alloc, out)?,
         ))),
@@ -109,29 +110,32 @@ fn assembly(alloc: Global, words: &[&str]) -> Result<Option<(String, String)>, F
 }
 
 #[test]
-fn an_assembly_has_a_source_and_then_a_name_for_the_image(rt: HostRuntime) -> Result<(), Fail> {
+fn a_source_comes_before_the_name_of_what_is_made(rt: HostRuntime) -> Result<(), Fail> {
     let alloc = rt.alloc();
-    let rows: [(&[&str], (&str, &str)); 3] = [
+    let rows: [(&[&str], (&str, &str)); 4] = [
         (&["asm", "a", "b"], ("a", "b")),
+        (&["fix", "a", "b"], ("a", "b")),
         (&["asm", "a", "--", "-b"], ("a", "-b")),
         (&["asm", "a", "a"], ("a", "a")),
     ];
     for (words, (file, out)) in rows {
-        match assembly(alloc, words)? {
+        match made(alloc, words)? {
             Some(found) => {
                 assert!(rt; found.0.as_str() == file && found.1.as_str() == out);
             }
-            None => return Err(Fail::from("no assembly")),
+            None => return Err(Fail::from("nothing is made")),
         }
     }
-    let refused: [&[&str]; 4] = [
+    let refused: [&[&str]; 6] = [
+        &["fix", "a"],
+        &["fix", "a", "b", "c"],
         &["asm"],
         &["asm", "a"],
         &["asm", "a", "b", "c"],
         &["asm", "-o", "b", "a"],
     ];
     for words in refused {
-        assert!(rt; assembly(alloc, words)?.is_none());
+        assert!(rt; made(alloc, words)?.is_none());
     }
     Ok(())
 }

@@ -17,7 +17,7 @@ use Rattle.alpha_cmd.proofs.Lawful.{Lawful, HasOutcome, Either-single, Says-one,
 use Rattle.alpha_cmd.proofs.Stages.{Reads-lawful}
 use Rattle.alpha_cmd.proofs.Forms.{IsLawfulForm, making_lawful}
 
-same_refused : (source : List ℕ) (s t : Status) → NoProgram source s → NoProgram source t → s ≡ t
+pub same_refused : (source : List ℕ) (s t : Status) → NoProgram source s → NoProgram source t → s ≡ t
 same_refused source s t (f, is, first) (g, also, second) = let same : f ≡ g = cc in is ∙ (ap BadSource same ∙ sym also)
 
 made_apart : (source bytes : List ℕ) (s : Status) → IsMade source bytes → NoProgram source s → ⊥

@@ -8,6 +8,7 @@ use Rattle.alpha_cmd.specs.Answer.{world}
 use Rattle.alpha_cmd.specs.Decision.{answer_in}
 use Rattle.alpha_cmd.specs.Commands.Asm as assemblies
 use Rattle.alpha_cmd.specs.Commands.Check as checks
+use Rattle.alpha_cmd.specs.Commands.Fix as fixes
 use Rattle.alpha_cmd.specs.Tries.{TriesBy}
 use Rattle.alpha_cmd.proofs.Endings.{Leaves-all, Leaves-kept}
 use Rattle.alpha_cmd.proofs.top.perform.Goals as goal
@@ -37,6 +38,18 @@ returns-in-Asm-clause-tried g c =
     rw c.in-Asm.is
     (Leaves-kept (TriesBy shelf input (assemblies.form c.in-Asm.file.now c.in-Asm.out.now) w) (answer_in (g.S.Source.left c.args.input.now) c.asm.result) settled.0
     (shelved g.H.Shelf c.args.shelf.now c.asm.new.shelf)
+    (g.K.Sink.written c.args.out.now) (g.N.Sink.written c.args.notes.now) (g.K.Sink.faults c.args.out.now) (g.N.Sink.faults c.args.notes.now)
+    settled.1 settled.2)
+
+pub returns-in-Fix-clause-tried : goal.returns-in-Fix-clause-tried
+returns-in-Fix-clause-tried g c =
+    let w = world g.H.Shelf g.S.Source c.args.shelf.now c.args.input.now in
+    let shelf = Rose (g.H.Shelf.faults c.args.shelf.now) (g.H.Shelf.faults c.fix.new.shelf) in
+    let input = Rose (g.S.Source.faults c.args.input.now) (g.S.Source.faults c.args.input.now) in
+    let settled = c.fix.ensures.tried (drawn g.S.Source c.args.input.now c.args.input.now) in
+    rw c.in-Fix.is
+    (Leaves-kept (TriesBy shelf input (fixes.form c.in-Fix.file.now c.in-Fix.out.now) w) (answer_in (g.S.Source.left c.args.input.now) c.fix.result) settled.0
+    (shelved g.H.Shelf c.args.shelf.now c.fix.new.shelf)
     (g.K.Sink.written c.args.out.now) (g.N.Sink.written c.args.notes.now) (g.K.Sink.faults c.args.out.now) (g.N.Sink.faults c.args.notes.now)
     settled.1 settled.2)
 

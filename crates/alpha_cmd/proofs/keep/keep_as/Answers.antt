@@ -1,0 +1,55 @@
+use Rattle.std.proofs.Common.{List, ℕ, Option, length, refl, ap, subst, sym, inl, inr, ⊎_elim}
+use Rattle.alpha_io.specs.Faults.{Rose}
+use Rattle.alpha_io.specs.Files.{Refuses}
+use Rattle.alpha_io.specs.Shelved.{shelved}
+use Rattle.alpha_cmd.specs.declared.status.Status.TheVariants.{ShelfFault}
+use Rattle.alpha_cmd.specs.Answer.{World, Answer, kept_as}
+use Rattle.alpha_cmd.specs.Decision.{answer_in}
+use Rattle.alpha_cmd.specs.Ends.{Settles}
+use Rattle.alpha_cmd.specs.Form.{MayKeepBy, keeps_last}
+use Rattle.alpha_cmd.specs.Keeping.{TriesKeep}
+use Rattle.alpha_cmd.specs.Kept.{nothing, file, spoilt}
+use Rattle.alpha_cmd.specs.Outcome.{goes, stops}
+use Rattle.alpha_cmd.specs.Status.{status_line}
+use Rattle.alpha_cmd.proofs.keep.keep_as.Goals as goal
+
+pub returns-in-Ok-clause-tried : goal.returns-in-Ok-clause-tried
+returns-in-Ok-clause-tried g c = λ input.
+    let out = c.args.out.now in
+    let bytes = c.args.bytes.now in (
+      file out bytes,
+      inl (
+        goes (kept_as input out bytes),
+        ((λ untaken. let no = (c.in-Ok.ensures.cause.refusal untaken).0 in cc), refl),
+        ap (λ (a : Answer). record a { kept = file out bytes }) (c.said.ensures.answer input),
+      ),
+      (c.in-Ok.ensures.ok, c.in-Ok.ensures.others),
+    )
+
+pub returns-in-Ok-clause-files : goal.returns-in-Ok-clause-files
+returns-in-Ok-clause-files g c =
+    inr (c.args.out.now, subst (λ s. MayKeepBy (keeps_last c.args.out.now) s c.args.out.now) (sym c.said.ensures.status) (refl, inl refl), c.in-Ok.ensures.others)
+
+pub returns-in-Err-clause-tried : goal.returns-in-Err-clause-tried
+returns-in-Err-clause-tried g c = λ input.
+    let w : World = record { files = g.H.Shelf.files c.args.shelf.now; takes = g.H.Shelf.takes c.args.shelf.now; input = input } in
+    let out = c.args.out.now in
+    let bytes = c.args.bytes.now in
+    let rose = Rose (g.H.Shelf.faults c.args.shelf.now) (g.H.Shelf.faults c.keep.new.self) in
+    let refusal = Refuses w.files (w.takes out (length bytes)) in
+    let all = shelved g.H.Shelf c.args.shelf.now c.keep.new.self in
+    let rest = answer_in input c.said-in-Err.result in
+    let is = c.said-in-Err.ensures.answer input in
+    let failed : rose → Settles (TriesKeep rose w out bytes) rest all =
+    λ cause. (spoilt out, inr (cause, ap (λ (a : Answer). record a { kept = spoilt out }) is), c.in-Err.ensures.others) in
+    let untaken : refusal → Settles (TriesKeep rose w out bytes) rest all =
+    λ h. (
+      nothing,
+      inl (stops ShelfFault (status_line ShelfFault), ((refl, h), refl), ap (λ (a : Answer). record a { kept = nothing }) is),
+      c.in-Err.ensures.refused h,
+    ) in
+    ⊎_elim failed untaken c.in-Err.ensures.cause.err
+
+pub returns-in-Err-clause-files : goal.returns-in-Err-clause-files
+returns-in-Err-clause-files g c =
+    inr (c.args.out.now, subst (λ s. MayKeepBy (keeps_last c.args.out.now) s c.args.out.now) (sym c.said-in-Err.ensures.status) (refl, inr (inl refl)), c.in-Err.ensures.others)
