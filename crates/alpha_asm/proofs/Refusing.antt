@@ -3,40 +3,41 @@ use Rattle.std.proofs.Common.{◌≡◌, ℕ, ◌+◌, ◌<◌, ◌≤◌, List,
 use Rattle.std.proofs.lemmas.Bool.Decides.{nat_tests}
 use Rattle.alpha_text.specs.declared.reader.LineFault.{LineFault}
 use Rattle.alpha_text.specs.Reading.{LineSaid, read}
+use Rattle.alpha_asm.specs.declared.kind.SourceKind.{SourceKind}
 use Rattle.alpha_asm.specs.declared.place.Spot.{Spot}
 use Rattle.alpha_asm.specs.declared.fault.AsmFault.TheVariants.{Line, Section, Duplicate, LongLine}
 use Rattle.alpha_asm.specs.declared.pass.Pass.{Pass}
-use Rattle.alpha_asm.specs.Layout.{layout, fields, spot_of, is_misplaced, repeats_field, repeats_label}
+use Rattle.alpha_asm.specs.Layout.{layout, fields, spot_of, is_misplaced, is_barred, is_misplaced_in, repeats_field, repeats_label}
 use Rattle.alpha_asm.specs.Assembled.{item_at, refused_read, refused}
 use Rattle.alpha_asm.specs.Pass.{place_of, spot_at, fields_read, refused_here, AddsItem, Stands}
 use Rattle.alpha_asm.proofs.Growing.{grow}
 
-pub long_line : (is : List LineSaid) (line : List ℕ) (p : Pass) → Stands is p → 1024 < length line → refused is line ≡ Some (LongLine (p.line + 1))
+pub long_line : (kind : SourceKind) (is : List LineSaid) (line : List ℕ) (p : Pass) → Stands is p → 1024 < length line → refused kind is line ≡ Some (LongLine (p.line + 1))
 unfolding refused
-long_line is line p s h = let t : nat_lt 1024 (length line) ≡ true = grind (arith, nat_tests) in rw t (ap (λ n. Some (LongLine (n + 1))) (sym s.line))
+long_line kind is line p s h = let t : nat_lt 1024 (length line) ≡ true = grind (arith, nat_tests) in rw t (ap (λ n. Some (LongLine (n + 1))) (sym s.line))
 
-short_line : (is : List LineSaid) (line : List ℕ) → length line ≤ 1024 → refused is line ≡ refused_read is (length is + 1) (read line)
+short_line : (kind : SourceKind) (is : List LineSaid) (line : List ℕ) → length line ≤ 1024 → refused kind is line ≡ refused_read kind is (length is + 1) (read line)
 unfolding refused
-short_line is line h = let t : nat_lt 1024 (length line) ≡ false = grind (arith, nat_tests) in rw t refl
+short_line kind is line h = let t : nat_lt 1024 (length line) ≡ false = grind (arith, nat_tests) in rw t refl
 
-pub bad_line : (is : List LineSaid) (line : List ℕ) (fault : LineFault) (p : Pass) → Stands is p → length line ≤ 1024 → read line ≡ Err fault → refused is line ≡ Some (Line (p.line + 1) fault)
-bad_line is line fault p s h e = short_line is line h ∙ (ap (refused_read is (length is + 1)) e ∙ ap (λ n. Some (Line (n + 1) fault)) (sym s.line))
+pub bad_line : (kind : SourceKind) (is : List LineSaid) (line : List ℕ) (fault : LineFault) (p : Pass) → Stands is p → length line ≤ 1024 → read line ≡ Err fault → refused kind is line ≡ Some (Line (p.line + 1) fault)
+bad_line kind is line fault p s h e = short_line kind is line h ∙ (ap (refused_read kind is (length is + 1)) e ∙ ap (λ n. Some (Line (n + 1) fault)) (sym s.line))
 
 same_label : (spots others : List ℕ → Option Spot) (l : Option (List ℕ)) → ((n : List ℕ) → spots n ≡ others n) → repeats_label others l ≡ repeats_label spots l
 same_label spots others None same = refl
 same_label spots others (Some label) same = ap is_some (sym (same label))
 
-pub item_line : (is : List LineSaid) (line : List ℕ) (i : LineSaid) (p : Pass) → Stands is p → length line ≤ 1024 → read line ≡ Ok i → refused is line ≡ refused_here p i
-item_line is line i p s h e =
-    short_line is line h ∙ (ap (refused_read is (length is + 1)) e
-    ∙ (ap (λ q. cond (is_misplaced q i.statement) (Some (Section (length is + 1))) (cond (repeats_field (fields (layout is)) i.statement || repeats_label (spot_of (layout is)) i.label) (Some (Duplicate (length is + 1))) None)) (sym s.place)
-    ∙ (ap (λ f. cond (is_misplaced (place_of p) i.statement) (Some (Section (length is + 1))) (cond (repeats_field f i.statement || repeats_label (spot_of (layout is)) i.label) (Some (Duplicate (length is + 1))) None)) (sym s.fields)
-    ∙ (ap (λ b. cond (is_misplaced (place_of p) i.statement) (Some (Section (length is + 1))) (cond (repeats_field (fields_read p.fields) i.statement || b) (Some (Duplicate (length is + 1))) None)) (same_label (spot_at p) (spot_of (layout is)) i.label s.labels)
-    ∙ ap (λ (n : ℕ). cond (is_misplaced (place_of p) i.statement) (Some (Section (n + 1))) (cond (repeats_field (fields_read p.fields) i.statement || repeats_label (spot_at p) i.label) (Some (Duplicate (n + 1))) None)) (sym s.line)))))
+pub item_line : (kind : SourceKind) (is : List LineSaid) (line : List ℕ) (i : LineSaid) (p : Pass) → Stands is p → length line ≤ 1024 → read line ≡ Ok i → refused kind is line ≡ refused_here kind p i
+item_line kind is line i p s h e =
+    short_line kind is line h ∙ (ap (refused_read kind is (length is + 1)) e
+    ∙ (ap (λ q. cond (is_misplaced_in kind q i.statement) (Some (Section (length is + 1))) (cond (repeats_field (fields (layout is)) i.statement || repeats_label (spot_of (layout is)) i.label) (Some (Duplicate (length is + 1))) None)) (sym s.place)
+    ∙ (ap (λ f. cond (is_misplaced_in kind (place_of p) i.statement) (Some (Section (length is + 1))) (cond (repeats_field f i.statement || repeats_label (spot_of (layout is)) i.label) (Some (Duplicate (length is + 1))) None)) (sym s.fields)
+    ∙ (ap (λ b. cond (is_misplaced_in kind (place_of p) i.statement) (Some (Section (length is + 1))) (cond (repeats_field (fields_read p.fields) i.statement || b) (Some (Duplicate (length is + 1))) None)) (same_label (spot_at p) (spot_of (layout is)) i.label s.labels)
+    ∙ ap (λ (n : ℕ). cond (is_misplaced_in kind (place_of p) i.statement) (Some (Section (n + 1))) (cond (repeats_field (fields_read p.fields) i.statement || repeats_label (spot_at p) i.label) (Some (Duplicate (n + 1))) None)) (sym s.line)))))
 
 -- an item that is not refused has a new label
-new_label : (p : Pass) (i : LineSaid) → refused_here p i ≡ None → repeats_label (spot_at p) i.label ≡ false
-new_label p i h = by (is_misplaced (place_of p) i.statement) (repeats_field (fields_read p.fields) i.statement) (repeats_label (spot_at p) i.label) h
+new_label : (kind : SourceKind) (p : Pass) (i : LineSaid) → refused_here kind p i ≡ None → repeats_label (spot_at p) i.label ≡ false
+new_label kind p i h = by (is_misplaced_in kind (place_of p) i.statement) (repeats_field (fields_read p.fields) i.statement) (repeats_label (spot_at p) i.label) h
   where
     by : (a b c : Bool) → cond a (Some (Section (p.line + 1))) (cond (b || c) (Some (Duplicate (p.line + 1))) None) ≡ None → c ≡ false
     by a b false h = refl
@@ -44,15 +45,19 @@ new_label p i h = by (is_misplaced (place_of p) i.statement) (repeats_field (fie
     by false true true h = cc
     by false false true h = cc
 
-placed_item : (p : Pass) (i : LineSaid) → refused_here p i ≡ None → is_misplaced (place_of p) i.statement ≡ false
-placed_item p i h = by (is_misplaced (place_of p) i.statement) (repeats_field (fields_read p.fields) i.statement || repeats_label (spot_at p) i.label) h
+placed_item : (kind : SourceKind) (p : Pass) (i : LineSaid) → refused_here kind p i ≡ None → is_misplaced (place_of p) i.statement ≡ false
+placed_item kind p i h = either (is_barred kind i.statement) (is_misplaced (place_of p) i.statement) (by (is_misplaced_in kind (place_of p) i.statement) (repeats_field (fields_read p.fields) i.statement || repeats_label (spot_at p) i.label) h)
   where
+    either : (a b : Bool) → (a || b) ≡ false → b ≡ false
+    either true b h = absurd cc
+    either false b h = h
+
     by : (a b : Bool) → cond a (Some (Section (p.line + 1))) (cond b (Some (Duplicate (p.line + 1))) None) ≡ None → a ≡ false
     by false b h = refl
     by true b h = cc
 
-pub next_line : (is : List LineSaid) (line : List ℕ) (i : LineSaid) (old new : Pass) → Stands is old → read line ≡ Ok i → refused_here old i ≡ None → AddsItem i old new → Stands (is ++ item_at line ∷ []) new
-next_line is line i old new s e taken a = let at : item_at line ≡ i = rw e refl in rw at (grow is i old new s (placed_item old i taken) (new_label old i taken) a)
+pub next_line : (kind : SourceKind) (is : List LineSaid) (line : List ℕ) (i : LineSaid) (old new : Pass) → Stands is old → read line ≡ Ok i → refused_here kind old i ≡ None → AddsItem i old new → Stands (is ++ item_at line ∷ []) new
+next_line kind is line i old new s e taken a = let at : item_at line ≡ i = rw e refl in rw at (grow is i old new s (placed_item kind old i taken) (new_label kind old i taken) a)
 
 pub on_ok : {A E : Type 0} {P Q R : Type 0} (r : Result A E) → OnOk r P → OnOk r Q → (P → Q → R) → OnOk r R
 on_ok (Ok x) p q f = f p q

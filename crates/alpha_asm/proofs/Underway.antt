@@ -5,50 +5,51 @@ use Rattle.std.specs.Str.Lines.{lines}
 use Rattle.std.proofs.lemmas.List.{append-nil}
 use Rattle.alpha_text.specs.Reading.{LineSaid}
 use Rattle.alpha_asm.specs.declared.fault.AsmFault.{AsmFault}
+use Rattle.alpha_asm.specs.declared.kind.SourceKind.{SourceKind}
 use Rattle.alpha_asm.specs.declared.pass.Pass.{Pass}
 use Rattle.alpha_asm.specs.Assembled.{item_at, refused, first_refused}
 use Rattle.alpha_asm.specs.Pass.{IsBounded, Stands}
 
-pub record Underway (source rest : List ℕ) (p : Pass) : Type 0 where
+pub record Underway (kind : SourceKind) (source rest : List ℕ) (p : Pass) : Type 0 where
   -- those of the lines so far
   pub items : List LineSaid
   pub stands : Stands items p
-  pub refusals : first_refused items (lines rest) ≡ first_refused [] (lines source)
+  pub refusals : first_refused kind items (lines rest) ≡ first_refused kind [] (lines source)
   pub all : items ++ map item_at (lines rest) ≡ map item_at (lines source)
   pub bounded : IsBounded p
   pub count : p.line + length rest ≤ length source
 
-pub begins : (source : List ℕ) (p : Pass) → Stands [] p → IsBounded p → p.line ≡ 0 → Underway source source p
-begins source p s b e = record { items = []; stands = s; refusals = refl; all = refl; bounded = b; count = omega arith }
+pub begins : (kind : SourceKind) (source : List ℕ) (p : Pass) → Stands [] p → IsBounded p → p.line ≡ 0 → Underway kind source source p
+begins kind source p s b e = record { items = []; stands = s; refusals = refl; all = refl; bounded = b; count = omega arith }
 
-pub goes_on : (source rest line more : List ℕ) (old new : Pass) → Underway source rest old → lines rest ≡ line ∷ lines more → length more < length rest
-    → ((is : List LineSaid) → Stands is old → refused is line ≡ None) → ((is : List LineSaid) → Stands is old → Stands (is ++ item_at line ∷ []) new)
-    → IsBounded new → new.line ≡ old.line + 1 → Underway source more new
-goes_on source rest line more old new u e l taken stands bounded count =
+pub goes_on : (kind : SourceKind) (source rest line more : List ℕ) (old new : Pass) → Underway kind source rest old → lines rest ≡ line ∷ lines more → length more < length rest
+    → ((is : List LineSaid) → Stands is old → refused kind is line ≡ None) → ((is : List LineSaid) → Stands is old → Stands (is ++ item_at line ∷ []) new)
+    → IsBounded new → new.line ≡ old.line + 1 → Underway kind source more new
+goes_on kind source rest line more old new u e l taken stands bounded count =
     let c : old.line + length rest ≤ length source = u.count in
     record {
       items = u.items ++ item_at line ∷ [];
       stands = stands u.items u.stands;
-      refusals = sym (ap (first_refused u.items) e ∙ ap (λ o. option_or o (first_refused (u.items ++ item_at line ∷ []) (lines more))) (taken u.items u.stands)) ∙ u.refusals;
+      refusals = sym (ap (first_refused kind u.items) e ∙ ap (λ o. option_or o (first_refused kind (u.items ++ item_at line ∷ []) (lines more))) (taken u.items u.stands)) ∙ u.refusals;
       all = append_assoc u.items (item_at line ∷ []) (map item_at (lines more)) ∙ (ap (λ ls. u.items ++ map item_at ls) (sym e) ∙ u.all);
       bounded = bounded;
       count = omega arith;
     }
 
-pub stops : (source rest line more : List ℕ) (old : Pass) (fault : AsmFault) → Underway source rest old → lines rest ≡ line ∷ lines more
-    → ((is : List LineSaid) → Stands is old → refused is line ≡ Some fault) → first_refused [] (lines source) ≡ Some fault
-stops source rest line more old fault u e why =
-    sym u.refusals ∙ (ap (first_refused u.items) e ∙ ap (λ o. option_or o (first_refused (u.items ++ item_at line ∷ []) (lines more))) (why u.items u.stands))
+pub stops : (kind : SourceKind) (source rest line more : List ℕ) (old : Pass) (fault : AsmFault) → Underway kind source rest old → lines rest ≡ line ∷ lines more
+    → ((is : List LineSaid) → Stands is old → refused kind is line ≡ Some fault) → first_refused kind [] (lines source) ≡ Some fault
+stops kind source rest line more old fault u e why =
+    sym u.refusals ∙ (ap (first_refused kind u.items) e ∙ ap (λ o. option_or o (first_refused kind (u.items ++ item_at line ∷ []) (lines more))) (why u.items u.stands))
 
 empty_list : {A : Type 0} (xs : List A) → length xs ≡ 0 → xs ≡ []
 empty_list [] h = refl
 empty_list (x ∷ xs) h = absurd (omega arith)
 
-pub ends_stands : (source rest : List ℕ) (p : Pass) → Underway source rest p → length rest ≡ 0 → Stands (map item_at (lines source)) p
-ends_stands source rest p u h =
+pub ends_stands : (kind : SourceKind) (source rest : List ℕ) (p : Pass) → Underway kind source rest p → length rest ≡ 0 → Stands (map item_at (lines source)) p
+ends_stands kind source rest p u h =
     let e : rest ≡ [] = empty_list rest h in
     let all : u.items ≡ map item_at (lines source) = sym (append-nil u.items) ∙ (ap (λ r. u.items ++ map item_at (lines r)) (sym e) ∙ u.all) in
     rw (← all) u.stands
 
-pub ends_taken : (source rest : List ℕ) (p : Pass) → Underway source rest p → length rest ≡ 0 → first_refused [] (lines source) ≡ None
-ends_taken source rest p u h = let e : rest ≡ [] = empty_list rest h in sym u.refusals ∙ ap (λ r. first_refused u.items (lines r)) e
+pub ends_taken : (kind : SourceKind) (source rest : List ℕ) (p : Pass) → Underway kind source rest p → length rest ≡ 0 → first_refused kind [] (lines source) ≡ None
+ends_taken kind source rest p u h = let e : rest ≡ [] = empty_list rest h in sym u.refusals ∙ ap (λ r. first_refused kind u.items (lines r)) e

@@ -8,33 +8,35 @@ use Rattle.alpha_text.specs.declared.reader.LineFault.{LineFault}
 use Rattle.alpha_text.specs.Statements.{empty}
 use Rattle.alpha_text.specs.Reading.{LineSaid, read}
 use Rattle.alpha_image.specs.Rules.{least_bad_field}
+use Rattle.alpha_asm.specs.declared.kind.SourceKind.{SourceKind}
+use Rattle.alpha_asm.specs.declared.kind.SourceKind.TheVariants as kinds
 use Rattle.alpha_asm.specs.declared.fault.AsmFault.{AsmFault}
 use Rattle.alpha_asm.specs.declared.fault.AsmFault.TheVariants.{Line, Duplicate, Undefined, Reach, Section, NoEntry, LongLine, ImageField}
 use Rattle.alpha_asm.specs.Statement.{Entry}
-use Rattle.alpha_asm.specs.Layout.{layout, end, first, fields, spot_of, is_misplaced, repeats_field, repeats_label}
+use Rattle.alpha_asm.specs.Layout.{layout, end, first, fields, spot_of, is_misplaced_in, repeats_field, repeats_label}
 use Rattle.alpha_asm.specs.Program.{Program, names_in, undefined_line, unmet_line, known, numbers_of, program}
 
 -- what a line says where it is one
 abbrev pub item_at : List ℕ → LineSaid
 item_at line = result_unwrap_or (read line) (record { label = None; statement = empty })
 
--- why a line that reads so is refused behind the items before it
-abbrev pub refused_read : List LineSaid → ℕ → Result LineSaid LineFault → Option AsmFault
-refused_read is n (Err fault) = Some (Line n fault)
-refused_read is n (Ok i) =
-    if is_misplaced (end is) i.statement then Some (Section n)
+-- why a line that reads so is refused behind the items before it, in a source of this kind
+abbrev pub refused_read : SourceKind → List LineSaid → ℕ → Result LineSaid LineFault → Option AsmFault
+refused_read kind is n (Err fault) = Some (Line n fault)
+refused_read kind is n (Ok i) =
+    if is_misplaced_in kind (end is) i.statement then Some (Section n)
     else if repeats_field (fields (layout is)) i.statement || repeats_label (spot_of (layout is)) i.label then Some (Duplicate n)
     else None
 
 -- why a line is refused behind the items of the lines before it
-unfoldable pub refused : List LineSaid → List ℕ → Option AsmFault
-refused is line =
-    if nat_lt 1024 (length line) then Some (LongLine (length is + 1)) else refused_read is (length is + 1) (read line)
+unfoldable pub refused : SourceKind → List LineSaid → List ℕ → Option AsmFault
+refused kind is line =
+    if nat_lt 1024 (length line) then Some (LongLine (length is + 1)) else refused_read kind is (length is + 1) (read line)
 
 -- the refusal of the least line that is refused, behind such items
-abbrev pub first_refused : List LineSaid → List (List ℕ) → Option AsmFault
-first_refused is [] = None
-first_refused is (line ∷ rest) = option_or (refused is line) (first_refused (is ++ item_at line ∷ []) rest)
+abbrev pub first_refused : SourceKind → List LineSaid → List (List ℕ) → Option AsmFault
+first_refused kind is [] = None
+first_refused kind is (line ∷ rest) = option_or (refused kind is line) (first_refused kind (is ++ item_at line ∷ []) rest)
 
 -- the refusal if there is one
 abbrev pub unless : {A : Type 0} → Option AsmFault → Result A AsmFault → Result A AsmFault
@@ -55,4 +57,4 @@ made is = made_at is (fields (layout is)).entry
 
 -- the program that a source defines, or its first refusal
 unfoldable pub assembled : List ℕ → Result Program AsmFault
-assembled source = unless (first_refused [] (lines source)) (made (map item_at (lines source)))
+assembled source = unless (first_refused kinds.Program [] (lines source)) (made (map item_at (lines source)))

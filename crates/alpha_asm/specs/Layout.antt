@@ -4,12 +4,16 @@ use Rattle.std.specs.Option.{unwrap_or, option_or, option_map_or}
 use Rattle.std.specs.Str.{bytes_eq}
 use Rattle.alpha_words.specs.Levels.{level_number}
 use Rattle.alpha_table.specs.declared.form.Form.{Form}
+use Rattle.alpha_table.specs.declared.form.Form.TheVariants.{Mem}
+use Rattle.alpha_table.specs.declared.rows.MemOp.TheVariants.{Lda, Ldah}
 use Rattle.alpha_table.specs.Columns.{level_of}
 use Rattle.alpha_text.specs.Statements.{Said}
 use Rattle.alpha_text.specs.Statements as says
 use Rattle.alpha_text.specs.Reading.{LineSaid}
 use Rattle.alpha_image.specs.declared.segment.Segment.{Segment}
 use Rattle.alpha_image.specs.Rules.{size_of_segment}
+use Rattle.alpha_asm.specs.declared.kind.SourceKind.{SourceKind}
+use Rattle.alpha_asm.specs.declared.kind.SourceKind.TheVariants as source_kinds
 use Rattle.alpha_asm.specs.declared.place.Section.{Section}
 use Rattle.alpha_asm.specs.declared.place.Section.TheVariants as sections
 use Rattle.alpha_asm.specs.declared.place.Spot.{Spot}
@@ -178,6 +182,45 @@ is_misplaced p (says.zero n) = not (is_data p.section)
 is_misplaced p (says.align n) = not (is_data p.section)
 is_misplaced p (says.values bytes list) = not (is_data p.section) || p.has_zero
 is_misplaced p (says.text text) = not (is_data p.section) || p.has_zero
+
+abbrev pub is_ldah : Form → Bool
+is_ldah (Mem Ldah ra rb disp) = true
+is_ldah insn = false
+
+abbrev pub is_lda : Form → Bool
+is_lda (Mem Lda ra rb disp) = true
+is_lda insn = false
+
+-- A statement that a module may have: none of the fields, levels and segments of the image, which a link gives, and
+-- half of an address in an LDAH or LDA alone.
+abbrev pub suits_module : Said → Bool
+suits_module says.empty = true
+suits_module (says.code insn) = true
+suits_module (says.target insn label offset) = true
+suits_module (says.high insn label offset) = is_ldah insn
+suits_module (says.low insn label offset) = is_lda insn
+suits_module (says.level n) = false
+suits_module (says.segment base) = false
+suits_module (says.code_base n) = false
+suits_module (says.data_base n) = false
+suits_module (says.stack n) = false
+suits_module (says.entry_at n) = false
+suits_module (says.entry_label label offset) = false
+suits_module says.code_section = true
+suits_module says.data_section = true
+suits_module (says.zero n) = true
+suits_module (says.align n) = true
+suits_module (says.values bytes list) = true
+suits_module (says.text text) = true
+
+-- a statement that a source of this kind may have nowhere
+abbrev pub is_barred : SourceKind → Said → Bool
+is_barred source_kinds.Program s = false
+is_barred source_kinds.Module s = not (suits_module s)
+
+-- a statement stands where a source of this kind doesn't take it
+abbrev pub is_misplaced_in : SourceKind → Place → Said → Bool
+is_misplaced_in kind p s = is_barred kind s || is_misplaced p s
 
 -- the field statements with those of a further statement
 abbrev pub with_fields : Fields → Said → Fields

@@ -1,4 +1,5 @@
 pub mod Statement
+pub mod Unlinked
 pub mod Layout
 pub mod Labels
 pub mod Program

@@ -4,6 +4,7 @@ use Rattle.std.specs.Option.{option_map}
 use Rattle.std.specs.List.{flat_map}
 use Rattle.std.specs.Str.{bytes_eq}
 use Rattle.alpha_text.specs.Reading.{LineSaid}
+use Rattle.alpha_asm.specs.declared.kind.SourceKind.{SourceKind}
 use Rattle.alpha_asm.specs.declared.fault.AsmFault.{AsmFault}
 use Rattle.alpha_asm.specs.declared.fault.AsmFault.TheVariants as faults
 use Rattle.alpha_image.specs.declared.segment.Segment.{Segment}
@@ -15,7 +16,7 @@ use Rattle.alpha_asm.specs.declared.fields.FieldsRead.{FieldsRead}
 use Rattle.alpha_asm.specs.declared.pass.Pass.{Pass}
 use Rattle.alpha_asm.specs.Statement.{Coded}
 use Rattle.alpha_asm.specs.Program.{list_of, insn_name}
-use Rattle.alpha_asm.specs.Layout.{Place, Placed, Fields, fields, layout, end, spot, spot_of, behind, with_fields, is_misplaced, repeats_field, repeats_label}
+use Rattle.alpha_asm.specs.Layout.{Place, Placed, Fields, fields, layout, end, spot, spot_of, behind, with_fields, is_misplaced_in, repeats_field, repeats_label}
 use Rattle.alpha_asm.specs.Patches.{entry_view, fix, fix_of, raw_insns, raw_bytes, fixes, fixes_in}
 use Rattle.alpha_asm.specs.Labels.{spot_named}
 use Rattle.alpha_asm.specs.Place.{seen}
@@ -51,10 +52,10 @@ pub record IsBounded (p : Pass) : Type 0 where
 abbrev pub here : Pass → LineSaid → Placed
 here p i = record { place = place_of p; line = p.line + 1; item = i }
 
--- why an item is refused here
-abbrev pub refused_here : Pass → LineSaid → Option AsmFault
-refused_here p i =
-    if is_misplaced (place_of p) i.statement then Some (faults.Section (p.line + 1))
+-- why an item of a source of this kind is refused here
+abbrev pub refused_here : SourceKind → Pass → LineSaid → Option AsmFault
+refused_here kind p i =
+    if is_misplaced_in kind (place_of p) i.statement then Some (faults.Section (p.line + 1))
     else if repeats_field (fields_read p.fields) i.statement || repeats_label (spot_at p) i.label then Some (faults.Duplicate (p.line + 1))
     else None
 

@@ -6,6 +6,7 @@ ghost use Rattle.alpha_asm.specs.Pass.{Stands};
 ghost use Rattle.alpha_asm.specs.declared.fault.AsmFault.TheVariants as faults;
 
 use crate::AsmFault;
+use crate::kind::SourceKind;
 use crate::lines::first_line;
 use crate::pass::Pass;
 use crate::program::made;
@@ -23,24 +24,28 @@ pub fn assemble(alloc: Global, source: &[u8]) -> Result<Image, AsmFault>
     ensures ok { IfOk result (λ image. assembled source.now ≡ Ok (program_of image)) }
     ensures refused { IfErr result (λ fault. fault ≢ faults.NoMemory → assembled source.now ≡ Err fault) }
 {
-    match read_lines(alloc, source) {
+    match read_lines(alloc, SourceKind::Program, source) {
         Ok(pass) => made(pass),
         Err(fault) => Err(fault),
     }
 }
 
-/// Goes over all lines.
-pub(crate) fn read_lines(alloc: Global, source: &[u8]) -> Result<Pass<'_>, AsmFault>
+/// Goes over all lines of a source of this kind.
+pub(crate) fn read_lines(
+    alloc: Global,
+    kind: SourceKind,
+    source: &[u8],
+) -> Result<Pass<'_>, AsmFault>
     requires { length source.now < 2 ^ 32 }
     ensures stands { IfOk result (Stands (map item_at (lines source.now))) }
-    ensures taken { OnOk result (first_refused [] (lines source.now) ≡ None) }
-    ensures refused { IfErr result (λ fault. fault ≢ faults.NoMemory → first_refused [] (lines source.now) ≡ Some fault) }
+    ensures taken { OnOk result (first_refused kind [] (lines source.now) ≡ None) }
+    ensures refused { IfErr result (λ fault. fault ≢ faults.NoMemory → first_refused kind [] (lines source.now) ≡ Some fault) }
 {
     let mut pass = Pass::new(alloc, source);
     let mut rest = source;
     while !rest.is_empty() {
         let (line, more) = first_line(rest);
-        pass.take_line(line)?;
+        pass.take_line(kind, line)?;
         rest = more;
     }
     Ok(pass)

@@ -3,7 +3,7 @@ ghost use Rattle.std.specs.Cmp.{on_per, on_equiv, partial_equiv_from_equiv};
 ghost use Rattle.std.specs.Cmp.Lexicographic.{nat_list_eq_equiv, bytes_decides};
 ghost use Rattle.std.specs.Hash.{on_Alike, same_Alike};
 ghost use Rattle.std.specs.Str.{bytes_eq};
-ghost use Rattle.alpha_asm.specs.Labels.{spot_named};
+ghost use Rattle.alpha_asm.specs.Labels.{spot_named, are_among};
 
 use crate::place::Spot;
 use std::alloc::{AllocError, Global};
@@ -67,9 +67,9 @@ impl BuildHasher for Seeded {
     }
 }
 
-/// The labels so far.
+/// The labels that a source defines.
 #[derive(Drop)]
-pub(crate) struct Labels<'a> {
+pub struct Labels<'a> {
     // Those of the code, by how many instructions stand before them: a spot takes more room.
     words: HashMap<Label<'a>, u32, Seeded>,
     // Those of the data.
@@ -89,7 +89,7 @@ impl<'a> Labels<'a> {
     }
 
     /// Where a label is defined.
-    pub(crate) fn spot(&self, name: &'a [u8]) -> Option<Spot>
+    pub fn spot(&self, name: &'a [u8]) -> Option<Spot>
         ensures { result ≡ spot_named self.now name.now }
     {
         let label = Label { name };
@@ -97,6 +97,20 @@ impl<'a> Labels<'a> {
             Some(words) => Some(Spot::Code(*words)),
             None => self.spots.get(&label).copied(),
         }
+    }
+
+    /// The names of all labels, each once, in no order that is said.
+    pub fn names(&self, alloc: Global) -> Result<Vec<&'a [u8]>, AllocError>
+        ensures { IfOk result (λ names. (name : List ℕ) → are_among names.items name ≡ is_some (spot_named self.now name)) }
+    {
+        let mut names = Vec::new(alloc);
+        for label in self.words.keys() {
+            names.push(label.name)?;
+        }
+        for label in self.spots.keys() {
+            names.push(label.name)?;
+        }
+        Ok(names)
     }
 
     /// Defines a label that isn't defined. Whether it was.

@@ -2,11 +2,15 @@
 //!
 //! - [`assemble`] gives the image of a source, or the first refusal, an [`AsmFault`].
 //! - [`Symbols`] says of a source whose lines are read which labels name words of the code.
+//! - [`Unlinked`] is what the source of a module makes: instructions, data bytes, labels, and the
+//!   addresses that a link puts in.
 //!
 //! It goes over the lines once. What it knows of the lines so far is a [`Pass`](pass::Pass): where the
 //! next item stands, the instructions and data bytes, the labels, the field statements, and a patch for
 //! each address of a label that a statement names. When the last line is read, the patches are applied
-//! (`bases.rt`), and the image is built (`program.rt`).
+//! (`bases.rt`), and the image is built (`program.rt`). A module's source goes through the same pass, by
+//! the same grammar: [`SourceKind`] (`kind.rt`) says which statements it may have, and `unlinked.rt` what
+//! the pass has made of it.
 //!
 //! `lines.rt` cuts a source into lines; `statement.rt` says what a statement asks, apart from where it
 //! stands; `place.rt` is the place that a line stands at, `fields.rt` the field statements, `label.rt`
@@ -15,7 +19,7 @@
 //! and the data bytes as they are: nothing is encoded or decoded.
 //!
 //! [`Section`], [`Spot`], [`Use`] and [`Displacement`] are what its definitions speak of, for crates that
-//! cite them.
+//! cite them, and [`Labels`], [`Patch`] and [`Need`] what [`Unlinked`] has.
 //!
 //! `specs/Statement.antt` has what a statement asks, `specs/Layout.antt` where each item stands,
 //! `specs/Program.antt` the program that the items make, and `specs/Assembled.antt` the image of a
@@ -28,6 +32,7 @@ mod bases;
 mod bytes;
 mod fault;
 mod fields;
+mod kind;
 mod label;
 mod lines;
 mod output;
@@ -39,10 +44,14 @@ mod statement;
 mod symbols;
 #[cfg(test)]
 mod tests;
+mod unlinked;
 
 pub use assembler::assemble;
 pub use fault::AsmFault;
-pub use patch::Displacement;
+pub use kind::SourceKind;
+pub use label::Labels;
+pub use patch::{Displacement, Need, Patch};
 pub use place::{Section, Spot};
 pub use statement::Use;
 pub use symbols::Symbols;
+pub use unlinked::Unlinked;

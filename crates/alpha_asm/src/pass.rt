@@ -13,6 +13,7 @@ ghost use Rattle.alpha_asm.specs.declared.fault.AsmFault.TheVariants as faults;
 use crate::AsmFault;
 use crate::bytes::push_zeros;
 use crate::fields::FieldsRead;
+use crate::kind::SourceKind;
 use crate::label::Labels;
 use crate::output::{Output, push_entry};
 use crate::place::Place;
@@ -50,18 +51,18 @@ impl<'a> Pass<'a> {
         }
     }
 
-    /// Goes over the next line.
+    /// Goes over the next line of a source of this kind.
     ///
     /// # Errors
     ///
     /// `LongLine`, `Line`, `Section` or `Duplicate`, the first in this order.
-    pub(crate) fn take_line(&mut self, line: &'a [u8]) -> Result<(), AsmFault>
+    pub(crate) fn take_line(&mut self, kind: SourceKind, line: &'a [u8]) -> Result<(), AsmFault>
         requires bounded { IsBounded self.old }
         requires lines { self.old.line + 1 < 2 ^ 32 }
         ensures ok { OnOk result ((is : _) → Stands is self.old → Stands (is ++ item_at line.entry.now ∷ []) self.new) }
-        ensures taken { OnOk result ((is : _) → Stands is self.old → refused is line.entry.now ≡ None) }
+        ensures taken { OnOk result ((is : _) → Stands is self.old → refused kind is line.entry.now ≡ None) }
         ensures refused { IfErr result (λ fault. fault ≢ faults.NoMemory →
-            (is : _) → Stands is self.old → refused is line.entry.now ≡ Some fault) }
+            (is : _) → Stands is self.old → refused kind is line.entry.now ≡ Some fault) }
         ensures bounded { OnOk result (IsBounded self.new) }
         ensures line { OnOk result (self.new.line ≡ self.old.line + 1) }
     {
@@ -69,23 +70,23 @@ impl<'a> Pass<'a> {
             return Err(AsmFault::LongLine(self.line + 1));
         }
         match read_line(line) {
-            Ok(item) => self.take_item(&item),
+            Ok(item) => self.take_item(kind, &item),
             Err(fault) => Err(AsmFault::Line(self.line + 1, fault)),
         }
     }
 
     // Goes over the item of the next line.
-    fn take_item(&mut self, item: &Item<'a>) -> Result<(), AsmFault>
+    fn take_item(&mut self, kind: SourceKind, item: &Item<'a>) -> Result<(), AsmFault>
         requires bounded { IsBounded self.old }
         requires lines { self.old.line + 1 < 2 ^ 32 }
         requires within { IsWithin (said item.now.statement) }
         ensures ok { OnOk result (AddsItem (item_said item.now) self.old self.new) }
-        ensures taken { OnOk result (refused_here self.old (item_said item.now) ≡ None) }
+        ensures taken { OnOk result (refused_here kind self.old (item_said item.now) ≡ None) }
         ensures refused { IfErr result (λ fault. fault ≢ faults.NoMemory →
-            refused_here self.old (item_said item.now) ≡ Some fault) }
+            refused_here kind self.old (item_said item.now) ≡ Some fault) }
         ensures bounded { OnOk result (IsBounded self.new) }
     {
-        if self.place.is_misplaced(&item.statement) {
+        if kind.bars(&item.statement) || self.place.is_misplaced(&item.statement) {
             return Err(AsmFault::Section(self.line + 1));
         }
         if self.fields.repeats(&item.statement) {

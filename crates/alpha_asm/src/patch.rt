@@ -19,7 +19,7 @@ pub enum Displacement {
 
 /// What an address that a statement names is for.
 #[derive(Clone, Copy, Debug, PartialEq, Eq)]
-pub(crate) enum Need {
+pub enum Need {
     /// An instruction.
     Insn(Use),
     /// A quadword.
@@ -30,11 +30,14 @@ pub(crate) enum Need {
 
 /// An address that a statement names, to be put in when all labels are known.
 #[derive(Clone, Copy, Debug)]
-pub(crate) struct Patch<'a> {
+pub struct Patch<'a> {
+    /// The label, and what is added to its address.
     pub to: Expr<'a>,
     /// Behind how many instructions, or behind how many data bytes, what needs it stands.
     pub at: usize,
+    /// The line, numbered from 1.
     pub line: u32,
+    /// What the address is for.
     pub need: Need,
 }
 

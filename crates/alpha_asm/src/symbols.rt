@@ -3,9 +3,11 @@ ghost use Rattle.std.specs.Str.Lines.{lines};
 ghost use Rattle.alpha_asm.specs.Layout.{layout, spot_of, is_of_code};
 ghost use Rattle.alpha_asm.specs.Assembled.{item_at, first_refused};
 ghost use Rattle.alpha_asm.specs.declared.fault.AsmFault.TheVariants as faults;
+ghost use Rattle.alpha_asm.specs.declared.kind.SourceKind.TheVariants as kinds;
 
 use crate::AsmFault;
 use crate::assembler::read_lines;
+use crate::kind::SourceKind;
 use crate::pass::Pass;
 use crate::place::Spot;
 use std::alloc::Global;
@@ -40,10 +42,10 @@ impl<'a> Symbols<'a> {
     pub fn of(alloc: Global, source: &'a [u8]) -> Result<Symbols<'a>, AsmFault>
         requires { length source.now < 2 ^ 32 }
         ensures value { IfOk result (λ symbols. symbols ≡ source.now) }
-        ensures taken { OnOk result (first_refused [] (lines source.now) ≡ None) }
-        ensures refused { IfErr result (λ fault. fault ≢ faults.NoMemory → first_refused [] (lines source.now) ≡ Some fault) }
+        ensures taken { OnOk result (first_refused kinds.Program [] (lines source.now) ≡ None) }
+        ensures refused { IfErr result (λ fault. fault ≢ faults.NoMemory → first_refused kinds.Program [] (lines source.now) ≡ Some fault) }
     {
-        match read_lines(alloc, source) {
+        match read_lines(alloc, SourceKind::Program, source) {
             Ok(pass) => Ok(Symbols { source, pass }),
             Err(fault) => Err(fault),
         }

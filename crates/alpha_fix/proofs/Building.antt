@@ -7,6 +7,7 @@ use Rattle.std.proofs.lemmas.Grind.{flat_map-append}
 use Rattle.std.proofs.lemmas.Bool.Decides.{nat_tests}
 use Rattle.alpha_text.specs.Statements.{Said}
 use Rattle.alpha_text.specs.Reading.{LineSaid}
+use Rattle.alpha_asm.specs.declared.kind.SourceKind.TheVariants as source_kinds
 use Rattle.alpha_asm.specs.Assembled.{item_at, first_refused}
 use Rattle.alpha_fix.specs.declared.line.Line.{Line}
 use Rattle.alpha_fix.specs.declared.barriers.Role.TheVariants.{FixedLine, Insn, Other}
@@ -42,7 +43,7 @@ pub record Underway (source cuts : List ℕ) (words base : ℕ) (rest text left 
   pub read : AllRead (map line_text (source_lines rest))
   pub size : number + length rest ≤ length source + 1
 
-pub begins : (source cuts : List ℕ) (words base : ℕ) → base ≡ code_base (items_of source) → words ≡ word_count source → Rise 0 cuts → first_refused [] (lines source) ≡ None
+pub begins : (source cuts : List ℕ) (words base : ℕ) → base ≡ code_base (items_of source) → words ≡ word_count source → Rise 0 cuts → first_refused source_kinds.Program [] (lines source) ≡ None
     → Underway source cuts words base source [] cuts 1 0
 unfolding fixed_source fixed_line
 begins source cuts words base b w r t = record {

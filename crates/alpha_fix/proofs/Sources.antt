@@ -22,6 +22,7 @@ use Rattle.alpha_asm.specs.declared.fault.AsmFault.TheVariants.{Undefined, Image
 use Rattle.alpha_asm.specs.Statement.{Coded, coded, Entry}
 use Rattle.alpha_asm.specs.Layout.{Place, Placed, start, behind, placed, layout, first, fields, is_of_code}
 use Rattle.alpha_asm.specs.Program.{Program, program_of, names_in, undefined_line, unmet_line, code_in, known, numbers_of, program, insn_in}
+use Rattle.alpha_asm.specs.declared.kind.SourceKind.TheVariants as source_kinds
 use Rattle.alpha_asm.specs.Assembled.{item_at, refused_read, refused, first_refused, unless, made_at, made, assembled}
 use Rattle.alpha_image.specs.Rules.{least_bad_field}
 use Rattle.alpha_fix.specs.Cuts.{trapb, barred, without, HasBroken}
@@ -56,13 +57,13 @@ unless_ok : {A : Type 0} (o : Option AsmFault) (r : Result A AsmFault) (x : A) �
 unless_ok None r x e = (refl, e)
 unless_ok (Some f) r x e = cc
 
-pub taken : (source : List ℕ) (p : Program) → assembled source ≡ Ok p → first_refused [] (lines source) ≡ None
+pub taken : (source : List ℕ) (p : Program) → assembled source ≡ Ok p → first_refused source_kinds.Program [] (lines source) ≡ None
 unfolding assembled
-taken source p e = (unless_ok (first_refused [] (lines source)) (made (map item_at (lines source))) p e).0
+taken source p e = (unless_ok (first_refused source_kinds.Program [] (lines source)) (made (map item_at (lines source))) p e).0
 
 pub made_of : (source : List ℕ) (p : Program) → assembled source ≡ Ok p → made (items_of source) ≡ Ok p
 unfolding assembled
-made_of source p e = (unless_ok (first_refused [] (lines source)) (made (map item_at (lines source))) p e).1
+made_of source p e = (unless_ok (first_refused source_kinds.Program [] (lines source)) (made (map item_at (lines source))) p e).1
 
 abbrev pub code_of : List LineSaid → List Form
 code_of is = flat_map (code_in (known is)) (layout is)
@@ -126,15 +127,15 @@ abbrev pub AllRead : List (List ℕ) → Type 0
 AllRead [] = Unit {0}
 AllRead (l ∷ ls) = (length l ≤ 1024) × ((i : LineSaid) × (read l ≡ Ok i)) × AllRead ls
 
-read_taken : (is : List LineSaid) (n : ℕ) (r : Result LineSaid LineFault) → refused_read is n r ≡ None → (i : LineSaid) × (r ≡ Ok i)
+read_taken : (is : List LineSaid) (n : ℕ) (r : Result LineSaid LineFault) → refused_read source_kinds.Program is n r ≡ None → (i : LineSaid) × (r ≡ Ok i)
 read_taken is n (Ok i) e = (i, refl)
 read_taken is n (Err f) e = cc
 
-line_taken : (is : List LineSaid) (l : List ℕ) → refused is l ≡ None → (length l ≤ 1024) × ((i : LineSaid) × (read l ≡ Ok i))
+line_taken : (is : List LineSaid) (l : List ℕ) → refused source_kinds.Program is l ≡ None → (length l ≤ 1024) × ((i : LineSaid) × (read l ≡ Ok i))
 unfolding refused
 line_taken is l e = by (nat_lt 1024 (length l)) refl e
   where
-    by : (b : Bool) → nat_lt 1024 (length l) ≡ b → cond b (Some (LongLine (length is + 1))) (refused_read is (length is + 1) (read l)) ≡ None → (length l ≤ 1024) × ((i : LineSaid) × (read l ≡ Ok i))
+    by : (b : Bool) → nat_lt 1024 (length l) ≡ b → cond b (Some (LongLine (length is + 1))) (refused_read source_kinds.Program is (length is + 1) (read l)) ≡ None → (length l ≤ 1024) × ((i : LineSaid) × (read l ≡ Ok i))
     by true t f = cc
     by false t f = (grind (arith, nat_tests), read_taken is (length is + 1) (read l) f)
 
@@ -142,10 +143,10 @@ or_none : {A : Type 0} (a b : Option A) → option_or a b ≡ None → (a ≡ No
 or_none None b e = (refl, e)
 or_none (Some x) b e = cc
 
-pub all_read : (is : List LineSaid) (ls : List (List ℕ)) → first_refused is ls ≡ None → AllRead ls
+pub all_read : (is : List LineSaid) (ls : List (List ℕ)) → first_refused source_kinds.Program is ls ≡ None → AllRead ls
 all_read is [] e = tt
 all_read is (l ∷ ls) e =
-    let o = or_none (refused is l) (first_refused (is ++ item_at l ∷ []) ls) e in
+    let o = or_none (refused source_kinds.Program is l) (first_refused source_kinds.Program (is ++ item_at l ∷ []) ls) e in
     let t = line_taken is l o.0 in
     (t.0, t.1, all_read (is ++ item_at l ∷ []) ls o.1)
 

@@ -4,6 +4,7 @@ ghost use Rattle.std.specs.Str.Lines.{lines};
 ghost use Rattle.alpha_text.specs.Statements.{said};
 ghost use Rattle.alpha_asm.specs.Statement.{coded};
 ghost use Rattle.alpha_asm.specs.Assembled.{item_at, first_refused};
+ghost use Rattle.alpha_asm.specs.declared.kind.SourceKind.TheVariants as source_kinds;
 ghost use Rattle.alpha_fix.specs.Cuts.{Rise};
 ghost use Rattle.alpha_fix.specs.SourceLines.{SourceLine, line_bytes};
 ghost use Rattle.alpha_fix.specs.FixedSource.{is_cut, has_insn, word_count, trapb_line, bar_if, then_bar, fixed_source};
@@ -140,7 +141,7 @@ pub(crate) fn with_barriers<'a>(
     requires base { base ≡ code_base (items_of source.now) }
     requires words { words ≡ word_count source.now }
     requires rise { Rise 0 cuts.now }
-    requires taken { first_refused [] (lines source.now) ≡ None }
+    requires taken { first_refused source_kinds.Program [] (lines source.now) ≡ None }
     requires size { length source.now < 2 ^ 31 }
     ensures ok { IfOk result (λ text. text.items ≡ fixed_source source.now cuts.now) }
     ensures free { OnOk result (fixed_line source.now ≡ None) }

@@ -15,6 +15,7 @@ use Rattle.alpha_image.specs.Rules.{IsBase, size_of_segment}
 use Rattle.alpha_image.specs.Parts.{Parts, pieces, pieces_of, numbers, SuitsVersion, IsByte, IsImage}
 use Rattle.alpha_asm.specs.Layout.{end}
 use Rattle.alpha_asm.specs.Program.{program_of}
+use Rattle.alpha_asm.specs.declared.kind.SourceKind.TheVariants as source_kinds
 use Rattle.alpha_asm.specs.Assembled.{item_at, first_refused, assembled}
 use Rattle.alpha_dis.specs.Listing.{first_lines, heading, code_line, byte_line, rows, rows_of, segment_line, piece_lines, lines, listing}
 use Rattle.alpha_round.proofs.Items.{first_statements, more_heading, row_statement, segment_statement, piece_statements, statements, items}
@@ -88,7 +89,7 @@ listing_cut : (p : Parts) → IsImage p → cut (listing p) ≡ lines p
 unfolding listing
 listing_cut p good = lines-text (lines p) (all_inside (lines p) (statements p) (all_say p good))
 
-lines_taken : (p : Parts) → IsImage p → (first_refused [] (lines p) ≡ None) × (map item_at (lines p) ≡ items p)
+lines_taken : (p : Parts) → IsImage p → (first_refused source_kinds.Program [] (lines p) ≡ None) × (map item_at (lines p) ≡ items p)
 unfolding end
 lines_taken p good = none_refused [] (lines p) (statements p) (all_say p good) (all_fit p good) (all_single p)
 

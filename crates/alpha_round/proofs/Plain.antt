@@ -15,6 +15,7 @@ use Rattle.alpha_text.specs.Reading.{LineSaid, read}
 use Rattle.alpha_asm.specs.Statement.{number, cells, coded, align_in}
 use Rattle.alpha_asm.specs.Layout.{Place, Placed, Fields, placed, layout, end, behind, behind_all, fields, with_fields, is_misplaced, repeats_field}
 use Rattle.alpha_asm.specs.Program.{Known, names_in, entry_names, cell_name, code_in, bytes_in, cell_bytes}
+use Rattle.alpha_asm.specs.declared.kind.SourceKind.TheVariants as source_kinds
 use Rattle.alpha_asm.specs.Assembled.{item_at, refused, first_refused}
 use Rattle.alpha_asm.proofs.Growing.{item_behind, end-snoc, layout-snoc, first-snoc}
 use Rattle.alpha_round.proofs.Items.{plain, row_statement}
@@ -76,7 +77,7 @@ all_inside [] (s ∷ ss) a = absurd a
 all_inside (l ∷ ls) [] a = absurd a
 all_inside (l ∷ ls) (s ∷ ss) (h, a) = (h.inside, all_inside ls ss a)
 
-taken : (is : List LineSaid) (line : List ℕ) (s : Said) → length line ≤ 1024 → read line ≡ Ok (plain s) → is_misplaced (end is) s ≡ false → repeats_field (fields (layout is)) s ≡ false → refused is line ≡ None
+taken : (is : List LineSaid) (line : List ℕ) (s : Said) → length line ≤ 1024 → read line ≡ Ok (plain s) → is_misplaced (end is) s ≡ false → repeats_field (fields (layout is)) s ≡ false → refused source_kinds.Program is line ≡ None
 unfolding refused
 taken is line s short r m d =
     let t : nat_lt 1024 (length line) ≡ false = grind (arith, nat_tests) in
@@ -88,13 +89,13 @@ fields-snoc is i = ap fields (layout-snoc is i) ∙ one (layout is) (item_behind
     one : (xs : List Placed) (x : Placed) → fields (xs ++ x ∷ []) ≡ with_fields (fields xs) x.item.statement
     one xs x = simp first-snoc
 
-pub none_refused : (is : List LineSaid) (ls : List (List ℕ)) (ss : List Said) → Say ls ss → Fit (end is) ss → Single (fields (layout is)) ss → (first_refused is ls ≡ None) × (map item_at ls ≡ map plain ss)
+pub none_refused : (is : List LineSaid) (ls : List (List ℕ)) (ss : List Said) → Say ls ss → Fit (end is) ss → Single (fields (layout is)) ss → (first_refused source_kinds.Program is ls ≡ None) × (map item_at ls ≡ map plain ss)
 none_refused is [] [] say f u = (refl, refl)
 none_refused is [] (s ∷ ss) say f u = absurd say
 none_refused is (l ∷ ls) [] say f u = absurd say
 none_refused is (l ∷ ls) (s ∷ ss) (line, say) (m, f) (d, u) =
     let at : item_at l ≡ plain s = ap (λ r. result_unwrap_or r (record { label = None; statement = says.empty })) line.says in
-    let none : refused is l ≡ None = taken is l s line.short line.says m d in
+    let none : refused source_kinds.Program is l ≡ None = taken is l s line.short line.says m d in
     let (rest, items) = none_refused (is ++ plain s ∷ []) ls ss say (rw (end-snoc is (plain s)) f) (rw (fields-snoc is (plain s)) u) in
     (rw (none, at) rest, rw at (ap (λ l. plain s ∷ l) items))
 

@@ -29,6 +29,7 @@ use Rattle.alpha_asm.specs.declared.fault.AsmFault.TheVariants.{Undefined, Image
 use Rattle.alpha_asm.specs.Statement.{Coded, coded, Cell, number, address, cells, data_size, Entry}
 use Rattle.alpha_asm.specs.Layout.{Place, Placed, layout, end, behind, filled_pad, fields, first, spot_of, is_data, is_misplaced, is_misplaced_insn, repeats_field, repeats_label}
 use Rattle.alpha_asm.specs.Program.{Program, program_of, Known, address_of, reached, displaced, quadword_of, insn_in, code_in, cell_bytes, bytes_in, known, names_in, undefined_line, unmet_line, version_of, own_segments, segments_of, data_base_of, numbers_of, program}
+use Rattle.alpha_asm.specs.declared.kind.SourceKind.TheVariants as source_kinds
 use Rattle.alpha_asm.specs.Assembled.{item_at, refused, refused_read, first_refused, unless, made, made_at, assembled}
 use Rattle.alpha_asm.specs.Pass.{Sound}
 use Rattle.alpha_asm.proofs.Growing.{item_behind, end-snoc, layout-snoc, flat_map-snoc}
@@ -161,7 +162,7 @@ kept_more k is i kept h m =
     }
 
 -- a line that is not refused is read, and what it says is not misplaced
-accepted : (is : List LineSaid) (line : List ℕ) → refused is line ≡ None → (i : LineSaid) × (read line ≡ Ok i) × (is_misplaced (end is) i.statement ≡ false)
+accepted : (is : List LineSaid) (line : List ℕ) → refused source_kinds.Program is line ≡ None → (i : LineSaid) × (read line ≡ Ok i) × (is_misplaced (end is) i.statement ≡ false)
 unfolding refused
 accepted is line = by (nat_lt 1024 (length line)) (read line) refl
   where
@@ -169,15 +170,15 @@ accepted is line = by (nat_lt 1024 (length line)) (read line) refl
     placed_so i false b h = refl
     placed_so i true b h = cc
 
-    by : (t : Bool) (r : Result LineSaid LineFault) → read line ≡ r → cond t (Some (LongLine (length is + 1))) (refused_read is (length is + 1) r) ≡ None → (i : LineSaid) × (read line ≡ Ok i) × (is_misplaced (end is) i.statement ≡ false)
+    by : (t : Bool) (r : Result LineSaid LineFault) → read line ≡ r → cond t (Some (LongLine (length is + 1))) (refused_read source_kinds.Program is (length is + 1) r) ≡ None → (i : LineSaid) × (read line ≡ Ok i) × (is_misplaced (end is) i.statement ≡ false)
     by true r e h = cc
     by false (Err fault) e h = cc
     by false (Ok i) e h = (i, e, placed_so i (is_misplaced (end is) i.statement) (repeats_field (fields (layout is)) i.statement || repeats_label (spot_of (layout is)) i.label) h)
 
-kept_all : (k : Known) (is : List LineSaid) (ls : List (List ℕ)) → Kept k is → first_refused is ls ≡ None → Kept k (is ++ map item_at ls)
+kept_all : (k : Known) (is : List LineSaid) (ls : List (List ℕ)) → Kept k is → first_refused source_kinds.Program is ls ≡ None → Kept k (is ++ map item_at ls)
 kept_all k is [] kept h = rw (append-nil is) kept
 kept_all k is (l ∷ ls) kept h =
-    let (taken, rest) = option_or-none (refused is l) (first_refused (is ++ item_at l ∷ []) ls) h in
+    let (taken, rest) = option_or-none (refused source_kinds.Program is l) (first_refused source_kinds.Program (is ++ item_at l ∷ []) ls) h in
     let (i, e, m) = accepted is l taken in
     let at : item_at l ≡ i = ap (λ r. result_unwrap_or r (record { label = None; statement = says.empty })) e in
     let next : Kept k (is ++ item_at l ∷ []) = rw at (kept_more k is i kept (read-insn l i e) m) in
@@ -264,7 +265,7 @@ made_image is (Some entry) made kept h =
 pub some-image : (source : List ℕ) (found : Program) → assembled source ≡ Ok found → (image : Parts) × IsSourceOf source image
 unfolding assembled made
 some-image source found h =
-    let (taken, done) = unless-ok (first_refused [] (lines source)) (made (map item_at (lines source))) found h in
+    let (taken, done) = unless-ok (first_refused source_kinds.Program [] (lines source)) (made (map item_at (lines source))) found h in
     let kept : Kept (known (map item_at (lines source))) (map item_at (lines source)) = kept_all (known (map item_at (lines source))) [] (lines source) (kept_none (known (map item_at (lines source)))) taken in
     let (image, good, code) = made_image (map item_at (lines source)) (fields (layout (map item_at (lines source)))).entry found kept done in
     (image, (good, h ∙ ap Ok (sym code)))

@@ -6,4 +6,4 @@ abbrev pub decreases-loop-rest : goal.decreases-loop-rest
 decreases-loop-rest l = length l.rest
 
 abbrev pub invariant-loop-rest : goal.invariant-loop-rest
-invariant-loop-rest l = Underway l.source l.rest l.pass
+invariant-loop-rest l = Underway l.kind l.source l.rest l.pass

@@ -1,0 +1,68 @@
+ghost use Rattle.std.specs.Prelude.{◌≡◌, ◌≢◌, ◌<◌, ◌^◌, [], length, map, Some, None, OnOk, IfOk, IfErr};
+ghost use Rattle.std.specs.Str.Lines.{lines};
+ghost use Rattle.alpha_asm.specs.Assembled.{item_at, first_refused};
+ghost use Rattle.alpha_asm.specs.Pass.{Stands};
+ghost use Rattle.alpha_asm.specs.Unlinked.{Makes};
+ghost use Rattle.alpha_asm.specs.declared.fault.AsmFault.TheVariants as faults;
+ghost use Rattle.alpha_asm.specs.declared.kind.SourceKind.TheVariants as kinds;
+
+use crate::AsmFault;
+use crate::assembler::read_lines;
+use crate::kind::SourceKind;
+use crate::label::Labels;
+use crate::pass::Pass;
+use crate::patch::Patch;
+use alpha_table::Insn;
+use std::alloc::Global;
+
+/// What the source of a module makes before any address is put in.
+#[derive(Drop)]
+pub struct Unlinked<'a> {
+    /// The instructions. Those that are to reach an address have displacement 0.
+    pub code: Vec<Insn>,
+    /// The data bytes. Those of an address are 0.
+    pub bytes: Vec<u8>,
+    /// How many zeroed bytes stand behind them.
+    pub zeroed: u64,
+    /// The labels that the source defines.
+    pub labels: Labels<'a>,
+    /// The addresses to be put in, in the order of lines.
+    pub patches: Vec<Patch<'a>>,
+}
+
+impl<'a> Unlinked<'a> {
+    /// Reads the lines of a module's source.
+    ///
+    /// # Errors
+    ///
+    /// The refusal of the least line that is refused. `NoMemory` may come in place of any answer.
+    pub fn of(alloc: Global, source: &'a [u8]) -> Result<Unlinked<'a>, AsmFault>
+        requires { length source.now < 2 ^ 32 }
+        ensures makes { IfOk result (Makes (map item_at (lines source.now))) }
+        ensures taken { OnOk result (first_refused kinds.Module [] (lines source.now) ≡ None) }
+        ensures refused { IfErr result (λ fault. fault ≢ faults.NoMemory →
+            first_refused kinds.Module [] (lines source.now) ≡ Some fault) }
+    {
+        match read_lines(alloc, SourceKind::Module, source) {
+            Ok(pass) => Ok(Unlinked::behind(pass)),
+            Err(fault) => Err(fault),
+        }
+    }
+
+    // What a pass has made.
+    fn behind(pass: Pass<'a>) -> Unlinked<'a>
+        ensures { (is : _) → Stands is pass.entry → Makes is result }
+    {
+        let zeroed = pass.place.last.zeroed;
+        let code = pass.output.code;
+        let bytes = pass.output.bytes;
+        let patches = pass.output.patches;
+        Unlinked {
+            code,
+            bytes,
+            zeroed,
+            labels: pass.labels,
+            patches,
+        }
+    }
+}
