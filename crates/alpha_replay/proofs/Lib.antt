@@ -1,3 +1,4 @@
+mod Examples
 pub mod ItemBytes
 pub mod Parsing
 pub mod Fields

@@ -6,3 +6,5 @@ pub mod JournalFault
 pub mod Front
 pub mod Scanned
 pub mod Inside
+pub mod Moves
+pub mod Listed

@@ -23,6 +23,7 @@
 //! 1,048,576 items, which use at most 1,000,000,000 units.
 //!
 //! - [`Journal`] is a good journal, and [`Item`] and [`Ending`] are parts of it. A clause sees its `Parts`.
+//!   A [`Move`] is one step of the machine, as items have it.
 //! - [`read_journal`] answers the journal that bytes spell, or a [`JournalFault`]. [`journal_bytes`] gives
 //!   the spelling.
 //! - [`laws_of_journals`]: bytes have no fault exactly where they are the spelling of a good journal, and
@@ -34,7 +35,8 @@
 //! `specs/Journal.antt` has what a journal is and its spelling, over the `specs/Items.antt` and the
 //! `specs/Endings.antt`; `specs/Reading.antt` what bytes say of a journal, and `specs/JournalFault.antt`
 //! their first fault. `specs/Inside.antt`, `specs/Front.antt` and `specs/Scanned.antt` say what the code
-//! keeps of them.
+//! keeps of them. `specs/Moves.antt` has what a move chooses and where it is possible, `specs/Listed.antt` the
+//! steps that items list, or the first item that is impossible.
 #![tactic(auto)]
 
 mod ending;
@@ -44,6 +46,7 @@ mod item;
 mod items;
 mod journal;
 mod laws;
+mod moves;
 mod number;
 mod read;
 #[cfg(test)]
@@ -55,5 +58,6 @@ pub use fault::JournalFault;
 pub use item::Item;
 pub use journal::Journal;
 pub use laws::laws_of_journals;
+pub use moves::Move;
 pub use read::read_journal;
 pub use write::journal_bytes;
