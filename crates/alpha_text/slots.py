@@ -1,7 +1,7 @@
 #!/usr/bin/env python3
-"""Prints MULTIPLIER and PLACES of src/rows.rt, for the names that its ROWS have in the instruction table: a number by
-which no two names have one slot, and the place among the rows of the name with each slot. The number that stands there is
-tried first.
+"""Prints MULTIPLIER and PLACES of src/rows.rt, for the names that its HEADS have in the instruction table and in
+src/head.rt: a number by which no two names have one slot, and the place among the heads of the name with each slot. The
+number that stands there is tried first.
 
     crates/alpha_text/slots.py
 """
@@ -11,23 +11,24 @@ import re
 
 HERE = pathlib.Path(__file__).resolve().parent
 TABLE = HERE.parent / "alpha_table" / "src"
-SLOTS = 512
+SLOTS = 1024
 NONE = 255
 
 
-def names_of_the_table():
-    """The name in the table for each way to write a row in ROWS."""
+def names_of_heads():
+    """The name for each way to write a row in HEADS."""
     operates = (TABLE / "operate.rt").read_text()
     others = (TABLE / "formats.rt").read_text()
     names = {f"Op::{row}": name for row, name in re.findall(r'^ +(\w+) b"([^"]+)" 0x', operates, re.M)}
     names |= dict(re.findall(r'^ +(\w+::\w+) b"([^"]+)"', others, re.M))
     names |= {f"modify: {row}": name for row, name in re.findall(r'^ +(true|false) b"([^"]+)"', others, re.M)}
-    return names
+    heads = (HERE / "src" / "head.rt").read_text()
+    return names | {f"Own::{row}": name for row, name in re.findall(r'^ +(\w+) b"([^"]+)" \w+,$', heads, re.M)}
 
 
 def rows():
     text = (HERE / "src" / "rows.rt").read_text()
-    found = re.search(r"static ROWS: .*? = \[(.*?)\];", text, re.S).group(1)
+    found = re.search(r"static HEADS: .*? = heads! {(.*?)\n}", text, re.S).group(1)
     multiplier = int(re.search(r"const MULTIPLIER: u64 = (\d+);", text).group(1))
     return re.findall(r"\w+::\w+|modify: \w+", found), multiplier
 
@@ -38,7 +39,7 @@ def slot(name, multiplier):
 
 
 def main():
-    names = names_of_the_table()
+    names = names_of_heads()
     ordered, multiplier = rows()
     ordered = [names[row] for row in ordered]
     draw = random.Random(1)

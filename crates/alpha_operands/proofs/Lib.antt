@@ -7,5 +7,7 @@ pub mod Fronts
 pub mod Grammar
 pub mod Lists
 pub mod Quotes
+pub mod Reached
+pub mod Registers
 pub mod Sizes
 pub mod Within

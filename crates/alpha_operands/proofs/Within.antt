@@ -1,5 +1,5 @@
 -- The numbers of operands are within their ranges.
-use Rattle.std.proofs.Common.{◌≡◌, ℕ, ◌%◌, ◌^◌, ◌≤◌, ◌<◌, List, Bool, true, false, cond, ◌&&◌, ◌||◌, Option, Some, None, Result, Ok, Err, [], IfOk, IfSome, eqb, nat_lt, nat_le, refl, sym, inl, inr, arith}
+use Rattle.std.proofs.Common.{◌≡◌, ℕ, ◌%◌, ◌^◌, ◌≤◌, ◌<◌, List, Bool, true, false, cond, ◌&&◌, ◌||◌, Option, Some, None, Ok, IfSome, eqb, nat_lt, nat_le, refl, sym, inl, inr, arith}
 use Rattle.std.specs.Option.{option_map}
 use Rattle.std.proofs.lemmas.Bool.Decides.{nat_tests}
 use Rattle.std.proofs.lemmas.Int.{ints}
@@ -14,11 +14,9 @@ use Rattle.alpha_operands.specs.declared.number.Sign.{Sign}
 use Rattle.alpha_operands.specs.declared.number.Sign.TheVariants as signs
 use Rattle.alpha_operands.specs.declared.number.Number.{Number}
 use Rattle.alpha_operands.specs.declared.number.Number.TheVariants.{Call}
-use Rattle.alpha_operands.specs.declared.operands.Operands.{Operands}
-use Rattle.alpha_operands.specs.declared.walk.OperandFault.{OperandFault}
 use Rattle.alpha_operands.specs.Ranges.{in_range, if_in, words_of, call_of, number_of, IsNumber}
 use Rattle.alpha_operands.specs.Shapes.{Pattern}
-use Rattle.alpha_operands.specs.Operands.{Slots, slots, Gives, nothing, filled}
+use Rattle.alpha_operands.specs.Operands.{Slots, filled}
 use Rattle.alpha_operands.specs.Walk.{is_whole, piece_behind, front_after, sign_after, follow}
 use Rattle.alpha_operands.proofs.Changes.{filled-changes}
 use Rattle.alpha_operands.proofs.Grammar.{at_end, took, went}
@@ -80,7 +78,3 @@ follow-within all front sign (Next t ts) o r good h =
     let (p, e, g) = took t sign o (piece_behind all front t.kind) (λ p filled. follow all (front_after front p) (sign_after p) ts filled) r h in
     let (next, f, m) = went (left_of t) (filled p t sign o) (λ filled. follow all (front_after front p) (sign_after p) ts filled) r g in
     follow-within all (front_after front p) (sign_after p) ts next r (filled-within p t sign o next good f) m
-
-pub operands-within : (all : List Pattern) (ts : Tokens) (r : Result Operands OperandFault) → Gives slots r (follow all [] signs.Plus ts nothing) → IfOk r (λ o. IfSome o.number IsNumber)
-operands-within all ts (Ok o) h = follow-within all [] signs.Plus ts nothing (slots o) tt h
-operands-within all ts (Err e) h = tt

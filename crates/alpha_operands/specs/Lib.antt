@@ -3,6 +3,7 @@ pub mod Names
 pub mod Operands
 pub mod Pieces
 pub mod Ranges
+pub mod Reached
 pub mod Shapes
 pub mod Values
 pub mod Walk

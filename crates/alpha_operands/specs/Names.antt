@@ -1,5 +1,5 @@
 -- The names of registers and operators.
-use Rattle.std.specs.Prelude.{ℕ, List, [], ◌∷◌, Option, None, Some, codes, nat_lt, if◌then◌else◌}
+use Rattle.std.specs.Prelude.{◌≡◌, ◌⊎◌, ℕ, List, [], ◌∷◌, Option, None, Some, codes, nat_lt, if◌then◌else◌}
 use Rattle.std.specs.Option.{option_and_then}
 use Rattle.std.specs.Str.{bytes_eq}
 use Rattle.alpha_operands.specs.declared.names.Half.{Half}
@@ -29,6 +29,11 @@ registers =
 abbrev pub named : List (List ℕ × ℕ) → List ℕ → Option ℕ
 named [] name = None
 named (row ∷ rows) name = if bytes_eq row.0 name then Some row.1 else named rows name
+
+-- one of the rows has this name and this number
+abbrev pub HasRow : List (List ℕ × ℕ) → List ℕ → ℕ → Type 0
+HasRow [] name n = ⊥
+HasRow (row ∷ rows) name n = ((row.0 ≡ name) × (row.1 ≡ n)) ⊎ HasRow rows name n
 
 abbrev pub numbered : ℕ → Option ℕ
 numbered n = if nat_lt n 32 then Some n else None

@@ -13,9 +13,8 @@ use Rattle.alpha_operands.specs.declared.shape.Shape.TheVariants as shapes
 use Rattle.alpha_operands.specs.declared.operands.LineFaultKind.{LineFaultKind}
 use Rattle.alpha_operands.specs.declared.values.ListValue.{ListValue}
 use Rattle.alpha_operands.specs.declared.values.ListValue.TheVariants as listed
-use Rattle.alpha_operands.specs.declared.values.Front.{Front}
 use Rattle.alpha_operands.specs.Shapes.{Pattern, patterns}
-use Rattle.alpha_operands.specs.Operands.{Slots, slots, nothing, filled}
+use Rattle.alpha_operands.specs.Operands.{Slots, nothing, filled}
 use Rattle.alpha_operands.specs.Walk.{is_whole, piece_behind, front_after, sign_after, operands}
 
 -- a value of a list: a number modulo 2^64, or a label with its offset
@@ -32,9 +31,6 @@ abbrev pub list_shape : ℕ → Option Shape
 list_shape bytes =
     if bytes == 1 then Some shapes.Bytes else if bytes == 2 then Some shapes.Words else if bytes == 4 then Some shapes.Longs
     else if bytes == 8 then Some shapes.Quads else None
-
-abbrev pub front_of : Front → Slots × List ℕ
-front_of f = (slots f.operands, f.rest.now)
 
 -- the operands of one value, and the list behind its comma; the list is at its end where none is there
 abbrev pub ended : Bool → Slots → Option (Slots × List ℕ)

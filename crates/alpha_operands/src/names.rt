@@ -1,5 +1,5 @@
-ghost use Rattle.std.specs.Prelude.{◌≡◌, map};
-ghost use Rattle.alpha_operands.specs.Names.{register_of, operator_of, registers, named};
+ghost use Rattle.std.specs.Prelude.{◌≡◌, map, IfSome};
+ghost use Rattle.alpha_operands.specs.Names.{register_of, operator_of, registers, named, HasRow};
 
 use alpha_words::Reg;
 
@@ -49,11 +49,45 @@ fn named(rows: &[Row], name: &[u8]) -> Option<u8>
     None
 }
 
-// The number of the register of a name.
+// The number of the row at a place, where that is the row of a name.
+fn number_at(rows: &[Row], place: usize, name: &[u8]) -> Option<u8>
+    ensures { IfSome result (λ n. HasRow (map (λ r. (r.name.now, r.number)) rows.now) name.now n) }
+{
+    match rows.get(place) {
+        Some(row) if row.name == name => Some(row.number),
+        _ => None,
+    }
+}
+
+// Where the row of a name stands that is that of a register.
+fn place_of(name: &[u8]) -> usize {
+    match name {
+        [_, n @ b'0'..=b'9'] => usize::from(*n - b'0'),
+        [_, m @ b'1'..=b'3', n @ b'0'..=b'9'] => usize::from(10 * (*m - b'0') + (*n - b'0')),
+        [_, b'v', _] => 32,
+        [_, b't', n @ b'0'..=b'7'] => 33 + usize::from(*n - b'0'),
+        [_, b's', n @ b'0'..=b'5'] => 41 + usize::from(*n - b'0'),
+        [_, b'f', _] => 47,
+        [_, b'a', n @ b'0'..=b'5'] => 48 + usize::from(*n - b'0'),
+        [_, b't', n @ b'8'..=b'9'] => 54 + usize::from(*n - b'8'),
+        [_, b't', _, n @ b'0'..=b'1'] => 56 + usize::from(*n - b'0'),
+        [_, b'r', _] => 58,
+        [_, b'p', _] => 59,
+        [_, b'a', _] => 60,
+        [_, b'g', _] => 61,
+        [_, b's', _] => 62,
+        _ => 63,
+    }
+}
+
+// The number of the register of a name. Its row is where it should be, or nowhere.
 fn register_number(name: &[u8]) -> Option<u8>
     ensures { result ≡ named registers name.now }
 {
-    named(&REGISTERS, name)
+    match number_at(&REGISTERS, place_of(name), name) {
+        Some(number) => Some(number),
+        None => named(&REGISTERS, name),
+    }
 }
 
 /// The register of a name, with its `$`. `None` exactly where there is none of that name.

@@ -1,9 +1,9 @@
-ghost use Rattle.std.specs.Prelude.{◌≡◌, ◌==◌, not};
+ghost use Rattle.std.specs.Prelude.{◌≡◌, ◌==◌, not, Ok, Err, OnOk, IfErr};
 ghost use Rattle.std.specs.List.{list_all};
 ghost use Rattle.alpha_token.specs.Numeral.{number_value};
 ghost use Rattle.alpha_token.specs.Tokens.{lexeme};
 ghost use Rattle.alpha_operands.specs.Ranges.{number_of, offset_of};
-ghost use Rattle.alpha_operands.specs.Operands.{slots, is_label, between_quotes, Gives, filled};
+ghost use Rattle.alpha_operands.specs.Operands.{slots, is_label, between_quotes, filled};
 
 use crate::number::number_at;
 use crate::{Half, Number, Piece, Sign, operator, register};
@@ -110,74 +110,66 @@ fn between_quotes(text: &[u8]) -> &[u8]
     }
 }
 
-// The operands with the value of a token at its piece.
+// Fills the value of a token in, at its piece.
 #[tactic(auto, unfolding(crate::specs::Operands::filled))]
-pub(crate) fn filled<'a>(
+pub(crate) fn fill<'a>(
     piece: Piece,
     token: &Token<'a>,
     sign: Sign,
-    operands: &Operands<'a>,
-) -> Result<Operands<'a>, LineFaultKind>
-    ensures { Gives slots result (filled piece (lexeme token.now) sign (slots operands.now)) }
+    operands: &mut Operands<'a>,
+) -> Result<(), LineFaultKind>
+    ensures ok { OnOk result (filled piece (lexeme token.now) sign (slots operands.old) ≡ Ok (slots operands.new)) }
+    ensures fault { IfErr result (λ why. filled piece (lexeme token.now) sign (slots operands.old) ≡ Err why) }
 {
-    let left = token.rest.len();
+    operands.left = token.rest.len();
     match piece {
         Piece::Ra => match register(token.text) {
-            Some(r) => Ok(Operands {
-                ra: Some(r),
-                left,
-                ..*operands
-            }),
+            Some(r) => {
+                operands.ra = Some(r);
+                Ok(())
+            }
             None => Err(LineFaultKind::UnknownName),
         },
         Piece::Rb => match register(token.text) {
-            Some(r) => Ok(Operands {
-                rb: Some(r),
-                left,
-                ..*operands
-            }),
+            Some(r) => {
+                operands.rb = Some(r);
+                Ok(())
+            }
             None => Err(LineFaultKind::UnknownName),
         },
         Piece::Rc => match register(token.text) {
-            Some(r) => Ok(Operands {
-                rc: Some(r),
-                left,
-                ..*operands
-            }),
+            Some(r) => {
+                operands.rc = Some(r);
+                Ok(())
+            }
             None => Err(LineFaultKind::UnknownName),
         },
         Piece::Operator => match operator(token.text) {
-            Some(half) => Ok(Operands {
-                half: Some(half),
-                left,
-                ..*operands
-            }),
+            Some(half) => {
+                operands.half = Some(half);
+                Ok(())
+            }
             None => Err(LineFaultKind::UnknownName),
         },
         Piece::Label => {
             if is_label(token.text) {
-                Ok(Operands {
-                    label: Some(token.text),
-                    left,
-                    ..*operands
-                })
+                operands.label = Some(token.text);
+                Ok(())
             } else {
                 Err(LineFaultKind::BadOperands)
             }
         }
         Piece::Offset => match offset_of(sign, token.text) {
-            Some(offset) => Ok(Operands {
-                offset,
-                left,
-                ..*operands
-            }),
+            Some(offset) => {
+                operands.offset = offset;
+                Ok(())
+            }
             None => Err(LineFaultKind::OutOfRange),
         },
-        Piece::Text => Ok(Operands {
-            text: Some(between_quotes(token.text)),
-            left,
-            ..*operands
-        }),
+        Piece::Text => {
+            operands.text = Some(between_quotes(token.text));
+            Ok(())
+        }
         Piece::Comma
         | Piece::Again
         | Piece::Open
@@ -185,13 +177,12 @@ pub(crate) fn filled<'a>(
         | Piece::Minus
         | Piece::Plus
         | Piece::Less
-        | Piece::Dot => { Ok(Operands { left, ..*operands }) }
+        | Piece::Dot => Ok(()),
         _ => match number_of(piece, sign, token.text) {
-            Some(n) => Ok(Operands {
-                number: Some(n),
-                left,
-                ..*operands
-            }),
+            Some(n) => {
+                operands.number = Some(n);
+                Ok(())
+            }
             None => Err(LineFaultKind::OutOfRange),
         },
     }

@@ -3,10 +3,11 @@ ghost use Rattle.std.specs.Option.{option_map};
 ghost use Rattle.alpha_token.specs.Tokens.{tokens};
 ghost use Rattle.alpha_operands.specs.Shapes.{patterns};
 ghost use Rattle.alpha_operands.specs.Operands.{slots};
-ghost use Rattle.alpha_operands.specs.Values.{view, list_shape, front_of, ended, first_operands, value_of, first_value, next_of, IsOfSize};
+ghost use Rattle.alpha_operands.specs.Reached.{front_of, IsReached};
+ghost use Rattle.alpha_operands.specs.Values.{view, list_shape, first_operands, value_of, first_value, next_of, IsOfSize};
 
-use crate::operands::{NOTHING, filled};
-use crate::walk::{is_whole, piece_behind, sign_after};
+use crate::operands::{NOTHING, fill};
+use crate::walk::{Reached, sign_after};
 use crate::{Number, Operands, Piece, Shape, Sign};
 use alpha_token::{Step, next};
 
@@ -28,58 +29,41 @@ pub enum ListValue<'a> {
     Label(Expr<'a>),
 }
 
-// The operands of one value, and the list behind it.
-#[derive(Drop)]
-struct Front<'a> {
-    operands: Operands<'a>,
-    rest: &'a [u8],
-}
-
-// The operands of a value where the list is at its end.
-fn at_end<'a>(whole: bool, operands: &Operands<'a>) -> Option<Front<'a>>
-    ensures { option_map front_of result ≡ ended whole (slots operands.now) }
-{
-    if whole {
-        return Some(Front {
-            operands: Operands { ..*operands },
-            rest: &[],
-        });
-    }
-    None
-}
-
-// The operands of the first value of what is left of a list, behind a front of patterns.
+// Fills the operands of the first value of what is left of a list in, behind what is read of the
+// patterns. The list behind the value's comma.
 fn first_operands<'a>(
     shape: Shape,
     list: &'a [u8],
-    front: &'static [Piece],
+    reached: &Reached,
     sign: Sign,
-    operands: &Operands<'a>,
-) -> Option<Front<'a>>
-    ensures { option_map front_of result ≡ first_operands (patterns shape) front.now sign (tokens list.now) (slots operands.now) }
+    operands: &mut Operands<'a>,
+) -> Option<&'a [u8]>
+    requires { IsReached (patterns shape) reached.now }
+    ensures { option_map (λ rest. (slots operands.new, rest.now)) result ≡ first_operands (patterns shape) (front_of reached.now) sign (tokens list.entry.now) (slots operands.old) }
 {
     let token = match next(list) {
         Step::Token(token) => token,
         Step::Bad(_) => return None,
         Step::End(left) => {
-            return at_end(left == 0 && is_whole(shape.patterns(), front), operands);
+            return if left == 0 && reached.is_whole(shape) {
+                Some(&[])
+            } else {
+                None
+            };
         }
     };
-    let Some(longer) = piece_behind(shape.patterns(), front, token.kind) else {
+    let Some(longer) = reached.longer(shape, token.kind) else {
         return None;
     };
     match longer.piece {
-        Piece::Again => Some(Front {
-            operands: Operands { ..*operands },
-            rest: token.rest,
-        }),
-        piece => match filled(piece, &token, sign, operands) {
-            Ok(operands) => first_operands(
+        Piece::Again => Some(token.rest),
+        piece => match fill(piece, &token, sign, operands) {
+            Ok(()) => first_operands(
                 shape,
                 token.rest,
-                longer.front,
+                &longer.reached,
                 sign_after(piece),
-                &operands,
+                operands,
             ),
             Err(_) => None,
         },
@@ -120,9 +104,10 @@ fn list_shape(bytes: u8) -> Option<Shape>
 fn first_value(shape: Shape, list: &[u8]) -> Option<(ListValue<'_>, &[u8])>
     ensures { option_map (λ v. (view v.0, v.1.now)) result ≡ first_value shape list.now }
 {
-    match first_operands(shape, list, &[], Sign::Plus, &NOTHING) {
-        Some(found) => match value_of(&found.operands) {
-            Some(value) => Some((value, found.rest)),
+    let mut operands = NOTHING;
+    match first_operands(shape, list, &Reached::NONE, Sign::Plus, &mut operands) {
+        Some(rest) => match value_of(&operands) {
+            Some(value) => Some((value, rest)),
             None => None,
         },
         None => None,

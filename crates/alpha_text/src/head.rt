@@ -1,10 +1,8 @@
-ghost use Rattle.std.specs.Prelude.{◌≡◌, ◌≢◌, IfSome, IfNone, find};
+ghost use Rattle.std.specs.Prelude.{◌≡◌, find};
 ghost use Rattle.std.specs.Str.{bytes_eq};
-ghost use Rattle.alpha_table.specs.Names.{name_of};
-ghost use Rattle.alpha_text.specs.Heads.{own_name, own_shape, every_own, own_at, shape_of, mnemonic_at, head_of};
+ghost use Rattle.alpha_text.specs.Heads.{own_name, own_shape, every_own, own_at, shape_of, head_name, head_of};
 
-use crate::front::Front;
-use crate::rows::row_named;
+use crate::rows::{head_named, key_of};
 use alpha_operands::Shape;
 use alpha_table::{BranchOp, JumpKind, Mnemonic, OperandRule};
 
@@ -133,18 +131,6 @@ fn named(owns: &[Own], name: &[u8]) -> Option<Own>
     None
 }
 
-// The row of a name of the instruction table, `None` exactly where the table hasn't the name.
-fn row_of(name: &[u8]) -> Option<Mnemonic>
-    ensures found { IfSome result (λ m. name_of m ≡ name.now) }
-    ensures none { IfNone result ((m : _) → name_of m ≢ name.now) }
-{
-    let key = Front::of(name).with_trap(name).key;
-    if let Some(found) = row_named(name, key) {
-        return Some(found);
-    }
-    Mnemonic::of(name)
-}
-
 /// What the name of a statement stands for.
 #[derive(Clone, Copy, Debug, PartialEq, Eq)]
 pub(crate) enum Head {
@@ -155,11 +141,31 @@ pub(crate) enum Head {
 }
 
 impl Head {
+    /// The name.
+    pub(crate) fn name(self) -> &'static [u8]
+        ensures { result.now ≡ head_name self }
+    {
+        match self {
+            Head::Insn(row) => row.name(),
+            Head::Own(own) => own.name(),
+        }
+    }
+
     /// What a name stands for, `None` exactly where it is in no table.
     pub(crate) fn of(name: &[u8]) -> Option<Head>
         ensures { result ≡ head_of name.now }
     {
-        match row_of(name) {
+        match head_named(name, key_of(name)) {
+            Some(head) => Some(head),
+            None => Head::sought(name),
+        }
+    }
+
+    // The same, sought in the tables.
+    fn sought(name: &[u8]) -> Option<Head>
+        ensures { result ≡ head_of name.now }
+    {
+        match Mnemonic::of(name) {
             Some(found) => Some(Head::Insn(found)),
             None => match Own::of(name) {
                 Some(own) => Some(Head::Own(own)),

@@ -114,11 +114,12 @@ fn behind_label<'a>(token: &Token<'a>, left: usize) -> Result<Item<'a>, OperandF
     }
 }
 
-// The item of a line without a label.
-fn unlabelled(line: &[u8]) -> Result<Item<'_>, OperandFault>
-    ensures { Gives item_said result (labelled None (statement_of (tokens line.now))) }
+// The item of a line without a label, which begins with a token.
+fn unlabelled<'a>(token: &Token<'a>, left: usize) -> Result<Item<'a>, OperandFault>
+    requires { left ≡ left_of (lexeme token.now) }
+    ensures { Gives item_said result (labelled None (named (lexeme token.now) (tokens token.now.rest.now))) }
 {
-    match statement_of(line) {
+    match named(token, left) {
         Ok(statement) => Ok(Item {
             label: None,
             statement,
@@ -132,10 +133,22 @@ fn line_of(line: &[u8]) -> Result<Item<'_>, OperandFault>
     ensures { Gives item_said result (line_of (tokens line.now)) }
 {
     match next(line) {
-        Step::Token(token) if is_labelled(&token) => {
-            behind_label(&token, token.text.len() + token.rest.len())
+        Step::Token(token) => {
+            let left = token.text.len() + token.rest.len();
+            if is_labelled(&token) {
+                behind_label(&token, left)
+            } else {
+                unlabelled(&token, left)
+            }
         }
-        _ => unlabelled(line),
+        Step::End(_) => Ok(Item {
+            label: None,
+            statement: Statement::Empty,
+        }),
+        Step::Bad(left) => Err(OperandFault {
+            left,
+            kind: LineFaultKind::BadToken,
+        }),
     }
 }
 

@@ -5,7 +5,7 @@ ghost use Rattle.alpha_token.specs.Bytes.{is_blank};
 ghost use Rattle.std.specs.Option.{option_map};
 ghost use Rattle.alpha_token.specs.Quoted.{quoted_len};
 ghost use Rattle.alpha_token.specs.declared.token.TokenKind.TheVariants.{Text};
-ghost use Rattle.alpha_token.specs.Tokens.{mark, token_at, name_kind, if_any, Reads, Joins};
+ghost use Rattle.alpha_token.specs.Tokens.{token_at, name_kind, if_any, Reads, Joins};
 
 use crate::bytes::{
     alphanumeric_len, begins_name, behind, blanks_len, front, letters_len, name_len,
@@ -64,21 +64,6 @@ pub enum Step<'a> {
     Token(Token<'a>),
 }
 
-// The kind of a token of one byte.
-fn mark(b: u8) -> Option<TokenKind>
-    ensures { result ≡ mark b }
-{
-    match b {
-        b',' => Some(TokenKind::Comma),
-        b'(' => Some(TokenKind::Open),
-        b')' => Some(TokenKind::Close),
-        b':' => Some(TokenKind::Colon),
-        b'+' => Some(TokenKind::Plus),
-        b'-' => Some(TokenKind::Minus),
-        _ => None,
-    }
-}
-
 // The kind of a name that begins with a byte and has so many more.
 fn name_kind(first: u8, more: usize) -> TokenKind
     ensures { result ≡ name_kind first more }
@@ -111,19 +96,22 @@ fn token_at(first: u8, rest: &[u8]) -> Option<(TokenKind, usize)>
     ensures value { result ≡ token_at first rest.now }
     ensures within { IfSome result (λ found. found.1 ≤ length rest.now) }
 {
-    if begins_name(first) {
-        let more = name_len(rest);
-        Some((name_kind(first, more), more))
-    } else if first.is_ascii_digit() {
-        Some((TokenKind::Number, number_more(first, rest)))
-    } else if first == b'$' {
-        if_any(TokenKind::Register, alphanumeric_len(rest))
-    } else if first == b'%' {
-        if_any(TokenKind::Operator, letters_len(rest))
-    } else if first == b'"' {
-        text_at(rest)
-    } else {
-        mark(first).map(|kind| (kind, 0))
+    match first {
+        b',' => Some((TokenKind::Comma, 0)),
+        b'(' => Some((TokenKind::Open, 0)),
+        b')' => Some((TokenKind::Close, 0)),
+        b':' => Some((TokenKind::Colon, 0)),
+        b'+' => Some((TokenKind::Plus, 0)),
+        b'-' => Some((TokenKind::Minus, 0)),
+        b'$' => if_any(TokenKind::Register, alphanumeric_len(rest)),
+        b'%' => if_any(TokenKind::Operator, letters_len(rest)),
+        b'"' => text_at(rest),
+        b'0'..=b'9' => Some((TokenKind::Number, number_more(first, rest))),
+        _ if begins_name(first) => {
+            let more = name_len(rest);
+            Some((name_kind(first, more), more))
+        }
+        _ => None,
     }
 }
 

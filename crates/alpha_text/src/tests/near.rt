@@ -1,15 +1,16 @@
 use super::{item, rewrite};
 use crate::front::Front;
-use crate::rows::{ROWS, row_named};
+use crate::rows::{HEADS, head_named, key_of};
 use crate::{LineBuf, Statement, quick};
 
-/// Each row of the table is found by its name.
+/// Each name is found at once, by the number that its bytes make and by that of a line's front.
 #[test]
-fn each_row_by_its_name(rt: HostRuntime) {
-    for row in ROWS {
-        let name = row.name();
+fn each_head_by_its_name(rt: HostRuntime) {
+    for head in HEADS {
+        let name = head.name();
         let front = Front::of(name).with_trap(name);
-        assert_eq!(rt; row_named(front.name, front.key), Some(row), "{name:?}");
+        assert_eq!(rt; front.key, key_of(name), "{name:?}");
+        assert_eq!(rt; head_named(front.name, front.key), Some(head), "{name:?}");
     }
 }
 

@@ -1,7 +1,10 @@
+use Rattle.std.proofs.Common.{[]}
 use Rattle.alpha_token.specs.Tokens.{tokens}
+use Rattle.alpha_operands.specs.declared.number.Sign.TheVariants as signs
 use Rattle.alpha_operands.specs.Shapes.{patterns}
-use Rattle.alpha_operands.proofs.Within.{operands-within}
+use Rattle.alpha_operands.specs.Operands.{nothing}
+use Rattle.alpha_operands.proofs.Within.{follow-within}
 use Rattle.alpha_operands.proofs.shape.Shape.operands.Goals as goal
 
-pub returns-clause-good : goal.returns-clause-good
-returns-clause-good c = operands-within (patterns c.args.self) (tokens c.args.line.now) c.follow.result c.follow.ensures
+pub returns-in-Ok-clause-good : goal.returns-in-Ok-clause-good
+returns-in-Ok-clause-good c = follow-within (patterns c.args.self) [] signs.Plus (tokens c.args.line.now) nothing _ tt c.in-Ok.ensures.ok
