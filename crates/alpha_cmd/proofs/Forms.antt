@@ -2,7 +2,7 @@
 use Rattle.std.proofs.Common.{◌≡◌, ◌⊎◌, ◌∙◌, ℕ, Bool, true, false, List, IsSome, refl, sym, ap, subst, inl, inr}
 use Rattle.alpha_cmd.specs.declared.status.Status.{Status}
 use Rattle.alpha_cmd.specs.declared.status.Status.TheVariants.{ShelfFault}
-use Rattle.alpha_cmd.specs.Status.{Class, done, refused, failed, class_of}
+use Rattle.alpha_cmd.specs.Status.{Class, done, refused, ended, failed, class_of}
 use Rattle.alpha_cmd.specs.Outcome.{Outcome, goes, stops}
 use Rattle.alpha_cmd.specs.Answer.{World, Answer, AnswerBy, HaveBytes, answer_of}
 use Rattle.alpha_cmd.specs.Keeping.{KeepsAs}
@@ -13,6 +13,7 @@ use Rattle.alpha_cmd.proofs.Stages.{KeepsAs-lawful}
 abbrev pub is_failed : Class → Bool
 is_failed done = false
 is_failed refused = false
+is_failed ended = false
 is_failed failed = true
 
 -- a fault of a device, or want of memory
@@ -26,6 +27,7 @@ IsPlain there s = (is_fault s ≡ false) ⊎ ((s ≡ ShelfFault) × (there → �
 pub record IsLawfulForm (f : Form) (there : World → Type 0) (w : World) : Type 0 where
   pub stages : Lawful (IsToldFor f.needs w) (IsSome w.files × HaveBytes w.files) (there w) (f.steps w)
   pub ends : (a : Answer) → f.steps w (goes a) → IsPlain (there w) a.status
+  pub status : (a : Answer) → f.steps w (goes a) → f.kind.ends a.status
 
 -- ---- answers
 
@@ -54,6 +56,17 @@ done_goes f there w law a (goes b, h, e) is = subst (λ (x : Answer). f.steps w 
 done_goes f there w law a (stops s line, h, e) is =
     absurd (done_not (there w) s (sym (ap (λ (x : Answer). class_of x.status) e) ∙ is) (law.stages.plain s line h))
 
+-- a program's end is no refusal
+ended_not : (there : Type 0) (s : Status) → class_of s ≡ ended → IsRefusal there s → ⊥
+ended_not there s e (inl h) = let x = sym e ∙ h in cc
+ended_not there s e (inr h) = let x : ended ≡ failed = sym e ∙ ap class_of h.0 in cc
+
+-- so its status is one of the command's end
+pub ended_ends : (f : Form) (there : World → Type 0) (w : World) → IsLawfulForm f there w → (a : Answer) → AnswerBy f.steps w a → class_of a.status ≡ ended → f.kind.ends a.status
+ended_ends f there w law a (goes b, h, e) is = subst (λ (x : Answer). f.kind.ends x.status) (sym e) (law.status b h)
+ended_ends f there w law a (stops s line, h, e) is =
+    absurd (ended_not (there w) s (sym (ap (λ (x : Answer). class_of x.status) e) ∙ is) (law.stages.plain s line h))
+
 -- ---- a command that makes bytes and keeps them
 
 pub making_lawful : (names : List (List ℕ)) (Makes : World → Outcome (List ℕ) → Type 0) (out : List ℕ) (w : World)
@@ -64,4 +77,5 @@ making_lawful names Makes out w made = record {
       Then-lawful {R = Makes w} {S = KeepsAs w out} made
       (λ bytes h. KeepsAs-lawful (IsSome w.files) (IsSome w.files × HaveBytes w.files) (making_there names Makes out w) w out bytes (λ there. there.1 bytes h));
   ends = λ a h. inl (ap (λ (x : Answer). is_fault x.status) h.2.1);
+  status = λ a h. ap (λ (x : Answer). x.status) h.2.1;
 }

@@ -11,4 +11,5 @@ pub mod Tested
 pub mod Told
 pub mod Tried
 pub mod Trying
+pub mod Untold
 pub mod WildRan

@@ -5,21 +5,21 @@ use Rattle.alpha_io.specs.Shelved.{Shelved}
 use Rattle.alpha_io.specs.Sunk.{Sunk, Puts}
 use Rattle.alpha_io.specs.Written.{WritesPrefix}
 use Rattle.alpha_io.proofs.Sinks.{Partly-more}
-use Rattle.alpha_io.proofs.Writes.{WritesPrefix-all}
 use Rattle.alpha_request.specs.declared.options.RunOptions.{RunOptions}
 use Rattle.alpha_seq.specs.declared.end.End.{End}
 use Rattle.alpha_seq.specs.declared.machine.Machine.{Machine}
 use Rattle.alpha_seq.specs.State.{Program, State}
 use Rattle.alpha_seq.specs.Start.{start}
-use Rattle.alpha_seq.specs.Run.{Run, Shown, after, shown, sequential}
+use Rattle.alpha_seq.specs.Run.{Run, started, Shown, after, shown, sequential}
 use Rattle.alpha_seq.specs.Machine.{program_of, state_of}
 use Rattle.alpha_seq.specs.Devices.{Drawn}
-use Rattle.alpha_seq.specs.RunEffect.{IsMade, HasGrown, HasNoFault, HasInputFault, HasOutputFault, HasNotesFault, ShowsPart, shown_from}
+use Rattle.alpha_seq.specs.RunEffect.{IsMade, HasInputFault, HasOutputFault, HasNotesFault, ShowsPart, shown_from}
+use Rattle.alpha_seq.specs.Inputs.{run_over, HasMade, run_from, IsRun, IsFront}
 use Rattle.alpha_cmd.specs.declared.status.Status.TheVariants.{InputFault}
 use Rattle.alpha_cmd.specs.Status.{status_line}
 use Rattle.alpha_cmd.specs.Outcome.{goes}
 use Rattle.alpha_cmd.specs.Image.{ImageOf}
-use Rattle.alpha_cmd.specs.Commands.Run.{run_status, run_line, MayShow, answer_shown, form}
+use Rattle.alpha_cmd.specs.Commands.Run.{run_status, run_line, program_by, run_by_reads, MayShow, answer_shown, form}
 use Rattle.alpha_cmd.specs.Answer.{World, Answer, said}
 use Rattle.alpha_cmd.specs.Kept.{nothing}
 use Rattle.alpha_cmd.specs.Ends.{EndsPart, Leaves}
@@ -31,12 +31,26 @@ pub record IsStarted (options : RunOptions) (m : Machine) : Type 0 where
   pub how : m.how ≡ options.complete
   pub state : (bytes : List ℕ) → state_of m bytes [] ≡ start (program_of m) bytes
 
+-- its run over some inputs is the one from the start
+started_reads : (options : RunOptions) (m : Machine) (inputs : List (List ℕ)) → IsStarted options m → run_from m inputs ≡ run_by_reads options m.image inputs
+started_reads options m inputs at =
+    let first = ap (λ (s : State). run_over (program_of m) inputs (started s)) (at.state []) in
+    let same : program_of m ≡ program_by options m.image = λ i. record { image = m.image; how = at.how i } in
+    first ∙ ap (λ (g : Program). run_over g inputs (started (start g []))) same
+
+-- a run over some inputs shows what the command may over an input that tells nothing
+reads_may : (options : RunOptions) (m : Machine) (inputs : List (List ℕ)) → IsStarted options m → HasMade options.steps (run_from m inputs)
+    → MayShow options None m.image (shown options.watch (run_from m inputs))
+reads_may options m inputs at made =
+    let same = started_reads options m inputs at in
+    (inputs, subst (HasMade options.steps) same made, ap (shown options.watch) same)
+
 -- its run is the sequential one
 started_shows : (options : RunOptions) (m : Machine) (bytes : List ℕ) → IsStarted options m
-    → shown_from m bytes options.steps options.watch ≡ sequential (record { image = m.image; how = options.complete }) bytes options.steps options.watch
+    → shown_from m bytes options.steps options.watch ≡ sequential (program_by options m.image) bytes options.steps options.watch
 started_shows options m bytes at =
     let first = ap (λ (s : State). shown options.watch (after (program_of m) s options.steps)) (at.state bytes) in
-    let same : program_of m ≡ record { image = m.image; how = options.complete } = λ i. record { image = m.image; how = at.how i } in
+    let same : program_of m ≡ program_by options m.image = λ i. record { image = m.image; how = at.how i } in
     first ∙ ap (λ (g : Program). shown options.watch (after g (start g bytes) options.steps)) same
 
 -- ---- a run that was made: what it shows was written, and this is left
@@ -51,17 +65,17 @@ pub record Shows (options : RunOptions) (m : Machine) (end : Option End) (input 
 
 made_shows : (options : RunOptions) (end : Option End) (old new : Machine) (left now : Option (List ℕ)) (before after_it : ℕ) (out notes : Sunk) → IsStarted options old
     → ((bytes : List ℕ) → left ≡ Some bytes → IsMade options.steps options.watch end old new (record { old = left; new = now; before = before; now = after_it }) out notes)
-    → HasGrown out → HasGrown notes → HasNoFault (record { old = left; new = now; before = before; now = after_it }) out notes
+    → IsRun options.steps options.watch end old new (record { old = left; new = now; before = before; now = after_it }) out notes
     → Shows options old end (record { old = left; new = now; before = before; now = after_it }) out notes
-made_shows options end old new None now before after_it out notes at made output lines calm = record {
-  what = record { end = end; steps = 0; output = output.bytes; left = []; notes = lines.bytes };
-  may = tt;
-  end_is = refl;
-  bytes = record { written = output.written; same = calm.sink };
-  lines = record { written = lines.written; same = calm.lines };
+made_shows options end old new None now before after_it out notes at made over = record {
+  what = shown options.watch (run_from old over.inputs);
+  may = reads_may options old over.inputs at over.made;
+  end_is = over.end_is;
+  bytes = subst (Puts out) (sym (ap (λ (s : State). s.outside.output) over.state)) over.wrote;
+  lines = over.lines;
   left = tt;
 }
-made_shows options end old new (Some bytes) now before after_it out notes at made output lines calm =
+made_shows options end old new (Some bytes) now before after_it out notes at made over =
     let one = made bytes refl in
     let m = one.made in
     let run : Run = record one.run { state = state_of new m.rest m.bytes } in
@@ -77,10 +91,11 @@ made_shows options end old new (Some bytes) now before after_it out notes at mad
     }
 
 pub run_shows : (options : RunOptions) (end : Option End) (old new : Machine) (input : Drawn) (out notes : Sunk) → IsStarted options old
-    → ((bytes : List ℕ) → input.old ≡ Some bytes → IsMade options.steps options.watch end old new input out notes) → HasGrown out → HasGrown notes → HasNoFault input out notes
+    → ((bytes : List ℕ) → input.old ≡ Some bytes → IsMade options.steps options.watch end old new input out notes)
+    → IsRun options.steps options.watch end old new input out notes
     → Shows options old end input out notes
-run_shows options end old new input out notes at made output lines calm =
-    made_shows options end old new input.old input.new input.before input.now out notes at made output lines calm
+run_shows options end old new input out notes at made over =
+    made_shows options end old new input.old input.new input.before input.now out notes at made over
 
 -- ---- a run that was cut short: fronts of what it would have shown were written
 
@@ -91,16 +106,17 @@ pub record Begins (options : RunOptions) (m : Machine) (left : Option (List ℕ)
   pub lines : WritesPrefix notes.old notes.new what.notes
 
 pub run_begins : (options : RunOptions) (m : Machine) (left : Option (List ℕ)) (out notes : Sunk) → IsStarted options m
-    → ((bytes : List ℕ) → left ≡ Some bytes → ShowsPart (shown_from m bytes options.steps options.watch) out notes) → HasGrown out → HasGrown notes
+    → ((bytes : List ℕ) → left ≡ Some bytes → ShowsPart (shown_from m bytes options.steps options.watch) out notes)
+    → IsFront options.steps options.watch m out notes
     → Begins options m left out notes
-run_begins options m None out notes at part output lines =
+run_begins options m None out notes at part front =
     record {
-      what = record { end = None; steps = 0; output = output.bytes; left = []; notes = lines.bytes };
-      may = tt;
-      bytes = WritesPrefix-all out.old out.new output.bytes output.written;
-      lines = WritesPrefix-all notes.old notes.new lines.bytes lines.written;
+      what = shown options.watch (run_from m front.inputs);
+      may = reads_may options m front.inputs at front.made;
+      bytes = front.bytes;
+      lines = front.lines;
     }
-run_begins options m (Some bytes) out notes at part output lines =
+run_begins options m (Some bytes) out notes at part front =
     let p = part bytes refl in
     record {
       what = shown_from m bytes options.steps options.watch;

@@ -1,21 +1,26 @@
 -- What a call tries, by its words.
-use Rattle.std.proofs.Common.{◌≡◌, ◌≢◌, ◌⊎◌, ◌∙◌, ℕ, Bool, List, Option, None, Some, IsSome, refl, sym, ap, subst, inl, inr, ⊎_elim, arith}
+use Rattle.std.proofs.Common.{◌≡◌, ◌≢◌, ◌⊎◌, ◌∙◌, ℕ, Bool, false, List, Option, None, Some, IsSome, refl, sym, ap, subst, inl, inr, ⊎_elim, arith}
 use Rattle.alpha_io.specs.Faults.{Rose, Calm}
 use Rattle.alpha_io.specs.Shelved.{Shelved}
 use Rattle.alpha_io.specs.Sunk.{Sunk, Puts}
-use Rattle.alpha_request.specs.Command.{Command}
+use Rattle.alpha_trap.specs.declared.handler.Lost.{Lost}
+use Rattle.alpha_request.specs.Command.{Command, imprecise}
+use Rattle.alpha_request.specs.Options.{Drawn}
+use Rattle.alpha_request.specs.declared.options.RunOptions.{RunOptions}
 use Rattle.alpha_request.specs.Asked.{asked}
 use Rattle.alpha_cmd.specs.declared.status.Status.{Status}
 use Rattle.alpha_cmd.specs.declared.status.Status.TheVariants.{BadWords, ShelfFault, InputFault, SinkFault, NoMemory}
-use Rattle.alpha_cmd.specs.Status.{status_line}
+use Rattle.alpha_cmd.specs.declared.status.Status.TheVariants as statuses
+use Rattle.alpha_cmd.specs.Status.{refused, ended, failed, class_of, status_line}
 use Rattle.alpha_cmd.specs.Asks.{Asks}
 use Rattle.alpha_cmd.specs.Kept.{HasKept}
 use Rattle.alpha_cmd.specs.Answer.{World, Answer, HaveBytes, notes_of, said, IsLeft, IsAnswered}
-use Rattle.alpha_cmd.specs.Form.{Needs, needs_nothing, needs_files, needs_files_and_input, IsToldFor}
-use Rattle.alpha_cmd.specs.Tries.{TriesBy}
-use Rattle.alpha_cmd.specs.Commands.{form_of, there_of, AnswerOf}
+use Rattle.alpha_cmd.specs.Form.{Form, Needs, needs_nothing, needs_files, needs_files_and_input, IsToldFor}
+use Rattle.alpha_cmd.specs.Tries.{CutBy, FailsBy, TriesBy}
+use Rattle.alpha_cmd.specs.Commands.{form_of, there_of, AnswerOf, EndsBy}
 use Rattle.alpha_cmd.specs.Tried.{IsAnswer, AreTold, TriedBy}
-use Rattle.alpha_cmd.proofs.Forms.{IsPlain, one_answer, some_answer, plain_answer}
+use Rattle.alpha_cmd.proofs.Forms.{IsPlain, one_answer, some_answer, plain_answer, ended_ends}
+use Rattle.alpha_cmd.proofs.Commands.Imprecise.{found_end}
 use Rattle.alpha_cmd.proofs.Trying.{Says, plain, cut, fails_calm, fails_says, says_not_sink, says_not_input, says_not_shelf}
 use Rattle.alpha_cmd.proofs.Commands.{lawful}
 
@@ -94,6 +99,36 @@ tried_not_sink shelf input words w t tried = says_not_sink shelf input ⊥ t.sta
 -- of an input that doesn't fail
 pub tried_not_input : (shelf input : Type 0) (words : List (List ℕ)) (w : World) (t : Answer) → (input → ⊥) → TriedBy shelf input words w t → t.status ≢ InputFault
 tried_not_input shelf input words w t quiet tried = says_not_input shelf input ⊥ t.status quiet (tried_says shelf input words w t ⊥ (λ no. absurd no) tried)
+
+-- what cuts a command short is no end of a program
+cut_failed : (shelf : Type 0) (s : Status) → CutBy shelf s → class_of s ≡ failed
+cut_failed shelf s (inl h) = ap class_of h
+cut_failed shelf s (inr h) = ap class_of h.0
+
+fails_failed : (shelf input : Type 0) (f : Form) (w : World) (t : Answer) → FailsBy shelf input f w t → class_of t.status ≡ failed
+fails_failed shelf input f w t (inl h) = cut_failed shelf t.status h.cause
+fails_failed shelf input f w t (inr (inl h)) = ap class_of h.status_is
+fails_failed shelf input f w t (inr (inr h)) = cut_failed shelf t.status h.cause
+
+-- the status of a program's end is one of the end of the words' command
+pub tried_ended : (shelf input : Type 0) (words : List (List ℕ)) (w : World) (t : Answer) → TriedBy shelf input words w t → class_of t.status ≡ ended
+    → (command : Command) × Asks words command × EndsBy command t.status
+tried_ended shelf input words w t (inl (inl h)) is =
+    let bad : class_of t.status ≡ refused = ap (λ (a : Answer). class_of a.status) h.1 in
+    let no = sym is ∙ bad in absurd cc
+tried_ended shelf input words w t (inl (inr h)) is = (h.0, h.1, ended_ends (form_of h.0) (there_of h.0) w (lawful h.0 w) t h.2 is)
+tried_ended shelf input words w t (inr (inl h)) is = let no = sym is ∙ fails_failed shelf input (form_of h.0) w t h.2 in absurd cc
+tried_ended shelf input words w t (inr (inr h)) is =
+    let cut : class_of t.status ≡ failed = ap (λ (a : Answer). class_of a.status) h in
+    let no = sym is ∙ cut in absurd cc
+
+-- an unforced run of the imprecise machine ends with no lost trap
+pub ended_found : (words : List (List ℕ)) (options : RunOptions) (choices : Drawn) (file : List ℕ) (lost : Lost) → Asks words (imprecise options choices false file)
+    → (command : Command) × Asks words command × EndsBy command (statuses.Lost lost) → ⊥
+ended_found words options choices file lost asks (command, also, ends) =
+    let x = sym asks ∙ also in
+    let same : command ≡ imprecise options choices false file = cc in
+    found_end lost (subst (λ (c : Command). EndsBy c (statuses.Lost lost)) same ends)
 
 -- of a shelf that doesn't fail, where the files are there
 pub tried_there : (shelf input : Type 0) (words : List (List ℕ)) (command : Command) (w : World) (t : Answer) → (shelf → ⊥) → Asks words command → there_of command w

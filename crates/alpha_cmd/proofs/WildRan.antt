@@ -1,37 +1,43 @@
 -- From what a run of the imprecise machine did to what the command `run --imprecise` tries.
-use Rattle.std.proofs.Common.{◌≡◌, ◌⊎◌, ◌++◌, ◌∙◌, ◌<◌, ℕ, ◌%◌, ◌^◌, Bool, true, false, List, [], Option, None, Some, IfSome, option_map, refl, sym, ap, subst, inl, inr, ⊎_elim, append-nil, arith}
+use Rattle.std.proofs.Common.{◌≡◌, ◌⊎◌, ◌++◌, ◌∙◌, ◌<◌, ◌≤◌, ◌+◌, length, ℕ, ◌%◌, ◌^◌, Bool, true, false, List, [], Option, None, Some, IfSome, option_map, refl, sym, ap, subst, inl, inr, ⊎_elim, append-nil, arith}
 use Rattle.alpha_io.specs.Files.{Files, KeepsFiles}
 use Rattle.alpha_io.specs.Shelved.{Shelved}
 use Rattle.alpha_io.specs.Sunk.{Sunk, Puts}
 use Rattle.alpha_io.specs.Written.{WritesPrefix}
 use Rattle.alpha_io.proofs.Sinks.{Partly-more}
-use Rattle.alpha_io.proofs.Writes.{WritesPrefix-all}
 use Rattle.alpha_image.specs.Parts.{Parts, IsImage}
 use Rattle.alpha_request.specs.declared.options.RunOptions.{RunOptions}
 use Rattle.alpha_request.specs.Options as choices
 use Rattle.alpha_seq.specs.declared.end.End.{End}
 use Rattle.alpha_seq.specs.declared.end.RunEnd.{RunEnd}
 use Rattle.alpha_seq.specs.declared.end.RunEnd.TheVariants as runs
-use Rattle.alpha_seq.specs.declared.machine.Machine.{Machine}
 use Rattle.alpha_seq.specs.State.{Program}
 use Rattle.alpha_seq.specs.Notes.{end_line}
-use Rattle.alpha_seq.specs.Run.{sequential}
+use Rattle.alpha_seq.specs.Start.{start}
+use Rattle.alpha_seq.specs.Run.{Mark, notes_of, shown, sequential}
 use Rattle.alpha_seq.specs.Machine.{program_of}
 use Rattle.alpha_seq.specs.Devices.{Drawn}
-use Rattle.alpha_seq.specs.RunEffect.{run_end, HasGrown, HasNoFault, HasInputFault, HasOutputFault, HasNotesFault}
-use Rattle.alpha_imprecise.specs.Made.{ShownWild, LostTrap, imprecise_by}
+use Rattle.alpha_seq.specs.RunEffect.{run_end, HasInputFault, HasOutputFault, HasNotesFault}
+use Rattle.alpha_imprecise.specs.Made.{Making, begun, ShownWild, shown_making, LostTrap, lost_trap, first_words, most_words, imprecise_by}
 use Rattle.alpha_imprecise.specs.Telling.{Telling, Counts}
-use Rattle.alpha_imprecise.specs.WildRunEffect.{run_answer, IsWhole, ShowsTold, ShowsSequential}
+use Rattle.alpha_imprecise.specs.Wild.{WildState, IsFresh}
+use Rattle.alpha_imprecise.specs.WildRunEffect.{begun_at, making_at, run_answer, answer_of, IsWhole, ShowsTold, ShowsSequential}
+use Rattle.alpha_imprecise.specs.Free.{run_making_over, FreeAlike, IsFreeRun, IsFreeCut, IsFreeFront}
+use Rattle.alpha_imprecise.proofs.Fresh.{begun_fresh, told_starts}
+use Rattle.alpha_imprecise.proofs.FreeDrawing.{free_draws}
+use Rattle.alpha_imprecise.proofs.FreeFilling.{cut_free}
 use Rattle.alpha_cmd.specs.declared.status.Status.{Status}
 use Rattle.alpha_cmd.specs.declared.status.Status.TheVariants.{StepsSpent, Lost, InputFault, SinkFault}
 use Rattle.alpha_cmd.specs.Status.{status_line}
 use Rattle.alpha_cmd.specs.Outcome.{goes}
-use Rattle.alpha_cmd.specs.Commands.Imprecise.{Plan, plan_by, PlanOf, Passes, with_drawn, MayShowWild, drawn_status, wild_status, wild_line, answer_wild, form}
+use Rattle.alpha_cmd.specs.Commands.Run.{program_by, run_by_reads}
+use Rattle.alpha_cmd.specs.Commands.Imprecise.{Plan, plan_by, PlanOf, Passes, with_drawn, MadeByReads, MayShowWild, drawn_status, wild_status, wild_line, answer_wild, form}
 use Rattle.alpha_cmd.specs.Answer.{World, Answer, said}
 use Rattle.alpha_cmd.specs.Kept.{nothing}
 use Rattle.alpha_cmd.specs.Ends.{EndsPart, Leaves}
 use Rattle.alpha_cmd.specs.Tries.{TriesBy}
 use Rattle.alpha_cmd.proofs.Commands.Imprecise.{wild_answer}
+use Rattle.alpha_cmd.proofs.Untold.{made_same, same_may}
 
 -- ---- the status and the line of an answer, by a number of words
 
@@ -59,29 +65,6 @@ line_by (Some end) trap = refl
 line_by None (Some t) = refl
 line_by None None = refl
 
--- the end of an answer, and the trap that it has lost
-end_in : RunEnd → Option End
-end_in (runs.Ended end) = Some end
-end_in runs.Spent = None
-end_in (runs.Lost pc mask) = None
-end_in runs.InputFault = None
-end_in runs.SinkFault = None
-
-lost_in : RunEnd → Option LostTrap
-lost_in (runs.Ended end) = None
-lost_in runs.Spent = None
-lost_in (runs.Lost pc mask) = Some (record { pc = pc; mask = mask })
-lost_in runs.InputFault = None
-lost_in runs.SinkFault = None
-
-answer_in : (answer : RunEnd) → IsWhole answer → answer ≡ run_answer (end_in answer) (lost_in answer)
-unfolding end_in lost_in
-answer_in (runs.Ended end) whole = refl
-answer_in runs.Spent whole = refl
-answer_in (runs.Lost pc mask) whole = refl
-answer_in runs.InputFault whole = absurd whole
-answer_in runs.SinkFault whole = absurd whole
-
 run_end-answer : (end : Option End) → run_end end ≡ run_answer end None
 run_end-answer None = refl
 run_end-answer (Some end) = refl
@@ -90,24 +73,101 @@ run_end-answer (Some end) = refl
 pub counted : (before now n d : ℕ) → before ≡ 0 → n ≡ now → n < 2 ^ 64 → Counts (Some before) (Some now) d → d % 2 ^ 64 ≡ n
 counted before now n d start is low count = omega (arith, count)
 
-pub fits : (n : ℕ) → n < 2 ^ 64 → n % 2 ^ 64 ≡ n
-fits n low = omega (arith, low)
-
 -- the image of a plan is a good one
 pub planned_image : (files : Files) (name : List ℕ) (drawn : choices.Drawn) (image : Parts) (ahead : ℕ → ℕ) → PlanOf files name drawn (goes (plan_by image ahead)) → IsImage image
 planned_image files name drawn image ahead found =
     let same : image ≡ found.0 = ap (λ (p : Plan). p.image) found.2.2 in
     subst IsImage (sym same) found.1.2.0
 
-module _ (options : RunOptions) (m : Machine) (ahead : ℕ → ℕ) (how : m.how ≡ options.complete) where
-  same_program : program_of m ≡ record { image = m.image; how = options.complete }
-  same_program = λ i. record { image = m.image; how = how i }
+module _ (options : RunOptions) (m : WildState) (ahead : ℕ → ℕ) (how : m.machine.how ≡ options.complete) (fresh : IsFresh m) where
+  same_program : program_of m.machine ≡ program_by options m.machine.image
+  same_program = λ i. record { image = m.machine.image; how = how i }
+
+  -- ---- what a run is over any source
+
+  -- by the words that are told, the run of the definition over some inputs
+  reads_as : (reads : List (List ℕ)) (words list : List ℕ) → list ≡ words
+      → run_making_over (program_by options m.machine.image) reads (begun (start (program_by options m.machine.image) []) None 0 list)
+      ≡ run_making_over (program_of m.machine) reads (begun_at m [] [] words)
+  reads_as reads words list same =
+      ap (λ (g : Program). run_making_over g reads (begun (start g []) None 0 list)) (sym same_program)
+      ∙ (ap (λ l. run_making_over (program_of m.machine) reads (begun (start (program_of m.machine) []) None 0 l)) same
+      ∙ sym (ap (run_making_over (program_of m.machine) reads) (begun_fresh m [] words fresh)))
+
+  draws_most : (reads : List (List ℕ)) (words : List ℕ)
+      → (run_making_over (program_of m.machine) reads (begun_at m [] [] words)).count
+      ≤ most_words (run_making_over (program_of m.machine) reads (begun_at m [] [] words)).run.units
+  draws_most reads words =
+      subst (λ (k : Making). (run_making_over (program_of m.machine) reads k).count ≤ most_words (run_making_over (program_of m.machine) reads k).run.units)
+      (sym (begun_fresh m [] words fresh))
+      (free_draws (program_of m.machine) (start (program_of m.machine) []) words reads)
+
+  -- a run that was made, whatever its source told
+  record MadeShown (answer : RunEnd) (before after : Telling) (out notes : Sunk) : Type 0 where
+    made : MadeByReads options (plan_by m.machine.image ahead)
+    answer_is : answer_of made.making.run.last ≡ answer
+    drew : Counts before.count after.count made.making.count
+    bytes : Puts out made.making.run.state.outside.output
+    lines : Puts notes (notes_of options.watch made.making.run.trace)
+
+  made_shown : (answer : RunEnd) (to : WildState) (before after : Telling) (d : Drawn) (out notes : Sunk) → before.ahead ≡ Some ahead
+      → IsFreeRun options.steps options.watch answer m to before after d out notes → MadeShown answer before after out notes
+  made_shown answer to before after d out notes tells r =
+      let words = r.comes.words in
+      let one = r.comes.is [] in
+      let draws = draws_most r.comes.inputs (words ++ []) in
+      let count : (run_making_over (program_of m.machine) r.comes.inputs (begun_at m [] [] (words ++ []))).count ≡ length words = ap (λ (k : Making). k.count) one in
+      let units : (run_making_over (program_of m.machine) r.comes.inputs (begun_at m [] [] (words ++ []))).run.units ≡ r.run.units = ap (λ (k : Making). k.run.units) one in
+      let most : r.run.units ≤ options.steps = r.used.most in
+      let few : length words ≤ most_words options.steps = omega (arith, draws, count, units, most) in
+      let s = told_starts before after ahead words (most_words options.steps) tells r.comes.drew few in
+      record {
+        made = record {
+          reads = r.comes.inputs;
+          given = most_words options.steps;
+          making = making_at r.run to r.comes.left r.comes.put s.coming (length words);
+          is = reads_as r.comes.inputs (words ++ s.coming) (first_words (most_words options.steps) ahead) s.is ∙ r.comes.is s.coming;
+          used = record { settled = r.used.settled; most = r.used.most; full = r.used.full };
+          enough = few;
+        };
+        answer_is = r.answer_is;
+        drew = r.comes.drew.counted;
+        bytes = r.comes.wrote;
+        lines = r.comes.lines;
+      }
+
+  -- a run that was cut short
+  record MadeFront (out notes : Sunk) : Type 0 where
+    made : MadeByReads options (plan_by m.machine.image ahead)
+    bytes : WritesPrefix out.old out.new made.making.run.state.outside.output
+    lines : WritesPrefix notes.old notes.new (notes_of options.watch made.making.run.trace)
+
+  made_front : (before after : Telling) (out notes : Sunk) → before.ahead ≡ Some ahead
+      → IsFreeFront options.steps options.watch m before after out notes → MadeFront out notes
+  made_front before after out notes tells f =
+      let given = length f.words + most_words options.steps in
+      let s = told_starts before after ahead f.words given tells f.drew (omega arith) in
+      let one = f.fronts s.coming in
+      let draws = draws_most one.inputs (f.words ++ s.coming) in
+      let most = one.used.most in
+      record {
+        made = record {
+          reads = one.inputs;
+          given = given;
+          making = run_making_over (program_of m.machine) one.inputs (begun_at m [] [] (f.words ++ s.coming));
+          is = reads_as one.inputs (f.words ++ s.coming) (first_words given ahead) s.is;
+          used = one.used;
+          enough = omega (arith, draws, most);
+        };
+        bytes = one.bytes;
+        lines = one.lines;
+      }
 
   -- ---- a run that was made: what it shows was written, and this is left
 
   pub record Shows (force : Bool) (answer : RunEnd) (status : Status) (old new : Option (List ℕ)) (out notes : Sunk) : Type 0 where
     pub what : ShownWild
-    pub may : MayShowWild options force old (plan_by m.image ahead) what
+    pub may : MayShowWild options force old (plan_by m.machine.image ahead) what
     pub answer_is : answer ≡ run_answer what.end what.lost
     pub status_is : answer_status answer (what.drawn % 2 ^ 64) ≡ status
     pub bytes : Puts out what.output
@@ -116,126 +176,150 @@ module _ (options : RunOptions) (m : Machine) (ahead : ℕ → ℕ) (how : m.how
 
   shows_told : (force : Bool) (answer : RunEnd) (status : Status) (bytes : List ℕ) (new : Option (List ℕ)) (before after : Telling) (a b : ℕ) (out notes : Sunk) → IsWhole answer
       → ((d : ℕ) → Counts before.count after.count d → answer_status answer (d % 2 ^ 64) ≡ status)
-      → ShowsTold options.steps options.watch bytes ahead answer m before after (record { old = Some bytes; new = new; before = a; now = b }) out notes
-      → (force ≡ false → ShowsSequential options.steps options.watch bytes answer m (record { old = Some bytes; new = new; before = a; now = b }) out notes)
+      → ShowsTold options.steps options.watch bytes ahead answer m.machine before after (record { old = Some bytes; new = new; before = a; now = b }) out notes
+      → (force ≡ false → ShowsSequential options.steps options.watch bytes answer m.machine (record { old = Some bytes; new = new; before = a; now = b }) out notes)
       → Shows force answer status (Some bytes) new out notes
   shows_told true answer status bytes new before after a b out notes whole counts told restarted =
       let w = told.shows whole in
       record {
-        what = imprecise_by (program_of m) bytes ahead options.steps options.watch;
+        what = imprecise_by (program_of m.machine) bytes ahead options.steps options.watch;
         may = ap (λ (g : Program). imprecise_by g bytes ahead options.steps options.watch) same_program;
         answer_is = w.answer_is;
-        status_is = counts (imprecise_by (program_of m) bytes ahead options.steps options.watch).drawn (told.drew whole);
+        status_is = counts (imprecise_by (program_of m.machine) bytes ahead options.steps options.watch).drawn (told.drew whole);
         bytes = w.bytes;
         lines = w.lines;
         left = w.left_is;
       }
   shows_told false answer status bytes new before after a b out notes whole counts told restarted =
-      let s = sequential (program_of m) bytes options.steps options.watch in
+      let s = sequential (program_of m.machine) bytes options.steps options.watch in
       let w = (restarted refl).shows whole in
       record {
-        what = with_drawn s (imprecise_by (program_of m) bytes ahead options.steps options.watch).drawn;
+        what = with_drawn s (imprecise_by (program_of m.machine) bytes ahead options.steps options.watch).drawn;
         may =
             ap (λ (g : Program). with_drawn (sequential g bytes options.steps options.watch) (imprecise_by g bytes ahead options.steps options.watch).drawn) same_program;
         answer_is = w.answer_is ∙ run_end-answer s.end;
-        status_is = counts (imprecise_by (program_of m) bytes ahead options.steps options.watch).drawn (told.drew whole);
+        status_is = counts (imprecise_by (program_of m.machine) bytes ahead options.steps options.watch).drawn (told.drew whole);
         bytes = w.bytes;
         lines = w.lines;
         left = w.left;
       }
 
-  shows_untold : (force : Bool) (answer : RunEnd) (status : Status) (n : ℕ) (new : Option (List ℕ)) (d : Drawn) (out notes : Sunk) → IsWhole answer
-      → answer_status answer (n % 2 ^ 64) ≡ status
-      → HasGrown out → HasGrown notes → HasNoFault d out notes → Shows force answer status None new out notes
-  shows_untold force answer status n new d out notes whole is output lines calm = record {
-    what = record { end = end_in answer; lost = lost_in answer; units = 0; output = output.bytes; left = []; notes = lines.bytes; drawn = n };
-    may = tt;
-    answer_is = answer_in answer whole;
-    status_is = is;
-    bytes = record { written = output.written; same = calm.sink };
-    lines = record { written = lines.written; same = calm.lines };
+  -- over an input that tells nothing
+  shows_untold : (force : Bool) (answer : RunEnd) (status : Status) (new : Option (List ℕ)) (before after : Telling) (out notes : Sunk)
+      → ((d : ℕ) → Counts before.count after.count d → answer_status answer (d % 2 ^ 64) ≡ status)
+      → MadeShown answer before after out notes → (force ≡ false → FreeAlike m.machine.image) → Shows force answer status None new out notes
+  shows_untold true answer status new before after out notes counts h alike = record {
+    what = shown_making options.watch h.made.making;
+    may = (h.made, refl);
+    answer_is = sym h.answer_is;
+    status_is = counts h.made.making.count h.drew;
+    bytes = h.bytes;
+    lines = h.lines;
     left = tt;
   }
+  shows_untold false answer status new before after out notes counts h alike =
+      let q = made_same options (plan_by m.machine.image ahead) (alike refl) h.made in
+      let t = shown options.watch (run_by_reads options m.machine.image q.inputs) in
+      record {
+        what = with_drawn t h.made.making.count;
+        may = (h.made, (t, same_may options m.machine.image h.made.making.run q, refl));
+        answer_is =
+            sym h.answer_is
+            ∙ (ap (λ (end : Option End). run_answer end (lost_trap h.made.making.run.last)) q.end ∙ ap (λ (lost : Option LostTrap). run_answer t.end lost) q.lost);
+        status_is = counts h.made.making.count h.drew;
+        bytes = subst (Puts out) q.output h.bytes;
+        lines = subst (λ (trace : List Mark). Puts notes (notes_of options.watch trace)) q.trace h.lines;
+        left = tt;
+      }
 
-  shows_by : (force : Bool) (answer : RunEnd) (status : Status) (n : ℕ) (old new : Option (List ℕ)) (a b : ℕ) (before after : Telling) (out notes : Sunk) → IsWhole answer
-      → answer_status answer (n % 2 ^ 64) ≡ status
+  shows_by : (force : Bool) (answer : RunEnd) (status : Status) (old new : Option (List ℕ)) (a b : ℕ) (before after : Telling) (out notes : Sunk) → IsWhole answer
       → ((d : ℕ) → Counts before.count after.count d → answer_status answer (d % 2 ^ 64) ≡ status)
-      → ((bytes : List ℕ) → old ≡ Some bytes → ShowsTold options.steps options.watch bytes ahead answer m before after (record { old = old; new = new; before = a; now = b }) out notes)
-      → ((bytes : List ℕ) → old ≡ Some bytes → force ≡ false → ShowsSequential options.steps options.watch bytes answer m (record { old = old; new = new; before = a; now = b }) out notes)
-      → HasGrown out → HasGrown notes → HasNoFault (record { old = old; new = new; before = a; now = b }) out notes
+      → ((bytes : List ℕ) → old ≡ Some bytes → ShowsTold options.steps options.watch bytes ahead answer m.machine before after (record { old = old; new = new; before = a; now = b }) out notes)
+      → ((bytes : List ℕ) → old ≡ Some bytes → force ≡ false → ShowsSequential options.steps options.watch bytes answer m.machine (record { old = old; new = new; before = a; now = b }) out notes)
+      → MadeShown answer before after out notes → (force ≡ false → FreeAlike m.machine.image)
       → Shows force answer status old new out notes
-  shows_by force answer status n None new a b before after out notes whole is counts told restarted output lines calm =
-      shows_untold force answer status n new (record { old = None; new = new; before = a; now = b }) out notes whole is output lines calm
-  shows_by force answer status n (Some bytes) new a b before after out notes whole is counts told restarted output lines calm =
+  shows_by force answer status None new a b before after out notes whole counts told restarted h alike =
+      shows_untold force answer status new before after out notes counts h alike
+  shows_by force answer status (Some bytes) new a b before after out notes whole counts told restarted h alike =
       shows_told force answer status bytes new before after a b out notes whole counts (told bytes refl) (restarted bytes refl)
 
-  pub run_shows : (force : Bool) (answer : RunEnd) (status : Status) (n : ℕ) (d : Drawn) (before after : Telling) (out notes : Sunk) → IsWhole answer
-      → answer_status answer (n % 2 ^ 64) ≡ status
+  pub run_shows : (force : Bool) (answer : RunEnd) (status : Status) (to : WildState) (d : Drawn) (before after : Telling) (out notes : Sunk) → IsWhole answer
+      → before.ahead ≡ Some ahead
       → ((k : ℕ) → Counts before.count after.count k → answer_status answer (k % 2 ^ 64) ≡ status)
-      → ((bytes : List ℕ) → d.old ≡ Some bytes → ShowsTold options.steps options.watch bytes ahead answer m before after d out notes)
-      → ((bytes : List ℕ) → d.old ≡ Some bytes → force ≡ false → ShowsSequential options.steps options.watch bytes answer m d out notes)
-      → HasGrown out → HasGrown notes → HasNoFault d out notes
+      → ((bytes : List ℕ) → d.old ≡ Some bytes → ShowsTold options.steps options.watch bytes ahead answer m.machine before after d out notes)
+      → ((bytes : List ℕ) → d.old ≡ Some bytes → force ≡ false → ShowsSequential options.steps options.watch bytes answer m.machine d out notes)
+      → IsFreeRun options.steps options.watch answer m to before after d out notes → (force ≡ false → FreeAlike m.machine.image)
       → Shows force answer status d.old d.new out notes
-  run_shows force answer status n d before after out notes whole is counts told restarted output lines calm =
-      shows_by force answer status n d.old d.new d.before d.now before after out notes whole is counts told restarted output lines calm
+  run_shows force answer status to d before after out notes whole tells counts told restarted free alike =
+      shows_by force answer status d.old d.new d.before d.now before after out notes whole counts told restarted
+      (made_shown answer to before after d out notes tells free) alike
 
   -- ---- a run that was cut short: fronts of what it would have shown were written
 
   pub record Begins (force : Bool) (old : Option (List ℕ)) (out notes : Sunk) : Type 0 where
     pub what : ShownWild
-    pub may : MayShowWild options force old (plan_by m.image ahead) what
+    pub may : MayShowWild options force old (plan_by m.machine.image ahead) what
     pub bytes : WritesPrefix out.old out.new what.output
     pub lines : WritesPrefix notes.old notes.new what.notes
 
   begins_told : (force : Bool) (answer : RunEnd) (bytes : List ℕ) (before after : Telling) (d : Drawn) (out notes : Sunk)
-      → ShowsTold options.steps options.watch bytes ahead answer m before after d out notes
-      → (force ≡ false → ShowsSequential options.steps options.watch bytes answer m d out notes)
+      → ShowsTold options.steps options.watch bytes ahead answer m.machine before after d out notes
+      → (force ≡ false → ShowsSequential options.steps options.watch bytes answer m.machine d out notes)
       → Begins force (Some bytes) out notes
   begins_told true answer bytes before after d out notes told restarted = record {
-    what = imprecise_by (program_of m) bytes ahead options.steps options.watch;
+    what = imprecise_by (program_of m.machine) bytes ahead options.steps options.watch;
     may = ap (λ (g : Program). imprecise_by g bytes ahead options.steps options.watch) same_program;
     bytes = told.part.bytes;
     lines = told.part.lines;
   }
   begins_told false answer bytes before after d out notes told restarted = record {
-    what = with_drawn (sequential (program_of m) bytes options.steps options.watch) (imprecise_by (program_of m) bytes ahead options.steps options.watch).drawn;
+    what = with_drawn (sequential (program_of m.machine) bytes options.steps options.watch) (imprecise_by (program_of m.machine) bytes ahead options.steps options.watch).drawn;
     may =
         ap (λ (g : Program). with_drawn (sequential g bytes options.steps options.watch) (imprecise_by g bytes ahead options.steps options.watch).drawn) same_program;
     bytes = (restarted refl).part.bytes;
     lines = (restarted refl).part.lines;
   }
 
+  begins_untold : (force : Bool) (out notes : Sunk) → MadeFront out notes → (force ≡ false → FreeAlike m.machine.image) → Begins force None out notes
+  begins_untold true out notes f alike = record { what = shown_making options.watch f.made.making; may = (f.made, refl); bytes = f.bytes; lines = f.lines }
+  begins_untold false out notes f alike =
+      let q = made_same options (plan_by m.machine.image ahead) (alike refl) f.made in
+      let t = shown options.watch (run_by_reads options m.machine.image q.inputs) in
+      record {
+        what = with_drawn t f.made.making.count;
+        may = (f.made, (t, same_may options m.machine.image f.made.making.run q, refl));
+        bytes = subst (WritesPrefix out.old out.new) q.output f.bytes;
+        lines = subst (λ (trace : List Mark). WritesPrefix notes.old notes.new (notes_of options.watch trace)) q.trace f.lines;
+      }
+
   begins_by : (force : Bool) (answer : RunEnd) (old : Option (List ℕ)) (before after : Telling) (d : Drawn) (out notes : Sunk)
-      → ((bytes : List ℕ) → old ≡ Some bytes → ShowsTold options.steps options.watch bytes ahead answer m before after d out notes)
-      → ((bytes : List ℕ) → old ≡ Some bytes → force ≡ false → ShowsSequential options.steps options.watch bytes answer m d out notes)
-      → HasGrown out → HasGrown notes → Begins force old out notes
-  begins_by force answer None before after d out notes told restarted output lines = record {
-    what = record { end = None; lost = None; units = 0; output = output.bytes; left = []; notes = lines.bytes; drawn = 0 };
-    may = tt;
-    bytes = WritesPrefix-all out.old out.new output.bytes output.written;
-    lines = WritesPrefix-all notes.old notes.new lines.bytes lines.written;
-  }
-  begins_by force answer (Some bytes) before after d out notes told restarted output lines =
+      → ((bytes : List ℕ) → old ≡ Some bytes → ShowsTold options.steps options.watch bytes ahead answer m.machine before after d out notes)
+      → ((bytes : List ℕ) → old ≡ Some bytes → force ≡ false → ShowsSequential options.steps options.watch bytes answer m.machine d out notes)
+      → MadeFront out notes → (force ≡ false → FreeAlike m.machine.image) → Begins force old out notes
+  begins_by force answer None before after d out notes told restarted f alike = begins_untold force out notes f alike
+  begins_by force answer (Some bytes) before after d out notes told restarted f alike =
       begins_told force answer bytes before after d out notes (told bytes refl) (restarted bytes refl)
 
-  pub run_begins : (force : Bool) (answer : RunEnd) (d : Drawn) (before after : Telling) (out notes : Sunk)
-      → ((bytes : List ℕ) → d.old ≡ Some bytes → ShowsTold options.steps options.watch bytes ahead answer m before after d out notes)
-      → ((bytes : List ℕ) → d.old ≡ Some bytes → force ≡ false → ShowsSequential options.steps options.watch bytes answer m d out notes)
-      → HasGrown out → HasGrown notes → Begins force d.old out notes
-  run_begins force answer d before after out notes told restarted output lines = begins_by force answer d.old before after d out notes told restarted output lines
+  pub run_begins : (force : Bool) (answer : RunEnd) (d : Drawn) (before after : Telling) (out notes : Sunk) → before.ahead ≡ Some ahead
+      → ((bytes : List ℕ) → d.old ≡ Some bytes → ShowsTold options.steps options.watch bytes ahead answer m.machine before after d out notes)
+      → ((bytes : List ℕ) → d.old ≡ Some bytes → force ≡ false → ShowsSequential options.steps options.watch bytes answer m.machine d out notes)
+      → IsFreeCut options.steps options.watch m before after d out notes → (force ≡ false → FreeAlike m.machine.image) → Begins force d.old out notes
+  run_begins force answer d before after out notes tells told restarted cut alike =
+      begins_by force answer d.old before after d out notes told restarted
+      (made_front before after out notes tells (cut_free options.steps options.watch m before after d out notes cut)) alike
 
   -- ---- what the command tries
 
-  module _ (name : List ℕ) (drawn : choices.Drawn) (force : Bool) (w : World) (shelf input : Type 0) (found : PlanOf w.files name drawn (goes (plan_by m.image ahead)))
-      (passes : Passes force (plan_by m.image ahead) (goes (plan_by m.image ahead))) (s : Shelved) (same : KeepsFiles s.old s.new) where
+  module _ (name : List ℕ) (drawn : choices.Drawn) (force : Bool) (w : World) (shelf input : Type 0) (found : PlanOf w.files name drawn (goes (plan_by m.machine.image ahead)))
+      (passes : Passes force (plan_by m.machine.image ahead) (goes (plan_by m.machine.image ahead))) (s : Shelved) (same : KeepsFiles s.old s.new) where
     -- a run that was made, with the status and the line of its end still to be written
     pub made_tried : (answer : RunEnd) (status : Status) (d : Drawn) (out notes : Sunk) → d.old ≡ w.input → Shows force answer status d.old d.new out notes
         → Leaves (TriesBy shelf input (form options drawn force name) w) (said d.new status (answer_line answer)) s out notes
     made_tried answer status d out notes told did =
-        let may : MayShowWild options force w.input (plan_by m.image ahead) did.what = subst (λ l. MayShowWild options force l (plan_by m.image ahead) did.what) told did.may in
+        let may : MayShowWild options force w.input (plan_by m.machine.image ahead) did.what = subst (λ l. MayShowWild options force l (plan_by m.machine.image ahead) did.what) told did.may in
         record {
           tried = answer_wild w.input did.what;
-          is = inl (wild_answer w options drawn force name (plan_by m.image ahead) did.what found passes may);
+          is = inl (wild_answer w options drawn force name (plan_by m.machine.image ahead) did.what found passes may);
           status_is =
               sym did.status_is
               ∙ (ap (λ (r : RunEnd). answer_status r (did.what.drawn % 2 ^ 64)) did.answer_is ∙ status_by did.what.end did.what.lost (did.what.drawn % 2 ^ 64));
@@ -262,7 +346,7 @@ module _ (options : RunOptions) (m : Machine) (ahead : ℕ → ℕ) (how : m.how
             takes = refl;
             status_is = refl;
             answer = answer_wild w.input b.what;
-            is = wild_answer w options drawn force name (plan_by m.image ahead) b.what found passes b.may;
+            is = wild_answer w options drawn force name (plan_by m.machine.image ahead) b.what found passes b.may;
             output = (b.bytes.rest, b.bytes.whole);
             trace = (b.lines.rest, b.lines.whole);
             line = refl;
@@ -285,7 +369,7 @@ module _ (options : RunOptions) (m : Machine) (ahead : ℕ → ℕ) (how : m.how
         → EndsPart (TriesBy shelf input (form options drawn force name) w) s out notes
     unwritten_tried d out notes fault b = record {
       tried = answer_wild w.input b.what;
-      is = inl (wild_answer w options drawn force name (plan_by m.image ahead) b.what found passes b.may);
+      is = inl (wild_answer w options drawn force name (plan_by m.machine.image ahead) b.what found passes b.may);
       files = same;
       output = record {
         prefix = b.bytes;

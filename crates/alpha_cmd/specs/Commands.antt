@@ -39,7 +39,7 @@ kind_of (dis file) = listings.kind
 kind_of (asm file out) = assemblies.kind out
 kind_of (fix file out) = fixes.kind out
 kind_of (run options file) = runs.kind
-kind_of (imprecise options choices force file) = wilds.kind
+kind_of (imprecise options choices force file) = wilds.kind force
 kind_of (debug file) = sessions.kind
 kind_of (trial blocks) = trials.kind
 
@@ -61,6 +61,10 @@ AnswerOf command = AnswerBy (form_of command).steps
 -- what a command reads is told
 abbrev pub IsTold : Command → World → Type 0
 IsTold command = IsToldFor (form_of command).needs
+
+-- the statuses with which a command ends that has begun its last stage
+abbrev pub EndsBy : Command → Status → Type 0
+EndsBy command = (form_of command).kind.ends
 
 -- the statuses under which a command may have taken input
 abbrev pub MayTake : Command → Status → Type 0

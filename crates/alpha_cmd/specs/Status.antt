@@ -70,11 +70,12 @@ unfixable_line b code_base =
 unfoldable pub fixing_line : ℕ → List ℕ
 fixing_line line = codes "fixed line " ++ decimal line ++ 10 ∷ []
 
--- A call did what was asked. It was refused, by what the words and the files say or by how the program ended. Or a device
--- failed, or memory ran out.
+-- A call did what was asked. It was refused, by what the words and the files say. The program that it ran ended otherwise
+-- than by the system call exit, was cut off, or lost a trap. Or a device failed, or memory ran out.
 pub data Class : Type 0 where
   done : Class
   refused : Class
+  ended : Class
   failed : Class
 
 pub record Row : Type 0 where
@@ -92,9 +93,9 @@ row_of (NotRestartable b) = row 1 [] refused
 row_of BadWords = row 2 (codes "words" ++ 10 ∷ []) refused
 row_of (BadSource fault) = row 3 (refusal_line (codes "source") fault) refused
 row_of (BadImage fault) = row 4 (fault_line fault) refused
-row_of (Stopped end) = row 5 (end_line end) refused
-row_of StepsSpent = row 6 (codes "steps" ++ 10 ∷ []) refused
-row_of (Lost lost) = row 7 (lost_line lost.trap_pc lost.mask) refused
+row_of (Stopped end) = row 5 (end_line end) ended
+row_of StepsSpent = row 6 (codes "steps" ++ 10 ∷ []) ended
+row_of (Lost lost) = row 7 (lost_line lost.trap_pc lost.mask) ended
 row_of ShelfFault = row 8 (codes "shelf" ++ 10 ∷ []) failed
 row_of InputFault = row 9 (codes "input" ++ 10 ∷ []) failed
 row_of SinkFault = row 10 [] failed

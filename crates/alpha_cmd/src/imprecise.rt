@@ -5,6 +5,7 @@ ghost use Rattle.alpha_io.specs.Faults.{Rose};
 ghost use Rattle.alpha_io.specs.Files.{KeepsFiles};
 ghost use Rattle.alpha_io.specs.Shelved.{Shelved, shelved, OnlyReads};
 ghost use Rattle.alpha_io.specs.Sunk.{sunk};
+ghost use Rattle.alpha_image.specs.Parts.{IsImage};
 ghost use Rattle.alpha_shadow.specs.Broken.{IsAccepted, IsLeastBroken};
 ghost use Rattle.alpha_request.specs.Options.{Drawn, drawn_from};
 ghost use Rattle.alpha_seq.specs.Devices.{drawn};
@@ -72,7 +73,7 @@ pub(crate) fn imprecise<H: Shelf, S: Source, K: Sink, N: Sink>(
     ensures shelf { OnlyReads (shelved H.Shelf shelf.old shelf.new)
         (IfOk result (λ decision. decision.status ≢ Status.ShelfFault)) }
     ensures input { (input.new ≡ input.old)
-        ⊎ MayTakeBy wilds.kind (status_in result) }
+        ⊎ MayTakeBy (wilds.kind asked.entry.force) (status_in result) }
     ensures source { CountStays (drawn S.Source input.old input.new)
         (IfOk result (λ decision. decision.status ≢ Status.InputFault)) }
 {
@@ -143,7 +144,9 @@ fn run_plan<S: Source, K: Sink, N: Sink>(
         result (S.left input.new) shelf
         (sunk K.Sink out.old out.new) (sunk N.Sink notes.old notes.new) }
     ensures status { IfOk result (λ decision. decision.status ≢ Status.ShelfFault) }
-    ensures input { (input.new ≡ input.old) ⊎ MayTakeBy wilds.kind (status_in result) }
+    ensures input { (force : Bool) → IsImage plan.image
+        → (force ≡ false → IsAccepted plan.image.words)
+        → (input.new ≡ input.old) ⊎ MayTakeBy (wilds.kind force) (status_in result) }
     ensures source { CountStays (drawn S.Source input.old input.new)
         (IfOk result (λ decision. decision.status ≢ Status.InputFault)) }
 {
@@ -181,7 +184,9 @@ fn run_wild<S: Source, K: Sink, N: Sink>(
         result (S.left input.new) shelf
         (sunk K.Sink out.old out.new) (sunk N.Sink notes.old notes.new) }
     ensures status { IfOk result (λ decision. decision.status ≢ Status.ShelfFault) }
-    ensures input { MayTakeBy wilds.kind (status_in result) }
+    ensures input { (force : Bool) → IsImage wild.old.machine.image
+        → (force ≡ false → IsAccepted wild.old.machine.image.words)
+        → MayTakeBy (wilds.kind force) (status_in result) }
     ensures source { CountStays (drawn S.Source input.old input.new)
         (IfOk result (λ decision. decision.status ≢ Status.InputFault)) }
 {

@@ -1,4 +1,4 @@
-ghost use Rattle.std.specs.Prelude.{◌≡◌, ◌≢◌, ◌<◌, ◌≤◌, ◌⊎◌, ℕ, Bool, List, IfOk, IsSome};
+ghost use Rattle.std.specs.Prelude.{◌≡◌, ◌≢◌, ◌<◌, ◌≤◌, ◌⊎◌, ℕ, Bool, false, List, IfOk, IsSome};
 ghost use Rattle.alpha_io.specs.Faults.{Rose, Calm};
 ghost use Rattle.alpha_io.specs.Files.{HasFile, KeepsFiles};
 ghost use Rattle.alpha_io.specs.Shelved.{shelved};
@@ -11,14 +11,16 @@ ghost use Rattle.alpha_request.specs.declared.options.RunOptions.{RunOptions};
 ghost use Rattle.alpha_seq.specs.Devices.{drawn};
 ghost use Rattle.alpha_imprecise.specs.Restart.{IsRestartable};
 ghost use Rattle.alpha_shadow.specs.Broken.{IsAccepted};
+ghost use Rattle.alpha_trap.specs.declared.handler.Lost.{Lost};
 ghost use Rattle.alpha_cmd.specs.Alike.{but_drawn, HasWords, IsChecked};
 ghost use Rattle.alpha_cmd.specs.Answer.{Answer, AnswerBy, world, IsAnswered};
 ghost use Rattle.alpha_cmd.specs.Asks.{Asks};
-ghost use Rattle.alpha_cmd.specs.Commands.{form_of, MayTake, Spares};
+ghost use Rattle.alpha_cmd.specs.Commands.{form_of, EndsBy, MayTake, Spares};
 ghost use Rattle.alpha_cmd.specs.Commands.Debug.{LeavesTail, script_most};
 ghost use Rattle.alpha_cmd.specs.Commands.Run as runs;
 ghost use Rattle.alpha_cmd.specs.Ends.{Decides, Ends, EndsPart, status_in};
 ghost use Rattle.alpha_cmd.specs.Kept.{Serves};
+ghost use Rattle.alpha_cmd.specs.Status.{class_of, ended};
 ghost use Rattle.alpha_cmd.specs.Tried.{AreTold, IsAnswer, TriedBy};
 ghost use Rattle.alpha_cmd.specs.Tries.{CountStays, TriesBy};
 
@@ -87,6 +89,15 @@ pub fn alpha_top<H: Shelf, S: Source, K: Sink, N: Sink>(
         ⊎ ((command : Command) × Asks words.now command × MayTake command result) }
     ensures source { CountStays (drawn S.Source input.old input.new)
         ((result ≢ Status.InputFault) × (result ≢ Status.SinkFault)) }
+
+    // The status of a program that didn't end by exit, or that wasn't run to its end, is one of the
+    // end of the words' command. So a run of the imprecise machine never loses a trap, whatever the
+    // input tells, unless the verdict is passed over.
+    ensures ended { class_of result ≡ ended
+        → (command : Command) × Asks words.now command × EndsBy command result }
+    ensures found { (options : RunOptions) (choices : Drawn) (file : List ℕ) (lost : Lost)
+        → Asks words.now (commands.imprecise options choices false file)
+        → result ≢ Status.Lost lost }
 
     // Of a script no more is taken than the bytes that count and one.
     ensures script { (file : List ℕ) → Asks words.now (commands.debug file)

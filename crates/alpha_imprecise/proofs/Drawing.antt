@@ -41,7 +41,7 @@ two_words o s t n words = by (must_report o s n) (eqb (first_word words % 4) 0)
     by false false = omega arith
 
 -- with nothing pending one word is drawn at most
-one_word : (o : Option Class) (s : State) (n : ℕ) (words : List ℕ) → (draw_at o s None n words).count ≤ 1
+pub one_word : (o : Option Class) (s : State) (n : ℕ) (words : List ℕ) → (draw_at o s None n words).count ≤ 1
 one_word o s n words = by (triggers o s)
   where
     by : (b : Bool) → (cond b (triggering (first_word words)) (reporting 0)).count ≤ 1
@@ -51,19 +51,19 @@ one_word o s n words = by (triggers o s)
 -- ---- until nothing is pending
 
 module _ (g : Program) where
-  pending_two : (k : Making) → Open k → (stepped_making g k).count ≤ k.count + 2
+  pub pending_two : (k : Making) → Open k → (stepped_making g k).count ≤ k.count + 2
   pending_two k h =
       let two = two_words (next_class g k.run.state.pc) k.run.state h.t k.waited k.words in
       let same = ap (λ (p : Option Trap). (draw g k.run.state p k.waited k.words).count) h.pending in
       omega arith
 
-  pending_most : (k : Making) → Open k → k.waited ≤ most_waited → (stepped_making g k).count ≤ k.count + 2 * (most_waited - k.waited)
+  pub pending_most : (k : Making) → Open k → k.waited ≤ most_waited → (stepped_making g k).count ≤ k.count + 2 * (most_waited - k.waited)
   pending_most k h low =
       let two = two_most (next_class g k.run.state.pc) k.run.state h.t k.waited k.words low in
       let same = ap (λ (p : Option Trap). (draw g k.run.state p k.waited k.words).count) h.pending in
       omega arith
 
-  settles : (k : Making) → Open k → Settles k.waited (chosen g k.run.state k.run.pending k.waited k.words)
+  pub settles : (k : Making) → Open k → Settles k.waited (chosen g k.run.state k.run.pending k.waited k.words)
   settles k h = subst (λ (p : Option Trap). Settles k.waited (chosen g k.run.state p k.waited k.words)) (sym h.pending) (chosen_settles g k.run.state h.t k.waited k.words)
 
   stays : (fuel most : ℕ) (k : Making) → is_settled k ≡ true → k.count ≤ most → (settled_within fuel g k).count ≤ most

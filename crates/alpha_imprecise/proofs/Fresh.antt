@@ -35,7 +35,7 @@ whole_shows units watch runs.InputFault old new before after input out notes byt
 whole_shows units watch runs.SinkFault old new before after input out notes bytes told did whole = absurd whole
 
 -- no step was made from a fresh machine
-begun_fresh : (w : WildState) (bytes words : List ℕ) → IsFresh w → begun_at w bytes [] words ≡ begun (start (program_of w.machine) bytes) None 0 words
+pub begun_fresh : (w : WildState) (bytes words : List ℕ) → IsFresh w → begun_at w bytes [] words ≡ begun (start (program_of w.machine) bytes) None 0 words
 begun_fresh w bytes words fresh =
     ap (λ (p : Option Pending). begun (state_of w.machine bytes []) (trap_in p) (waited_in p) words) fresh.calm
     ∙ ap (λ (s : State). begun s None 0 words) (fresh.start bytes)

@@ -21,3 +21,4 @@ pub mod Fresh
 pub mod Freely
 pub mod FreeRuns
 pub mod FreeFilling
+pub mod FreeDrawing

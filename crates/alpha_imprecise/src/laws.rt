@@ -27,11 +27,14 @@ pub fn laws_of_chosen_runs()
 {}
 
 /// The laws of runs in which each step finds an input of its own. The run over one input is such a run, in which each
-/// step finds what is left of it. What a run has shown that a device's fault cut short is a front of what a whole run
-/// shows over some inputs, by the words that were drawn and any others behind them.
+/// step finds what is left of it. A run with nothing pending at the beginning draws 2,049 words a unit at most. What a
+/// run has shown that a device's fault cut short is a front of what a whole run shows over some inputs, by the words
+/// that were drawn and any others behind them.
 pub fn laws_of_free_runs()
     ensures told { (g : Program) (k : Making) (n : ℕ)
         → run_making_over g (lefts_making g k n) k ≡ steps_making g k n }
+    ensures words { (g : Program) (s : State) (words : List ℕ) (inputs : List (List ℕ))
+        → let k = run_making_over g inputs (begun s None 0 words) in k.count ≤ most_words k.run.units }
     ensures cut { (n : ℕ) (watch : Bool) (w : WildState) (before after : Telling) (input : Drawn)
         (out notes : Sunk) → IsFreeCut n watch w before after input out notes
         → IsFreeFront n watch w before after out notes }

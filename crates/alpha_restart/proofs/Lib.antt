@@ -22,5 +22,5 @@ pub mod Rows
 pub mod Walks
 pub mod Fine
 pub mod Needed
-mod Losing
-mod FreeTogether
+pub mod Losing
+pub mod FreeTogether

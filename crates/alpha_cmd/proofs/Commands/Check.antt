@@ -17,6 +17,7 @@ lawful file w = record {
       (Then-lawful {R = ImageOf w.files file} {S = Judges} (ImageOf-lawful _ _ _ w.files file (λ h. h) (λ h. h) (λ h. h)) (λ image found. Judges-lawful _ _ _ image))
       (λ image judged. Gives-lawful (accepted w.input));
   ends = λ a h. inl (ap (λ (x : Answer). is_fault x.status) h.2);
+  status = λ a h. ap (λ (x : Answer). x.status) h.2;
 }
 
 pub accepted_answer : (w : World) (file : List ℕ) (image : Parts) (t : Answer) → ImageOf w.files file (goes image) → Judges image (goes image) → t ≡ accepted w.input

@@ -20,6 +20,7 @@ lawful file w = record {
       Then-lawful {R = ImageOf w.files file} {S = λ image. Gives (done_with w.input (listing image))} (ImageOf-lawful _ _ _ w.files file (λ h. h) (λ h. h) (λ h. h))
       (λ image found. Gives-lawful (done_with w.input (listing image)));
   ends = λ a h. inl (ap (λ (x : Answer). is_fault x.status) h.2);
+  status = λ a h. ap (λ (x : Answer). x.status) h.2;
 }
 
 pub listed_answer : (w : World) (file : List ℕ) (image : Parts) → ImageOf w.files file (goes image) → AnswerBy (steps file) w (done_with w.input (listing image))

@@ -1,5 +1,5 @@
 -- The laws of `run --imprecise`, and what leads to its answers.
-use Rattle.std.proofs.Common.{◌≡◌, ◌≢◌, ◌∙◌, ℕ, ◌%◌, ◌^◌, Bool, true, false, List, [], Option, None, Some, IsSome, refl, sym, ap, subst, inl, inr}
+use Rattle.std.proofs.Common.{◌≡◌, ◌≢◌, ◌∙◌, ◌*◌, ℕ, suc, ◌%◌, ◌^◌, Bool, true, false, List, [], Option, None, Some, IsSome, refl, sym, ap, subst, inl, inr, arith}
 use Rattle.alpha_io.specs.Files.{Files, KeepsFiles}
 use Rattle.alpha_image.specs.Parts.{Parts}
 use Rattle.alpha_shadow.specs.Broken.{IsAccepted}
@@ -8,20 +8,28 @@ use Rattle.alpha_request.specs.Options.{Drawn}
 use Rattle.alpha_request.specs.Options as choices_of
 use Rattle.alpha_seq.specs.declared.end.End.{End}
 use Rattle.alpha_seq.specs.declared.end.End.TheVariants as ends
+use Rattle.alpha_seq.specs.Start.{start}
+use Rattle.alpha_trap.specs.declared.handler.Lost.{Lost}
 use Rattle.alpha_imprecise.specs.Pcg.{pcg_word, seeded}
-use Rattle.alpha_imprecise.specs.Made.{ShownWild, LostTrap}
+use Rattle.alpha_imprecise.specs.Made.{begun, ShownWild, LostTrap, shown_making, first_words, most_words}
+use Rattle.alpha_imprecise.specs.Free.{run_making_over}
+use Rattle.alpha_imprecise.proofs.FreeFilling.{filled}
+use Rattle.alpha_imprecise.proofs.FreeDrawing.{free_draws}
 use Rattle.alpha_cmd.specs.declared.status.Status.{Status}
 use Rattle.alpha_cmd.specs.declared.status.Status.TheVariants.{ShelfFault}
+use Rattle.alpha_cmd.specs.declared.status.Status.TheVariants as statuses
 use Rattle.alpha_cmd.specs.Status.{status_line}
 use Rattle.alpha_cmd.specs.Outcome.{goes, stops, Then, Gives}
 use Rattle.alpha_cmd.specs.Image.{Reads, ImageOf, IsRefused, Judges}
 use Rattle.alpha_cmd.specs.Choosing.{choices_limit, listed_word, ChoicesOf}
 use Rattle.alpha_cmd.specs.Answer.{World, Answer, AnswerBy, said}
 use Rattle.alpha_cmd.specs.Form.{MayTakeBy}
-use Rattle.alpha_cmd.specs.Commands.Imprecise.{Plan, plan_by, PlanOf, Passes, run_by, MayShowWild, drawn_status, wild_status, answer_wild, RunsWild, HasChoices, steps, kind, form, there}
+use Rattle.alpha_cmd.specs.Commands.Run.{program_by}
+use Rattle.alpha_cmd.specs.Commands.Imprecise.{Plan, plan_by, PlanOf, Passes, with_drawn, run_by, MadeByReads, MayShowWild, drawn_status, wild_status, answer_wild, RunsWild, MayLose, Ends, HasChoices, steps, kind, form, there}
 use Rattle.alpha_cmd.proofs.Lawful.{Lawful, Then-lawful, Goes-lawful, Gives-lawful}
 use Rattle.alpha_cmd.proofs.Stages.{Reads-lawful, ImageOf-lawful, Judges-lawful}
 use Rattle.alpha_cmd.proofs.Forms.{IsLawfulForm, is_fault}
+use Rattle.alpha_cmd.proofs.Commands.Run.{some_shown as some_run}
 
 -- ---- the stages
 
@@ -37,13 +45,32 @@ Passes-lawful told whole there true plan = Gives-lawful plan
 Passes-lawful told whole there false plan =
     Then-lawful {R = Judges plan.image} {S = λ image. Gives plan} (Judges-lawful told whole there plan.image) (λ image judged. Gives-lawful plan)
 
-no_wild_shown : ShownWild
-no_wild_shown = record { end = None; lost = None; units = 0; output = []; left = []; notes = []; drawn = 0 }
+-- a run by the plan's words, whose reads find nothing
+some_made : (options : RunOptions) (plan : Plan) → MadeByReads options plan
+some_made options plan =
+    let n = options.steps in
+    let g = program_by options plan.image in
+    let words = first_words (most_words n) plan.ahead in
+    let k = begun (start g []) None 0 words in
+    let run = filled g n (suc (n * 1026)) k (omega arith) (omega arith) in
+    let draws = free_draws g (start g []) words run.inputs in
+    let most = run.used.most in
+    record { reads = run.inputs; given = most_words n; making = run_making_over g run.inputs k; is = refl; used = run.used; enough = omega arith }
 
 some_shown : (options : RunOptions) (force : Bool) (input : Option (List ℕ)) (plan : Plan) → (s : ShownWild) × MayShowWild options force input plan s
-some_shown options force None plan = (no_wild_shown, tt)
+some_shown options true None plan = let m = some_made options plan in (shown_making options.watch m.making, (m, refl))
+some_shown options false None plan =
+    let m = some_made options plan in
+    let t = some_run options None plan.image in
+    (with_drawn t.0 m.making.count, (m, (t.0, t.1, refl)))
 some_shown options force (Some input) plan =
-    (run_by force (record { image = plan.image; how = options.complete }) input plan.ahead options.steps options.watch, refl)
+    (run_by force (program_by options plan.image) input plan.ahead options.steps options.watch, refl)
+
+-- a trap is lost only where the verdict is passed over
+may_lose : (options : RunOptions) (force : Bool) (input : Option (List ℕ)) (plan : Plan) (s : ShownWild) → MayShowWild options force input plan s → MayLose force s.lost
+may_lose options true input plan s may = tt
+may_lose options false None plan s may = ap (λ (x : ShownWild). x.lost) may.1.2
+may_lose options false (Some input) plan s is = ap (λ (x : ShownWild). x.lost) is
 
 same_shown : (options : RunOptions) (force : Bool) (input : Option (List ℕ)) (plan : Plan) (s t : ShownWild) → IsSome input → MayShowWild options force input plan s
     → MayShowWild options force input plan t → s ≡ t
@@ -83,6 +110,7 @@ lawful options choices force file w = record {
       (λ plan found. Passes-lawful _ _ _ force plan))
       (λ plan passed. RunsWild-lawful _ _ _ options force w.input plan (λ h. h.1));
   ends = λ a h. inl (ap (λ (x : Answer). is_fault x.status) h.2.2 ∙ wild_plain h.2.0.end h.2.0.lost (h.2.0.drawn % 2 ^ 64));
+  status = λ a h. (h.2.0.end, (h.2.0.lost, (h.2.0.drawn % 2 ^ 64, may_lose options force w.input h.0 h.2.0 h.2.1, ap (λ (x : Answer). x.status) h.2.2)));
 }
 
 -- ---- its answers
@@ -119,5 +147,24 @@ unchosen a b name choices image s kept found h = inr (image, found, inl (subst (
 pub drawn_not_shelf : (n : ℕ) (end : End) → drawn_status n end ≢ ShelfFault
 drawn_not_shelf n end e = let x = sym (drawn_plain n end) ∙ ap is_fault e in cc
 
-pub takes_wild : (end : Option End) (lost : Option LostTrap) (n : ℕ) → MayTakeBy kind (wild_status end lost n)
-takes_wild end lost n = (refl, inl (end, (lost, (n, refl))))
+pub takes_wild : (force : Bool) (end : Option End) (lost : Option LostTrap) (n : ℕ) → MayLose force lost → MayTakeBy (kind force) (wild_status end lost n)
+takes_wild force end lost n may = (refl, inl (end, (lost, (n, may, refl))))
+
+pub takes_none : (force : Bool) (end : Option End) (n : ℕ) → MayTakeBy (kind force) (wild_status end None n)
+takes_none true end n = takes_wild true end None n tt
+takes_none false end n = takes_wild false end None n refl
+
+-- of an unforced run's end no status is that of a trap that was lost
+pub found_end : (lost : Lost) → Ends false (statuses.Lost lost) → ⊥
+found_end lost (Some end, (trap, (n, none, is))) = by end is
+  where
+    by : (end : End) → statuses.Lost lost ≡ drawn_status n end → ⊥
+    by (ends.Exit v) e = cc
+    by (ends.Signal code pc) e = cc
+    by (ends.Fetch pc) e = cc
+    by (ends.Access pc addr) e = cc
+    by (ends.Align pc addr) e = cc
+    by (ends.Overflow pc) e = cc
+found_end lost (None, (trap, (n, none, is))) =
+    let spent : wild_status None trap n ≡ statuses.StepsSpent = ap (λ (t : Option LostTrap). wild_status None t n) none in
+    let no = is ∙ spent in cc

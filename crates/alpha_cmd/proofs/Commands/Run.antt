@@ -1,27 +1,28 @@
 -- The laws of `run`, and what leads to its answers.
-use Rattle.std.proofs.Common.{◌≡◌, ◌≢◌, ◌∙◌, ℕ, List, [], false, Option, None, Some, IsSome, refl, sym, ap, inl}
+use Rattle.std.proofs.Common.{◌≡◌, ◌≢◌, ◌∙◌, ℕ, List, [], false, Option, None, Some, IsSome, refl, sym, ap, inl, arith}
 use Rattle.alpha_image.specs.Parts.{Parts}
 use Rattle.alpha_request.specs.declared.options.RunOptions.{RunOptions}
 use Rattle.alpha_seq.specs.declared.end.End.{End}
 use Rattle.alpha_seq.specs.declared.end.End.TheVariants as ends
-use Rattle.alpha_seq.specs.Run.{Shown, sequential}
+use Rattle.alpha_seq.specs.Start.{start}
+use Rattle.alpha_seq.specs.Run.{started, Shown, shown, sequential}
+use Rattle.alpha_seq.proofs.Filling.{filled}
 use Rattle.alpha_cmd.specs.declared.status.Status.TheVariants.{ShelfFault}
 use Rattle.alpha_cmd.specs.Outcome.{goes}
 use Rattle.alpha_cmd.specs.Image.{ImageOf}
 use Rattle.alpha_cmd.specs.Answer.{World, Answer, AnswerBy}
 use Rattle.alpha_cmd.specs.Form.{MayTakeBy}
-use Rattle.alpha_cmd.specs.Commands.Run.{end_status, run_status, MayShow, answer_shown, Runs, steps, kind, form, there}
+use Rattle.alpha_cmd.specs.Commands.Run.{end_status, run_status, program_by, run_by_reads, MayShow, answer_shown, Runs, steps, kind, form, there}
 use Rattle.alpha_cmd.proofs.Lawful.{Lawful, Then-lawful, Goes-lawful}
 use Rattle.alpha_cmd.proofs.Stages.{ImageOf-lawful}
 use Rattle.alpha_cmd.proofs.Forms.{IsLawfulForm, is_fault}
 
--- what a run shows that makes no step
-nothing_shown : Shown
-nothing_shown = record { end = None; steps = 0; output = []; left = []; notes = [] }
-
-some_shown : (options : RunOptions) (input : Option (List ℕ)) (image : Parts) → (s : Shown) × MayShow options input image s
-some_shown options None image = (nothing_shown, tt)
-some_shown options (Some input) image = (sequential (record { image = image; how = options.complete }) input options.steps options.watch, refl)
+pub some_shown : (options : RunOptions) (input : Option (List ℕ)) (image : Parts) → (s : Shown) × MayShow options input image s
+some_shown options None image =
+    let g = program_by options image in
+    let run = filled g options.steps options.steps (started (start g [])) (omega arith) in
+    (shown options.watch (run_by_reads options image run.inputs), (run.inputs, run.made, refl))
+some_shown options (Some input) image = (sequential (program_by options image) input options.steps options.watch, refl)
 
 same_shown : (options : RunOptions) (input : Option (List ℕ)) (image : Parts) (s t : Shown) → IsSome input → MayShow options input image s → MayShow options input image t → s ≡ t
 same_shown options None image s t told h g = cc
@@ -48,6 +49,7 @@ lawful options file w = record {
       Then-lawful {R = ImageOf w.files file} {S = Runs options w.input} (ImageOf-lawful _ _ _ w.files file (λ h. h.0) (λ h. h) (λ h. h))
       (λ image found. Runs-lawful _ _ _ options w.input image (λ h. h.1));
   ends = λ a h. inl (ap (λ (x : Answer). is_fault x.status) h.2.2 ∙ run_plain h.2.0.end);
+  status = λ a h. (h.2.0.end, ap (λ (x : Answer). x.status) h.2.2);
 }
 
 pub shown_answer : (w : World) (options : RunOptions) (file : List ℕ) (image : Parts) (s : Shown) → ImageOf w.files file (goes image) → MayShow options w.input image s

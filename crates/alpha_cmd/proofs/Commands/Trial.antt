@@ -10,4 +10,5 @@ pub lawful : (blocks : ℕ) (w : World) → IsLawfulForm (form blocks) (λ w. Un
 lawful blocks w = record {
   stages = Gives-lawful (done_with w.input (trial_text blocks));
   ends = λ a h. inl (ap (λ (x : Answer). is_fault x.status) h);
+  status = λ a h. ap (λ (x : Answer). x.status) h;
 }

@@ -1,6 +1,6 @@
 -- `run --imprecise FILE`: what a run of the imprecise machine shows, the status and the line of its end, and the stages that
 -- lead to it.
-use Rattle.std.specs.Prelude.{◌≡◌, ℕ, ◌%◌, ◌^◌, Bool, true, false, List, Option, Some, None, option_map}
+use Rattle.std.specs.Prelude.{◌≡◌, ◌≤◌, ℕ, ◌%◌, ◌^◌, Bool, true, false, List, [], Option, Some, None, option_map}
 use Rattle.alpha_io.specs.Files.{Files}
 use Rattle.alpha_image.specs.Parts.{Parts}
 use Rattle.alpha_request.specs.declared.options.RunOptions.{RunOptions}
@@ -10,8 +10,11 @@ use Rattle.alpha_seq.specs.declared.end.End.{End}
 use Rattle.alpha_seq.specs.declared.end.End.TheVariants as ends
 use Rattle.alpha_seq.specs.Notes.{end_line}
 use Rattle.alpha_seq.specs.State.{Program}
+use Rattle.alpha_seq.specs.Start.{start}
 use Rattle.alpha_seq.specs.Run.{Shown, sequential}
-use Rattle.alpha_imprecise.specs.Made.{LostTrap, ShownWild, imprecise_by}
+use Rattle.alpha_imprecise.specs.Run.{HasUsed}
+use Rattle.alpha_imprecise.specs.Made.{Making, begun, first_words, LostTrap, ShownWild, shown_making, imprecise_by}
+use Rattle.alpha_imprecise.specs.Free.{run_making_over}
 use Rattle.alpha_cmd.specs.declared.status.Status.{Status}
 use Rattle.alpha_cmd.specs.declared.status.Status.TheVariants.{Done, Stopped, StepsSpent, Lost}
 use Rattle.alpha_cmd.specs.Status.{status_line}
@@ -21,6 +24,7 @@ use Rattle.alpha_cmd.specs.Choosing.{ChoicesOf}
 use Rattle.alpha_cmd.specs.Kept.{nothing}
 use Rattle.alpha_cmd.specs.Answer.{World, Answer}
 use Rattle.alpha_cmd.specs.Form.{Form, Kind, IsThere, needs_files_and_input, streams}
+use Rattle.alpha_cmd.specs.Commands.Run.{program_by, MayShow}
 
 -- ---- the stages
 
@@ -56,11 +60,29 @@ abbrev pub run_by : Bool → Program → List ℕ → (ℕ → ℕ) → ℕ → 
 run_by true g input ahead n watch = imprecise_by g input ahead n watch
 run_by false g input ahead n watch = with_drawn (sequential g input n watch) (imprecise_by g input ahead n watch).drawn
 
--- over an input that is told that run, over another any
+-- A run from the start over some inputs, one a step, by the words of a plan: it has used as many units as were asked for, or
+-- is over before. It is given so many words and draws no more.
+pub record MadeByReads (options : RunOptions) (plan : Plan) : Type 0 where
+  pub reads : List (List ℕ)
+  pub given : ℕ
+  pub making : Making
+  pub is : run_making_over (program_by options plan.image) reads
+      (begun (start (program_by options plan.image) []) None 0 (first_words given plan.ahead)) ≡ making
+  pub used : HasUsed options.steps making.run
+  pub enough : making.count ≤ given
+
+-- Over an input that tells nothing, it shows what such a run does, where the verdict is passed over. Else it shows what the
+-- sequential run may show there, and only the number of words is that of such a run.
+abbrev pub MayShowBy : RunOptions → Bool → Plan → ShownWild → Type 0
+MayShowBy options true plan s = (m : MadeByReads options plan) × (s ≡ shown_making options.watch m.making)
+MayShowBy options false plan s =
+    (m : MadeByReads options plan) × ((t : Shown) × MayShow options None plan.image t × (s ≡ with_drawn t m.making.count))
+
+-- what a run shows, over an input that is told or another
 abbrev pub MayShowWild : RunOptions → Bool → Option (List ℕ) → Plan → ShownWild → Type 0
-MayShowWild options force None plan s = Unit {0}
+MayShowWild options force None plan s = MayShowBy options force plan s
 MayShowWild options force (Some input) plan s =
-    s ≡ run_by force (record { image = plan.image; how = options.complete }) input plan.ahead options.steps options.watch
+    s ≡ run_by force (program_by options plan.image) input plan.ahead options.steps options.watch
 
 -- ---- its end
 
@@ -103,16 +125,22 @@ abbrev pub steps : RunOptions → Drawn → Bool → List ℕ → World → Outc
 steps options choices force file w =
     Then (Then (PlanOf w.files file choices) (Passes force)) (RunsWild options force w.input)
 
--- the statuses of a run's end
-abbrev pub Ends : Status → Type 0
-Ends status = (end : Option End) × ((lost : Option LostTrap) × ((n : ℕ) × (status ≡ wild_status end lost n)))
+-- a trap is lost only where the verdict is passed over
+abbrev pub MayLose : Bool → Option LostTrap → Type 0
+MayLose true lost = Unit {0}
+MayLose false lost = lost ≡ None
 
-abbrev pub kind : Kind
-kind = streams Ends
+-- the statuses of a run's end
+abbrev pub Ends : Bool → Status → Type 0
+Ends force status =
+    (end : Option End) × ((lost : Option LostTrap) × ((n : ℕ) × MayLose force lost × (status ≡ wild_status end lost n)))
+
+abbrev pub kind : Bool → Kind
+kind force = streams (Ends force)
 
 abbrev pub form : RunOptions → Drawn → Bool → List ℕ → Form
 form options choices force file =
-    record { steps = steps options choices force file; needs = needs_files_and_input; kind = kind }
+    record { steps = steps options choices force file; needs = needs_files_and_input; kind = kind force }
 
 -- a choices file is there, where files are told
 abbrev pub HasChoices : Drawn → World → Type 0

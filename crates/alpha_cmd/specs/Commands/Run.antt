@@ -1,11 +1,14 @@
 -- `run FILE`: what the run of an image's program shows, and the status and the line of its end.
-use Rattle.std.specs.Prelude.{◌≡◌, ℕ, List, Option, Some, None, option_map}
+use Rattle.std.specs.Prelude.{◌≡◌, ℕ, List, [], Option, Some, None, option_map}
 use Rattle.alpha_image.specs.Parts.{Parts}
 use Rattle.alpha_request.specs.declared.options.RunOptions.{RunOptions}
 use Rattle.alpha_seq.specs.declared.end.End.{End}
 use Rattle.alpha_seq.specs.declared.end.End.TheVariants as ends
 use Rattle.alpha_seq.specs.Notes.{end_line}
-use Rattle.alpha_seq.specs.Run.{Shown, sequential}
+use Rattle.alpha_seq.specs.State.{Program}
+use Rattle.alpha_seq.specs.Start.{start}
+use Rattle.alpha_seq.specs.Run.{Run, started, Shown, shown, sequential}
+use Rattle.alpha_seq.specs.Inputs.{run_over, HasMade}
 use Rattle.alpha_cmd.specs.declared.status.Status.{Status}
 use Rattle.alpha_cmd.specs.declared.status.Status.TheVariants.{Done, Stopped, StepsSpent}
 use Rattle.alpha_cmd.specs.Status.{status_line}
@@ -30,11 +33,23 @@ abbrev pub run_line : Option End → List ℕ
 run_line None = status_line StepsSpent
 run_line (Some end) = end_line end
 
--- Over an input that is told, a run shows what the sequential run from the start does. Over another it may show anything.
+-- an image with the options' way to complete an overflow
+abbrev pub program_by : RunOptions → Parts → Program
+program_by options image = record { image = image; how = options.complete }
+
+-- The run from the start over some inputs, one a step: what each read found, since a source that tells nothing may answer
+-- each of them anew.
+abbrev pub run_by_reads : RunOptions → Parts → List (List ℕ) → Run
+run_by_reads options image reads =
+    run_over (program_by options image) reads (started (start (program_by options image) []))
+
+-- Over an input that is told, a run shows what the sequential run from the start does. Over another there are inputs, one a
+-- step, over which that run does so, with as many steps as were asked for or to the program's end.
 abbrev pub MayShow : RunOptions → Option (List ℕ) → Parts → Shown → Type 0
-MayShow options None image s = Unit {0}
-MayShow options (Some input) image s =
-    s ≡ sequential (record { image = image; how = options.complete }) input options.steps options.watch
+MayShow options None image s =
+    (reads : List (List ℕ)) × HasMade options.steps (run_by_reads options image reads)
+    × (s ≡ shown options.watch (run_by_reads options image reads))
+MayShow options (Some input) image s = s ≡ sequential (program_by options image) input options.steps options.watch
 
 -- what a run shows
 abbrev pub answer_shown : Option (List ℕ) → Shown → Answer

@@ -15,6 +15,7 @@ use Rattle.alpha_cmd.specs.Status.{status_line}
 use Rattle.alpha_cmd.proofs.Commands.Imprecise.{broken_answer}
 use Rattle.alpha_cmd.proofs.Lawful.{first_stops}
 use Rattle.alpha_cmd.proofs.Trying.{stopped}
+use Rattle.alpha_cmd.proofs.WildRan.{planned_image}
 use Rattle.alpha_cmd.proofs.imprecise.imprecise.Goals as goal
 
 pub returns-in-Ok-judged-clause-tried : goal.returns-in-Ok-judged-clause-tried
@@ -25,7 +26,11 @@ returns-in-Ok-judged-clause-tried g c =
 
 pub returns-in-Ok-judged-clause-input : goal.returns-in-Ok-judged-clause-input
 returns-in-Ok-judged-clause-input g c =
-    c.run_plan.ensures.input
+    let a = c.args.asked in
+    let plan = c.in-Ok.plan in
+    c.run_plan.ensures.input a.force
+    (planned_image (g.H.Shelf.files c.args.shelf.now) a.file.now (drawn_from a.choices) plan.image (ahead_in plan.chooser) c.in-Ok.ensures.ok)
+    c.in-Ok-judged.ensures.ok
 
 pub returns-in-Err-judged-clause-tried : goal.returns-in-Err-judged-clause-tried
 returns-in-Err-judged-clause-tried g c =

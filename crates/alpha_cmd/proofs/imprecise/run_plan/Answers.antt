@@ -1,6 +1,6 @@
-use Rattle.std.proofs.Common.{◌≡◌, ◌∙◌, [], sym, ap, subst}
+use Rattle.std.proofs.Common.{◌≡◌, ◌∙◌, [], refl, sym, ap, subst, inl, inr}
 use Rattle.alpha_io.specs.Faults.{Rose}
-use Rattle.alpha_image.specs.Parts.{Parts}
+use Rattle.alpha_image.specs.Parts.{Parts, IsImage}
 use Rattle.alpha_shadow.specs.Broken.{IsAccepted}
 use Rattle.alpha_seq.specs.declared.machine.Machine.{Machine}
 use Rattle.alpha_seq.specs.State.{Program}
@@ -31,6 +31,15 @@ returns-in-Ok-clause-tried g c = λ shelf file choices force found good same.
     (subst (λ x. PlanOf shelf.old file choices (goes (plan_by c.args.plan.image (ahead_in x)))) (sym c.new-chooser.ensures.chooser) found))
     (λ judges. subst (λ (x : Parts). IsAccepted x.words) (sym image) (good judges))
     same
+
+pub returns-in-Ok-clause-input : goal.returns-in-Ok-clause-input
+returns-in-Ok-clause-input g c = λ force fine good.
+    let image : c.new-wild.result.machine.image ≡ c.args.plan.image =
+    ap (λ (m : Machine). m.image) c.new-wild.ensures.machine ∙ ap (λ (p : Program). p.image) c.in-Ok.ensures.program in
+    inr (c.run_wild.ensures.input force (subst IsImage (sym image) fine) (λ judges. subst (λ (x : Parts). IsAccepted x.words) (sym image) (good judges)))
+
+pub returns-in-Err-clause-input : goal.returns-in-Err-clause-input
+returns-in-Err-clause-input g c = λ force fine good. inl refl
 
 pub returns-in-Err-clause-tried : goal.returns-in-Err-clause-tried
 returns-in-Err-clause-tried g c = λ shelf file choices force found good same.

@@ -1,17 +1,20 @@
-use Rattle.std.proofs.Common.{◌≡◌, ◌∙◌, sym, subst, inl, inr, ⊎_elim}
+use Rattle.std.proofs.Common.{◌≡◌, ◌∙◌, sym, ap, subst, inl, inr, ⊎_elim}
 use Rattle.alpha_io.specs.Faults.{Rose}
 use Rattle.alpha_io.specs.Files.{KeepsFiles}
 use Rattle.alpha_io.specs.Shelved.{shelved}
 use Rattle.alpha_io.specs.Sunk.{sunk}
 use Rattle.alpha_io.proofs.Counts.{Rose-not_calm}
+use Rattle.alpha_cmd.specs.declared.status.Status.{Status}
 use Rattle.alpha_cmd.specs.declared.status.Status.TheVariants.{Done, SinkFault}
+use Rattle.alpha_cmd.specs.Status.{class_of}
 use Rattle.alpha_request.specs.Command.{Command}
 use Rattle.alpha_cmd.specs.Answer.{world}
 use Rattle.alpha_cmd.specs.Asks.{Asks}
-use Rattle.alpha_cmd.specs.Commands.{kind_of, MayTake, Spares}
+use Rattle.alpha_cmd.specs.Commands.{kind_of, EndsBy, MayTake, Spares}
 use Rattle.alpha_cmd.specs.Decision.{answer_in}
 use Rattle.alpha_cmd.specs.Tried.{TriedBy}
 use Rattle.alpha_cmd.proofs.Endings.{Leaves-not_sink, whole, part, exact_whole, calm_part}
+use Rattle.alpha_cmd.proofs.Tried.{tried_ended, ended_found}
 use Rattle.alpha_cmd.proofs.Trying.{MayTake-sink, Spares-sink}
 use Rattle.alpha_cmd.proofs.Accepted.{accepted_call}
 use Rattle.alpha_cmd.proofs.Alike.{tried_restarts, alike_call}
@@ -80,6 +83,26 @@ returns-in-Ok-clause-input g c =
           c.deliver.ensures.status,
     ))
     c.in-Ok.ensures.input
+
+pub returns-in-Ok-clause-ended : goal.returns-in-Ok-clause-ended
+returns-in-Ok-clause-ended g c = λ is.
+    let w = world g.H.Shelf g.S.Source c.args.shelf.now c.args.input.now in
+    let shelf = Rose (g.H.Shelf.faults c.args.shelf.now) (g.H.Shelf.faults c.decide.new.shelf) in
+    let input = Rose (g.S.Source.faults c.args.input.now) (g.S.Source.faults c.decide.new.input) in
+    let ends = returns-in-Ok-clause-whole g c (λ failed. let x = sym is ∙ ap class_of failed in cc) in
+    subst (λ (s : Status). (command : Command) × Asks c.args.words.now command × EndsBy command s) (sym ends.status_is)
+    (tried_ended shelf input c.args.words.now w ends.tried ends.is (sym (ap class_of ends.status_is) ∙ is))
+
+pub returns-in-Err-clause-ended : goal.returns-in-Err-clause-ended
+returns-in-Err-clause-ended g c = λ is. absurd cc
+
+pub returns-in-Ok-clause-found : goal.returns-in-Ok-clause-found
+returns-in-Ok-clause-found g c = λ options choices file lost asks e.
+    ended_found c.args.words.now options choices file lost asks
+    (subst (λ (s : Status). (command : Command) × Asks c.args.words.now command × EndsBy command s) e (returns-in-Ok-clause-ended g c (ap class_of e)))
+
+pub returns-in-Err-clause-found : goal.returns-in-Err-clause-found
+returns-in-Err-clause-found g c = λ options choices file lost asks e. cc
 
 pub returns-in-Ok-clause-exact : goal.returns-in-Ok-clause-exact
 returns-in-Ok-clause-exact g c = λ a told quiet fed out notes is.

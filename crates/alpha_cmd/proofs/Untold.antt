@@ -1,0 +1,27 @@
+-- Runs over an input that tells nothing: what each read finds is an input of its step's own.
+use Rattle.std.proofs.Common.{◌≡◌, ◌∙◌, [], None, refl, sym, ap, subst}
+use Rattle.alpha_image.specs.Parts.{Parts}
+use Rattle.alpha_request.specs.declared.options.RunOptions.{RunOptions}
+use Rattle.alpha_seq.specs.Start.{start}
+use Rattle.alpha_seq.specs.Run.{shown}
+use Rattle.alpha_imprecise.specs.Run.{WildRun, HasUsed, started_wild}
+use Rattle.alpha_imprecise.specs.Made.{Making, begun, first_words}
+use Rattle.alpha_imprecise.specs.Free.{run_free, SameFree, FreeAlike}
+use Rattle.alpha_imprecise.proofs.Freely.{all_free}
+use Rattle.alpha_cmd.specs.Commands.Run.{program_by, run_by_reads, MayShow}
+use Rattle.alpha_cmd.specs.Commands.Imprecise.{Plan, MadeByReads}
+
+-- a run by coming words on accepted code is one of the sequential machine over some inputs
+pub made_same : (options : RunOptions) (plan : Plan) → FreeAlike plan.image → (m : MadeByReads options plan)
+    → SameFree options.steps (program_by options plan.image) (start (program_by options plan.image) []) m.making.run
+made_same options plan alike m =
+    let g = program_by options plan.image in
+    let free = all_free g m.reads (begun (start g []) None 0 (first_words m.given plan.ahead)) in
+    let same : run_free g free.steps (started_wild (start g [])) ≡ m.making.run = free.is ∙ ap (λ (k : Making). k.run) m.is in
+    subst (λ (w : WildRun). SameFree options.steps g (start g []) w) same
+    (alike options.complete free.steps options.steps (subst (HasUsed options.steps) (sym same) m.used))
+
+-- what that one shows, the sequential run may show
+pub same_may : (options : RunOptions) (image : Parts) (w : WildRun) (h : SameFree options.steps (program_by options image) (start (program_by options image) []) w)
+    → MayShow options None image (shown options.watch (run_by_reads options image h.inputs))
+same_may options image w h = (h.inputs, h.made, refl)
