@@ -67,7 +67,7 @@ names-entry x at =
     ∙ (ap (λ l. l ++ map (λ f. f.name) (map (fix 0) entries)) (names-cells x.line at (cells x.item.statement))
     ∙ ap (λ l. filter_map (cell_name x.line) (cells x.item.statement) ++ l) (names-fix entries))))
 
-names-all : (at : ℕ) (xs : List Placed) → map (λ f. f.name) (fixes at xs) ≡ flat_map names_in xs
+pub names-all : (at : ℕ) (xs : List Placed) → map (λ f. f.name) (fixes at xs) ≡ flat_map names_in xs
 names-all at [] = refl
 names-all at (x ∷ xs) =
     let next : ℕ = at + (data_size x.item.statement + filled_pad x.place x.item.statement) in

@@ -9,3 +9,7 @@ pub mod ModuleBytes
 pub mod Stages
 pub mod Joined
 pub mod Linked
+pub mod Rising
+pub mod SourceNames
+pub mod MadeLists
+pub mod MadeModules

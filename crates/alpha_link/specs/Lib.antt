@@ -8,3 +8,5 @@ pub mod Spelled
 pub mod Module
 pub mod Alike
 pub mod Linked
+pub mod Rising
+pub mod Made

@@ -132,9 +132,9 @@ fn follows_all(before: &[Relocation], relocation: &Relocation) -> bool
     }
 }
 
-// Whether a relocation is good behind those before it.
+/// Whether a relocation is good behind those before it.
 #[tactic(auto, unfolding(crate::specs::Relocations::relocation_fits))]
-fn relocation_fits(
+pub(crate) fn relocation_fits(
     sizes: &Sizes,
     insns: &[Insn],
     filled: &[u8],

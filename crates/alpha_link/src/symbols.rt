@@ -56,9 +56,9 @@ fn comes_behind(before: &[Symbol], name: &[u8]) -> bool
     }
 }
 
-// Whether a symbol is good behind those before it.
+/// Whether a symbol is good behind those before it.
 #[tactic(auto, unfolding(crate::specs::Symbols::symbol_fits))]
-fn symbol_fits(
+pub(crate) fn symbol_fits(
     sizes: &Sizes,
     before: &[Symbol],
     section: SymbolSection,

@@ -1,6 +1,7 @@
-//! Bytes of modules that were laid out by hand.
+//! Bytes of modules that were laid out by hand, and sources.
 
-use crate::{ModuleFault, module_bytes, read_module, verdict};
+use crate::{ModuleFault, make_module, module_bytes, read_module, verdict};
+use alpha_asm::AsmFault;
 use alpha_shadow::{Broken, Condition};
 use std::test::Fail;
 
@@ -93,4 +94,36 @@ fn an_open_shadow_breaks_a_module(rt: HostRuntime) -> Result<(), Fail> {
     };
     assert_eq!(rt; verdict(&open), Err(broken));
     Ok(())
+}
+
+#[test]
+fn a_source_makes_its_module(rt: HostRuntime) -> Result<(), Fail> {
+    let source = b"start: bsr $26,sum\nlda $0,1($31)\ncallsys\n";
+    let start = make_module(rt.alloc(), source)?;
+    let bytes = module_bytes(rt.alloc(), &start)?;
+    assert_eq!(rt; bytes.as_slice(), START.as_slice());
+    Ok(())
+}
+
+// Each a statement that no module takes, on its second line.
+const BARRED: [&[u8]; 9] = [
+    b"nop\n.codebase 0x10000",
+    b"nop\n.database 0x10000000",
+    b"nop\n.stack 65536",
+    b"nop\n.entry 0x10000",
+    b"start: nop\n.entry start",
+    b"\n.level 1",
+    b"nop\n.segment 0x20000000",
+    b"nop\nldq $1,%hi(x)($31)",
+    b"nop\nldq $1,%lo(x)($31)",
+];
+
+#[test]
+fn a_module_has_no_field_and_no_half_in_a_load(rt: HostRuntime) {
+    for source in BARRED {
+        assert_eq!(rt;
+            make_module(rt.alloc(), source).err(),
+            Some(AsmFault::Section(2))
+        );
+    }
 }

@@ -1,0 +1,140 @@
+//! Modules that are made of sources.
+
+ghost use Rattle.std.specs.Prelude.{◌≡◌, ◌≢◌, ◌+◌, ◌<◌, ◌≤◌, ◌^◌, length, map, Some, Ok, Err, All, IsTrue, IfOk, IfErr, IfNone};
+ghost use Rattle.alpha_words.specs.declared.Level.TheVariants.{One};
+ghost use Rattle.alpha_image.specs.Parts.{IsCodeInsn};
+ghost use Rattle.alpha_asm.specs.Unlinked.{Makes};
+ghost use Rattle.alpha_asm.specs.declared.fault.AsmFault.TheVariants as faults;
+ghost use Rattle.alpha_link.specs.Parts.{IsModule};
+ghost use Rattle.alpha_link.specs.Made.{bad_field, sized, module_of, made_module};
+
+use crate::header::Sizes;
+use crate::labels::all_names;
+use crate::made_relocations::relocations_of;
+use crate::made_symbols::symbols_of;
+use crate::module::Module;
+use alpha_asm::{AsmFault, Unlinked};
+use alpha_table::{Insn, level_of};
+use alpha_words::{Level, NoMemory};
+use std::alloc::Global;
+
+const MOST_WORDS: usize = 262_144;
+
+const MOST_DATA: usize = 16_777_216;
+
+// The least field of an image that such sizes make bad.
+fn bad_field(words: usize, filled: usize, zeroed: u64) -> Option<u8>
+    ensures value { result ≡ bad_field words filled zeroed }
+    ensures words { IfNone result (words ≤ 262144) }
+    ensures data { IfNone result (filled + zeroed ≤ 16777216) }
+{
+    if words > MOST_WORDS {
+        return Some(3);
+    }
+    if filled > MOST_DATA {
+        return Some(4);
+    }
+    if zeroed > (MOST_DATA - filled) as u64 {
+        return Some(5);
+    }
+    None
+}
+
+// Whether an instruction is there at the first level.
+fn is_of_level_one(insn: &Insn) -> bool
+    ensures { IsTrue result → IsCodeInsn One insn.now }
+{
+    // The instruction is one of the table: so its form says.
+    let _form = insn.form();
+    level_of(insn) == Level::One
+}
+
+// Whether each instruction is there at the first level.
+fn are_of_level_one(code: &[Insn]) -> bool
+    ensures { IsTrue result → All (IsCodeInsn One) code.now }
+{
+    for insn in code {
+        if !is_of_level_one(insn) {
+            return false;
+        }
+    }
+    true
+}
+
+// The module of what was read. An instruction of level 2 was refused with its line, so each is of the
+// first.
+fn module_of(alloc: Global, unlinked: Unlinked<'_>) -> Result<Module, NoMemory>
+    requires words { length unlinked.code.items ≤ 262144 }
+    requires data { length unlinked.bytes.items + unlinked.zeroed ≤ 16777216 }
+    ensures value { IfOk result (λ m. (is : _) → Makes is unlinked.entry → module_of is ≡ m) }
+{
+    if !are_of_level_one(&unlinked.code) {
+        return Err(NoMemory);
+    }
+    let names = all_names(alloc, &unlinked)?;
+    if names.len() > 0xffff_ffff {
+        return Err(NoMemory);
+    }
+    let sizes = Sizes {
+        words: unlinked.code.len() as u32,
+        filled: unlinked.bytes.len() as u32,
+        zeroed: unlinked.zeroed as u32,
+        symbols: names.len() as u32,
+        relocations: 0,
+    };
+    let symbols = symbols_of(alloc, &sizes, &unlinked.labels, &names)?;
+    let relocations = relocations_of(
+        alloc,
+        &names,
+        &sizes,
+        &unlinked.code,
+        &unlinked.bytes,
+        &unlinked.patches,
+    )?;
+    if relocations.len() > 0xffff_ffff {
+        return Err(NoMemory);
+    }
+    Ok(Module {
+        insns: unlinked.code,
+        bytes: unlinked.bytes,
+        zeroed: sizes.zeroed,
+        symbols,
+        relocations,
+    })
+}
+
+// The module of what was read, unless its sizes are too great.
+fn sized(alloc: Global, unlinked: Unlinked<'_>) -> Result<Module, AsmFault>
+    ensures ok { IfOk result (λ m. (is : _) → Makes is unlinked.entry → sized (module_of is) ≡ Ok m) }
+    ensures refused { IfErr result (λ fault. fault ≢ faults.NoMemory →
+        (is : _) → Makes is unlinked.entry → sized (module_of is) ≡ Err fault) }
+{
+    let bad = bad_field(unlinked.code.len(), unlinked.bytes.len(), unlinked.zeroed);
+    if let Some(field) = bad {
+        return Err(AsmFault::ImageField(field));
+    }
+    match module_of(alloc, unlinked) {
+        Ok(module) => Ok(module),
+        Err(NoMemory) => Err(AsmFault::NoMemory),
+    }
+}
+
+/// The module that a source makes: each label is a symbol, and each address that a statement names a
+/// relocation. A label that is named and not defined is an undefined symbol.
+///
+/// # Errors
+///
+/// The least line with `LongLine`, `Line`, `Section` or `Duplicate`, at one line in this order; then
+/// `ImageField` 3, 4 or 5, where there are more than 262,144 code words, more than 16,777,216 data bytes,
+/// or more than that of data and zeroed bytes together. `NoMemory` may come in place of any answer.
+#[tactic(auto, unfolding(crate::specs::Made::made_module))]
+pub fn make_module(alloc: Global, source: &[u8]) -> Result<Module, AsmFault>
+    requires { length source.now < 2 ^ 32 }
+    ensures ok { IfOk result (λ m. made_module source.now ≡ Ok m) }
+    ensures refused { IfErr result (λ fault. fault ≢ faults.NoMemory → made_module source.now ≡ Err fault) }
+{
+    match Unlinked::of(alloc, source) {
+        Ok(unlinked) => sized(alloc, unlinked),
+        Err(fault) => Err(fault),
+    }
+}
