@@ -33,9 +33,10 @@ mod lines;
 use std::fs;
 
 // The files of cases.
-const FILES: [&str; 9] = [
+const FILES: [&str; 10] = [
     "check.cases",
     "asm.cases",
+    "fix.cases",
     "run.cases",
     "edges.cases",
     "imprecise.cases",

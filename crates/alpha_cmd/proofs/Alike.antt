@@ -19,14 +19,13 @@ use Rattle.alpha_imprecise.specs.Restart.{IsRestartable}
 use Rattle.alpha_imprecise.specs.Shown.{ShowsSame}
 use Rattle.alpha_imprecise.proofs.Showing.{runs_alike}
 use Rattle.alpha_cmd.specs.declared.status.Status.{Status}
-use Rattle.alpha_cmd.specs.declared.status.Status.TheVariants.{Done, ShelfFault, NoMemory}
+use Rattle.alpha_cmd.specs.declared.status.Status.TheVariants.{Done, NoMemory}
 use Rattle.alpha_cmd.specs.Status.{class_of}
 use Rattle.alpha_cmd.specs.Outcome.{goes}
 use Rattle.alpha_cmd.specs.Image.{ImageOf}
 use Rattle.alpha_cmd.specs.Asks.{Asks}
 use Rattle.alpha_cmd.specs.Answer.{World, Answer, AnswerBy, IsAnswered}
-use Rattle.alpha_cmd.specs.Tries.{CutBy, FailsBy}
-use Rattle.alpha_cmd.specs.Commands.{form_of, AnswerOf, IsTold}
+use Rattle.alpha_cmd.specs.Commands.{IsTold}
 use Rattle.alpha_cmd.specs.Commands.Check as checks
 use Rattle.alpha_cmd.specs.Commands.Run as runs
 use Rattle.alpha_cmd.specs.Commands.Run.{answer_shown}
@@ -38,7 +37,7 @@ use Rattle.alpha_cmd.proofs.Forms.{done_goes}
 use Rattle.alpha_cmd.proofs.Commands.Check.{lawful}
 use Rattle.alpha_cmd.proofs.Commands.Run.{shown_answer}
 use Rattle.alpha_cmd.proofs.Commands.Imprecise.{wild_answer, passed}
-use Rattle.alpha_cmd.proofs.Tried.{AnswerOf-single}
+use Rattle.alpha_cmd.proofs.Tried.{AnswerOf-single, done_tried}
 
 -- ---- an accepted file
 
@@ -172,29 +171,9 @@ alike_call words options choices force file w a status left s out notes asks fil
 
 -- ---- a check that is done
 
-cut_not : (shelf : Type 0) (s : Status) → s ≡ Done 0 → CutBy shelf s → ⊥
-cut_not shelf s e (inl h) = cc
-cut_not shelf s e (inr h) = let x : Done 0 ≡ ShelfFault = sym e ∙ h.0 in cc
-
-fails_not : (shelf input : Type 0) (command : Command) (w : World) (t : Answer) → t.status ≡ Done 0 → FailsBy shelf input (form_of command) w t → ⊥
-fails_not shelf input command w t e (inl h) = cut_not shelf t.status e h.cause
-fails_not shelf input command w t e (inr (inl h)) = let x = h.status_is in cc
-fails_not shelf input command w t e (inr (inr h)) = cut_not shelf t.status e h.cause
-
--- what is tried for a check, with the status of one that is done, is its answer
-done_tried : (shelf input : Type 0) (words : List (List ℕ)) (file : List ℕ) (w : World) (t : Answer) → Asks words (check file)
-    → TriedBy shelf input words w t → t.status ≡ Done 0 → IsChecked file w
-done_tried shelf input words file w t asks (inl (inl h)) e = absurd (let x = sym asks ∙ h.0 in cc)
-done_tried shelf input words file w t asks (inl (inr h)) e =
-    let x = h.1 in
-    let same : h.0 ≡ check file = cc in
-    record { answer = t; is = subst (λ (c : Command). AnswerOf c w t) same h.2; done = e }
-done_tried shelf input words file w t asks (inr (inl h)) e = absurd (fails_not shelf input h.0 w t e h.2)
-done_tried shelf input words file w t asks (inr (inr h)) e = absurd (let x : t.status ≡ NoMemory = ap (λ (a : Answer). a.status) h in cc)
-
 pub tried_restarts : (shelf input : Type 0) (words : List (List ℕ)) (file : List ℕ) (w : World) (t : Answer) → Asks words (check file)
     → TriedBy shelf input words w t → t.status ≡ Done 0 → (image : Parts) × IsImage image × HasFile w.files file (spelling image) × IsRestartable image
 tried_restarts shelf input words file w t asks tried e =
-    let good = checked_good file w (done_tried shelf input words file w t asks tried e) in
+    let good = checked_good file w (record { answer = t; is = done_tried shelf input words (check file) w t asks tried e; done = e }) in
     let (bytes, read, spelt) = good.found in
     (good.image, spelt.0, subst (HasFile w.files file) spelt.1 read.0, good_restarts file w.files good)

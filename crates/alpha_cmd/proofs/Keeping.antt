@@ -1,9 +1,9 @@
 -- What a command tries that makes bytes and keeps them.
-use Rattle.std.proofs.Common.{◌≡◌, ℕ, List, length, Bool, None, Some, refl, sym, ap, subst, inl, inr}
+use Rattle.std.proofs.Common.{◌≡◌, ℕ, List, length, Bool, None, Some, refl, sym, subst, inl, inr}
 use Rattle.alpha_io.specs.declared.shelf.Shelf.{Ghosts}
 use Rattle.alpha_io.specs.Faults.{Rose}
 use Rattle.alpha_io.specs.Files.{Files, Refuses, KeepsFiles}
-use Rattle.alpha_io.specs.Shelved.{Shelved, shelved, OnlyReads}
+use Rattle.alpha_io.specs.Shelved.{shelved, OnlyReads}
 use Rattle.alpha_io.proofs.Counts.{Rose-earlier}
 use Rattle.alpha_io.proofs.Shelved.{KeepsFiles-trans, KeepsOtherFiles-after_kept}
 use Rattle.alpha_seq.specs.Devices.{Drawn}

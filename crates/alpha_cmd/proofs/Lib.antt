@@ -2,6 +2,7 @@ pub mod Accepted
 pub mod Alike
 pub mod Commands
 pub mod Endings
+pub mod Fixed
 pub mod Forms
 pub mod Keeping
 pub mod Lawful

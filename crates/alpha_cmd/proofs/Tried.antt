@@ -9,7 +9,7 @@ use Rattle.alpha_request.specs.Options.{Drawn}
 use Rattle.alpha_request.specs.declared.options.RunOptions.{RunOptions}
 use Rattle.alpha_request.specs.Asked.{asked}
 use Rattle.alpha_cmd.specs.declared.status.Status.{Status}
-use Rattle.alpha_cmd.specs.declared.status.Status.TheVariants.{BadWords, ShelfFault, InputFault, SinkFault, NoMemory}
+use Rattle.alpha_cmd.specs.declared.status.Status.TheVariants.{Done, BadWords, ShelfFault, InputFault, SinkFault, NoMemory}
 use Rattle.alpha_cmd.specs.declared.status.Status.TheVariants as statuses
 use Rattle.alpha_cmd.specs.Status.{refused, ended, failed, class_of, status_line}
 use Rattle.alpha_cmd.specs.Asks.{Asks}
@@ -75,6 +75,28 @@ pub IsAnswered-tried : (t a : Answer) (status : Status) (left : Option (List ℕ
 IsAnswered-tried t a status left s out notes is rest files output line (inl same) =
     inl (subst (λ x. IsAnswered x status left s out notes) same (record { status_is = is; left_is = rest; files = files; output = output; line = line }))
 IsAnswered-tried t a status left s out notes is rest files output line (inr memory) = inr (is ∙ memory)
+
+-- ---- a call that is done
+
+cut_not : (shelf : Type 0) (s : Status) → s ≡ Done 0 → CutBy shelf s → ⊥
+cut_not shelf s e (inl h) = cc
+cut_not shelf s e (inr h) = let x : Done 0 ≡ ShelfFault = sym e ∙ h.0 in cc
+
+fails_not : (shelf input : Type 0) (command : Command) (w : World) (t : Answer) → t.status ≡ Done 0 → FailsBy shelf input (form_of command) w t → ⊥
+fails_not shelf input command w t e (inl h) = cut_not shelf t.status e h.cause
+fails_not shelf input command w t e (inr (inl h)) = let x = h.status_is in cc
+fails_not shelf input command w t e (inr (inr h)) = cut_not shelf t.status e h.cause
+
+-- what is tried with this status is an answer
+pub done_tried : (shelf input : Type 0) (words : List (List ℕ)) (command : Command) (w : World) (t : Answer) → Asks words command → TriedBy shelf input words w t → t.status ≡ Done 0
+    → AnswerOf command w t
+done_tried shelf input words command w t asks (inl (inl h)) e = absurd (let x = sym asks ∙ h.0 in cc)
+done_tried shelf input words command w t asks (inl (inr h)) e =
+    let x = h.1 in
+    let same : h.0 ≡ command = cc in
+    subst (λ (c : Command). AnswerOf c w t) same h.2
+done_tried shelf input words command w t asks (inr (inl h)) e = absurd (fails_not shelf input h.0 w t e h.2)
+done_tried shelf input words command w t asks (inr (inr h)) e = absurd (let x : t.status ≡ NoMemory = ap (λ (a : Answer). a.status) h in cc)
 
 -- ---- which statuses are tried
 

@@ -7,6 +7,7 @@ pub mod Choosing
 pub mod Commands
 pub mod Decision
 pub mod Ends
+pub mod Fixed
 pub mod Form
 pub mod Image
 pub mod Keeping

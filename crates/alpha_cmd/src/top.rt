@@ -19,6 +19,7 @@ ghost use Rattle.alpha_cmd.specs.Commands.{form_of, EndsBy, MayTake, Spares};
 ghost use Rattle.alpha_cmd.specs.Commands.Debug.{LeavesTail, script_most};
 ghost use Rattle.alpha_cmd.specs.Commands.Run as runs;
 ghost use Rattle.alpha_cmd.specs.Ends.{Decides, Ends, EndsPart, status_in};
+ghost use Rattle.alpha_cmd.specs.Fixed.{IsSafe};
 ghost use Rattle.alpha_cmd.specs.Kept.{Serves};
 ghost use Rattle.alpha_cmd.specs.Status.{class_of, ended};
 ghost use Rattle.alpha_cmd.specs.Tried.{AreTold, IsAnswer, TriedBy};
@@ -122,6 +123,13 @@ pub fn alpha_top<H: Shelf, S: Source, K: Sink, N: Sink>(
         → result ≡ Status.Done 0
         → (image : Parts) × IsImage image × HasFile (H.files shelf.old) file (spelling image)
         × IsRestartable image }
+
+    // Where barriers were put into a source, the file kept is that source with a barrier at each cut of
+    // its code. Its image is accepted and can be restarted, and needs each of the barriers.
+    ensures fixed { (file out : List ℕ) → Asks words.now (commands.fix file out)
+        → result ≡ Status.Done 0
+        → (source text : List ℕ) × HasFile (H.files shelf.old) file source
+        × HasFile (H.files shelf.new) out text × IsSafe source text }
 
     // Where the shelf tells that the file spells an accepted image and no device fails, a check of it
     // is done, or memory ran out.

@@ -3,7 +3,7 @@ use Rattle.std.proofs.Common.{◌≡◌, ◌≢◌, ◌∙◌, ◌⊎◌, ℕ, L
 use Rattle.alpha_image.specs.Parts.{Parts}
 use Rattle.alpha_shadow.specs.declared.broken.Broken.{Broken}
 use Rattle.alpha_asm.specs.declared.fault.AsmFault.{AsmFault}
-use Rattle.alpha_asm.specs.Program.{Program, program_of}
+use Rattle.alpha_asm.specs.Program.{Program}
 use Rattle.alpha_asm.specs.Assembled.{assembled}
 use Rattle.alpha_round.proofs.Same.{one-image}
 use Rattle.alpha_round.proofs.Sources.{some-image}
@@ -22,7 +22,7 @@ use Rattle.alpha_cmd.specs.Status.{class_of, status_line, unfixable_line}
 use Rattle.alpha_cmd.specs.Outcome.{goes, stops}
 use Rattle.alpha_cmd.specs.Image.{Reads}
 use Rattle.alpha_cmd.specs.Answer.{World}
-use Rattle.alpha_cmd.specs.Commands.Asm.{source_limit, NoProgram}
+use Rattle.alpha_cmd.specs.Commands.Asm.{source_limit}
 use Rattle.alpha_cmd.specs.Commands.Fix.{IsUnfixable, Unfixed, Unfixes, Fixes, Makes, form, there}
 use Rattle.alpha_cmd.proofs.Commands.Asm.{same_refused}
 use Rattle.alpha_cmd.proofs.Lawful.{Lawful, HasOutcome, IsRefusal, Either-single, Then-lawful}

@@ -1,4 +1,4 @@
-use Rattle.std.proofs.Common.{List, ℕ, Option, length, refl, ap, subst, sym, inl, inr, ⊎_elim}
+use Rattle.std.proofs.Common.{length, refl, ap, subst, sym, inl, inr, ⊎_elim}
 use Rattle.alpha_io.specs.Faults.{Rose}
 use Rattle.alpha_io.specs.Files.{Refuses}
 use Rattle.alpha_io.specs.Shelved.{shelved}

@@ -18,6 +18,7 @@ use Rattle.alpha_cmd.proofs.Tried.{tried_ended, ended_found}
 use Rattle.alpha_cmd.proofs.Trying.{MayTake-sink, Spares-sink}
 use Rattle.alpha_cmd.proofs.Accepted.{accepted_call}
 use Rattle.alpha_cmd.proofs.Alike.{tried_restarts, alike_call}
+use Rattle.alpha_cmd.proofs.Fixed.{tried_fixed}
 use Rattle.alpha_cmd.proofs.top.alpha_top.Goals as goal
 
 pub deliver-requires : goal.deliver-requires
@@ -146,6 +147,17 @@ returns-in-Ok-clause-alike g c = λ options choices force file a asks files inpu
     (shelved g.H.Shelf c.args.shelf.now c.decide.new.shelf)
     (sunk g.K.Sink c.args.out.now c.deliver.new.out) (sunk g.N.Sink c.args.notes.now c.deliver.new.notes)
     asks files input has checked is (λ b read answer. returns-in-Ok-clause-exact g c b read quiet fed out notes answer)
+
+pub returns-in-Ok-clause-fixed : goal.returns-in-Ok-clause-fixed
+returns-in-Ok-clause-fixed g c = λ file out asks e.
+    let w = world g.H.Shelf g.S.Source c.args.shelf.now c.args.input.now in
+    let shelf = Rose (g.H.Shelf.faults c.args.shelf.now) (g.H.Shelf.faults c.decide.new.shelf) in
+    let input = Rose (g.S.Source.faults c.args.input.now) (g.S.Source.faults c.decide.new.input) in
+    let ends = returns-in-Ok-clause-whole g c (λ failed. let x : Done 0 ≡ SinkFault = sym e ∙ failed in cc) in
+    tried_fixed shelf input c.args.words.now file out w ends.tried (shelved g.H.Shelf c.args.shelf.now c.decide.new.shelf) asks ends.is (sym ends.status_is ∙ e) ends.files
+
+pub returns-in-Err-clause-fixed : goal.returns-in-Err-clause-fixed
+returns-in-Err-clause-fixed g c = λ file out asks e. absurd (let x : SinkFault ≡ Done 0 = e in cc)
 
 pub returns-in-Err-clause-restarts : goal.returns-in-Err-clause-restarts
 returns-in-Err-clause-restarts g c = λ file asks e. absurd (let x : SinkFault ≡ Done 0 = e in cc)

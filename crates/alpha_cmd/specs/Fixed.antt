@@ -1,0 +1,16 @@
+-- What is known of a source with its barriers.
+use Rattle.std.specs.Prelude.{◌≡◌, ◌+◌, ℕ, List, Some, slice_get}
+use Rattle.alpha_shadow.specs.Broken.{IsAccepted}
+use Rattle.alpha_imprecise.specs.Restart.{IsRestartable}
+use Rattle.alpha_fix.specs.Cuts.{HasBroken, without}
+use Rattle.alpha_fix.specs.Fix.{IsFixedSource}
+
+-- The text is the source with a barrier at each cut of its code. Its image is accepted, and can be restarted after each late
+-- trap. Without the word of any one of the barriers, which stands behind the words before its cut and the barriers before it, a
+-- place is broken. A source whose image is accepted is left as it is.
+pub record IsSafe (source text : List ℕ) : Type 0 where
+  pub is : IsFixedSource source text
+  pub accepted : IsAccepted is.fixed.words
+  pub restarts : IsRestartable is.fixed
+  pub needed : (j cut : ℕ) → slice_get is.cuts j ≡ Some cut → HasBroken (without (cut + j) is.fixed.words)
+  pub unchanged : IsAccepted is.image.words → text ≡ source
