@@ -112,7 +112,7 @@ bytes_so is p k s e =
     ∙ (ap (λ f. bytes_after (known is) f p.output.bytes.items) s.patches ∙ (ap (bytes_after (known is) (fixes 0 (layout is))) s.bytes ∙ bytes_made (known is) is))
 
 -- putting addresses in leaves the number of data bytes
-length-overlaid : (at n : ℕ) (bytes : List ℕ) → length (overlaid at n bytes) ≡ length bytes
+pub length-overlaid : (at n : ℕ) (bytes : List ℕ) → length (overlaid at n bytes) ≡ length bytes
 length-overlaid at n bytes = by (nat_le (at + 8) (length bytes)) refl
   where
     by : (t : Bool) → nat_le (at + 8) (length bytes) ≡ t → length (cond t (take at bytes ++ (low_bytes 8 n ++ drop (at + 8) bytes)) bytes) ≡ length bytes

@@ -10,10 +10,11 @@ use std::alloc::{AllocError, Global};
 use std::collections::HashMap;
 use std::hash::{BuildHasher, DefaultHasher, FoldHasher, Hash, Hasher};
 
-// A label, which is hashed at once, where a slice is hashed byte by byte.
+/// A label as the key of a map. It is hashed at once, where a slice is hashed byte by byte.
 #[derive(Clone, Copy, Debug)]
-struct Label<'a> {
-    name: &'a [u8],
+pub struct Label<'a> {
+    /// Its bytes.
+    pub name: &'a [u8],
 }
 
 impl PartialEq for Label<'_> {
@@ -40,20 +41,26 @@ impl Hash for Label<'_> {
     }
 }
 
-// Makes the hashers of labels. They go on behind a seed that depends on the whole source, so that
-// whoever writes a source can't choose names that have one hash in it.
+/// Makes the hashers of labels. They go on behind a seed that depends on all that the labels stand in,
+/// so that whoever writes it can't choose names that have one hash in it.
 #[derive(Clone, Copy)]
-struct Seeded {
+pub struct Seeded {
     hasher: FoldHasher,
 }
 
 impl Seeded {
-    fn by(source: &[u8]) -> Seeded {
-        let mut whole = DefaultHasher::new();
-        whole.write(source);
+    /// The hashers that go on behind what a hasher was given.
+    pub fn behind(whole: DefaultHasher) -> Seeded {
         let mut hasher = FoldHasher::default();
         hasher.write(&whole.finish().to_le_bytes());
         Seeded { hasher }
+    }
+
+    // Those that a source seeds.
+    fn by(source: &[u8]) -> Seeded {
+        let mut whole = DefaultHasher::new();
+        whole.write(source);
+        Seeded::behind(whole)
     }
 }
 

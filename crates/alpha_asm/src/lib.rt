@@ -19,7 +19,10 @@
 //! and the data bytes as they are: nothing is encoded or decoded.
 //!
 //! [`Section`], [`Spot`], [`Use`] and [`Displacement`] are what its definitions speak of, for crates that
-//! cite them, and [`Labels`], [`Patch`] and [`Need`] what [`Unlinked`] has.
+//! cite them, and [`Labels`], [`Patch`] and [`Need`] what [`Unlinked`] has. [`Use::displacement`],
+//! [`displaced`], [`put_quad`] and [`padding`] put addresses in and round sizes, [`are_within`] tests
+//! the level of code, and [`Label`] and [`Seeded`] are the keys and the hash of a map of labels, for a
+//! crate that links.
 //!
 //! `specs/Statement.antt` has what a statement asks, `specs/Layout.antt` where each item stands,
 //! `specs/Program.antt` the program that the items make, and `specs/Assembled.antt` the image of a
@@ -47,11 +50,13 @@ mod tests;
 mod unlinked;
 
 pub use assembler::assemble;
+pub use bases::put_quad;
 pub use fault::AsmFault;
 pub use kind::SourceKind;
-pub use label::Labels;
-pub use patch::{Displacement, Need, Patch};
-pub use place::{Section, Spot};
+pub use label::{Label, Labels, Seeded};
+pub use patch::{Displacement, Need, Patch, displaced};
+pub use place::{Section, Spot, padding};
+pub use program::are_within;
 pub use statement::Use;
 pub use symbols::Symbols;
 pub use unlinked::Unlinked;

@@ -89,7 +89,7 @@ fn low_half(address: u32) -> i16
 impl Use {
     /// The displacement by which an instruction at `pc` reaches an address, `None` exactly where it
     /// doesn't.
-    pub(crate) fn displacement(self, pc: u128, address: i128) -> Option<Displacement>
+    pub fn displacement(self, pc: u128, address: i128) -> Option<Displacement>
         requires pc { pc ≤ 2 ^ 70 }
         requires near { IsNear address }
         ensures value { result ≡ reached self pc address }
@@ -125,7 +125,7 @@ fn with_bytes(insn: &Insn, disp: i16) -> Insn
 }
 
 /// An instruction with another displacement, where it has one of that kind.
-pub(crate) fn displaced(insn: &Insn, displacement: Displacement) -> Insn
+pub fn displaced(insn: &Insn, displacement: Displacement) -> Insn
     requires { IsField displacement }
     ensures { result ≡ displaced insn.now displacement }
 {

@@ -56,8 +56,8 @@ fn unit(n: u8) -> u64
     1 << n
 }
 
-// How many bytes are missing to a multiple of 2^n.
-fn padding(n: u8, size: u64) -> u16
+/// How many bytes are missing to a multiple of 2^n.
+pub fn padding(n: u8, size: u64) -> u16
     requires { n ≤ 13 }
     ensures value { result ≡ padding n size }
     ensures bound { result < 8192 }

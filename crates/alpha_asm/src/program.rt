@@ -71,8 +71,8 @@ fn code_level(fields: &LevelFields) -> Level
     }
 }
 
-// Whether each instruction is there at a level.
-fn are_within(level: Level, code: &[Insn]) -> bool
+/// Whether each instruction is there at a level, where each is one of the table.
+pub fn are_within(level: Level, code: &[Insn]) -> bool
     ensures { IsTrue result → All (IsCodeInsn level) code.now }
 {
     for insn in code {

@@ -13,3 +13,8 @@ pub mod Rising
 pub mod SourceNames
 pub mod MadeLists
 pub mod MadeModules
+pub mod Lists
+pub mod Naming
+pub mod Shifting
+pub mod Joining
+pub mod Imaged

@@ -27,7 +27,7 @@ use Rattle.alpha_link.specs.declared.relocation.Relocation.{Relocation}
 use Rattle.alpha_link.specs.Alike.{HaveSameColumns, AreAlike}
 use Rattle.alpha_link.specs.Parts.{ModuleParts}
 use Rattle.alpha_link.specs.Relocations.{is_zero}
-use Rattle.alpha_link.specs.Linked.{Located, located, places, displacement, insn_with, code_at, code_after, code_of, repeated, missing, unmet, entry_of, numbers_with, unless_refused, linked_at, linked}
+use Rattle.alpha_link.specs.Linked.{Located, located, places, addresses_of, displacement, insn_with, code_at, code_after, code_of, repeated, missing, unmet, entry_of, numbers_with, unless_refused, linked_at, linked}
 use Rattle.alpha_link.proofs.Joined.{same_columns, accepted_concat, accepted_alike}
 
 same : (c : Option Class) → HaveSameColumns c c
@@ -123,11 +123,11 @@ code_at_alike : (kind : RelocationKind) (place : ℕ) (o : Option Displacement) 
 code_at_alike kind place None code = match_same code
 code_at_alike kind place (Some d) code = put_alike kind d place code
 
-code_after_alike : (ls : List Located) (l : Located) (rs : List Relocation) (code : List Form) → Match code (code_after ls l rs code)
-code_after_alike ls l [] code = match_same code
-code_after_alike ls l (r ∷ rs) code =
-    let one = code_at r.kind (r.offset / 4) (displacement ls l r) code in
-    match_then code one (code_after ls l rs one) (code_at_alike r.kind (r.offset / 4) (displacement ls l r) code) (code_after_alike ls l rs one)
+code_after_alike : (addresses : List (Option ℕ)) (l : Located) (rs : List Relocation) (code : List Form) → Match code (code_after addresses l rs code)
+code_after_alike addresses l [] code = match_same code
+code_after_alike addresses l (r ∷ rs) code =
+    let one = code_at r.kind (r.offset / 4) (displacement addresses l r) code in
+    match_then code one (code_after addresses l rs one) (code_at_alike r.kind (r.offset / 4) (displacement addresses l r) code) (code_after_alike addresses l rs one)
 
 -- the code of the modules, before and after addresses are put in
 abbrev raw_code : List Located → List Form
@@ -137,7 +137,7 @@ raw_alike : (all ls : List Located) → Match (raw_code ls) (flat_map (code_of a
 raw_alike all [] = tt
 raw_alike all (l ∷ ls) =
     match_append (filter_map decoded l.parts.words) (code_of all l) (raw_code ls) (flat_map (code_of all) ls)
-    (code_after_alike all l l.parts.relocations (filter_map decoded l.parts.words)) (raw_alike all ls)
+    (code_after_alike (addresses_of all l) l l.parts.relocations (filter_map decoded l.parts.words)) (raw_alike all ls)
 
 -- words that have instructions
 abbrev pub Known : List ℕ → Type 0
@@ -147,7 +147,7 @@ known_one : (o : Option Form) (rest : List Form) → IsSome o → o ∷ map Some
 known_one None rest h = absurd cc
 known_one (Some i) rest h = refl
 
-known_insns : (words : List ℕ) → Known words → map decoded words ≡ map Some (filter_map decoded words)
+pub known_insns : (words : List ℕ) → Known words → map decoded words ≡ map Some (filter_map decoded words)
 known_insns [] all = refl
 known_insns (w ∷ words) all =
     ap (λ (os : List (Option Form)). decoded w ∷ os) (known_insns words (All-tail (λ (v : ℕ). IsSome (decoded v)) w words all))
@@ -209,16 +209,16 @@ some_there level w h = some_of (decoded w) _ h.1
     some_of None P h = absurd h
     some_of (Some i) P h = refl
 
-image_known : (level : Level) (words : List ℕ) → All (IsCodeWord level) words → Known words
+pub image_known : (level : Level) (words : List ℕ) → All (IsCodeWord level) words → Known words
 image_known level [] all = All-nil (λ (w : ℕ). IsSome (decoded w))
 image_known level (w ∷ words) all =
     All-cons (λ (v : ℕ). IsSome (decoded v)) w words (some_there level w (All-head (IsCodeWord level) w words all)) (image_known level words (All-tail (IsCodeWord level) w words all))
 
-unless_ok : (o : Option LinkFault) (r : Result Program LinkFault) (p : Program) → unless_refused o r ≡ Ok p → r ≡ Ok p
+pub unless_ok : (o : Option LinkFault) (r : Result Program LinkFault) (p : Program) → unless_refused o r ≡ Ok p → r ≡ Ok p
 unless_ok None r p e = e
 unless_ok (Some fault) r p e = absurd cc
 
-abbrev links_to : Program → Result Program LinkFault
+abbrev pub links_to : Program → Result Program LinkFault
 links_to p = Ok p
 
 linked_code : (ls : List Located) (entry : Option ℕ) (p : Program) → linked_at ls entry ≡ Ok p → flat_map (code_of ls) ls ≡ p.code

@@ -10,3 +10,5 @@ pub mod Alike
 pub mod Linked
 pub mod Rising
 pub mod Made
+pub mod Names
+pub mod Output

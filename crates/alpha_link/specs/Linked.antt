@@ -1,5 +1,5 @@
 -- The image that modules link to, or why they link to none.
-use Rattle.std.specs.Prelude.{ℕ, ℤ, pos, ◌+ℤ◌, ◌+◌, ◌*◌, ◌/◌, ◌&&◌, ◌||◌, Bool, true, false, not, nat_lt, nat_le, List, [], ◌∷◌, ◌++◌, length, replicate, slice_get, slice_set, Option, None, Some, is_some, is_none, position, Result, Ok, Err, if◌then◌else◌}
+use Rattle.std.specs.Prelude.{ℕ, ℤ, pos, ◌+ℤ◌, ◌+◌, ◌-◌, ◌*◌, ◌/◌, ◌&&◌, ◌||◌, Bool, true, false, not, nat_lt, nat_le, List, [], ◌∷◌, ◌++◌, length, map, replicate, slice_get, slice_set, Option, None, Some, is_some, is_none, position, Result, Ok, Err, if◌then◌else◌}
 use Rattle.std.specs.Option.{option_map, option_map_or, option_and_then, option_or}
 use Rattle.std.specs.List.{flat_map, filter_map}
 use Rattle.std.specs.Str.{bytes_eq}
@@ -73,10 +73,14 @@ address_in name l = first (named_address l name) l.parts.symbols
 abbrev pub address_of : List Located → List ℕ → Option ℕ
 address_of ls name = first (address_in name) ls
 
--- the address that a relocation puts in: its symbol's, and its addend
-abbrev pub target : List Located → Located → Relocation → Option ℤ
-target ls l r =
-    option_map (λ a. pos a +ℤ r.addend) (option_and_then (λ s. address_of ls s.name) (slice_get l.parts.symbols r.symbol))
+-- the addresses of a module's symbols
+abbrev pub addresses_of : List Located → Located → List (Option ℕ)
+addresses_of ls l = map (λ s. address_of ls s.name) l.parts.symbols
+
+-- the address that a relocation puts in, by those of the symbols: its symbol's, and its addend
+abbrev pub target : List (Option ℕ) → Relocation → Option ℤ
+target addresses r =
+    option_map (λ a. pos a +ℤ r.addend) (option_and_then (λ address. address) (slice_get addresses r.symbol))
 
 abbrev pub use_of : RelocationKind → Option Use
 use_of kinds.Branch = Some uses.Branch
@@ -85,17 +89,17 @@ use_of kinds.Low = Some uses.Low
 use_of kinds.Quad = None
 
 -- the displacement that it puts in, if it reaches
-abbrev pub displacement : List Located → Located → Relocation → Option Displacement
-displacement ls l r =
-    option_and_then (λ by. option_and_then (reached by (code_base + 4 * l.words + r.offset)) (target ls l r)) (use_of r.kind)
+abbrev pub displacement : List (Option ℕ) → Located → Relocation → Option Displacement
+displacement addresses l r =
+    option_and_then (λ by. option_and_then (reached by (code_base + 4 * l.words + r.offset)) (target addresses r)) (use_of r.kind)
 
 -- the quadword that it puts in, if it is one
 abbrev pub quadword_at_kind : RelocationKind → Option ℤ → Option ℕ
 quadword_at_kind kinds.Quad a = option_and_then quadword_of a
 quadword_at_kind _ a = None
 
-abbrev pub quadword : List Located → Located → Relocation → Option ℕ
-quadword ls l r = quadword_at_kind r.kind (target ls l r)
+abbrev pub quadword : List (Option ℕ) → Relocation → Option ℕ
+quadword addresses r = quadword_at_kind r.kind (target addresses r)
 
 -- an instruction with another displacement, where the relocation is one of it
 abbrev pub insn_with : RelocationKind → Displacement → Form → Form
@@ -106,22 +110,23 @@ abbrev pub code_at : RelocationKind → ℕ → Option Displacement → List For
 code_at kind place None code = code
 code_at kind place (Some d) code = option_map_or (λ insn. slice_set code place (insn_with kind d insn)) (slice_get code place) code
 
-abbrev pub code_after : List Located → Located → List Relocation → List Form → List Form
-code_after ls l [] code = code
-code_after ls l (r ∷ rs) code = code_after ls l rs (code_at r.kind (r.offset / 4) (displacement ls l r) code)
+abbrev pub code_after : List (Option ℕ) → Located → List Relocation → List Form → List Form
+code_after addresses l [] code = code
+code_after addresses l (r ∷ rs) code =
+    code_after addresses l rs (code_at r.kind (r.offset / 4) (displacement addresses l r) code)
 
 -- the code of a module with all addresses put in
 abbrev pub code_of : List Located → Located → List Form
-code_of ls l = code_after ls l l.parts.relocations (filter_map decoded l.parts.words)
+code_of ls l = code_after (addresses_of ls l) l l.parts.relocations (filter_map decoded l.parts.words)
 
-abbrev pub bytes_after : List Located → Located → List Relocation → List ℕ → List ℕ
-bytes_after ls l [] bytes = bytes
-bytes_after ls l (r ∷ rs) bytes =
-    bytes_after ls l rs (option_map_or (λ n. overlaid r.offset n bytes) (quadword ls l r) bytes)
+abbrev pub bytes_after : List (Option ℕ) → List Relocation → List ℕ → List ℕ
+bytes_after addresses [] bytes = bytes
+bytes_after addresses (r ∷ rs) bytes =
+    bytes_after addresses rs (option_map_or (λ n. overlaid r.offset n bytes) (quadword addresses r) bytes)
 
 -- its data bytes with all addresses put in
 abbrev pub bytes_of : List Located → Located → List ℕ
-bytes_of ls l = bytes_after ls l l.parts.relocations l.parts.bytes
+bytes_of ls l = bytes_after (addresses_of ls l) l.parts.relocations l.parts.bytes
 
 -- The data bytes of the image: of each module but the last its data, and as zero bytes its zeroed ones and what is
 -- missing to a multiple of 8,192; and the data of the last.
@@ -131,21 +136,18 @@ data_in ls (l ∷ []) = bytes_of ls l
 data_in ls (l ∷ next ∷ rest) =
     bytes_of ls l ++ (replicate (l.parts.zeroed + padding 13 (size l.parts)) 0 ++ data_in ls (next ∷ rest))
 
--- how many words, data bytes and zeroed bytes the image has
+-- how many words, data bytes and zeroed bytes the image has, by the last module
+abbrev pub last_of : List Located → Option Located
+last_of ls = slice_get ls (length ls - 1)
+
 abbrev pub words_in : List Located → ℕ
-words_in [] = 0
-words_in (l ∷ []) = l.words + length l.parts.words
-words_in (l ∷ next ∷ rest) = words_in (next ∷ rest)
+words_in ls = option_map_or (λ l. l.words + length l.parts.words) (last_of ls) 0
 
 abbrev pub filled_in : List Located → ℕ
-filled_in [] = 0
-filled_in (l ∷ []) = l.filled + length l.parts.bytes
-filled_in (l ∷ next ∷ rest) = filled_in (next ∷ rest)
+filled_in ls = option_map_or (λ l. l.filled + length l.parts.bytes) (last_of ls) 0
 
 abbrev pub zeroed_in : List Located → ℕ
-zeroed_in [] = 0
-zeroed_in (l ∷ []) = l.parts.zeroed
-zeroed_in (l ∷ next ∷ rest) = zeroed_in (next ∷ rest)
+zeroed_in ls = option_map_or (λ l. l.parts.zeroed) (last_of ls) 0
 
 abbrev pub numbers_with : List Located → ℕ → Numbers
 numbers_with ls entry = record {
@@ -177,12 +179,16 @@ abbrev pub missing : List Located → Option (ℕ × ℕ)
 missing ls = first (symbol_in (λ _ s. is_none (address_of ls s.name))) ls
 
 -- whether what a relocation needs is there
-abbrev pub is_met : List Located → Located → Relocation → Bool
-is_met ls l r = is_some (displacement ls l r) || is_some (quadword ls l r)
+abbrev pub is_met : List (Option ℕ) → Located → Relocation → Bool
+is_met addresses l r = is_some (displacement addresses l r) || is_some (quadword addresses r)
+
+-- the least relocation of a module that doesn't fit, with the module
+abbrev pub unmet_in : List (Option ℕ) → Located → Option (ℕ × ℕ)
+unmet_in addresses l = option_map (λ n. (l.number, n)) (position (λ r. not (is_met addresses l r)) l.parts.relocations)
 
 -- the least relocation that doesn't fit
 abbrev pub unmet : List Located → Option (ℕ × ℕ)
-unmet ls = first (λ l. option_map (λ n. (l.number, n)) (position (λ r. not (is_met ls l r)) l.parts.relocations)) ls
+unmet ls = first (λ l. unmet_in (addresses_of ls l) l) ls
 
 -- the address of an entry, which is that of a code word
 abbrev pub entry_of : List Located → List ℕ → Option ℕ

@@ -2,6 +2,7 @@
 
 ghost use Rattle.std.specs.Prelude.{◌≡◌};
 ghost use Rattle.alpha_link.specs.declared.fault.ModuleFault.TheVariants.{NoMemory};
+ghost use Rattle.alpha_link.specs.declared.fault.LinkFault.TheVariants as links;
 
 use std::alloc::{AllocError, AllocFailed};
 use thiserror::Error;
@@ -75,4 +76,12 @@ pub enum LinkFault {
     /// Memory ran out.
     #[error("out of memory")]
     NoMemory,
+}
+
+impl From<AllocError> for LinkFault {
+    ghost from_gives = { λ _ e. e ≡ links.NoMemory };
+
+    fn from(_: AllocError) -> Self {
+        LinkFault::NoMemory
+    }
 }

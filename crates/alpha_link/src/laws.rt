@@ -4,7 +4,7 @@ ghost use Rattle.std.specs.Prelude.{◌≡◌, List, ℕ, All, Ok, IsSome};
 ghost use Rattle.std.specs.List.{concat};
 ghost use Rattle.alpha_table.specs.Decoded.{decoded};
 ghost use Rattle.alpha_image.specs.Parts.{Parts, IsByte, IsImage};
-ghost use Rattle.alpha_asm.specs.Program.{program_of};
+ghost use Rattle.alpha_asm.specs.Program.{Program, program_of};
 ghost use Rattle.alpha_shadow.specs.Broken.{IsAccepted};
 ghost use Rattle.alpha_link.specs.Alike.{AreAlike};
 ghost use Rattle.alpha_link.specs.Linked.{linked};
@@ -30,10 +30,14 @@ pub fn laws_of_joined_code()
 {}
 
 /// Modules that were judged apart need not be judged again: where the code of each one is accepted, the
-/// image that they link to is accepted, whatever addresses are put in.
+/// image that they link to is accepted, whatever addresses are put in. What good modules link to is the
+/// program of an image.
 pub fn laws_of_linked_code()
     ensures accepted { (modules : List ModuleParts) (entry : List ℕ) (image : Parts) → IsImage image →
         linked modules entry ≡ Ok (program_of image) →
         All (λ m. All (λ word. IsSome (decoded word)) m.words × IsAccepted m.words) modules →
         IsAccepted image.words }
+    ensures image { (modules : List ModuleParts) (entry : List ℕ) (program : Program) →
+        All IsModule modules → linked modules entry ≡ Ok program →
+        (image : Parts) × IsImage image × (program_of image ≡ program) }
 {}

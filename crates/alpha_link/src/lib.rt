@@ -31,23 +31,30 @@
 //!
 //! - [`read_module`] gives the module that bytes spell, or their first fault.
 //! - [`module_bytes`] gives the spelling of a module.
+//! - [`link`] gives the image that modules link to, or why they link to none, a [`LinkFault`]; which image
+//!   that is says `specs/Linked.antt`.
 //! - [`laws_of_modules`]: what is read is good and the bytes are its spelling, and each good module is
 //!   read back from its spelling.
 //! - [`verdict`] is the verdict on a module's code: that no place is broken, or the least broken place.
 //! - [`laws_of_joined_code`]: code that consists of accepted parts is accepted, and so is code whose words
 //!   have the columns of accepted code.
 //! - [`laws_of_linked_code`]: where the code of each module is accepted, the image that the modules link to
-//!   is accepted. [`LinkFault`] says why modules link to none. `specs/Linked.antt` defines the image; no
-//!   call here makes it yet.
+//!   is accepted.
 //!
 //! `header.rt` has the sizes at the front, `symbol.rt` and `relocation.rt` have what symbols and
 //! relocations are, `symbols.rt` and `relocations.rt` read and write them, `number.rt` little-endian
 //! numbers; `read.rt` and `write.rt` are the ways in and out, and `judged.rt` has the verdict.
 //!
+//! The linker goes over the modules four times. `located.rt` says where each one stands, and `names.rt`
+//! keeps the addresses of the names that they define in one table, in which each symbol's name is then
+//! looked up. `linker.rt` has the refusals in their order, and `output.rt` copies the modules into one
+//! buffer of instructions and one of data bytes, and puts in there what each relocation asks for.
+//!
 //! `specs/Reading.antt` says how bytes are read from the front, `specs/Header.antt`, `specs/Symbols.antt`
 //! and `specs/Relocations.antt` which items there are and which are good, `specs/Parts.antt` what a module
 //! is, `specs/Spelled.antt` its bytes both ways, and `specs/Module.antt` what a [`Module`] keeps;
-//! `specs/Alike.antt` says which words no condition of a trap shadow tells apart.
+//! `specs/Alike.antt` says which words no condition of a trap shadow tells apart. `specs/Names.antt` and
+//! `specs/Output.antt` say what the linker keeps on its way.
 #![tactic(auto)]
 
 mod fault;
@@ -55,11 +62,15 @@ mod header;
 mod judged;
 mod labels;
 mod laws;
+mod linker;
+mod located;
 mod made;
 mod made_relocations;
 mod made_symbols;
 mod module;
+mod names;
 mod number;
+mod output;
 mod read;
 mod relocation;
 mod relocations;
@@ -72,6 +83,7 @@ mod write;
 pub use fault::{LinkFault, ModuleFault};
 pub use judged::verdict;
 pub use laws::{laws_of_joined_code, laws_of_linked_code, laws_of_modules};
+pub use linker::link;
 pub use made::make_module;
 pub use module::Module;
 pub use read::read_module;

@@ -13,8 +13,7 @@ use crate::labels::all_names;
 use crate::made_relocations::relocations_of;
 use crate::made_symbols::symbols_of;
 use crate::module::Module;
-use alpha_asm::{AsmFault, Unlinked};
-use alpha_table::{Insn, level_of};
+use alpha_asm::{AsmFault, Unlinked, are_within};
 use alpha_words::{Level, NoMemory};
 use std::alloc::Global;
 
@@ -40,27 +39,6 @@ fn bad_field(words: usize, filled: usize, zeroed: u64) -> Option<u8>
     None
 }
 
-// Whether an instruction is there at the first level.
-fn is_of_level_one(insn: &Insn) -> bool
-    ensures { IsTrue result → IsCodeInsn One insn.now }
-{
-    // The instruction is one of the table: so its form says.
-    let _form = insn.form();
-    level_of(insn) == Level::One
-}
-
-// Whether each instruction is there at the first level.
-fn are_of_level_one(code: &[Insn]) -> bool
-    ensures { IsTrue result → All (IsCodeInsn One) code.now }
-{
-    for insn in code {
-        if !is_of_level_one(insn) {
-            return false;
-        }
-    }
-    true
-}
-
 // The module of what was read. An instruction of level 2 was refused with its line, so each is of the
 // first.
 fn module_of(alloc: Global, unlinked: Unlinked<'_>) -> Result<Module, NoMemory>
@@ -68,7 +46,7 @@ fn module_of(alloc: Global, unlinked: Unlinked<'_>) -> Result<Module, NoMemory>
     requires data { length unlinked.bytes.items + unlinked.zeroed ≤ 16777216 }
     ensures value { IfOk result (λ m. (is : _) → Makes is unlinked.entry → module_of is ≡ m) }
 {
-    if !are_of_level_one(&unlinked.code) {
+    if !are_within(Level::One, &unlinked.code) {
         return Err(NoMemory);
     }
     let names = all_names(alloc, &unlinked)?;

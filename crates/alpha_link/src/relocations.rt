@@ -21,8 +21,8 @@ pub(crate) const RELOCATION_BYTES: usize = 13;
 
 const QUAD_BYTES: usize = 8;
 
-// Whether a relocation of this kind puts in the displacement of an instruction.
-fn is_taken_by(kind: RelocationKind, insn: &Insn) -> bool
+/// Whether a relocation of this kind puts in the displacement of an instruction.
+pub(crate) fn is_taken_by(kind: RelocationKind, insn: &Insn) -> bool
     ensures { result ≡ is_taken_by kind insn.now }
 {
     match insn.form() {

@@ -1,8 +1,10 @@
 //! Bytes of modules that were laid out by hand, and sources.
 
-use crate::{ModuleFault, make_module, module_bytes, read_module, verdict};
+use crate::{LinkFault, ModuleFault, link, make_module, module_bytes, read_module, verdict};
 use alpha_asm::AsmFault;
+use alpha_image::{Image, code_word};
 use alpha_shadow::{Broken, Condition};
+use std::alloc::Global;
 use std::test::Fail;
 
 // `start: bsr $26,sum`, `lda $0,1($31)`, `callsys`: `start` is defined and `sum` isn't.
@@ -126,4 +128,66 @@ fn a_module_has_no_field_and_no_half_in_a_load(rt: HostRuntime) {
             Some(AsmFault::Section(2))
         );
     }
+}
+
+// `sum: addq/v $17,$18,$16`, `trapb`, `ret`.
+const SUM: [u8; 50] = [
+    0x41, 0x4c, 0x50, 0x48, 0x41, 0x4f, 0x42, 0x31, 0x03, 0x00, 0x00, 0x00, 0x00, 0x00, 0x00, 0x00,
+    0x00, 0x00, 0x00, 0x00, 0x01, 0x00, 0x00, 0x00, 0x00, 0x00, 0x00, 0x00, 0x10, 0x0c, 0x32, 0x42,
+    0x00, 0x00, 0xff, 0x63, 0x01, 0x80, 0xfa, 0x6b, 0x00, 0x03, 0x00, 0x00, 0x00, 0x00, 0x00, 0x73,
+    0x75, 0x6d,
+];
+
+// What the modules that bytes spell link to.
+fn linked<'m>(
+    alloc: Global,
+    spellings: &[&[u8]],
+    entry: &'m [u8],
+) -> Result<Result<Image, LinkFault>, Fail> {
+    let mut modules = Vec::new(alloc);
+    for bytes in spellings {
+        modules.push(read_module(alloc, bytes)?)?;
+    }
+    if modules.len() > 64 {
+        return Err(Fail::from("too many modules"));
+    }
+    Ok(link(alloc, &modules, entry))
+}
+
+#[test]
+fn a_branch_reaches_a_later_module(rt: HostRuntime) -> Result<(), Fail> {
+    let image = linked(rt.alloc(), &[&START, &SUM], b"start")??;
+    assert_eq!(rt; image.words(), 6);
+    assert_eq!(rt; image.entry(), 0x10000);
+    match code_word(&image, 0) {
+        Some(word) => assert_eq!(rt; word.0, 0xd340_0002),
+        None => return Err(Fail::from("no word")),
+    }
+    Ok(())
+}
+
+#[test]
+fn a_branch_reaches_an_earlier_module(rt: HostRuntime) -> Result<(), Fail> {
+    let image = linked(rt.alloc(), &[&SUM, &START], b"start")??;
+    assert_eq!(rt; image.entry(), 0x1000c);
+    match code_word(&image, 3) {
+        Some(word) => assert_eq!(rt; word.0, 0xd35f_fffc),
+        None => return Err(Fail::from("no word")),
+    }
+    Ok(())
+}
+
+#[test]
+fn modules_that_link_to_no_image(rt: HostRuntime) -> Result<(), Fail> {
+    let rows: [(&[&[u8]], &[u8], LinkFault); 5] = [
+        (&[&START], b"start", LinkFault::Undefined(0, 1)),
+        (&[&START, &START], b"start", LinkFault::Duplicate(1, 0)),
+        (&[&SUM, &START, &SUM], b"start", LinkFault::Duplicate(2, 0)),
+        (&[&START, &SUM], b"begin", LinkFault::Entry),
+        (&[], b"start", LinkFault::Entry),
+    ];
+    for (spellings, entry, want) in rows {
+        assert_eq!(rt; linked(rt.alloc(), spellings, entry)?.err(), Some(want));
+    }
+    Ok(())
 }

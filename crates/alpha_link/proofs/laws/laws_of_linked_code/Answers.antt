@@ -1,5 +1,9 @@
+use Rattle.alpha_link.proofs.Imaged.{linked_image}
 use Rattle.alpha_link.proofs.Linked.{linked_accepted}
 use Rattle.alpha_link.proofs.laws.laws_of_linked_code.Goals as goal
 
 pub returns : goal.returns
-returns c = record { accepted = λ modules entry image good e all. linked_accepted modules entry image good e all }
+returns c = record {
+  accepted = λ modules entry image good e all. linked_accepted modules entry image good e all;
+  image = λ modules entry program good e. linked_image modules entry program good e;
+}

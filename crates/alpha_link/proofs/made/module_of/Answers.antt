@@ -12,11 +12,11 @@ use Rattle.alpha_link.proofs.made.module_of.Goals as goal
 
 pub relocations_of-requires-clause-known : goal.relocations_of-requires-clause-known
 relocations_of-requires-clause-known c =
-    rw c.deref-4.ensures.value (code_words_of_insns One c.args.unlinked.code.items (rw c.deref.ensures.value at (c.are_of_level_one.ensures c.if-not-are_of_level_one.false))).1
+    rw c.deref-4.ensures.value (code_words_of_insns One c.args.unlinked.code.items (rw c.deref.ensures.value at (c.are_within.ensures c.if-not-are_within.false))).1
 
 pub invariant_of-result : goal.invariant_of-result
 invariant_of-result c =
-    let insns : All (IsCodeInsn One) c.args.unlinked.code.items = rw c.deref.ensures.value at (c.are_of_level_one.ensures c.if-not-are_of_level_one.false) in
+    let insns : All (IsCodeInsn One) c.args.unlinked.code.items = rw c.deref.ensures.value at (c.are_within.ensures c.if-not-are_within.false) in
     let bytes : All IsByte c.args.unlinked.bytes.items = rw c.deref-5.ensures.value at c.in_ok-relocations.ensures.bytes in
     let z : Sizes = record { words = c.len-2.result; filled = c.len-3.result; zeroed = c.args.unlinked.zeroed; symbols = c.len-4.result; relocations = 0 } in
     let made = rw c.deref-2.ensures.value at c.in_ok-symbols.ensures.value in

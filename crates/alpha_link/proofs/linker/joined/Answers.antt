@@ -1,0 +1,32 @@
+use Rattle.std.proofs.Common.{◌≡◌, ℕ, List, Option, None, Some, Ok, ap, sym, subst, ◌∙◌}
+use Rattle.std.proofs.Math.Path.{fun_ext}
+use Rattle.std.specs.Option.{option_map}
+use Rattle.alpha_link.specs.declared.fault.LinkFault.TheVariants as faults
+use Rattle.alpha_link.specs.Linked.{Located, addresses_of, unmet_in}
+use Rattle.alpha_link.specs.Names.{found_in}
+use Rattle.alpha_link.specs.Output.{addresses_by, JoinsOne}
+use Rattle.alpha_link.proofs.Lists.{first_stops}
+use Rattle.alpha_link.proofs.Joining.{joins, unmet_as}
+use Rattle.alpha_link.proofs.linker.joined.Goals as goal
+
+pub returns-in-Some-clause-refused : goal.returns-in-Some-clause-refused
+returns-in-Some-clause-refused c = λ other.
+    let all = c.args.places.now in
+    let l = c.located-item.result in
+    let number = ap (λ (x : Located). x.number) c.located.view_is in
+    let stops = unmet_as (found_in c.args.names.now) all l c.in_ok-number.field-0 (fun_ext c.requires.names) c.in_ok-number.ensures.unmet in
+    let here = stops ∙ ap (option_map (λ (n : ℕ). (l.number, n))) c.in-Some.is in
+    ap (option_map (λ (p : ℕ × ℕ). faults.Reach p.0 p.1))
+    (first_stops (λ x. unmet_in (addresses_of all x) x) all c.loop-located.located-index l (l.number, c.in-Some.number) _ c.loop-located-test.true c.located-item.is here c.loop-located.invariant.met)
+    ∙ ap (λ (k : ℕ). Some (faults.Reach k c.in-Some.number)) (sym number)
+
+pub loop-located-preserved : goal.loop-located-preserved
+loop-located-preserved c =
+    let all = c.args.places.now in
+    let l = c.located-item.result in
+    let find = found_in c.args.names.now in
+    let goes = unmet_as find all l c.in_ok-number.field-0 (fun_ext c.requires.names) c.in_ok-number.ensures.unmet in
+    let met = goes ∙ ap (option_map (λ (n : ℕ). (l.number, n))) c.in_default.is in
+    let done : c.join.result ≡ Ok None = cc in
+    let one = subst (λ (f : List ℕ → Option ℕ). JoinsOne (addresses_by f l) l c.loop-located.output c.join.new.self) (fun_ext c.requires.names) (c.join.ensures.joined done) in
+    joins all c.loop-located.located-index l c.loop-located.output c.join.new.self c.loop-located-test.true c.located-item.is met one c.loop-located.invariant
