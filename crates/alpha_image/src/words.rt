@@ -34,9 +34,7 @@ pub fn read_words(alloc: Global, level: Level, code: &[u8]) -> Result<Vec<Insn>,
         let Some(insn) = insn_at(level, word) else {
             return Err(ImageFault::BadWord(place as u32, word.0));
         };
-        if insns.push(insn).is_err() {
-            return Err(fault_without_memory(level, code));
-        }
+        insns.push_reserved(insn);
     }
     Ok(insns)
 }
@@ -65,14 +63,14 @@ fn word_at(code: &[u8], place: usize) -> Word
     Word(longword_at(code, 4 * place))
 }
 
-// The instruction of the word, if there is one at the level.
+// The instruction of the word, if there is one at the level. Only one opcode has instructions that are above level one.
 #[inline(always)]
 fn insn_at(level: Level, word: Word) -> Option<Insn>
     ensures found { IfSome result (λ insn. decoded word.0 ≡ Some insn) }
     ensures value { is_some result ≡ is_there level (decoded word.0) }
 {
     let insn = decode_inline(word)?;
-    if level == Level::Two || level_of(&insn) == Level::One {
+    if word.opcode() != 0x1c || level == Level::Two || level_of(&insn) == Level::One {
         Some(insn)
     } else {
         None

@@ -100,35 +100,3 @@ no_set code at e = cases (class_at code at) refl e
     cases : (o : Option Class) → class_at code at ≡ o → kind o ≡ Some kinds.Barrier → sets_at code at ≡ None
     cases None f e = rw f refl
     cases (Some c) f e = rw f (class_no_set c cc)
-
--- an instruction traps exactly where it is a trigger
-class_calm : (c : Class) → class_trap c ≡ None → class_kind c ≢ kinds.Trigger
-class_calm (trigger op ra src rc) none e = cc
-class_calm (operate op ra src rc) none e = cc
-class_calm (address op ra rb disp) none e = cc
-class_calm (load extension at ra) none e = cc
-class_calm (store at ra) none e = cc
-class_calm (load_locked extension at ra) none e = cc
-class_calm (store_conditional at ra) none e = cc
-class_calm (branch condition ra disp) none e = cc
-class_calm (jump ra rb) none e = cc
-class_calm (barrier call) none e = cc
-class_calm idle none e = cc
-
-class_traps : (c : Class) (op : TrapOp) → class_trap c ≡ Some op → class_kind c ≡ kinds.Trigger
-class_traps (trigger op ra src rc) t e = refl
-class_traps (operate op ra src rc) t e = cc
-class_traps (address op ra rb disp) t e = cc
-class_traps (load extension at ra) t e = cc
-class_traps (store at ra) t e = cc
-class_traps (load_locked extension at ra) t e = cc
-class_traps (store_conditional at ra) t e = cc
-class_traps (branch condition ra disp) t e = cc
-class_traps (jump ra rb) t e = cc
-class_traps (barrier call) t e = cc
-class_traps idle t e = cc
-
--- so the operation that traps decides
-pub trap_decides : (i : Form) (o : Option TrapOp) (b : Bool) → o ≡ trap_op_of i → b ≡ is_some o → IsTrue b ↔ (kind_of i ≡ kinds.Trigger)
-trap_decides i None b e f = (λ t. absurd cc, λ k. absurd (class_calm (class_of i) (sym e) k))
-trap_decides i (Some op) b e f = (λ t. class_traps (class_of i) op (sym e), λ k. f)

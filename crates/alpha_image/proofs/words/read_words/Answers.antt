@@ -1,4 +1,4 @@
-use Rattle.std.proofs.Common.{◌≡◌, ℕ, Some, map, take, refl, ap, sym, ◌∙◌, get_or, arith, below_more, true, false}
+use Rattle.std.proofs.Common.{◌≡◌, ◌+◌, ℕ, Some, map, take, ap, sym, ◌∙◌, get_or, arith, below_more, true, false}
 use Rattle.std.proofs.lemmas.Grind.{common_steps}
 use Rattle.alpha_table.specs.Decoded.{decoded}
 use Rattle.alpha_image.specs.Layout.{words_of}
@@ -27,7 +27,9 @@ loop-place-preserved c =
       inside = below_more _ _ c.loop-place.invariant.inside there;
       read =
           one_more words c.loop-place.insns.items at c.in-Some.insn (omega (arith, length-words_of c.args.code.now)) c.loop-place.invariant.read here
-          ∙ ap (map Some) (sym (c.push.ensures.items ∙ rw (c.is_err.ensures.negation, c.if-is_err.false) refl));
+          ∙ ap (map Some) (sym c.push_reserved.ensures.items);
+      count = c.push_reserved.ensures.len ∙ ap (λ (n : ℕ). n + 1) c.loop-place.invariant.count;
+      room = rw c.push_reserved.ensures.capacity c.loop-place.invariant.room;
     }
 
 pub returns-clause-fault : goal.returns-clause-fault
