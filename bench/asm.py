@@ -1,17 +1,20 @@
 #!/usr/bin/env python3
 """Measures `asm` on large sources: how long it takes, beside `cat` of the source and, where it is installed, GNU as
 for alpha; how many host instructions it takes a line, and how much memory a byte of the source, both beside what it takes
-for a source of few such lines; and how the time grows with the number of lines.
+for a source of few such lines; and how the time grows with the number of lines. Of lines as people write them it says
+the host instructions alone, a row for each kind; so it does for each source that is named.
 
-    bench/asm.py [PROGRAM]
+    bench/asm.py [PROGRAM [SOURCE..]]
 """
 import os
 import shutil
+import sys
 import tempfile
 
 from measure import WORDS, best, counts_instructions, file_of, instructions, most_memory, print_times, the_program
 
 FEW = 4_000
+NEWLINE = b"\n"
 LINES = ["bis $31,$31,$31", "ldq $1,-8($30)", "addq $3,$4,$5", "stq $1,8($30)", "lda $2,1($31)", "beq $1,.+8"]
 
 
@@ -22,6 +25,61 @@ def canonical(count):
 def labels(count):
     """A label on each line, which the next line names."""
     return "".join(f"label_{n}: br $31,label_{(n + 1) % count}\n" for n in range(count))
+
+
+def written(*lines):
+    """A source of these lines in turn."""
+    return lambda count: "".join(lines[n % len(lines)] + "\n" for n in range(count))
+
+
+# Lines as people and compilers write them.
+WRITTEN = {
+    "canonical lines with a comment": written(*(line + "  # why it is so" for line in LINES)),
+    "canonical lines with a carriage return": written(*(line + "\r" for line in LINES)),
+    "blanks between operands": written("\taddq\t$1, $2, $3", "\tldq\t$1, -8($30)", "\tbis\t$31, 255, $31", "\tstq $1, 16( $30 )"),
+    "names of registers": written("addq $t0,$s1,$a0", "ldq $ra,8($sp)", "stq $fp,-16($sp)", "lda $sp,-32($sp)", "subq $v0,1,$t11", "bis $zero,$at,$gp"),
+    "pseudo-operations": written("mov $1,$2", "mov 5,$3", "mov -300,$4", "clr $5", "nop", "unop", "not $1,$2", "negq $1,$2", "negl/v $3,$4", "sextl $5,$6"),
+    "branches to labels": lambda count: "loop: nop\n" + written("br loop", "beq $1,loop", "bsr loop", "bne $t0, loop # again")(count - 1),
+    "halves of addresses": lambda count: "x: nop\n" + written("ldah $9,%hi(x)($31)", "lda $9,%lo(x)($9)", "ldah $9,%hi(x+8)($31)")(count - 1),
+    "jumps": written("ret", "ret $31,($26),1", "jsr $26,($27)", "jmp $31,($1),0", "jsr $ra,($pv)"),
+    "data of one value": lambda count: "ret\n.data\n" + written(".quad 5", ".quad 0x123456789abcdef", ".long -7", ".word 65535", ".byte 1")(count),
+}
+
+# A function as somebody writes it by hand; N stands for its number.
+BY_HAND = """startN:  ldah $9,%hi(startN)($31)
+        lda $9,%lo(startN)($9)
+        bis $31,$31,$16         # where it is read to
+        mov $9,$17
+        lda $18,4096($31)
+        lda $0,3($31)
+        callsys
+
+        # the sum of the bytes
+        mov $0,$10
+        mov $9,$11
+        clr $12
+loopN:   ble $10,doneN
+        ldbu $t0,0($11)
+        addq/v $12,$t0,$13
+        trapb
+        mov $13,$12
+        lda $11,1($11)
+        subq $10,1,$10\r
+        br loopN
+doneN:   stq $12,4096($9)
+        lda $sp,-16($sp)
+        stq $ra,0($sp)\r
+        bsr $ra, startN     # again
+        ldq $ra, 0($sp)
+        lda $sp, 16($sp)
+        clr $16
+        lda $0,1($31)
+        ret
+"""
+
+
+def by_hand(count):
+    return "".join(BY_HAND.replace("N", str(n)) for n in range(count // BY_HAND.count("\n")))
 
 
 def comments(count):
@@ -61,10 +119,32 @@ def measure(program, name, make, count, out, fewer=FEW):
             print(f"{name}: {lines} lines, {more / more_lines:.1f} instructions a line, {more / more_bytes:.1f} a byte")
 
 
+def measure_written(program, out):
+    """The host instructions of lines as people write them."""
+    for name, make in {**WRITTEN, "mixed lines by hand": by_hand}.items():
+        contents, few = source(make(5 * FEW)), source(make(FEW))
+        with file_of(contents) as file, file_of(few) as small:
+            more = instructions([program, "asm", file.name, out]) - instructions([program, "asm", small.name, out])
+        print(f"{name}: {more / (contents.count(NEWLINE) - few.count(NEWLINE)):.1f} instructions a line")
+
+
+def measure_sources(program, sources, out):
+    """The host instructions of whole sources, without those of the shortest one."""
+    with file_of(source("nop\n")) as file:
+        least = instructions([program, "asm", file.name, out])
+    for name in sources:
+        with open(name, "rb") as file:
+            lines = file.read().count(NEWLINE)
+        print(f"{name}: {lines} lines, {(instructions([program, 'asm', name, out]) - least) / lines:.1f} instructions a line")
+
+
 def main():
     program = the_program()
     with tempfile.TemporaryDirectory() as folder:
         out = os.path.join(folder, "out")
+        if counts_instructions():
+            measure_sources(program, sys.argv[2:], out)
+            measure_written(program, out)
         for make, kind in ((canonical, "canonical lines"), (labels, "labels")):
             for count in (WORDS // 16, WORDS // 4, WORDS):
                 measure(program, f"{count} {kind}", make, count, out)

@@ -1,11 +1,12 @@
 -- The fault that is read is the first of all that the tokens have.
-use Rattle.std.proofs.Common.{◌≡◌, ◌⊎◌, ℕ, ◌≤◌, ◌<◌, List, Bool, true, false, cond, Option, Some, None, Result, Ok, Err, length, refl, sym, ◌∙◌, ap, inl, inr, arith}
+use Rattle.std.proofs.Common.{◌≡◌, ◌⊎◌, ℕ, ◌≤◌, ◌<◌, List, [], Bool, true, false, cond, Option, Some, None, Result, Ok, Err, length, refl, sym, ◌∙◌, ap, inl, inr, arith}
 use Rattle.std.specs.Option.{is_some}
 use Rattle.alpha_token.specs.Numeral.{number_value}
 use Rattle.alpha_token.specs.Tokens.{Lexeme, Tokens, End, Bad, Next, left_of}
 use Rattle.alpha_operands.specs.declared.piece.Piece.{Piece}
 use Rattle.alpha_operands.specs.declared.piece.Piece.TheVariants as pieces
 use Rattle.alpha_operands.specs.declared.number.Sign.{Sign}
+use Rattle.alpha_operands.specs.declared.number.Sign.TheVariants as signs
 use Rattle.alpha_operands.specs.declared.operands.LineFaultKind.{LineFaultKind}
 use Rattle.alpha_operands.specs.declared.operands.LineFaultKind.TheVariants.{BadToken, UnknownName, BadOperands, OutOfRange}
 use Rattle.alpha_operands.specs.declared.walk.OperandFault.{OperandFault}
@@ -15,9 +16,9 @@ use Rattle.alpha_operands.specs.Pieces.{kind_of}
 use Rattle.alpha_operands.specs.Shapes.{Pattern}
 use Rattle.alpha_operands.specs.Operands.{Slots, nothing, is_label, with_value, filled}
 use Rattle.alpha_operands.specs.Walk.{is_whole, piece_behind, front_after, sign_after, is_unknown, stuck_at, fault, go_on, taken, follow}
-use Rattle.alpha_operands.specs.Grammar.{GoesOn, AmongTokens, HasFault, fault_at, kind_order, NoLater}
+use Rattle.alpha_operands.specs.Grammar.{GoesOn, AreOperands, AmongTokens, HasFault, fault_at, kind_order, NoLater}
 use Rattle.alpha_token.proofs.Order.{Falls}
-use Rattle.alpha_operands.proofs.Grammar.{Distinct, piece_behind-is, piece_behind-none, is_whole-of}
+use Rattle.alpha_operands.proofs.Grammar.{Distinct, piece_behind-is, piece_behind-none, is_whole-is, is_whole-of, at_end, took, went, spells-follow}
 
 no_value : {A : Type 0} (x : Option A) (kind : LineFaultKind) (f g : A → Slots) (why : LineFaultKind) → with_value x kind f ≡ Err why → with_value x kind g ≡ Err why
 no_value None kind f g why h = h
@@ -214,3 +215,34 @@ follow-first n all distinct front sign (Next t ts) o f g (a, b, c) h has =
           behind_token n all distinct front sign t ts o f g p goes same c (went_no (left_of t) (filled p t sign o) (λ filled. follow all (front_after front p) (sign_after p) ts filled) f m)
           (λ next k hk. follow-first (length t.rest) all distinct (front_after front p) (sign_after p) ts next f g c k hk) b has
     ]
+
+-- tokens that are read have no fault
+follow-clean : (all : List Pattern) → Distinct all → (front : Pattern) (sign : Sign) (ts : Tokens) (o r : Slots) (g : OperandFault) → follow all front sign ts o ≡ Ok r → HasFault all front sign ts g → ⊥
+follow-clean all distinct front sign (End left) o r g h (not_one, e) = let (w, same) = at_end (is_whole all front) o r left h in not_one (is_whole-is all front w)
+follow-clean all distinct front sign (Bad left) o r g h has = cc
+follow-clean all distinct front sign (Next t ts) o r g h has =
+    let (p, e, k) = took t sign o (piece_behind all front t.kind) (λ p filled. follow all (front_after front p) (sign_after p) ts filled) r h in
+    let (next, ok, m) = went (left_of t) (filled p t sign o) (λ filled. follow all (front_after front p) (sign_after p) ts filled) r k in
+    let (goes, same) = piece_behind-is all front t.kind p e in
+    let behind : HasFault all (front_after front p) (sign_after p) ts g → ⊥ = follow-clean all distinct (front_after front p) (sign_after p) ts next r g m in
+    elim has [
+      | inl d ↦ elim d [
+        | inl (u, x) ↦ let w : Ok next ≡ Err UnknownName = sym ok ∙ unknown_at p t sign o same u in cc
+        | inr d ↦ behind (among-has all (front_after front p) (sign_after p) ts g d)
+      ]
+      | inr s ↦ elim s [
+        | inl (not_one, x) ↦ not_one p goes same
+        | inr (x, also, kind, w) ↦
+            let e2 : p ≡ x = distinct.same front p x goes also (same ∙ sym kind) in
+            elim w [
+              | inl (other, wrong, y) ↦
+                  let one : filled p t sign nothing ≡ Err other = rw e2 wrong in
+                  let two : filled p t sign o ≡ Err other = filled-err p t sign nothing o other one in
+                  let w2 : Ok next ≡ Err other = sym ok ∙ two in cc
+              | inr d ↦ behind (rw e2 d)
+            ]
+      ]
+    ]
+
+pub operands-clean : (all : List Pattern) → Distinct all → (ts : Tokens) (o : Slots) (g : OperandFault) → AreOperands all ts o → HasFault all [] signs.Plus ts g → ⊥
+operands-clean all distinct ts o g (q, k, s) = follow-clean all distinct [] signs.Plus ts nothing o g (spells-follow all distinct [] q signs.Plus ts nothing o k s)

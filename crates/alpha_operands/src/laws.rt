@@ -1,6 +1,7 @@
 ghost use Rattle.std.specs.Prelude.{◌≡◌, ◌↔◌, [], ℕ, List, Ok, Err, Some, None};
 ghost use Rattle.alpha_token.specs.Tokens.{tokens};
 ghost use Rattle.alpha_token.specs.Quoted.{IsText};
+ghost use Rattle.alpha_operands.specs.declared.number.Sign.TheVariants.{Plus};
 ghost use Rattle.alpha_operands.specs.Shapes.{patterns};
 ghost use Rattle.alpha_operands.specs.Walk.{operands};
 ghost use Rattle.alpha_operands.specs.Grammar.{AreOperands, FirstFault, HasFault};
@@ -12,6 +13,7 @@ ghost use Rattle.alpha_operands.specs.Values.{next_of, AreValuesOf, IsReadAsList
 pub fn laws_of_operands()
     ensures grammar { (s : _) (line : List ℕ) (o : _) → (operands (patterns s) (tokens line) ≡ Ok o) ↔ AreOperands (patterns s) (tokens line) o }
     ensures fault { (s : _) (line : List ℕ) (f : _) → operands (patterns s) (tokens line) ≡ Err f → FirstFault (patterns s) (tokens line) f }
+    ensures faultless { (s : _) (line : List ℕ) (o f : _) → AreOperands (patterns s) (tokens line) o → ¬ HasFault (patterns s) [] Plus (tokens line) f }
 {}
 
 /// The laws of lists and texts. What was read as a list of values of a size is read to its end by

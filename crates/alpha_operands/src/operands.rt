@@ -112,6 +112,7 @@ fn between_quotes(text: &[u8]) -> &[u8]
 
 // Fills the value of a token in, at its piece.
 #[tactic(auto, unfolding(crate::specs::Operands::filled))]
+#[inline(always)]
 pub(crate) fn fill<'a>(
     piece: Piece,
     token: &Token<'a>,

@@ -67,6 +67,7 @@ fn head_of_kind(kind: TokenKind, front: &[Piece], pattern: &'static [Piece]) -> 
 }
 
 // The piece behind a front, in the first pattern that goes on with a token of this form.
+#[inline(never)]
 fn piece_behind(
     patterns: &[&'static [Piece]],
     front: &[Piece],
@@ -99,6 +100,7 @@ pub(crate) struct Longer {
 }
 
 // A front of a pattern and a further piece: behind the comma of a list the patterns begin anew.
+#[inline(always)]
 fn with_piece(front: &[Piece], piece: Piece, pattern: &'static [Piece]) -> Longer
     requires { HasBehind pattern.now front.now piece }
     ensures piece { result.piece ≡ piece }
@@ -124,6 +126,7 @@ impl Reached {
     };
 
     // The piece of the pattern behind it, where it has the form of a token.
+    #[inline(always)]
     fn next_piece(&self, kind: TokenKind) -> Option<Piece>
         ensures kind { IfSome result (λ p. kind_of p ≡ kind) }
         ensures behind { IfSome result (λ p. HasBehind self.now.pattern.now (front_of self.now) p) }
@@ -137,6 +140,7 @@ impl Reached {
     /// With the piece behind it, where a pattern goes on with a token of this form. The pattern
     /// that was read so far is tried first: where two patterns go on with tokens of one form, they
     /// go on with one piece.
+    #[inline(always)]
     pub(crate) fn longer(&self, shape: Shape, kind: TokenKind) -> Option<Longer>
         requires { IsReached (patterns shape) self.now }
         ensures value { option_map (λ l. l.piece) result ≡ piece_behind (patterns shape) (front_of self.now) kind }
@@ -188,6 +192,7 @@ fn is_unknown(kind: TokenKind, text: &[u8]) -> bool
 }
 
 /// What is wrong at a token with which no pattern goes on.
+#[inline(never)]
 pub fn stuck_at(token: &Token<'_>) -> LineFaultKind
     ensures { result ≡ stuck_at (lexeme token.now) }
 {

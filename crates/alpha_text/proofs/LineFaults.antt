@@ -14,13 +14,13 @@ use Rattle.alpha_operands.specs.Grammar.{HasFault, NoLater, fault_at}
 use Rattle.alpha_operands.proofs.Grammar.{same_kind-is, same_kind-same}
 use Rattle.alpha_operands.proofs.Apart.{shapes-distinct}
 use Rattle.alpha_token.proofs.Order.{Falls, tokens-fall}
-use Rattle.alpha_operands.proofs.Faults.{among-left, has-left, among-has, stuck, at_one, further, stuck_most, stuck_unknown, follow-has, follow-first}
+use Rattle.alpha_operands.proofs.Faults.{among-left, has-left, among-has, stuck, at_one, further, stuck_most, stuck_unknown, follow-has, follow-first, operands-clean}
 use Rattle.alpha_text.specs.declared.head.Head.{Head}
 use Rattle.alpha_text.specs.declared.reader.LineFault.{LineFault}
 use Rattle.alpha_text.specs.Heads.{head_of, shape_of}
 use Rattle.alpha_text.specs.Statements.{Said}
 use Rattle.alpha_text.specs.Reading.{LineSaid, with_operands, with_head, statement_of, is_labelled, labelled, behind_label, line_of, located, read}
-use Rattle.alpha_text.specs.Grammar.{IsLabelled, StatementFault, LineHasFault, IsFirstFault}
+use Rattle.alpha_text.specs.Grammar.{IsStatement, IsLabelled, IsBehindLabel, IsLine, StatementFault, LabelFault, LineHasFault, IsFirstFault}
 use Rattle.alpha_text.proofs.Lines.{is_labelled-is, is_labelled-of}
 
 operands_failed : (head : Head) (behind : List ℕ) (r : Result Slots OperandFault) (f : OperandFault) → with_operands head behind r ≡ Err f → r ≡ Err f
@@ -196,3 +196,35 @@ unfolding read
 read-fault line f h =
     let (g, e, same) = located_failed (length line) (line_of (tokens line)) f h in
     (g, line-has (tokens line) g e, λ other k. line-first (length line) (tokens line) g other (tokens-fall line) e k, same)
+
+-- what the grammar reads has no fault
+statement-clean : (ts : Tokens) (s : Said) (g : OperandFault) → IsStatement ts s → StatementFault ts g → ⊥
+statement-clean (End left) s g is has = has
+statement-clean (Bad left) s g is has = is
+statement-clean (Next t ts) s g (name, head, found, o, are, e) has =
+    let clean : HasFault (patterns (shape_of head)) [] signs.Plus ts g → ⊥ = operands-clean (patterns (shape_of head)) (shapes-distinct (shape_of head)) ts o g are in
+    elim has [
+      | inl m ↦ elim m [ inl (u, x) ↦ name_known t name u | inr m ↦ clean (among-has (patterns (shape_of head)) [] signs.Plus ts g m) ]
+      | inr r ↦ elim r [
+        | inl (not_name, x) ↦ not_name name
+        | inr r ↦ elim r [
+          | inl (y, none, x) ↦ let no_head : None ≡ Some head = sym none ∙ found in cc
+          | inr (y, other, also, x) ↦
+              let same_head : Some other ≡ Some head = sym also ∙ found in
+              let one : other ≡ head = cc in
+              clean (rw (← one) x)
+        ]
+      ]
+    ]
+
+label-clean : (ts : Tokens) (l : LineSaid) (g : OperandFault) → IsBehindLabel ts l → LabelFault ts g → ⊥
+label-clean (End left) l g is has = is
+label-clean (Bad left) l g is has = is
+label-clean (Next t ts) l g (good, label, is) (inl (bad, e)) = let no_label : true ≡ false = sym good ∙ bad in cc
+label-clean (Next t ts) l g (good, label, is) (inr has) = statement-clean (tokens (drop 1 t.rest)) l.statement g is has
+
+pub line-clean : (ts : Tokens) (l : LineSaid) (g : OperandFault) → IsLine ts l → LineHasFault ts g → ⊥
+line-clean ts l g (inl (labelled, is)) (inl (x, has)) = label-clean ts l g is has
+line-clean ts l g (inl (labelled, is)) (inr (none, has)) = none labelled
+line-clean ts l g (inr (none, label, is)) (inl (labelled, has)) = none labelled
+line-clean ts l g (inr (none, label, is)) (inr (x, has)) = statement-clean ts l.statement g is has

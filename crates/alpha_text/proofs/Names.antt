@@ -16,11 +16,10 @@ use Rattle.alpha_table.specs.declared.rows.MiscOp.TheVariants as miscs
 use Rattle.alpha_table.specs.Names.{name_of}
 use Rattle.alpha_text.specs.declared.head.Own.{Own}
 use Rattle.alpha_text.specs.declared.head.Own.TheVariants as owns
-use Rattle.alpha_text.specs.declared.head.Head.{Head}
 use Rattle.alpha_text.specs.declared.head.Head.TheVariants as heads
 use Rattle.alpha_token.proofs.Choices.{both}
 use Rattle.alpha_text.proofs.Spelling.{is_word}
-use Rattle.alpha_text.specs.Heads.{own_name, every_own, every_mnemonic, mnemonic_at, own_at, head_name, head_of}
+use Rattle.alpha_text.specs.Heads.{own_name, every_own, every_mnemonic, mnemonic_at, own_at, head_of}
 
 -- the first row of each kind is written out, so that the others are taken one by one
 pub mnemonic_at-name : (m : Mnemonic) → mnemonic_at (name_of m) ≡ Some m
@@ -102,6 +101,5 @@ unfolding head_of every_mnemonic every_own
 own_at-name owns.Byte = refl
 own_at-name own = refl
 
-pub head_of-name : (name : List ℕ) (h : Head) → head_name h ≡ name → head_of name ≡ Some h
-head_of-name name (heads.Insn m) e = head_of-insn name m e
-head_of-name name (heads.Own own) e = ap head_of (sym e) ∙ own_at-name own
+pub head_of-own_name : (name : List ℕ) (own : Own) → own_name own ≡ name → head_of name ≡ Some (heads.Own own)
+head_of-own_name name own e = ap head_of (sym e) ∙ own_at-name own

@@ -95,11 +95,6 @@ every_mnemonic =
 abbrev pub mnemonic_at : List ℕ → Option Mnemonic
 mnemonic_at name = find (λ m. bytes_eq (name_of m) name) every_mnemonic
 
--- the name of what stands for something
-abbrev pub head_name : Head → List ℕ
-head_name (heads.Insn m) = name_of m
-head_name (heads.Own own) = own_name own
-
 -- what a name stands for
 unfoldable pub head_of : List ℕ → Option Head
 head_of name = option_or (option_map heads.Insn (mnemonic_at name)) (option_map heads.Own (own_at name))

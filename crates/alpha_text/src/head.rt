@@ -1,8 +1,8 @@
 ghost use Rattle.std.specs.Prelude.{◌≡◌, find};
 ghost use Rattle.std.specs.Str.{bytes_eq};
-ghost use Rattle.alpha_text.specs.Heads.{own_name, own_shape, every_own, own_at, shape_of, head_name, head_of};
+ghost use Rattle.alpha_text.specs.Heads.{own_name, own_shape, every_own, own_at, shape_of, head_of};
 
-use crate::rows::{head_named, key_of};
+use crate::rows::{key_of, own_named, row_named};
 use alpha_operands::Shape;
 use alpha_table::{BranchOp, JumpKind, Mnemonic, OperandRule};
 
@@ -94,11 +94,11 @@ macro_rules! shape {
     };
 }
 
-const EVERY: [Own; 26] = own_rows!(every);
+pub(crate) const EVERY: [Own; 26] = own_rows!(every);
 
 impl Own {
     /// Its name.
-    fn name(self) -> &'static [u8]
+    pub(crate) fn name(self) -> &'static [u8]
         ensures { result.now ≡ own_name self }
     {
         own_rows!(name self)
@@ -141,23 +141,17 @@ pub(crate) enum Head {
 }
 
 impl Head {
-    /// The name.
-    pub(crate) fn name(self) -> &'static [u8]
-        ensures { result.now ≡ head_name self }
-    {
-        match self {
-            Head::Insn(row) => row.name(),
-            Head::Own(own) => own.name(),
-        }
-    }
-
     /// What a name stands for, `None` exactly where it is in no table.
     pub(crate) fn of(name: &[u8]) -> Option<Head>
         ensures { result ≡ head_of name.now }
     {
-        match head_named(name, key_of(name)) {
-            Some(head) => Some(head),
-            None => Head::sought(name),
+        let key = key_of(name);
+        match row_named(name, key) {
+            Some(row) => Some(Head::Insn(row)),
+            None => match own_named(name, key) {
+                Some(own) => Some(Head::Own(own)),
+                None => Head::sought(name),
+            },
         }
     }
 

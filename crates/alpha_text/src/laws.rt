@@ -5,17 +5,18 @@ ghost use Rattle.alpha_token.specs.Tokens.{tokens};
 ghost use Rattle.alpha_operands.specs.Values.{IsWholeList};
 ghost use Rattle.alpha_text.specs.Statements.{code, values, text};
 ghost use Rattle.alpha_text.specs.Canon.{canon};
-ghost use Rattle.alpha_text.specs.Grammar.{IsLine, IsFirstFault};
+ghost use Rattle.alpha_text.specs.Grammar.{IsLine, IsFirstFault, LineHasFault};
 ghost use Rattle.alpha_text.specs.Reading.{read};
 
 /// The laws of lines. What is read is what the line grammar says, so a line says one thing at most.
 /// The fault that is read is the first of all that the line has: no other stands before it, or at
-/// its column and is of a lesser kind. The canonical line of an instruction reads back as that
+/// its column and is of a lesser kind. A line that says something has no fault. The canonical line of an instruction reads back as that
 /// instruction without a label, and different instructions have different canonical lines. A line
 /// that reads with a carriage return behind it reads the same without.
 pub fn laws_of_lines()
     ensures grammar { (line : List ℕ) (l : _) → (read line ≡ Ok l) ↔ IsLine (tokens line) l }
     ensures fault { (line : List ℕ) (f : _) → read line ≡ Err f → IsFirstFault line f }
+    ensures faultless { (line : List ℕ) (l f : _) → IsLine (tokens line) l → ¬ LineHasFault (tokens line) f }
     ensures reads_back { (i : _) → IsInsn i → read (canon i) ≡ Ok (record { label = None; statement = code i }) }
     ensures returned { (line : List ℕ) (l : _) → read (line ++ 13 ∷ []) ≡ Ok l → read line ≡ Ok l }
     ensures different { (i j : _) → IsInsn i → IsInsn j → canon i ≡ canon j → i ≡ j }

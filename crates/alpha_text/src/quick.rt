@@ -12,9 +12,8 @@ ghost use Rattle.alpha_text.specs.Reading.{item_said, line_of};
 ghost use Rattle.alpha_text.specs.Quick.{IsBehind, IsOver, Says, SaysNamed, IsApart, IsParted, goes_on_label};
 
 use crate::front::{Front, begins_label, is_all_label};
-use crate::head::Head;
 use crate::instruction::insn;
-use crate::rows::head_named;
+use crate::rows::row_named;
 use crate::words::{base, behind_byte, distance, first, last, number, signed, source};
 use crate::{Item, Statement};
 use alpha_operands::Expr;
@@ -219,10 +218,8 @@ fn of_row(row: Mnemonic, behind: &[u8]) -> Option<Statement<'_>>
 fn of_name<'a>(front: &Front<'a>) -> Option<Statement<'a>>
     ensures { IfSome result (λ s. SaysNamed front.now.name.now front.now.behind.now (said s)) }
 {
-    match head_named(front.name, front.key)? {
-        Head::Insn(row) => of_row(row, front.behind),
-        Head::Own(_) => None,
-    }
+    let row = row_named(front.name, front.key)?;
+    of_row(row, front.behind)
 }
 
 // What stands behind the blanks of a line, which most lines don't begin with.

@@ -129,6 +129,7 @@ fn unlabelled<'a>(token: &Token<'a>, left: usize) -> Result<Item<'a>, OperandFau
 }
 
 // An optional label, and then at most one statement.
+#[inline(never)]
 fn line_of(line: &[u8]) -> Result<Item<'_>, OperandFault>
     ensures { Gives item_said result (line_of (tokens line.now)) }
 {
@@ -155,6 +156,7 @@ fn line_of(line: &[u8]) -> Result<Item<'_>, OperandFault>
 /// The item of a line, or its first fault: the one at the least column, and at one column of the
 /// least kind.
 #[tactic(auto, unfolding(crate::specs::Reading::read))]
+#[inline(always)]
 pub fn read_line(line: &[u8]) -> Result<Item<'_>, LineFault>
     requires { length line.now ≤ 1024 }
     ensures value { Gives item_said result (read line.now) }

@@ -1,19 +1,14 @@
 ghost use Rattle.std.specs.Prelude.{◌≡◌, IfSome};
-ghost use Rattle.alpha_text.specs.Heads.{head_name};
+ghost use Rattle.alpha_table.specs.Names.{name_of};
+ghost use Rattle.alpha_text.specs.Heads.{own_name};
 
-use crate::head::{Head, Own};
-use alpha_table::Mnemonic::{Branch, Fetch, Jump, Mem, Misc, Operate, Pal};
+use crate::head::{EVERY, Own};
+use alpha_table::Mnemonic::{self, Branch, Fetch, Jump, Mem, Misc, Operate, Pal};
 use alpha_table::{BranchOp, JumpKind, MemOp, MiscOp, Op};
 use alpha_words::PalCall;
 
-macro_rules! heads {
-    ($($row:expr,)* ; $($own:expr,)*) => {
-        [$(Head::Insn($row),)* $(Head::Own($own),)*]
-    };
-}
-
-/// The names of statements: those of the instruction table in their order, and those beside it.
-pub(crate) static HEADS: [Head; 143] = heads! {
+/// The rows of the instruction table, in the order of their names.
+pub(crate) static ROWS: [Mnemonic; 117] = [
     Operate(Op::Addl),
     Operate(Op::AddlV),
     Operate(Op::Addq),
@@ -131,40 +126,14 @@ pub(crate) static HEADS: [Head; 143] = heads! {
     Operate(Op::Xor),
     Operate(Op::Zap),
     Operate(Op::Zapnot),
-    ;
-    Own::Byte,
-    Own::Word,
-    Own::Long,
-    Own::Quad,
-    Own::Ascii,
-    Own::Zero,
-    Own::Align,
-    Own::Code,
-    Own::Data,
-    Own::Segment,
-    Own::CodeBase,
-    Own::DataBase,
-    Own::Stack,
-    Own::Entry,
-    Own::Level,
-    Own::Mov,
-    Own::Clr,
-    Own::Nop,
-    Own::Unop,
-    Own::Not,
-    Own::Negl,
-    Own::Negq,
-    Own::NeglV,
-    Own::NegqV,
-    Own::Sextl,
-    Own::CallPal,
-};
+];
 
 // By which the key of a name is multiplied, so that no two names have one slot. The script slots.py
-// beside src/ finds it, and the places behind it, for the heads above.
+// beside src/ finds it, and the places behind it, for the rows above and for EVERY of
+// head.rt.
 const MULTIPLIER: u64 = 6851595108746746257;
 
-// The place among the heads of the name with each slot, 255 where there is none.
+// The place among these of the name with each slot, 255 where there is none.
 static PLACES: [u8; 1024] = [
     255, 255, 255, 255, 255, 255, 255, 50, 255, 255, 255, 141, 255, 255, 255, 255, 255, 255, 255,
     120, 255, 255, 255, 255, 255, 255, 255, 255, 255, 255, 255, 104, 255, 255, 115, 49, 255, 255,
@@ -227,18 +196,29 @@ pub(crate) fn key_of(name: &[u8]) -> u64 {
     name.iter().fold(0, |key, byte| key << 8 | u64::from(*byte))
 }
 
-/// What a name stands for, by its last eight bytes as one number. `None` may also stand for a name
-/// that stands for something.
+// Where the row stands that a name with these last eight bytes can have, or behind all rows the
+// name beside the table.
 #[inline(always)]
-pub(crate) fn head_named(name: &[u8], key: u64) -> Option<Head>
-    ensures { IfSome result (λ h. head_name h ≡ name.now) }
-{
+fn place_of(key: u64) -> Option<usize> {
     let slot = key.wrapping_mul(MULTIPLIER) >> 54;
     let place = *PLACES.get(slot as usize)?;
-    let head = *HEADS.get(usize::from(place))?;
-    if head.name() == name {
-        Some(head)
-    } else {
-        None
-    }
+    Some(usize::from(place))
+}
+
+/// The row of a name, by its last eight bytes as one number. `None` may also stand for a name that
+/// has one.
+#[inline(always)]
+pub(crate) fn row_named(name: &[u8], key: u64) -> Option<Mnemonic>
+    ensures { IfSome result (λ m. name_of m ≡ name.now) }
+{
+    let row = *ROWS.get(place_of(key)?)?;
+    if row.name() == name { Some(row) } else { None }
+}
+
+/// The same of the names beside the table.
+pub(crate) fn own_named(name: &[u8], key: u64) -> Option<Own>
+    ensures { IfSome result (λ own. own_name own ≡ name.now) }
+{
+    let own = *EVERY.get(place_of(key)?.checked_sub(ROWS.len())?)?;
+    if own.name() == name { Some(own) } else { None }
 }

@@ -69,17 +69,21 @@ pub(crate) fn hex_digits_len(s: &[u8]) -> usize
     s.iter().take_while(|b| b.is_ascii_hexdigit()).count()
 }
 
-// The first n bytes, or all where there are fewer.
+// The first n bytes.
+#[inline(always)]
 pub(crate) fn front(s: &[u8], n: usize) -> &[u8]
+    requires { n ≤ length s.now }
     ensures { result.now ≡ take n s.now }
 {
-    s.get(..n).unwrap_or(s)
+    &s[..n]
 }
 
 // The bytes behind the first n.
+#[inline(always)]
 pub(crate) fn behind(s: &[u8], n: usize) -> &[u8]
+    requires { n ≤ length s.now }
     ensures value { result.now ≡ drop n s.now }
     ensures size { length result.now ≡ length s.now - n }
 {
-    s.get(n..).unwrap_or(&[])
+    &s[n..]
 }

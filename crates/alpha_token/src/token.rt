@@ -83,6 +83,7 @@ fn if_any(kind: TokenKind, more: usize) -> Option<(TokenKind, usize)>
 }
 
 // A string, whose opening quote stands before `rest`.
+#[inline(never)]
 fn text_at(rest: &[u8]) -> Option<(TokenKind, usize)>
     ensures value { result ≡ option_map (λ n. (Text, suc n)) (quoted_len 0 rest.now) }
     ensures within { IfSome result (λ found. found.1 ≤ length rest.now) }
@@ -92,6 +93,7 @@ fn text_at(rest: &[u8]) -> Option<(TokenKind, usize)>
 
 // The kind of the longest token that a byte begins, and how many further bytes it has.
 #[tactic(auto, unfolding(crate::specs::Tokens::token_at))]
+#[inline(always)]
 fn token_at(first: u8, rest: &[u8]) -> Option<(TokenKind, usize)>
     ensures value { result ≡ token_at first rest.now }
     ensures within { IfSome result (λ found. found.1 ≤ length rest.now) }
@@ -116,6 +118,7 @@ fn token_at(first: u8, rest: &[u8]) -> Option<(TokenKind, usize)>
 }
 
 // What stands at the front of a line that begins with no blank.
+#[inline(always)]
 fn next_behind_blanks(line: &[u8]) -> Step<'_>
     requires { prefix_len is_blank line.now ≡ 0 }
     ensures reads { Reads line.now result }
@@ -147,6 +150,7 @@ pub fn without_blanks(line: &[u8]) -> &[u8]
 }
 
 /// What stands at the front of a line, behind blanks.
+#[inline(always)]
 pub fn next(line: &[u8]) -> Step<'_>
     ensures reads { Reads line.now result }
     ensures joins { Joins line.now result }

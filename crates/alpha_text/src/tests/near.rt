@@ -1,16 +1,21 @@
 use super::{item, rewrite};
 use crate::front::Front;
-use crate::rows::{HEADS, head_named, key_of};
+use crate::head::EVERY;
+use crate::rows::{ROWS, key_of, own_named, row_named};
 use crate::{LineBuf, Statement, quick};
 
 /// Each name is found at once, by the number that its bytes make and by that of a line's front.
 #[test]
-fn each_head_by_its_name(rt: HostRuntime) {
-    for head in HEADS {
-        let name = head.name();
+fn each_row_by_its_name(rt: HostRuntime) {
+    for row in ROWS {
+        let name = row.name();
         let front = Front::of(name).with_trap(name);
         assert_eq!(rt; front.key, key_of(name), "{name:?}");
-        assert_eq!(rt; head_named(front.name, front.key), Some(head), "{name:?}");
+        assert_eq!(rt; row_named(front.name, front.key), Some(row), "{name:?}");
+    }
+    for own in EVERY {
+        let name = own.name();
+        assert_eq!(rt; own_named(name, key_of(name)), Some(own), "{name:?}");
     }
 }
 

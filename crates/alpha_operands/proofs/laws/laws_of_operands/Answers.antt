@@ -7,7 +7,7 @@ use Rattle.alpha_operands.specs.Walk.{operands}
 use Rattle.alpha_operands.proofs.Grammar.{follow-spells, spells-follow}
 use Rattle.alpha_operands.proofs.Apart.{shapes-distinct}
 use Rattle.alpha_token.proofs.Order.{tokens-fall}
-use Rattle.alpha_operands.proofs.Faults.{follow-has, follow-first}
+use Rattle.alpha_operands.proofs.Faults.{follow-has, follow-first, operands-clean}
 use Rattle.alpha_operands.proofs.laws.laws_of_operands.Goals as goal
 
 pub returns-clause-grammar : goal.returns-clause-grammar
@@ -17,3 +17,6 @@ returns-clause-grammar c = λ s line o. (λ h. follow-spells (patterns s) [] sig
 pub returns-clause-fault : goal.returns-clause-fault
 unfolding operands
 returns-clause-fault c = λ s line f h. (follow-has (patterns s) (shapes-distinct s) [] signs.Plus (tokens line) nothing f h, λ g k. follow-first (length line) (patterns s) (shapes-distinct s) [] signs.Plus (tokens line) nothing f g (tokens-fall line) h k)
+
+pub returns-clause-faultless : goal.returns-clause-faultless
+returns-clause-faultless c = λ s line o f h. operands-clean (patterns s) (shapes-distinct s) (tokens line) o f h

@@ -1,4 +1,5 @@
-use Rattle.alpha_text.proofs.LineFaults.{read-fault}
+use Rattle.alpha_token.specs.Tokens.{tokens}
+use Rattle.alpha_text.proofs.LineFaults.{read-fault, line-clean}
 use Rattle.alpha_text.proofs.Lines.{read-is}
 use Rattle.alpha_text.proofs.Returns.{read-returned}
 use Rattle.alpha_text.proofs.Round.{reads_back, different}
@@ -9,6 +10,9 @@ returns-clause-grammar c = read-is
 
 pub returns-clause-fault : goal.returns-clause-fault
 returns-clause-fault c = read-fault
+
+pub returns-clause-faultless : goal.returns-clause-faultless
+returns-clause-faultless c = λ line. line-clean (tokens line)
 
 pub returns-clause-reads_back : goal.returns-clause-reads_back
 returns-clause-reads_back c = reads_back
