@@ -4,15 +4,15 @@ ghost use Rattle.alpha_fix.specs.Fix.{Stops};
 
 use crate::CutFault;
 use alpha_image::Image;
-use alpha_shadow::{Broken, ImageCode, judge};
+use alpha_shadow::{Broken, Checker, ImageCode};
 use std::alloc::Global;
 
 // The least broken place for triggers from a place on.
-fn broken_from(image: &Image, from: u32) -> Option<Broken>
+fn broken_from(checker: &mut Checker, image: &Image, from: u32) -> Option<Broken>
     requires { from ≤ length image.now.words }
     ensures { MatchOption result (NoneFrom image.now.words from) (IsLeastFrom image.now.words from) }
 {
-    match judge(&mut ImageCode::new(image).from_place(from)) {
+    match checker.judge(&mut ImageCode::new(image).from_place(from)) {
         Ok(()) => None,
         Err(broken) => Some(Broken {
             trigger: from + broken.trigger,
@@ -37,8 +37,9 @@ pub fn cuts_of(alloc: Global, image: &Image) -> Result<Vec<u32>, CutFault>
     ensures refused { IfErr result (Stops image.now.words) }
 {
     let mut cuts = Vec::new(alloc);
+    let mut checker = Checker::new();
     let mut from = 0;
-    while let Some(broken) = broken_from(image, from) {
+    while let Some(broken) = broken_from(&mut checker, image, from) {
         if broken.at == broken.trigger {
             return Err(CutFault::Unfixable(broken));
         }

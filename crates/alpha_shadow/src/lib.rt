@@ -4,7 +4,8 @@
 //!
 //! - [`Condition`] is one of the nine conditions, C1 to C9, and [`Broken`] a broken place.
 //! - [`judge`] is the verdict on the instructions that a [`Fetch`] gives. It looks at each word once at
-//!   most, in their order, and takes no memory. [`ImageCode`] is the code of an image, or the rest of it
+//!   most, in their order, and takes no memory. A [`Checker`] gives one verdict after another, in the
+//!   same room. [`ImageCode`] is the code of an image, or the rest of it
 //!   from a place on.
 //! - [`write_broken`] writes the line of a broken place.
 //! - [`laws_of_verdicts`] says that each condition is decided, and that every list of words is
@@ -42,4 +43,4 @@ pub use fetch::Fetch;
 pub use image_code::ImageCode;
 pub use laws::laws_of_verdicts;
 pub use report::{line_of_broken, write_broken};
-pub use verdict::judge;
+pub use verdict::{Checker, judge};

@@ -17,7 +17,7 @@ use alpha_words::Reg;
 
 /// What is known of the words before a place: the triggers whose shadows reach it, in order, the
 /// loads after the first of them, and for each register the last word that set it and the last that
-/// used it. The last two speak of the words of these shadows alone, and are never cleared.
+/// used it. The last two speak of the words of these shadows alone, and no barrier clears them.
 #[derive(Drop)]
 pub(crate) struct Window {
     pub(crate) triggers: Triggers,
@@ -37,6 +37,15 @@ impl Window {
             set: LastPlaces::empty(),
             used: LastPlaces::empty(),
         }
+    }
+
+    /// Goes on before the first word of other code.
+    pub(crate) fn begin(&mut self)
+        ensures { (code : List ℕ) → Summarizes code self.new 0 }
+    {
+        self.close();
+        self.set = LastPlaces::empty();
+        self.used = LastPlaces::empty();
     }
 
     /// The first trigger whose shadow reaches the place.

@@ -1,7 +1,6 @@
-use Rattle.std.proofs.Common.{◌≡◌, ℕ, List, Some, length, drop, map, ap, sym, subst, ◌∙◌, arith}
+use Rattle.std.proofs.Common.{Some, drop, map, ap, sym, subst, ◌∙◌, arith}
 use Rattle.std.specs.List.{drop-map}
 use Rattle.std.proofs.lemmas.List.{take_rest, length-drop}
-use Rattle.alpha_table.specs.declared.form.Form.{Form}
 use Rattle.alpha_table.specs.Decoded.{decoded}
 use Rattle.alpha_table.specs.Encoded.{encoded}
 use Rattle.alpha_shadow.specs.Fetched.{Fetched, HaveWords}

@@ -1,6 +1,6 @@
 use Rattle.std.proofs.Common.{◌≡◌, ◌≤◌, ◌+◌, length}
 use Rattle.alpha_shadow.specs.Window.{Summarizes, IsUnbroken}
-use Rattle.alpha_shadow.proofs.verdict.judge.Given as goal
+use Rattle.alpha_shadow.proofs.verdict.judge_by.Given as goal
 
 abbrev pub invariant-loop-at : goal.invariant-loop-at
 invariant-loop-at g l = record {
