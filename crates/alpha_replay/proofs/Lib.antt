@@ -4,3 +4,9 @@ pub mod Parsing
 pub mod Fields
 pub mod FrontBytes
 pub mod Spelled
+pub mod Moving
+pub mod Putting
+pub mod Doing
+pub mod Comparing
+pub mod Listing
+pub mod Answering

@@ -8,3 +8,7 @@ pub mod Scanned
 pub mod Inside
 pub mod Moves
 pub mod Listed
+pub mod Puts
+pub mod Compared
+pub mod Replay
+pub mod Playing

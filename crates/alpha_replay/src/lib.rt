@@ -26,29 +26,41 @@
 //!   A [`Move`] is one step of the machine, as items have it.
 //! - [`read_journal`] answers the journal that bytes spell, or a [`JournalFault`]. [`journal_bytes`] gives
 //!   the spelling.
+//! - [`replay`] answers whether a journal is a run of an image: [`Replayed`], or a [`ReplayFault`]. [`laws_of_replays`]
+//!   says what that shows.
 //! - [`laws_of_journals`]: bytes have no fault exactly where they are the spelling of a good journal, and
 //!   that is one journal.
 //!
 //! `src/front.rt` reads what stands before the input, `src/items.rt` the items; `src/read.rt` and
 //! `src/write.rt` are the ways in and out. All tests of bytes come before the first memory is taken.
 //!
+//! `src/replaying.rt` has the replay: `src/play.rt` plays the items, each move by a step of the machine with two
+//! words (`src/given.rt`), and `src/compare.rt` compares what a step puts, where it stands in memory before the step.
+//!
 //! `specs/Journal.antt` has what a journal is and its spelling, over the `specs/Items.antt` and the
 //! `specs/Endings.antt`; `specs/Reading.antt` what bytes say of a journal, and `specs/JournalFault.antt`
 //! their first fault. `specs/Inside.antt`, `specs/Front.antt` and `specs/Scanned.antt` say what the code
 //! keeps of them. `specs/Moves.antt` has what a move chooses and where it is possible, `specs/Listed.antt` the
-//! steps that items list, or the first item that is impossible.
+//! steps that items list, or the first item that is impossible, and `specs/Replay.antt` what a replay answers, over the
+//! outputs of `specs/Compared.antt`. `specs/Puts.antt` says what a step puts, and `specs/Playing.antt` what the code did
+//! that plays items.
 #![tactic(auto)]
 
+mod compare;
 mod ending;
 mod fault;
 mod front;
+mod given;
 mod item;
 mod items;
 mod journal;
 mod laws;
 mod moves;
 mod number;
+mod play;
 mod read;
+mod replay_fault;
+mod replaying;
 #[cfg(test)]
 mod tests;
 mod write;
@@ -57,7 +69,9 @@ pub use ending::Ending;
 pub use fault::JournalFault;
 pub use item::Item;
 pub use journal::Journal;
-pub use laws::laws_of_journals;
+pub use laws::{laws_of_journals, laws_of_replays};
 pub use moves::Move;
 pub use read::read_journal;
+pub use replay_fault::ReplayFault;
+pub use replaying::{Replayed, replay};
 pub use write::journal_bytes;

@@ -1,4 +1,6 @@
 use crate::*;
+use alpha_samples::sample;
+use std::alloc::Global;
 use std::test::Fail;
 
 // Two bytes of input, three of output, and five items: three steps, a trigger, a word that is executed
@@ -84,4 +86,113 @@ fn the_first_fault_is_told(rt: HostRuntime) {
         let found = read_journal(rt.alloc(), &bytes[..given.min(73)]).err();
         assert_eq!(rt; found, fault);
     }
+}
+
+// `lda $1,-1($31); srl $1,1,$1; bis $31,1,$2; addq/v $1,$2,$3; addq/v $1,$1,$4; trapb; xor $3,$4,$16; lda $0,1($31);
+// callsys`: two overflows before a barrier, and an exit with what they leave.
+const PROGRAM: [u32; 9] = [
+    0x203f_ffff,
+    0x4820_3681,
+    0x47e0_3402,
+    0x4022_0c03,
+    0x4021_0c04,
+    0x63ff_0000,
+    0x4464_0810,
+    0x201f_0001,
+    0x83,
+];
+
+// A run of it: three steps, the first overflow, the second one as a word that is executed while its trap is pending, a
+// report, the second overflow, a report, and four steps.
+const RUN: [u8; 78] = [
+    0x41, 0x4c, 0x50, 0x48, 0x41, 0x4a, 0x52, 0x31, 0x00, 0x01, 0xfe, 0xff, 0xff, 0xff, 0xff, 0xff,
+    0xff, 0x7f, 0x00, 0x00, 0x00, 0x00, 0x00, 0x00, 0x00, 0x00, 0x00, 0x00, 0x00, 0x00, 0x00, 0x00,
+    0x00, 0x00, 0x07, 0x00, 0x00, 0x00, 0x00, 0x03, 0x00, 0x00, 0x00, 0x01, 0x09, 0x00, 0x00, 0x00,
+    0x00, 0x00, 0x00, 0x00, 0x02, 0x01, 0x09, 0x00, 0x00, 0x00, 0x00, 0x00, 0x00, 0x00, 0x03, 0x01,
+    0x09, 0x00, 0x00, 0x00, 0x00, 0x00, 0x00, 0x00, 0x03, 0x00, 0x04, 0x00, 0x00, 0x00,
+];
+
+// What a journal is told to be.
+#[derive(Clone, Copy, Debug, PartialEq, Eq)]
+enum Told {
+    // No journal.
+    Bad(JournalFault),
+    // A journal that isn't a run of the program.
+    Other(ReplayFault),
+    // A run of it.
+    Run,
+}
+
+fn told_of(alloc: Global, bytes: &[u8]) -> Result<Told, Fail> {
+    let journal = match read_journal(alloc, bytes) {
+        Ok(journal) => journal,
+        Err(fault) => return Ok(Told::Bad(fault)),
+    };
+    let image = sample(alloc, &PROGRAM, 0)?;
+    Ok(match replay(alloc, image, &journal) {
+        Ok(_) => Told::Run,
+        Err(fault) => Told::Other(fault),
+    })
+}
+
+// The bytes from the first number to the second: what is told where one of them is one more.
+const CHANGED: [(usize, usize, Told); 24] = [
+    (0, 8, Told::Bad(JournalFault::Magic)),
+    (8, 18, Told::Other(ReplayFault::End)),
+    (18, 26, Told::Bad(JournalFault::Field(3))),
+    (26, 27, Told::Bad(JournalFault::Item(2))),
+    (27, 29, Told::Bad(JournalFault::Short(78))),
+    (29, 30, Told::Bad(JournalFault::Field(4))),
+    (30, 31, Told::Bad(JournalFault::Item(2))),
+    (31, 33, Told::Bad(JournalFault::Short(78))),
+    (33, 34, Told::Bad(JournalFault::Field(5))),
+    (34, 37, Told::Bad(JournalFault::Item(7))),
+    (37, 38, Told::Bad(JournalFault::Field(6))),
+    (38, 39, Told::Bad(JournalFault::Item(1))),
+    (39, 43, Told::Other(ReplayFault::Item(0))),
+    (43, 44, Told::Bad(JournalFault::Item(1))),
+    (44, 52, Told::Run),
+    (52, 53, Told::Bad(JournalFault::Rest(73))),
+    (53, 54, Told::Bad(JournalFault::Item(2))),
+    (54, 62, Told::Run),
+    (62, 63, Told::Bad(JournalFault::Item(3))),
+    (63, 64, Told::Bad(JournalFault::Item(4))),
+    (64, 72, Told::Run),
+    (72, 73, Told::Bad(JournalFault::Item(5))),
+    (73, 74, Told::Bad(JournalFault::Item(6))),
+    (74, 78, Told::Other(ReplayFault::Item(6))),
+];
+
+#[test]
+fn each_byte_of_a_run_is_looked_at(rt: HostRuntime) -> Result<(), Fail> {
+    for (first, end, wanted) in CHANGED {
+        for at in first..end {
+            let mut bytes = RUN;
+            if at < 78 {
+                bytes[at] = bytes[at].wrapping_add(1);
+            }
+            let found = told_of(rt.alloc(), &bytes)?;
+            assert_eq!(rt; (at, found), (at, wanted));
+        }
+    }
+    Ok(())
+}
+
+#[test]
+fn a_run_is_replayed(rt: HostRuntime) -> Result<(), Fail> {
+    let journal = read_journal(rt.alloc(), &RUN)?;
+    let image = sample(rt.alloc(), &PROGRAM, 0)?;
+    let replayed = replay(rt.alloc(), image, &journal);
+    let wanted = Replayed {
+        units: 9,
+        reports: 2,
+    };
+    assert_eq!(rt; replayed, Ok(wanted));
+    let mut fewer = RUN;
+    fewer[39] = 2;
+    let found = told_of(rt.alloc(), &fewer)?;
+    assert_eq!(rt; found, Told::Other(ReplayFault::Item(1)));
+    let found = told_of(rt.alloc(), &RUN[..37])?;
+    assert_eq!(rt; found, Told::Bad(JournalFault::Short(37)));
+    Ok(())
 }

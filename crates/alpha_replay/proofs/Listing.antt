@@ -1,0 +1,254 @@
+-- What the items of a journal lead to.
+use Rattle.std.proofs.Common.{◌≡◌, ◌+◌, ◌&&◌, ◌||◌, not, ℕ, zero, suc, Bool, true, false, cond, eqb, List, [], ◌∷◌, ◌++◌, length, Option, Some, None, is_none, Result, Ok, Err, refl, sym, ap, subst, ◌∙◌, option_and_then, arith, add-one}
+use Rattle.std.proofs.lemmas.Bool.{eqb-true}
+use Rattle.alpha_image.specs.Parts.{Parts as Image}
+use Rattle.alpha_image.specs.Rules.{unless}
+use Rattle.std.specs.Option.{option_map, option_or}
+use Rattle.std.proofs.lemmas.List.Sums.{sum_by-cons}
+use Rattle.alpha_table.specs.Class.{Class}
+use Rattle.alpha_seq.specs.State.{Program, State, Event, Went, Barriered, Overflowed, Ends}
+use Rattle.alpha_seq.specs.Start.{start}
+use Rattle.alpha_seq.specs.Step.{next_class}
+use Rattle.alpha_seq.specs.Run.{after, end_of}
+use Rattle.alpha_pal.specs.Call.{Outside}
+use Rattle.alpha_imprecise.specs.Moment.{Trap, Choice, Happening, Precisely, Triggered, Waited, Reported, Lost}
+use Rattle.alpha_imprecise.specs.Step.{wild}
+use Rattle.alpha_imprecise.specs.Run.{WildRun, HasUsed, finished, started_wild, unit_of, extended_wild, advance_wild, run_wild}
+use Rattle.alpha_imprecise.specs.Made.{wild_end, lost_trap}
+use Rattle.alpha_imprecise.specs.Restart.{IsRestartable}
+use Rattle.alpha_imprecise.specs.Shown.{SameRun}
+use Rattle.alpha_imprecise.proofs.Showing.{choices_alike}
+use Rattle.alpha_replay.specs.declared.ending.Ending.{Ending}
+use Rattle.alpha_replay.specs.declared.ending.Ending.TheVariants as endings
+use Rattle.alpha_replay.specs.declared.item.Item.{Item}
+use Rattle.alpha_replay.specs.declared.item.Item.TheVariants.{Units, Trigger, Wait, Report}
+use Rattle.alpha_replay.specs.declared.moves.Move.{Move}
+use Rattle.alpha_replay.specs.declared.moves.Move.TheVariants.{One, Trips, Waits, Reports}
+use Rattle.alpha_replay.specs.declared.replay_fault.ReplayFault.{ReplayFault}
+use Rattle.alpha_replay.specs.declared.replay_fault.ReplayFault.TheVariants as faults
+use Rattle.alpha_replay.specs.declared.replaying.Replayed.{Replayed}
+use Rattle.alpha_replay.specs.Compared.{first_difference}
+use Rattle.alpha_replay.specs.Endings.{ending_kind, ending_first, ending_second, ending_in}
+use Rattle.alpha_replay.specs.Items.{item_units, units_of}
+use Rattle.alpha_replay.specs.Journal.{Parts}
+use Rattle.alpha_replay.specs.Moves.{choice_of, suits, fits, may_add}
+use Rattle.alpha_replay.specs.Listed.{Played, played_by, move, units, item, listed_then, listed_from, listed, unplayed}
+use Rattle.alpha_replay.specs.Replay.{ending_after, ending_of, same_ending, ends_as, reports_of, program_by, run_fault, answer_by, answered, replayed, IsRun, ending_at, IsSequential}
+
+-- ---- the moves are choices
+
+-- some choices lead from one run to the other, and this many units are used
+pub record Leads (g : Program) (n : ℕ) (from to : Played) : Type 0 where
+  pub choices : List Choice
+  pub is : run_wild g choices from.run ≡ to.run
+  pub used : to.run.units ≡ from.run.units + n
+
+-- a move that is made passes both tests
+made_by : (over fit : Bool) (p q : Played) → cond (not over && fit) (Some p) None ≡ Some q → (over ≡ false) × ((fit ≡ true) × (p ≡ q))
+made_by true fit p q e = absurd cc
+made_by false true p q e = (refl, (refl, (cc)))
+made_by false false p q e = absurd cc
+
+-- the units of a move
+abbrev move_units : Move → ℕ
+move_units One = 1
+move_units (Trips value) = 1
+move_units (Waits adds value) = 0
+move_units Reports = 0
+
+second : (a b : Bool) → (a && b) ≡ true → b ≡ true
+second true b e = e
+second false b e = absurd cc
+
+-- units are used with nothing pending
+unit_is : (o : Option Class) (s : State) (p : Option Trap) (n : ℕ) (m : Move) → fits o s p n m ≡ true → unit_of p ≡ move_units m
+unit_is o s None n One e = refl
+unit_is o s None n (Trips value) e = refl
+unit_is o s None n (Waits adds value) e = absurd cc
+unit_is o s None n Reports e = absurd cc
+unit_is o s (Some t) n One e = absurd cc
+unit_is o s (Some t) n (Trips value) e = absurd cc
+unit_is o s (Some t) n (Waits adds value) e = refl
+unit_is o s (Some t) n Reports e = refl
+
+move_leads : (g : Program) (m : Move) (p q : Played) → move g p m ≡ Some q → Leads g (move_units m) p q
+move_leads g m p q e =
+    let o = next_class g p.run.state.pc in
+    let t = wild g p.run.state p.run.pending (choice_of m) in
+    let did = made_by (finished p.run.last) (suits o p.run.state p.run.pending p.waited m) (played_by p t) q e in
+    let unit = unit_is o p.run.state p.run.pending p.waited m (second (may_add o m) (fits o p.run.state p.run.pending p.waited m) did.1.0) in
+    record {
+      choices = choice_of m ∷ [];
+      is = ap (λ (b : Bool). cond b p.run (extended_wild p.run t)) did.0 ∙ ap (λ (r : Played). r.run) did.1.1;
+      used = sym (ap (λ (r : Played). r.run.units) did.1.1) ∙ ap (λ (k : ℕ). p.run.units + k) unit;
+    }
+
+run_append : (g : Program) (cs ds : List Choice) (w : WildRun) → run_wild g (cs ++ ds) w ≡ run_wild g ds (run_wild g cs w)
+run_append g [] ds w = refl
+run_append g (c ∷ cs) ds w = run_append g cs ds (advance_wild g w c)
+
+leads_then : (g : Program) (n k : ℕ) (p q r : Played) → Leads g n p q → Leads g k q r → Leads g (n + k) p r
+leads_then g n k p q r one two = record {
+  choices = one.choices ++ two.choices;
+  is = run_append g one.choices two.choices p.run ∙ (ap (λ (w : WildRun). run_wild g two.choices w) one.is ∙ two.is);
+  used = let a = one.used in let b = two.used in omega (arith, a, b);
+}
+
+leads_none : (g : Program) (p : Played) → Leads g 0 p p
+leads_none g p = record { choices = []; is = refl; used = omega arith }
+
+units_lead : (g : Program) (n : ℕ) (p q : Played) → units g n p ≡ Some q → Leads g n p q
+units_lead g zero p q e = subst (λ (r : Played). Leads g 0 p r) (let same : p ≡ q = cc in same) (leads_none g p)
+units_lead g (suc n) p q e = by (λ r f. units_lead g n p r f) (units g n p) refl e
+  where
+    by : ((r : Played) → units g n p ≡ Some r → Leads g n p r) → (o : Option Played) → units g n p ≡ o → option_and_then (λ (r : Played). move g r One) o ≡ Some q → Leads g (suc n) p q
+    by before None f h = absurd cc
+    by before (Some r) f h = subst (λ (k : ℕ). Leads g k p q) (add-one n) (leads_then g n 1 p r q (before r f) (move_leads g One r q h))
+
+item_leads : (g : Program) (i : Item) (p q : Played) → item g i p ≡ Some q → Leads g (item_units i) p q
+item_leads g (Units n) p q e = units_lead g n p q e
+item_leads g (Trigger value) p q e = move_leads g (Trips value) p q e
+item_leads g (Wait adds value) p q e = move_leads g (Waits adds value) p q e
+item_leads g Report p q e = move_leads g Reports p q e
+
+listed_leads : (g : Program) (n : ℕ) (items : List Item) (p q : Played) → listed_from g n items p ≡ Ok q → Leads g (units_of items) p q
+listed_leads g n [] p q e = subst (λ (r : Played). Leads g 0 p r) (let same : p ≡ q = cc in same) (leads_none g p)
+listed_leads g n (i ∷ items) p q e =
+    subst (λ (k : ℕ). Leads g k p q) (sym (sum_by-cons item_units i items)) (by (λ r h. listed_leads g (n + 1) items r q h) (item g i p) refl e)
+  where
+    by : ((r : Played) → listed_from g (n + 1) items r ≡ Ok q → Leads g (units_of items) r q) → (o : Option Played) → item g i p ≡ o → listed_then n (λ (r : Played). listed_from g (n + 1) items r) o ≡ Ok q → Leads g (item_units i + units_of items) p q
+    by rest None f h = absurd cc
+    by rest (Some r) f h = leads_then g (item_units i) (units_of items) p r q (item_leads g i p r f) (rest r h)
+
+pub listed_is : (g : Program) (input : List ℕ) (items : List Item) (q : Played) → listed g input items ≡ Ok q
+    → (choices : List Choice) × (run_wild g choices (started_wild (start g input)) ≡ q.run)
+listed_is g input items q e = let h = listed_leads g 0 items (unplayed (start g input)) q e in (h.choices, h.is)
+
+pub listed_units : (g : Program) (input : List ℕ) (items : List Item) (q : Played) → listed g input items ≡ Ok q → q.run.units ≡ units_of items
+listed_units g input items q e = let h = listed_leads g 0 items (unplayed (start g input)) q e in let u = h.used in omega (arith, u)
+
+-- ---- an answer without a fault
+
+none_differs : (n : ℕ) (xs ys : List ℕ) → first_difference n xs ys ≡ None → xs ≡ ys
+none_differs n [] [] e = refl
+none_differs n [] (y ∷ ys) e = absurd cc
+none_differs n (x ∷ xs) [] e = absurd cc
+none_differs n (x ∷ xs) (y ∷ ys) e = by (λ h. none_differs (n + 1) xs ys h) (eqb x y) refl e
+  where
+    by : (first_difference (n + 1) xs ys ≡ None → xs ≡ ys) → (b : Bool) → eqb x y ≡ b → cond b (first_difference (n + 1) xs ys) (Some n) ≡ None → (x ∷ xs) ≡ (y ∷ ys)
+    by rest true f h = ap (λ (k : ℕ). k ∷ xs) (eqb-true x y f) ∙ ap (λ (l : List ℕ). y ∷ l) (rest h)
+    by rest false f h = absurd cc
+
+or_none : {X : Type 0} (a b : Option X) → option_or a b ≡ None → (a ≡ None) × (b ≡ None)
+or_none None b e = (refl, e)
+or_none (Some x) b e = absurd cc
+
+passes : {X : Type 0} (ok : Bool) (x : X) → unless ok x ≡ None → ok ≡ true
+passes true x e = refl
+passes false x e = absurd cc
+
+map_none : {X Y : Type 0} (f : X → Y) (o : Option X) → option_map f o ≡ None → o ≡ None
+map_none f None e = refl
+map_none f (Some x) e = absurd cc
+
+both : (a b : Bool) → (a && b) ≡ true → (a ≡ true) × (b ≡ true)
+both true b e = (refl, e)
+both false b e = absurd cc
+
+no_bytes : (l : List ℕ) → eqb (length l) 0 ≡ true → l ≡ []
+no_bytes [] e = refl
+no_bytes (x ∷ l) e = absurd (let h = eqb-true (length (x ∷ l)) 0 e in omega (arith, h))
+
+ending_again : (e : Ending) → ending_in (ending_kind e) (ending_first e) (ending_second e) ≡ e
+ending_again endings.Spent = refl
+ending_again (endings.Exit value) = refl
+ending_again (endings.Signal code pc) = refl
+ending_again (endings.Fetch pc) = refl
+ending_again (endings.Access pc addr) = refl
+ending_again (endings.Align pc addr) = refl
+ending_again (endings.Lost pc mask) = refl
+ending_again (endings.Overflow pc) = refl
+
+same_is : (a b : Ending) → same_ending a b ≡ true → b ≡ a
+same_is a b e =
+    let one = both (eqb (ending_kind a) (ending_kind b) && eqb (ending_first a) (ending_first b)) (eqb (ending_second a) (ending_second b)) e in
+    let two = both (eqb (ending_kind a) (ending_kind b)) (eqb (ending_first a) (ending_first b)) one.0 in
+    sym (ending_again b)
+    ∙ (ap (λ (k : ℕ). ending_in k (ending_first b) (ending_second b)) (sym (eqb-true (ending_kind a) (ending_kind b) two.0))
+    ∙ (ap (λ (k : ℕ). ending_in (ending_kind a) k (ending_second b)) (sym (eqb-true (ending_first a) (ending_first b) two.1))
+    ∙ (ap (λ (k : ℕ). ending_in (ending_kind a) (ending_first a) k) (sym (eqb-true (ending_second a) (ending_second b) one.1))
+    ∙ ending_again a)))
+
+-- what no fault says
+record Faultless (p : Parts) (w : WildRun) : Type 0 where
+  output : w.state.outside.output ≡ p.output
+  ends : ending_of w.last ≡ p.ending
+  settled : (finished w.last || is_none w.pending) ≡ true
+  left : w.state.outside.input ≡ []
+
+faultless : (p : Parts) (w : WildRun) → run_fault p w ≡ None → Faultless p w
+faultless p w e =
+    let one = or_none (option_map faults.Output (first_difference 0 w.state.outside.output p.output)) _ e in
+    let two = or_none (unless (ends_as p.ending w) faults.End) _ one.1 in
+    let three = or_none (unless (eqb (length w.state.outside.input) 0) (faults.Input (length w.state.outside.input))) None two.1 in
+    let end = both (same_ending p.ending (ending_of w.last)) (finished w.last || is_none w.pending) (passes (ends_as p.ending w) faults.End two.0) in
+    record {
+      output = none_differs 0 w.state.outside.output p.output (map_none faults.Output (first_difference 0 w.state.outside.output p.output) one.0);
+      ends = same_is p.ending (ending_of w.last) end.0;
+      settled = end.1;
+      left = no_bytes w.state.outside.input (passes (eqb (length w.state.outside.input) 0) (faults.Input (length w.state.outside.input)) three.0);
+    }
+
+answer_ok : (o : Option ReplayFault) (a r : Replayed) → answer_by o a ≡ Ok r → (o ≡ None) × (a ≡ r)
+answer_ok None a r e = (refl, (cc))
+answer_ok (Some fault) a r e = absurd cc
+
+pub replayed_is : (image : Image) (p : Parts) (r : Replayed) → replayed image p ≡ Ok r → IsRun image p r.units
+replayed_is image p r e = by (listed (program_by image p) p.input p.items) refl e
+  where
+    by : (o : Result Played ℕ) → listed (program_by image p) p.input p.items ≡ o → answered p o ≡ Ok r → IsRun image p r.units
+    by (Err n) f h = absurd cc
+    by (Ok q) f h =
+        let answer = answer_ok (run_fault p q.run) (record { units = q.run.units; reports = reports_of p.items }) r h in
+        let fine = faultless p q.run answer.0 in
+        let same : q.run.units ≡ r.units = ap (λ (a : Replayed). a.units) answer.1 in
+        let run = listed_is (program_by image p) p.input p.items q f in
+        record {
+          choices = run.0;
+          run = q.run;
+          is = run.1;
+          ends = fine.ends;
+          used = record { settled = fine.settled; most = omega (arith, same); full = λ going. same };
+          units_are = same;
+          output = fine.output;
+          left = fine.left;
+        }
+
+-- ---- where the image can be restarted
+
+event_ends : (event : Event) → ending_at (end_of event) ≡ ending_after event
+event_ends Went = refl
+event_ends Barriered = refl
+event_ends (Overflowed at) = refl
+event_ends (Ends end) = refl
+
+ends_alike : (h : Happening) → lost_trap h ≡ None → ending_at (wild_end h) ≡ ending_of h
+ends_alike (Precisely event) e = event_ends event
+ends_alike Triggered e = refl
+ends_alike Waited e = refl
+ends_alike (Reported at) e = refl
+ends_alike (Lost pc mask) e = absurd cc
+
+pub restarted_is : (image : Image) (p : Parts) (r : Replayed) → replayed image p ≡ Ok r → IsRestartable image → IsSequential image p r.units
+restarted_is image p r e h =
+    let g = program_by image p in
+    let run = replayed_is image p r e in
+    let same : SameRun (after g (start g p.input) r.units) run.run =
+    subst (λ (w : WildRun). SameRun (after g (start g p.input) r.units) w) run.is
+    (choices_alike image h p.completion p.input run.choices r.units (subst (λ (w : WildRun). HasUsed r.units w) (sym run.is) run.used)) in
+    record {
+      ends = ap ending_at (sym same.end) ∙ (ends_alike run.run.last same.lost ∙ run.ends);
+      steps = sym same.steps ∙ run.units_are;
+      output = ap (λ (o : Outside). o.output) (sym same.outside) ∙ run.output;
+      left = ap (λ (o : Outside). o.input) (sym same.outside) ∙ run.left;
+    }

@@ -1,0 +1,12 @@
+use Rattle.std.proofs.Common.{None, Some, sym, ap, ◌∙◌}
+use Rattle.alpha_seq.proofs.Executing.{class_here-insn}
+use Rattle.alpha_replay.specs.Moves.{adds_here}
+use Rattle.alpha_replay.proofs.play.adds_at.Goals as goal
+
+pub returns-in-Some : goal.returns-in-Some
+returns-in-Some c =
+    c.adds_here.ensures
+    ∙ sym (ap adds_here (class_here-insn c.args.machine.now (Some c.in-Some.insn) (sym c.in-Some.is ∙ c.insn.ensures)))
+
+pub returns-in-None : goal.returns-in-None
+returns-in-None c = sym (ap adds_here (class_here-insn c.args.machine.now None (sym c.in-None.is ∙ c.insn.ensures)))

@@ -1,0 +1,7 @@
+use Rattle.alpha_replay.proofs.play.play_item.Goals as goal
+
+pub returns-in-Trigger-clause-made : goal.returns-in-Trigger-clause-made
+returns-in-Trigger-clause-made c = rw c.in-Trigger.is c.make.ensures.made
+
+pub returns-in-Wait-clause-made : goal.returns-in-Wait-clause-made
+returns-in-Wait-clause-made c = rw c.in-Wait.is c.make-in-Wait.ensures.made

@@ -1,0 +1,50 @@
+use Rattle.std.proofs.Common.{Bool, Ok, Err, sym, ap, ◌∙◌, ℕ}
+use Rattle.alpha_replay.specs.declared.replay_fault.ReplayFault.TheVariants as faults
+use Rattle.alpha_replay.specs.Items.{units_of}
+use Rattle.alpha_replay.specs.Journal.{parts}
+use Rattle.alpha_replay.specs.Playing.{happened_of, place}
+use Rattle.alpha_replay.specs.Replay.{ends_by}
+use Rattle.alpha_replay.proofs.Answering.{stands_by, stops_by, item_fault, output_fault, end_fault, input_fault, no_fault, left_some, left_none}
+use Rattle.alpha_replay.proofs.replaying.play_all.Goals as goal
+
+pub returns-in-Err : goal.returns-in-Err
+returns-in-Err c = λ image how begins.
+    let p = parts how c.args.ending.now c.args.input.now c.args.output.now c.args.items.now in
+    item_fault image p c.in-Err.n
+    (stops_by (record { image = image; how = how }) c.args.wild.now c.args.input.now c.args.items.now c.in-Err.n begins c.in-Err.ensures.refused)
+
+pub returns-in-Some : goal.returns-in-Some
+returns-in-Some c = λ image how begins.
+    let p = parts how c.args.ending.now c.args.input.now c.args.output.now c.args.items.now in
+    let b = place c.play_items.new.wild c.play_items.new.input c.in-Ok.stand in
+    let h = stands_by (record { image = image; how = how }) c.args.wild.now c.args.input.now c.args.items.now c.args.output.now b begins c.in-Ok.ensures.played in
+    output_fault image p b h c.in-Some.at (c.difference.ensures h.output h.sees ∙ c.in-Some.is)
+
+pub returns-then-not-ends_as : goal.returns-then-not-ends_as
+returns-then-not-ends_as c = λ image how begins.
+    let p = parts how c.args.ending.now c.args.input.now c.args.output.now c.args.items.now in
+    let b = place c.play_items.new.wild c.play_items.new.input c.in-Ok.stand in
+    let h = stands_by (record { image = image; how = how }) c.args.wild.now c.args.input.now c.args.items.now c.args.output.now b begins c.in-Ok.ensures.played in
+    end_fault image p b h (c.difference.ensures h.output h.sees ∙ c.in_default.is)
+    (sym (c.ends_as.ensures ∙ ap (λ (calm : Bool). ends_by c.args.ending.now (happened_of c.in-Ok.stand.last) calm) c.is_calm.ensures) ∙ c.if-not-ends_as.true)
+
+pub returns-then-left-ne0 : goal.returns-then-left-ne0
+returns-then-left-ne0 c = λ image how begins.
+    let p = parts how c.args.ending.now c.args.input.now c.args.output.now c.args.items.now in
+    let b = place c.play_items.new.wild c.play_items.new.input c.in-Ok.stand in
+    let h = stands_by (record { image = image; how = how }) c.args.wild.now c.args.input.now c.args.items.now c.args.output.now b begins c.in-Ok.ensures.played in
+    ap (λ (n : ℕ). Err (faults.Input n)) c.count_left-left.ensures
+    ∙ input_fault image p b h (c.difference.ensures h.output h.sees ∙ c.in_default.is)
+    (sym (c.ends_as.ensures ∙ ap (λ (calm : Bool). ends_by c.args.ending.now (happened_of c.in-Ok.stand.last) calm) c.is_calm.ensures) ∙ c.if-not-ends_as.false)
+    (left_some c.play_items.new.input c.count_left-left.result c.count_left-left.ensures c.if-left-ne0.true)
+
+pub returns : goal.returns
+returns c = λ image how begins.
+    let p = parts how c.args.ending.now c.args.input.now c.args.output.now c.args.items.now in
+    let b = place c.play_items.new.wild c.play_items.new.input c.in-Ok.stand in
+    let h = stands_by (record { image = image; how = how }) c.args.wild.now c.args.input.now c.args.items.now c.args.output.now b begins c.in-Ok.ensures.played in
+    ap (λ (n : ℕ). Ok (record { units = n; reports = c.reports_of.result })) c.units_of.ensures.value
+    ∙ (ap (λ (n : ℕ). Ok (record { units = units_of c.args.items.now; reports = n })) c.reports_of.ensures.value
+    ∙ no_fault image p b h (c.difference.ensures h.output h.sees ∙ c.in_default.is)
+    (sym (c.ends_as.ensures ∙ ap (λ (calm : Bool). ends_by c.args.ending.now (happened_of c.in-Ok.stand.last) calm) c.is_calm.ensures) ∙ c.if-not-ends_as.false)
+    (left_none c.play_items.new.input c.count_left-left.result c.count_left-left.ensures c.if-left-ne0.false))

@@ -1,0 +1,224 @@
+//! The replay of a journal.
+
+ghost use Rattle.std.specs.Prelude.{◌≡◌, ◌≤◌, length, is_none, IfOk, IfErr};
+ghost use Rattle.alpha_image.specs.Parts.{Parts as Image};
+ghost use Rattle.alpha_words.specs.declared.Completion.{Completion};
+ghost use Rattle.alpha_imprecise.specs.Wild.{trap_in, IsFresh};
+ghost use Rattle.alpha_seq.specs.Machine.{program_of};
+ghost use Rattle.alpha_replay.specs.Items.{units_of};
+ghost use Rattle.alpha_replay.specs.Journal.{most_items, most_bytes, parts};
+ghost use Rattle.alpha_replay.specs.Playing.{happened_of, Begins};
+ghost use Rattle.alpha_replay.specs.Replay.{ending_by, ending_of, same_ending, ends_by, item_reports, reports_of, replayed, Replays};
+
+use crate::play::{is_finished, play_items};
+use crate::{Ending, Item, Journal, ReplayFault};
+use alpha_image::Image;
+use alpha_imprecise::{Wild, WildEnd};
+use alpha_io::{Source, SureSource};
+use alpha_seq::{End, Machine};
+use alpha_words::Completion;
+use std::alloc::Global;
+
+/// What the run of a journal is.
+#[derive(Clone, Copy, Debug, PartialEq, Eq)]
+pub struct Replayed {
+    /// How many units it uses: steps with nothing pending.
+    pub units: u64,
+    /// How many traps are reported.
+    pub reports: u64,
+}
+
+impl Ending {
+    // How a program ends.
+    fn of_end(end: End) -> Ending
+        ensures { result ≡ ending_by end }
+    {
+        match end {
+            End::Exit(value) => Ending::Exit(value),
+            End::Signal { code, pc } => Ending::Signal {
+                code: u64::from(code),
+                pc,
+            },
+            End::Fetch { pc } => Ending::Fetch { pc },
+            End::Access { pc, addr } => Ending::Access { pc, addr },
+            End::Align { pc, addr } => Ending::Align { pc, addr },
+            End::Overflow { pc } => Ending::Overflow { pc },
+        }
+    }
+
+    // How a run ends, by its last step.
+    fn of_step(step: &WildEnd) -> Ending
+        ensures { result ≡ ending_of (happened_of step.now) }
+    {
+        match *step {
+            WildEnd::Ended(end) => Ending::of_end(end),
+            WildEnd::Lost(pc, mask) => Ending::Lost {
+                pc,
+                mask: u64::from(mask.bits()),
+            },
+            WildEnd::Went
+            | WildEnd::Barrier
+            | WildEnd::Triggered
+            | WildEnd::Waited
+            | WildEnd::Reported(_)
+            | WildEnd::InputFault
+            | WildEnd::SinkFault => Ending::Spent,
+        }
+    }
+
+    // Whether it has the same kind and the same numbers.
+    fn is_same(&self, other: &Ending) -> bool
+        ensures { result ≡ same_ending self.now other.now }
+    {
+        self.kind() == other.kind()
+            && self.first() == other.first()
+            && self.second() == other.second()
+    }
+}
+
+// Whether a run ends so, by its last step and by whether nothing is pending.
+fn ends_as(ending: &Ending, last: &WildEnd, calm: bool) -> bool
+    ensures { result ≡ ends_by ending.now (happened_of last.now) calm }
+{
+    let settled = is_finished(last) || calm;
+    ending.is_same(&Ending::of_step(last)) && settled
+}
+
+// Whether nothing is pending.
+fn is_calm(wild: &Wild) -> bool
+    ensures { result ≡ is_none (trap_in wild.now.pending) }
+{
+    match wild.pending() {
+        Some(_) => false,
+        None => true,
+    }
+}
+
+// How many units items use.
+fn units_of(items: &[Item]) -> u64
+    requires few { length items.now ≤ most_items }
+    ensures value { result ≡ units_of items.now }
+{
+    let mut units = 0;
+    for item in items {
+        units += u64::from(item.units());
+    }
+    units
+}
+
+impl Item {
+    // How many reports it lists.
+    fn reports(&self) -> u64
+        ensures value { result ≡ item_reports self.now }
+        ensures bound { result ≤ 1 }
+    {
+        match self {
+            Item::Report => 1,
+            Item::Units(_) | Item::Trigger(_) | Item::Wait { .. } => 0,
+        }
+    }
+}
+
+// How many reports items list.
+fn reports_of(items: &[Item]) -> u64
+    requires few { length items.now ≤ most_items }
+    ensures value { result ≡ reports_of items.now }
+{
+    let mut reports = 0;
+    for item in items {
+        reports += item.reports();
+    }
+    reports
+}
+
+// How many bytes are left.
+fn count_left(input: &mut SureSource) -> u64
+    requires { length input.old ≤ most_bytes }
+    ensures { result ≡ length input.old }
+{
+    let mut buf = [0; 4096];
+    let mut left = 0;
+    loop {
+        match input.take(&mut buf) {
+            Ok(0) | Err(_) => return left,
+            Ok(count) => left += count as u64,
+        }
+    }
+}
+
+// The machine at the start of the image's program.
+fn fresh(alloc: Global, image: Image, how: Completion) -> Result<Wild, ReplayFault>
+    ensures fresh { IfOk result IsFresh }
+    ensures program { IfOk result (λ wild. program_of wild.machine ≡ record { image = image; how = how }) }
+    ensures memory { IfErr result (λ e. e ≡ ReplayFault.NoMemory) }
+{
+    match Machine::new(alloc, image, how) {
+        Ok(machine) => {
+            let wild = Wild::new(machine);
+            Ok(wild)
+        }
+        Err(_) => Err(ReplayFault::NoMemory),
+    }
+}
+
+// Plays all items from the start, and then compares output, end and input.
+fn play_all(
+    wild: &mut Wild,
+    input: &mut SureSource,
+    output: &[u8],
+    items: &[Item],
+    ending: &Ending,
+) -> Result<Replayed, ReplayFault>
+    requires few_items { length items.now ≤ most_items }
+    requires few_bytes { length input.old ≤ most_bytes }
+    ensures { (image : Image) (how : Completion)
+        → Begins (record { image = image; how = how }) wild.old
+        → result ≡ replayed image (parts how ending.now input.old output.now items.now) }
+{
+    let stand = match play_items(wild, input, output, items) {
+        Ok(stand) => stand,
+        Err(n) => return Err(ReplayFault::Item(n)),
+    };
+    if let Some(at) = stand.seen.difference(output) {
+        return Err(ReplayFault::Output(at));
+    }
+    if !ends_as(ending, &stand.last, is_calm(wild)) {
+        return Err(ReplayFault::End);
+    }
+    let left = count_left(input);
+    if left != 0 {
+        return Err(ReplayFault::Input(left));
+    }
+    Ok(Replayed {
+        units: units_of(items),
+        reports: reports_of(items),
+    })
+}
+
+/// Replays a journal on an image: plays its items from the start of the image's program, over the
+/// journal's input, and answers whether they are steps of the imprecise machine that put the journal's
+/// output, end as it says and take its whole input. Memory is taken before the first step: that of a
+/// machine, and of the input.
+///
+/// # Errors
+///
+/// The first fault, in the order that [`ReplayFault`] has. Where memory runs out nothing is said of the
+/// journal.
+pub fn replay(alloc: Global, image: Image, journal: &Journal) -> Result<Replayed, ReplayFault>
+    ensures { Replays result (replayed image journal.now) }
+{
+    let Ok(input) = Vec::from_slice(alloc, journal.input()) else {
+        return Err(ReplayFault::NoMemory);
+    };
+    let mut input = SureSource::new(input);
+    match fresh(alloc, image, journal.completion()) {
+        Ok(mut wild) => play_all(
+            &mut wild,
+            &mut input,
+            journal.output(),
+            journal.items(),
+            &journal.ending(),
+        ),
+        Err(fault) => Err(fault),
+    }
+}
