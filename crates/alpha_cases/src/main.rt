@@ -33,10 +33,11 @@ mod lines;
 use std::fs;
 
 // The files of cases.
-const FILES: [&str; 10] = [
+const FILES: [&str; 11] = [
     "check.cases",
     "asm.cases",
     "fix.cases",
+    "module.cases",
     "run.cases",
     "edges.cases",
     "imprecise.cases",

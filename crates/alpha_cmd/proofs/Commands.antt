@@ -1,5 +1,5 @@
 -- Each command has the laws of a form.
-use Rattle.alpha_request.specs.Command.{Command, check, dis, asm, fix, run, imprecise, debug, trial}
+use Rattle.alpha_request.specs.Command.{Command, check, dis, asm, fix, make_module, run, imprecise, debug, trial}
 use Rattle.alpha_cmd.specs.Answer.{World}
 use Rattle.alpha_cmd.specs.Commands.{form_of, there_of}
 use Rattle.alpha_cmd.proofs.Forms.{IsLawfulForm}
@@ -9,6 +9,7 @@ use Rattle.alpha_cmd.proofs.Commands.Debug as sessions
 use Rattle.alpha_cmd.proofs.Commands.Dis as listings
 use Rattle.alpha_cmd.proofs.Commands.Fix as fixes
 use Rattle.alpha_cmd.proofs.Commands.Imprecise as wilds
+use Rattle.alpha_cmd.proofs.Commands.Module as modules
 use Rattle.alpha_cmd.proofs.Commands.Run as runs
 use Rattle.alpha_cmd.proofs.Commands.Trial as trials
 pub mod Asm
@@ -17,6 +18,7 @@ pub mod Debug
 pub mod Dis
 pub mod Fix
 pub mod Imprecise
+pub mod Module
 pub mod Run
 pub mod Trial
 
@@ -25,6 +27,7 @@ lawful (check file) w = checks.lawful file w
 lawful (dis file) w = listings.lawful file w
 lawful (asm file out) w = assemblies.lawful file out w
 lawful (fix file out) w = fixes.lawful file out w
+lawful (make_module file out) w = modules.lawful file out w
 lawful (run options file) w = runs.lawful options file w
 lawful (imprecise options choices force file) w = wilds.lawful options choices force file w
 lawful (debug file) w = sessions.lawful file w

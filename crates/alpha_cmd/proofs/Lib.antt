@@ -5,6 +5,7 @@ pub mod Endings
 pub mod Fixed
 pub mod Forms
 pub mod Keeping
+pub mod KeptModules
 pub mod Lawful
 pub mod Ran
 pub mod Stages

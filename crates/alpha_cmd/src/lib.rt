@@ -40,6 +40,7 @@ mod imprecise;
 mod keep;
 mod laws;
 mod line;
+mod module;
 mod run;
 mod status;
 mod sure;

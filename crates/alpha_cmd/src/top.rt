@@ -17,6 +17,7 @@ ghost use Rattle.alpha_cmd.specs.Answer.{Answer, AnswerBy, world, IsAnswered};
 ghost use Rattle.alpha_cmd.specs.Asks.{Asks};
 ghost use Rattle.alpha_cmd.specs.Commands.{form_of, EndsBy, MayTake, Spares};
 ghost use Rattle.alpha_cmd.specs.Commands.Debug.{LeavesTail, script_most};
+ghost use Rattle.alpha_cmd.specs.Commands.Module.{KeepsModule};
 ghost use Rattle.alpha_cmd.specs.Commands.Run as runs;
 ghost use Rattle.alpha_cmd.specs.Ends.{Decides, Ends, EndsPart, status_in};
 ghost use Rattle.alpha_cmd.specs.Fixed.{IsSafe};
@@ -33,6 +34,7 @@ use crate::decision::Decision;
 use crate::dis::dis;
 use crate::fix::fix;
 use crate::imprecise::{Asked, imprecise};
+use crate::module::module;
 use crate::run::run;
 use crate::trial::trial;
 use alpha_io::{Failed, Shelf, Sink, Source};
@@ -43,7 +45,8 @@ use std::alloc::Global;
 ///
 /// `check FILE` judges the image of the file: `accepted` goes to the output, or the line of the
 /// least broken place to the notes. `dis FILE` writes its listing to the output. `asm FILE OUT`
-/// assembles the source of the file, and keeps its image as OUT. `fix FILE OUT` keeps the source with
+/// assembles the source of the file, and keeps its image as OUT. `module FILE OUT` does so with a
+/// module, whose code it judges. `fix FILE OUT` keeps the source with
 /// the barriers that it needs as OUT. `run FILE` runs an image's
 /// program over the input: what it puts goes to the output, and the lines of the run to the notes.
 /// `run --imprecise FILE` does so by the imprecise machine: an image that `check` refuses is refused,
@@ -142,6 +145,12 @@ pub fn alpha_top<H: Shelf, S: Source, K: Sink, N: Sink>(
         → IsCalm (sunk N.Sink notes.old notes.new)
         → (result ≡ Status.Done 0) ⊎ (result ≡ Status.NoMemory) }
 
+    // Where a module is made, the file that is kept spells the one that the source makes, and no place
+    // of its code is broken.
+    ensures modules { (file name : List ℕ) → Asks words.now (commands.make_module file name)
+        → result ≡ Status.Done 0
+        → KeepsModule file name (H.files shelf.old) (H.files shelf.new) }
+
     // A run of the imprecise machine of a file that a check accepts has the answer of the sequential
     // run with the same options, whatever words it draws and whether the verdict is passed over: only
     // the number of words, which the status carries where the program has exited, is its own.
@@ -231,6 +240,7 @@ fn perform<H: Shelf, S: Source, K: Sink, N: Sink>(
         Request::Dis { file } => dis(alloc, file, shelf, out),
         Request::Asm { file, out } => Ok(asm(alloc, file, out, shelf)),
         Request::Fix { file, out } => Ok(fix(alloc, file, out, shelf)),
+        Request::Module { file, out } => Ok(module(alloc, file, out, shelf)),
         Request::RunImprecise {
             options,
             choices,

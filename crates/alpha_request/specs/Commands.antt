@@ -6,6 +6,7 @@ use Rattle.alpha_request.specs.Commands.Check as check
 use Rattle.alpha_request.specs.Commands.Dis as dis
 use Rattle.alpha_request.specs.Commands.Asm as asm
 use Rattle.alpha_request.specs.Commands.Fix as fix
+use Rattle.alpha_request.specs.Commands.Module as modules
 use Rattle.alpha_request.specs.Commands.Run as run
 use Rattle.alpha_request.specs.Commands.Debug as debug
 use Rattle.alpha_request.specs.Commands.Trial as trial
@@ -14,6 +15,7 @@ pub mod Check
 pub mod Debug
 pub mod Dis
 pub mod Fix
+pub mod Module
 pub mod Run
 pub mod Trial
 
@@ -22,6 +24,7 @@ spoken names.Check = check.spoken
 spoken names.Dis = dis.spoken
 spoken names.Asm = asm.spoken
 spoken names.Fix = fix.spoken
+spoken names.Module = modules.spoken
 spoken names.Run = run.spoken
 spoken names.Debug = debug.spoken
 spoken names.Trial = trial.spoken

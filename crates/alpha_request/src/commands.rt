@@ -11,6 +11,7 @@ mod check;
 mod debug;
 mod dis;
 mod fix;
+mod module;
 mod run;
 mod trial;
 
@@ -28,6 +29,7 @@ pub(crate) fn command_for<'a>(alloc: Global, name: Name) -> Result<Command<'a>, 
         Name::Dis => dis::command(alloc),
         Name::Asm => asm::command(alloc),
         Name::Fix => fix::command(alloc),
+        Name::Module => module::command(alloc),
         Name::Run => run::command(alloc),
         Name::Debug => debug::command(alloc),
         Name::Trial => trial::command(alloc),
@@ -43,6 +45,7 @@ pub(crate) fn request_in<'a>(name: Name, matches: &ArgMatches<'a>) -> Result<Req
         Name::Dis => dis::request(matches),
         Name::Asm => asm::request(matches),
         Name::Fix => fix::request(matches),
+        Name::Module => module::request(matches),
         Name::Run => run::request(matches),
         Name::Debug => debug::request(matches),
         Name::Trial => trial::request(matches),

@@ -12,6 +12,8 @@ pub(crate) enum Name {
     Asm,
     /// `fix`
     Fix,
+    /// `module`
+    Module,
     /// `run`
     Run,
     /// `debug`
@@ -29,6 +31,7 @@ pub(crate) fn name_of(word: &str) -> Option<Name>
         "dis" => Some(Name::Dis),
         "asm" => Some(Name::Asm),
         "fix" => Some(Name::Fix),
+        "module" => Some(Name::Module),
         "run" => Some(Name::Run),
         "debug" => Some(Name::Debug),
         "trial" => Some(Name::Trial),

@@ -35,6 +35,13 @@ pub enum Request<'a> {
         /// The name under which the source with the barriers is kept.
         out: &'a str,
     },
+    /// `module FILE OUT`: the module of the source FILE, kept as OUT.
+    Module {
+        /// The name of the source.
+        file: &'a str,
+        /// The name under which the module is kept.
+        out: &'a str,
+    },
     /// `run FILE`: a run of the image FILE by the sequential machine.
     Run {
         /// How it is run.

@@ -15,6 +15,7 @@ fn asked(alloc: Global, words: &[&str]) -> Result<Option<(&'static str, String)>
         Ok(Request::Debug { file }) => Ok(Some(("debug", String::from_str(alloc, file)?))),
         Ok(Request::Asm { file, .. }) => Ok(Some(("asm", String::from_str(alloc, file)?))),
         Ok(Request::Fix { file, .. }) => Ok(Some(("fix", String::from_str(alloc, file)?))),
+        Ok(Request::Module { file, .. }) => Ok(Some(("module", String::from_str(alloc, file)?))),
         Ok(Request::Run { file, .. } | Request::RunImprecise { file, .. }) => Ok(Some((
             "run",
             String::from_str(alloc, file)?,
@@ -100,7 +101,9 @@ fn made(alloc: Global, words: &[&str]) -> Result<Option<(String, String)>, Fail>
         given.push(word)?;
     }
     match request_of(alloc, &given) {
-        Ok(Request::Asm { file, out } | Request::Fix { file, out }) => Ok(Some((
+        Ok(
+            Request::Asm { file, out } | Request::Fix { file, out } | Request::Module { file, out },
+        ) => Ok(Some((
             String::from_str(alloc, file)?,
             String::from_str(alloc, out)?,
         ))),
@@ -112,9 +115,10 @@ fn made(alloc: Global, words: &[&str]) -> Result<Option<(String, String)>, Fail>
 #[test]
 fn a_source_comes_before_the_name_of_what_is_made(rt: HostRuntime) -> Result<(), Fail> {
     let alloc = rt.alloc();
-    let rows: [(&[&str], (&str, &str)); 4] = [
+    let rows: [(&[&str], (&str, &str)); 5] = [
         (&["asm", "a", "b"], ("a", "b")),
         (&["fix", "a", "b"], ("a", "b")),
+        (&["module", "a", "b"], ("a", "b")),
         (&["asm", "a", "--", "-b"], ("a", "-b")),
         (&["asm", "a", "a"], ("a", "a")),
     ];

@@ -19,6 +19,7 @@ use Rattle.alpha_cmd.proofs.Trying.{MayTake-sink, Spares-sink}
 use Rattle.alpha_cmd.proofs.Accepted.{accepted_call}
 use Rattle.alpha_cmd.proofs.Alike.{tried_restarts, alike_call}
 use Rattle.alpha_cmd.proofs.Fixed.{tried_fixed}
+use Rattle.alpha_cmd.proofs.KeptModules.{kept_module}
 use Rattle.alpha_cmd.proofs.top.alpha_top.Goals as goal
 
 pub deliver-requires : goal.deliver-requires
@@ -185,3 +186,14 @@ returns-in-Err-clause-accepted g c = λ image file asks good safe told there qui
     (shelved g.H.Shelf c.args.shelf.now c.decide.new.shelf)
     (sunk g.K.Sink c.args.out.now c.decide.new.out) (sunk g.N.Sink c.args.notes.now c.decide.new.notes)
     asks good safe told there (λ a read is. returns-in-Err-clause-exact g c a read quiet fed out notes is)
+
+pub returns-in-Ok-clause-modules : goal.returns-in-Ok-clause-modules
+returns-in-Ok-clause-modules g c = λ file name asks e.
+    let w = world g.H.Shelf g.S.Source c.args.shelf.now c.args.input.now in
+    let shelf = Rose (g.H.Shelf.faults c.args.shelf.now) (g.H.Shelf.faults c.decide.new.shelf) in
+    let input = Rose (g.S.Source.faults c.args.input.now) (g.S.Source.faults c.decide.new.input) in
+    let ends = returns-in-Ok-clause-whole g c (λ failed. let x : Done 0 ≡ SinkFault = sym e ∙ failed in cc) in
+    kept_module shelf input c.args.words.now file name w ends.tried (shelved g.H.Shelf c.args.shelf.now c.decide.new.shelf) asks ends.is (sym ends.status_is ∙ e) ends.files
+
+pub returns-in-Err-clause-modules : goal.returns-in-Err-clause-modules
+returns-in-Err-clause-modules g c = λ file name asks e. absurd (let x : SinkFault ≡ Done 0 = e in cc)

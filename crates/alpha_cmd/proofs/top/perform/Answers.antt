@@ -9,6 +9,7 @@ use Rattle.alpha_cmd.specs.Decision.{answer_in}
 use Rattle.alpha_cmd.specs.Commands.Asm as assemblies
 use Rattle.alpha_cmd.specs.Commands.Check as checks
 use Rattle.alpha_cmd.specs.Commands.Fix as fixes
+use Rattle.alpha_cmd.specs.Commands.Module as modules
 use Rattle.alpha_cmd.specs.Tries.{TriesBy}
 use Rattle.alpha_cmd.proofs.Endings.{Leaves-all, Leaves-kept}
 use Rattle.alpha_cmd.proofs.top.perform.Goals as goal
@@ -50,6 +51,18 @@ returns-in-Fix-clause-tried g c =
     rw c.in-Fix.is
     (Leaves-kept (TriesBy shelf input (fixes.form c.in-Fix.file.now c.in-Fix.out.now) w) (answer_in (g.S.Source.left c.args.input.now) c.fix.result) settled.0
     (shelved g.H.Shelf c.args.shelf.now c.fix.new.shelf)
+    (g.K.Sink.written c.args.out.now) (g.N.Sink.written c.args.notes.now) (g.K.Sink.faults c.args.out.now) (g.N.Sink.faults c.args.notes.now)
+    settled.1 settled.2)
+
+pub returns-in-Module-clause-tried : goal.returns-in-Module-clause-tried
+returns-in-Module-clause-tried g c =
+    let w = world g.H.Shelf g.S.Source c.args.shelf.now c.args.input.now in
+    let shelf = Rose (g.H.Shelf.faults c.args.shelf.now) (g.H.Shelf.faults c.module.new.shelf) in
+    let input = Rose (g.S.Source.faults c.args.input.now) (g.S.Source.faults c.args.input.now) in
+    let settled = c.module.ensures.tried (drawn g.S.Source c.args.input.now c.args.input.now) in
+    rw c.in-Module.is
+    (Leaves-kept (TriesBy shelf input (modules.form c.in-Module.file.now c.in-Module.out.now) w) (answer_in (g.S.Source.left c.args.input.now) c.module.result) settled.0
+    (shelved g.H.Shelf c.args.shelf.now c.module.new.shelf)
     (g.K.Sink.written c.args.out.now) (g.N.Sink.written c.args.notes.now) (g.K.Sink.faults c.args.out.now) (g.N.Sink.faults c.args.notes.now)
     settled.1 settled.2)
 

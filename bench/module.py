@@ -1,0 +1,70 @@
+#!/usr/bin/env python3
+"""Measures `module` on large sources: how many host instructions it takes a line beside `asm` of the same lines, how much
+memory a byte of the source, and how the time grows with the number of lines, of symbols and of relocations.
+
+    bench/module.py [PROGRAM]
+"""
+import os
+import tempfile
+
+from asm import FEW, byte_lists, canonical, comments, label_lists, labels
+from measure import WORDS, best, counts_instructions, file_of, instructions, most_memory, print_times, the_program
+
+
+def names(count):
+    """Labels of one letter more each time, to 500 letters, and so on with the next letter."""
+    return "".join(f"{chr(97 + n // 500) * (1 + n % 500)}:\n" for n in range(count))
+
+
+def many_names(count):
+    """Names that nothing defines, each in a quadword."""
+    return ".data\n" + "".join(f".quad name_{n}\n" for n in range(count))
+
+
+def one_name(count):
+    """Relocations of one symbol."""
+    return "x: ret\n" + "br x\n" * (count - 1)
+
+
+def measure(program, name, make, count, out, fewer=FEW):
+    contents, few = make(count).encode(), make(fewer).encode()
+    with file_of(contents) as file, file_of(few) as small:
+        command, least = [program, "module", file.name, out], [program, "module", small.name, out]
+        print_times(name, [("cat", best(["cat", file.name])), ("module", best(command))])
+        more_bytes, more_lines = len(contents) - len(few), contents.count(b"\n") - few.count(b"\n")
+        memory = most_memory(command) - most_memory(least)
+        print(f"{name}: {memory / more_bytes:.2f} bytes of memory a byte of the source")
+        if counts_instructions():
+            print(f"{name}: {(instructions(command) - instructions(least)) / more_lines:.1f} instructions a line")
+
+
+def compare(program, name, make, count, out):
+    """What a line takes by `module`, and by `asm` with an entry more."""
+    if not counts_instructions():
+        return
+    each = []
+    for command, behind in (("module", ""), ("asm", ".entry 0x10000\n")):
+        with file_of((make(count) + behind).encode()) as file, file_of((make(FEW) + behind).encode()) as small:
+            more = instructions([program, command, file.name, out]) - instructions([program, command, small.name, out])
+            each.append(more / (count - FEW))
+    print(f"{name}: {each[0]:.1f} instructions a line by module, {each[1]:.1f} by asm, {each[0] / each[1]:.2f} times")
+
+
+def main():
+    program = the_program()
+    with tempfile.TemporaryDirectory() as folder:
+        out = os.path.join(folder, "out")
+        for make, kind in ((canonical, "canonical lines"), (labels, "labels")):
+            compare(program, f"{WORDS} {kind}", make, WORDS, out)
+            for count in (WORDS // 16, WORDS // 4, WORDS):
+                measure(program, f"{count} {kind}", make, count, out)
+        measure(program, "12,500 symbols of one letter more", names, 12_500, out)
+        measure(program, f"{WORDS} relocations of one symbol", one_name, WORDS, out)
+        measure(program, f"{WORDS} relocations of as many symbols", many_names, WORDS, out)
+        measure(program, "16 MiB of comments", comments, 524_288, out)
+        measure(program, "1 MiB of lists of bytes", byte_lists, 1_040, out, 10)
+        measure(program, "1 MiB of lists of labels", label_lists, 1_040, out, 10)
+
+
+if __name__ == "__main__":
+    main()

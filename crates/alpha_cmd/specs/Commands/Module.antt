@@ -1,0 +1,62 @@
+-- `module FILE OUT`: the module of a source, kept as a file.
+use Rattle.std.specs.Prelude.{◌≡◌, ℕ, List, [], ◌∷◌, Ok, Err}
+use Rattle.alpha_io.specs.Files.{Files, HasFile}
+use Rattle.alpha_asm.specs.declared.fault.AsmFault.{AsmFault}
+use Rattle.alpha_shadow.specs.declared.broken.Broken.{Broken}
+use Rattle.alpha_shadow.specs.Broken.{IsAccepted, IsLeastBroken}
+use Rattle.alpha_shadow.specs.Report.{broken_line}
+use Rattle.alpha_link.specs.Parts.{ModuleParts}
+use Rattle.alpha_link.specs.Spelled.{spelling}
+use Rattle.alpha_link.specs.Made.{made_module}
+use Rattle.alpha_cmd.specs.declared.status.Status.{Status}
+use Rattle.alpha_cmd.specs.declared.status.Status.TheVariants.{NotRestartable, BadSource}
+use Rattle.alpha_cmd.specs.Outcome.{Outcome, Either, Then}
+use Rattle.alpha_cmd.specs.Status.{Says}
+use Rattle.alpha_cmd.specs.Image.{Reads}
+use Rattle.alpha_cmd.specs.Answer.{World}
+use Rattle.alpha_cmd.specs.Form.{Form, Kind, keeps_last, making, making_there}
+use Rattle.alpha_cmd.specs.Commands.Asm.{source_limit}
+
+-- why a source makes no module: its first refusal
+abbrev pub NoModule : List ℕ → Status → Type 0
+NoModule source status = (fault : AsmFault) × (status ≡ BadSource fault) × (made_module source ≡ Err fault)
+
+-- the module that a source makes
+abbrev pub ModuleOf : List ℕ → Outcome ModuleParts → Type 0
+ModuleOf source = Either (λ m. made_module source ≡ Ok m) (Says (NoModule source))
+
+-- why a module is refused, with the line that says it: the least broken place of its code, with addresses as those of the
+-- first module that is linked
+abbrev pub IsBroken : ModuleParts → Status → List ℕ → Type 0
+IsBroken m status line = (b : Broken) × (status ≡ NotRestartable b) × (IsLeastBroken m.words b × (line ≡ broken_line b 0x10000))
+
+-- the verdict lets the spelling of an accepted module through
+abbrev pub Spells : ModuleParts → Outcome (List ℕ) → Type 0
+Spells m = Either (λ bytes. IsAccepted m.words × (bytes ≡ spelling m)) (IsBroken m)
+
+-- the bytes that a source makes
+abbrev pub Modules : List ℕ → Outcome (List ℕ) → Type 0
+Modules source = Then (ModuleOf source) Spells
+
+-- those that a named source makes
+abbrev pub Makes : Files → List ℕ → Outcome (List ℕ) → Type 0
+Makes files name = Then (Reads files name source_limit) Modules
+
+abbrev pub kind : List ℕ → Kind
+kind out = keeps_last out
+
+abbrev pub form : List ℕ → List ℕ → Form
+form file out = making (λ w. Makes w.files file) out
+
+abbrev pub there : List ℕ → List ℕ → World → Type 0
+there file out = making_there (file ∷ []) (λ w. Makes w.files file) out
+
+-- where the old files are told, the source of one makes a module whose code has no broken place, and where the new ones
+-- are, another has its spelling
+pub record KeepsModule (file out : List ℕ) (old new : Files) : Type 0 where
+  pub source : List ℕ
+  pub parts : ModuleParts
+  pub read : HasFile old file source
+  pub made : made_module source ≡ Ok parts
+  pub accepted : IsAccepted parts.words
+  pub kept : HasFile new out (spelling parts)
