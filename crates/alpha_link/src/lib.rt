@@ -29,6 +29,7 @@
 //!
 //! The laws, each with the call that carries it:
 //!
+//! - [`make_module`] gives the module that a source makes, or the first refusal.
 //! - [`read_module`] gives the module that bytes spell, or their first fault.
 //! - [`module_bytes`] gives the spelling of a module.
 //! - [`link`] gives the image that modules link to, or why they link to none, a [`LinkFault`]; which image
@@ -44,6 +45,8 @@
 //! `header.rt` has the sizes at the front, `symbol.rt` and `relocation.rt` have what symbols and
 //! relocations are, `symbols.rt` and `relocations.rt` read and write them, `number.rt` little-endian
 //! numbers; `read.rt` and `write.rt` are the ways in and out, and `judged.rt` has the verdict.
+//! A module of a source is `made.rt`, on `labels.rt` with the labels in rising order, `made_symbols.rt`
+//! and `made_relocations.rt`.
 //!
 //! The linker goes over the modules four times. `located.rt` says where each one stands, and `names.rt`
 //! keeps the addresses of the names that they define in one table, in which each symbol's name is then
@@ -53,6 +56,7 @@
 //! `specs/Reading.antt` says how bytes are read from the front, `specs/Header.antt`, `specs/Symbols.antt`
 //! and `specs/Relocations.antt` which items there are and which are good, `specs/Parts.antt` what a module
 //! is, `specs/Spelled.antt` its bytes both ways, and `specs/Module.antt` what a [`Module`] keeps;
+//! `specs/Made.antt` has the module that a source makes, and `specs/Rising.antt` names in order;
 //! `specs/Alike.antt` says which words no condition of a trap shadow tells apart. `specs/Names.antt` and
 //! `specs/Output.antt` say what the linker keeps on its way.
 #![tactic(auto)]
