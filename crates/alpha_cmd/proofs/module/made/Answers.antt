@@ -1,11 +1,7 @@
-use Rattle.std.proofs.Common.{ℕ, List, ◌≡◌, ◌⊎◌, refl, inl, inr}
-use Rattle.alpha_io.specs.Faults.{Rose}
 use Rattle.alpha_cmd.specs.Commands.Asm.{source_limit}
-use Rattle.alpha_cmd.specs.Commands.Module.{Modules, Makes}
+use Rattle.alpha_cmd.specs.Commands.Module.{Modules}
 use Rattle.alpha_cmd.specs.Image.{Reads}
-use Rattle.alpha_cmd.specs.Outcome.{stops}
 use Rattle.alpha_cmd.specs.Status.{status_line}
-use Rattle.alpha_cmd.specs.Tries.{CutBy}
 use Rattle.alpha_cmd.proofs.Lawful.{first_stops}
 use Rattle.alpha_cmd.proofs.Trying.{cut_line, says_by}
 use Rattle.alpha_cmd.proofs.module.made.Goals as goal
