@@ -96,6 +96,11 @@ def label_lists(count):
     return "x: ret\n.data\n" + f".quad {','.join(['x'] * 500)}\n" * count
 
 
+def paddings(lines):
+    """These lines, over and over: their paddings are more zero bytes than an image may have."""
+    return lambda count: "ret\n.data\n" + lines * count
+
+
 def source(text):
     return (text + ".entry 0x10000\n").encode()
 
@@ -151,6 +156,11 @@ def main():
         measure(program, "16 MiB of comments", comments, 524_288, out)
         measure(program, "1 MiB of lists of bytes", byte_lists, 1_040, out, 10)
         measure(program, "1 MiB of lists of labels", label_lists, 1_040, out, 10)
+        for lines in (".byte 0\n.align 13\n", ".byte 0\n.align 1\n", ".long 0\n.align 13\n"):
+            each = (1 << 20) // len(lines)
+            measure(program, f"1 MiB of {lines.split(chr(10))}", paddings(lines), each, out, 10)
+        lines = ".byte 0\n.align 13\n"
+        measure(program, "16 MiB of paddings", paddings(lines), (1 << 24) // len(lines) - 2, out, 10)
 
 
 if __name__ == "__main__":

@@ -10,3 +10,4 @@ pub mod Sound
 pub mod Making
 pub mod Adding
 pub mod Naming
+pub mod Spreading

@@ -1,6 +1,6 @@
 -- The program behind the last line, by the state of the pass.
 use Rattle.std.proofs.Common.{◌≡◌, ℕ, ◌+◌, ◌≤◌, List, [], ◌∷◌, ◌++◌, length, map, take, drop, Bool, true, false, cond, nat_le, Option, None, Some, Result, Ok, Err, IfOk, refl, sym, ◌∙◌, ap, length-append, arith}
-use Rattle.std.specs.Prelude.{ℤ, ◌*◌}
+use Rattle.std.specs.Prelude.{ℤ, ◌*◌, sum_by}
 use Rattle.std.specs.Option.{option_map, option_map_or, option_or, unwrap_or}
 use Rattle.std.proofs.lemmas.Bool.Decides.{nat_tests}
 use Rattle.alpha_words.specs.Digits.{low_bytes}
@@ -12,19 +12,23 @@ use Rattle.alpha_text.specs.Reading.{LineSaid}
 use Rattle.alpha_table.specs.declared.form.Form.{Form}
 use Rattle.alpha_table.specs.Decoded.{decoded}
 use Rattle.alpha_asm.specs.declared.fault.AsmFault.{AsmFault}
+use Rattle.alpha_asm.specs.declared.fault.AsmFault.TheVariants.{Undefined, ImageField, Reach}
 use Rattle.alpha_asm.specs.declared.pass.Pass.{Pass}
 use Rattle.alpha_image.specs.declared.segment.Segment.{Segment}
 use Rattle.alpha_image.specs.Layout.{filled_size}
 use Rattle.alpha_image.specs.Numbers.{level_numbers}
+use Rattle.alpha_image.specs.Rules.{FieldsFit, size_of_segment, least_bad_field}
+use Rattle.alpha_image.proofs.FieldRules.{FieldsFit-least}
+use Rattle.std.proofs.lemmas.List.Sums.{sum_by-cons}
 use Rattle.std.specs.Prelude.{slice_get, slice_set}
 use Rattle.alpha_asm.specs.declared.patch.Displacement.{Displacement}
 use Rattle.alpha_asm.specs.declared.program.Finished.{Finished}
-use Rattle.alpha_asm.specs.Finished.{fields_of, IsWhole, Finishes}
+use Rattle.alpha_asm.specs.Finished.{fields_of, finished_numbers, finished_program, finished_result, IsWhole, Finishes}
 use Rattle.alpha_asm.specs.declared.patch.Patch.{Patch}
 use Rattle.alpha_asm.specs.declared.place.Section.{Section}
 use Rattle.alpha_asm.specs.Statement.{Cell, number, address, cells, data_size, Entry}
 use Rattle.alpha_asm.specs.Layout.{Placed, layout, start, end, first, fields, filled_pad}
-use Rattle.alpha_asm.specs.Program.{Known, Name, name, Need, by_insn, by_cell, by_entry, cell_name, insn_names, entry_names, names_in, code_in, bytes_in, known, segments_of, code_base_of, data_base_of, based, own_segments, address_of, quadword_of, reached, displaced, undefined_line, unmet_line, numbers_of}
+use Rattle.alpha_asm.specs.Program.{Known, Name, name, Need, by_insn, by_cell, by_entry, cell_name, insn_names, entry_names, names_in, code_in, bytes_in, known, segments_of, code_base_of, data_base_of, based, own_segments, address_of, quadword_of, reached, displaced, undefined_line, unmet_line, numbers_of, Program, program, program_with, version_of}
 use Rattle.alpha_asm.specs.Assembled.{made, made_at, unless}
 use Rattle.alpha_asm.specs.Patches.{Fix, fix, fix_of, entry_view, cell_fixes, fixes_in, fixes, raw_insns, raw_bytes, names_of, overlaid, code_at, code_with, bytes_with, code_after, bytes_after}
 use Rattle.alpha_asm.specs.Pass.{place_of, spot_at, fields_read, Filled, Sound, Stands}
@@ -183,12 +187,31 @@ length-code_after k (f ∷ fs) code =
     one a by_cell = refl
     one a by_entry = refl
 
-pub finishes : (is : List LineSaid) (p : Pass) (entry : Entry) (k : Known) (f : Finished) → Stands is p → k ≡ known is
+-- ---- no more data bytes than an image may have
+
+filled_within : (segments : List Segment) → filled_size segments ≤ sum_by size_of_segment segments
+filled_within [] = omega arith
+filled_within (s ∷ rest) =
+    omega (arith, filled_within rest, sum_by-cons (λ (x : Segment). x.filled) s rest, sum_by-cons size_of_segment s rest)
+
+-- where no field is bad
+pub few_bytes : (p : Pass) (base : ℕ) (f : Finished) → Sound (place_of p) (length p.output.bytes.items) → f.level ≡ p.place.level
+    → f.segments.items ≡ based base (p.place.earlier.items ++ p.place.last ∷ []) → FieldsFit (finished_numbers f) → length p.output.bytes.items ≤ 16777216
+few_bytes p base f sound level segments fit =
+    let (filled, single) = own-filled p.place.level p.place.section p.place.earlier.items p.place.last base (length p.output.bytes.items) sound.filled in
+    let own : own_segments f.level f.segments.items ≡ own_segments p.place.level (based base (p.place.earlier.items ++ p.place.last ∷ [])) =
+    ap (λ l. own_segments l f.segments.items) level ∙ ap (own_segments p.place.level) segments in
+    let size : filled_size (own_segments f.level f.segments.items) ≡ length p.output.bytes.items = ap filled_size own ∙ sym filled in
+    let most = fit.zeroed.0 in
+    omega (arith, size, most, filled_within (own_segments f.level f.segments.items))
+
+pub finishes : (is : List LineSaid) (p : Pass) (entry : Entry) (k : Known) (base : ℕ) (f : Finished) → Stands is p → k ≡ known is
     → first (undefined_line k) (names_of p.output.patches.items) ≡ None → f.unmet ≡ first (unmet_line k) (names_of p.output.patches.items)
     → f.code.items ≡ code_after k (map fix_of p.output.patches.items) p.output.code.items
-    → f.bytes.items ≡ bytes_after k (map fix_of p.output.patches.items) p.output.bytes.items
-    → f.level ≡ p.place.level → f.fields ≡ fields_of k (fields_read p.fields) p.place.level entry → f.segments.items ≡ k.segments → Finishes is entry f
-finishes is p entry k f s e defined unmet code bytes level fields segments =
+    → (length p.output.bytes.items ≤ 16777216 → f.bytes.items ≡ bytes_after k (map fix_of p.output.patches.items) p.output.bytes.items)
+    → f.level ≡ p.place.level → f.fields ≡ fields_of k (fields_read p.fields) p.place.level entry → f.segments.items ≡ k.segments
+    → f.segments.items ≡ based base (p.place.earlier.items ++ p.place.last ∷ []) → Finishes is entry f
+finishes is p entry k base f s e defined unmet code bytes level fields segments stand =
     let size : length f.code.items ≡ (end is).words =
     ap length code ∙ (length-code_after k (map fix_of p.output.patches.items) p.output.code.items ∙ ap (λ q. q.words) s.place) in
     record {
@@ -200,21 +223,47 @@ finishes is p entry k f s e defined unmet code bytes level fields segments =
           ∙ (ap (λ l. level_numbers (fields_of k (fields_read p.fields) p.place.level entry) (length f.code.items) (own_segments p.place.level l)) segments
           ∙ numbers-so is p entry k (length f.code.items) s e size));
       code = code ∙ code_so is p k s e;
-      bytes = bytes ∙ bytes_so is p k s e;
+      bytes = λ fit. bytes (few_bytes p base f s.sound level stand fit) ∙ bytes_so is p k s e;
       unmet = unmet ∙ unmet-so is p k s e;
     }
 
 pub whole : (p : Pass) (entry : Entry) (k : Known) (base : ℕ) (f : Finished) → Sound (place_of p) (length p.output.bytes.items)
-    → f.bytes.items ≡ bytes_after k (map fix_of p.output.patches.items) p.output.bytes.items
+    → (length p.output.bytes.items ≤ 16777216 → f.bytes.items ≡ bytes_after k (map fix_of p.output.patches.items) p.output.bytes.items)
     → f.level ≡ p.place.level → f.fields ≡ fields_of k (fields_read p.fields) p.place.level entry → f.segments.items ≡ based base (p.place.earlier.items ++ p.place.last ∷ []) → IsWhole f
 whole p entry k base f sound bytes level fields segments =
     let (filled, single) = own-filled p.place.level p.place.section p.place.earlier.items p.place.last base (length p.output.bytes.items) sound.filled in
     record {
-      filled = ap length bytes ∙ (length-bytes_after k (map fix_of p.output.patches.items) p.output.bytes.items ∙ (filled
+      filled = λ fit. ap length (bytes (few_bytes p base f sound level segments fit)) ∙ (length-bytes_after k (map fix_of p.output.patches.items) p.output.bytes.items ∙ (filled
           ∙ sym (ap (λ l. filled_size (own_segments l f.segments.items)) level ∙ ap (λ l. filled_size (own_segments p.place.level l)) segments)));
       single = λ none. ap length segments ∙ single (sym level ∙ none);
       level = ap (λ g. g.level) fields ∙ ap (λ l. unwrap_or l 1) (sym level);
     }
+
+-- the program, or why it has no image
+pub finished_so : (is : List LineSaid) (entry : Entry) (f : Finished) → Finishes is entry f → made_at is (Some entry) ≡ finished_result f
+finished_so is entry f h =
+    ap (λ o. unless (option_map Undefined o) (unless (option_map ImageField (least_bad_field (numbers_of is entry))) (unless (option_map Reach (first (unmet_line (known is)) (flat_map names_in (layout is)))) (Ok (program is entry))))) h.defined
+    ∙ by (least_bad_field (numbers_of is entry)) refl
+  where
+    by : (o : Option ℕ) → least_bad_field (numbers_of is entry) ≡ o
+        → unless (option_map ImageField (least_bad_field (numbers_of is entry))) (unless (option_map Reach (first (unmet_line (known is)) (flat_map names_in (layout is)))) (Ok (program is entry)))
+        ≡ finished_result f
+    by (Some field) e =
+        let bad : least_bad_field (finished_numbers f) ≡ Some field = ap least_bad_field h.numbers ∙ e in
+        ap (λ o. unless (option_map ImageField o) (unless (option_map Reach (first (unmet_line (known is)) (flat_map names_in (layout is)))) (Ok (program is entry)))) e
+        ∙ sym (ap (λ o. unless (option_map ImageField o) (unless (option_map Reach f.unmet) (Ok (finished_program f)))) bad)
+    by None e =
+        let good : least_bad_field (finished_numbers f) ≡ None = ap least_bad_field h.numbers ∙ e in
+        let fit = FieldsFit-least (finished_numbers f) good in
+        let same : program is entry ≡ finished_program f =
+        ap (λ l. program_with (version_of l) (numbers_of is entry) (flat_map (code_in (known is)) (layout is)) (flat_map (bytes_in (known is)) (layout is))) (sym h.level)
+        ∙ (ap (λ n. program_with (version_of f.level) n (flat_map (code_in (known is)) (layout is)) (flat_map (bytes_in (known is)) (layout is))) (sym h.numbers)
+        ∙ (ap (λ l. program_with (version_of f.level) (finished_numbers f) l (flat_map (bytes_in (known is)) (layout is))) (sym h.code)
+        ∙ ap (λ l. program_with (version_of f.level) (finished_numbers f) f.code.items l) (sym (h.bytes fit)))) in
+        ap (λ o. unless (option_map ImageField o) (unless (option_map Reach (first (unmet_line (known is)) (flat_map names_in (layout is)))) (Ok (program is entry)))) e
+        ∙ (ap (λ o. unless (option_map Reach o) (Ok (program is entry))) (sym h.unmet)
+        ∙ (ap (λ (q : Program). unless (option_map Reach f.unmet) (Ok q)) same
+        ∙ sym (ap (λ o. unless (option_map ImageField o) (unless (option_map Reach f.unmet) (Ok (finished_program f)))) good)))
 
 -- the instructions of words are those that the words stand for
 pub insns_of_words : (words : List ℕ) (insns : List Form) → map decoded words ≡ map Some insns → filter_map decoded words ≡ insns

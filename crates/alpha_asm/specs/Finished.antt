@@ -6,7 +6,7 @@ use Rattle.alpha_text.specs.Reading.{LineSaid}
 use Rattle.alpha_image.specs.declared.fields.LevelFields.{LevelFields}
 use Rattle.alpha_image.specs.Numbers.{Numbers, level_numbers}
 use Rattle.alpha_image.specs.Layout.{filled_size}
-use Rattle.alpha_image.specs.Rules.{least_bad_field}
+use Rattle.alpha_image.specs.Rules.{FieldsFit, least_bad_field}
 use Rattle.alpha_asm.specs.declared.fault.AsmFault.{AsmFault}
 use Rattle.alpha_asm.specs.declared.fault.AsmFault.TheVariants.{ImageField, Reach}
 use Rattle.alpha_asm.specs.declared.program.Finished.{Finished}
@@ -37,9 +37,10 @@ finished_result f =
     (unless (option_map Reach f.unmet)
     (Ok (finished_program f)))
 
--- The data bytes are those of the segments. Without a level there is one segment, and the image has the first level.
+-- Where no field is bad, the data bytes are those of the segments; else they may be missing, since there may be more of them
+-- than an image may have. Without a level there is one segment, and the image has the first level.
 pub record IsWhole (f : Finished) : Type 0 where
-  pub filled : length f.bytes.items ≡ filled_size (own_segments f.level f.segments.items)
+  pub filled : FieldsFit (finished_numbers f) → length f.bytes.items ≡ filled_size (own_segments f.level f.segments.items)
   pub single : f.level ≡ None → length f.segments.items ≡ 1
   pub level : f.fields.level ≡ unwrap_or f.level 1
 
@@ -49,5 +50,5 @@ pub record Finishes (is : List LineSaid) (entry : Entry) (f : Finished) : Type 0
   pub level : f.level ≡ (end is).level
   pub numbers : finished_numbers f ≡ numbers_of is entry
   pub code : f.code.items ≡ flat_map (code_in (known is)) (layout is)
-  pub bytes : f.bytes.items ≡ flat_map (bytes_in (known is)) (layout is)
+  pub bytes : FieldsFit (finished_numbers f) → f.bytes.items ≡ flat_map (bytes_in (known is)) (layout is)
   pub unmet : f.unmet ≡ first (unmet_line (known is)) (flat_map names_in (layout is))

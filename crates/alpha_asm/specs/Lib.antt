@@ -9,3 +9,4 @@ pub mod Place
 pub mod Pass
 pub mod Bases
 pub mod Finished
+pub mod Data

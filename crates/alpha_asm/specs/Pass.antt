@@ -1,5 +1,5 @@
 -- What the state of the pass is behind some lines.
-use Rattle.std.specs.Prelude.{◌≡◌, ℕ, true, ◌+◌, ◌*◌, ◌^◌, ◌≤◌, ◌||◌, false, List, [], ◌∷◌, ◌++◌, length, map, Option, None, Some, if◌then◌else◌}
+use Rattle.std.specs.Prelude.{◌≡◌, ℕ, true, ◌+◌, ◌*◌, ◌^◌, ◌<◌, ◌≤◌, ◌||◌, false, List, [], ◌∷◌, ◌++◌, length, map, Option, None, Some, if◌then◌else◌}
 use Rattle.std.specs.Option.{option_map}
 use Rattle.std.specs.List.{flat_map}
 use Rattle.std.specs.Str.{bytes_eq}
@@ -44,6 +44,7 @@ with_label spots (Some label) here name = if bytes_eq label name then Some here 
 -- the sizes are small
 pub record IsBounded (p : Pass) : Type 0 where
   pub filled : p.place.last.filled ≤ length p.output.bytes.items
+  pub size : length p.output.bytes.items < 2 ^ 63
   pub zeroed : p.place.last.zeroed ≤ 2 ^ 25 * p.line
   pub earlier : length p.place.earlier.items ≤ p.line
   pub code : length p.output.code.items ≤ p.line

@@ -14,7 +14,8 @@
 //!
 //! `lines.rt` cuts a source into lines; `statement.rt` says what a statement asks, apart from where it
 //! stands; `place.rt` is the place that a line stands at, `fields.rt` the field statements, `label.rt`
-//! the labels, `output.rt` the instructions and data bytes, `patch.rt` the addresses that are put in
+//! the labels, `output.rt` the instructions and data bytes, which `data.rt` keeps without their paddings,
+//! `patch.rt` the addresses that are put in
 //! later, and `pass.rt` the state with the steps that each line takes. The image takes the instructions
 //! and the data bytes as they are: nothing is encoded or decoded.
 //!
@@ -32,7 +33,7 @@
 
 mod assembler;
 mod bases;
-mod bytes;
+mod data;
 mod fault;
 mod fields;
 mod kind;

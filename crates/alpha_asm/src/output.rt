@@ -6,7 +6,7 @@ ghost use Rattle.alpha_asm.specs.Statement.{number as cell, address};
 ghost use Rattle.alpha_asm.specs.Program.{name, list_of, insn_name, insn_names, entry_names};
 ghost use Rattle.alpha_asm.specs.Patches.{fix, fix_of, need_of, offset_of, reference_of, coded_of, raw_insns, AddsCells};
 
-use crate::bytes::push_number;
+use crate::data::Data;
 use crate::fields::{Entry, entry_in};
 use crate::patch::{Need, Patch};
 use crate::statement::{Coded, coded_in};
@@ -20,7 +20,7 @@ pub(crate) struct Output<'a> {
     /// The instructions. Those that are to reach an address have displacement 0.
     pub code: Vec<Insn>,
     /// The data bytes of all segments. Those of an address are 0.
-    pub bytes: Vec<u8>,
+    pub bytes: Data,
     /// The addresses to be put in, in the order of lines.
     pub patches: Vec<Patch<'a>>,
 }
@@ -80,7 +80,7 @@ impl<'a> Output<'a> {
     {
         Output {
             code: Vec::new(alloc),
-            bytes: Vec::new(alloc),
+            bytes: Data::new(alloc),
             patches: Vec::new(alloc),
         }
     }
@@ -143,7 +143,7 @@ impl<'a> Output<'a> {
         ensures { OnOk result (AddsCells line (cell_of bytes (view value.now) ∷ []) self.old self.new) }
     {
         match *value {
-            ListValue::Number(n) => push_number(&mut self.bytes, bytes, n),
+            ListValue::Number(n) => self.bytes.push_number(bytes, n),
             ListValue::Label(to) => self.push_quad(line, to),
         }
     }
@@ -154,7 +154,7 @@ impl<'a> Output<'a> {
     {
         let at = self.bytes.len();
         push_patch(&mut self.patches, line, to, Need::Quad, at)?;
-        push_number(&mut self.bytes, 8, 0)
+        self.bytes.push_number(8, 0)
     }
 
     /// Adds the bytes that the text of a string stands for. There are no more of them than it has

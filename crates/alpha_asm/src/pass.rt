@@ -11,7 +11,6 @@ ghost use Rattle.alpha_asm.specs.Pass.{place_of, spot_at, with_label, refused_he
 ghost use Rattle.alpha_asm.specs.declared.fault.AsmFault.TheVariants as faults;
 
 use crate::AsmFault;
-use crate::bytes::push_zeros;
 use crate::fields::FieldsRead;
 use crate::kind::SourceKind;
 use crate::label::Labels;
@@ -164,7 +163,9 @@ impl<'a> Pass<'a> {
         let filled = self.output.bytes.len();
         self.output.push_insn(line, statement)?;
         push_data(&mut self.output, line, statement)?;
-        push_zeros(&mut self.output.bytes, self.place.filled_pad(statement))?;
+        self.output
+            .bytes
+            .push_zeros(self.place.filled_pad(statement))?;
         push_entry(&mut self.output.patches, line, statement)?;
         let added = self.output.bytes.len() - filled;
         self.place.go_on(statement, added as u64)?;

@@ -27,6 +27,9 @@ const CODE_BASE: u64 = 0x10000;
 /// Without a `.database`.
 const DATA_BASE: u64 = 0x1000_0000;
 
+/// The most data bytes of an image.
+const MOST_DATA: usize = 16_777_216;
+
 /// Without a `.stack`.
 const STACK: u64 = 65_536;
 
@@ -211,7 +214,7 @@ fn finish<'a>(pass: Pass<'a>, entry: &Entry<'a>) -> Result<Finished, AsmFault>
     let segments = all_segments(pass.place.earlier, pass.place.last, base)?;
     let patches = pass.output.patches;
     let mut code = pass.output.code;
-    let mut bytes = pass.output.bytes;
+    let mut bytes = pass.output.bytes.spread_within(MOST_DATA)?;
     let bases = Bases {
         code_base: pass.fields.code_base.unwrap_or(CODE_BASE),
         segments: &segments,

@@ -13,7 +13,7 @@ use crate::label::Labels;
 use crate::pass::Pass;
 use crate::patch::Patch;
 use alpha_table::Insn;
-use std::alloc::Global;
+use std::alloc::{AllocError, Global};
 
 /// What the source of a module makes before any address is put in.
 #[derive(Drop)]
@@ -44,25 +44,25 @@ impl<'a> Unlinked<'a> {
             first_refused kinds.Module [] (lines source.now) ≡ Some fault) }
     {
         match read_lines(alloc, SourceKind::Module, source) {
-            Ok(pass) => Ok(Unlinked::behind(pass)),
+            Ok(pass) => Ok(Unlinked::behind(pass)?),
             Err(fault) => Err(fault),
         }
     }
 
     // What a pass has made.
-    fn behind(pass: Pass<'a>) -> Unlinked<'a>
-        ensures { (is : _) → Stands is pass.entry → Makes is result }
+    fn behind(pass: Pass<'a>) -> Result<Unlinked<'a>, AllocError>
+        ensures { IfOk result (λ made. (is : _) → Stands is pass.entry → Makes is made) }
     {
         let zeroed = pass.place.last.zeroed;
         let code = pass.output.code;
-        let bytes = pass.output.bytes;
         let patches = pass.output.patches;
-        Unlinked {
+        let bytes = pass.output.bytes.spread()?;
+        Ok(Unlinked {
             code,
             bytes,
             zeroed,
             labels: pass.labels,
             patches,
-        }
+        })
     }
 }

@@ -17,16 +17,22 @@ pub returns-in-Ok-clause-whole : goal.returns-in-Ok-clause-whole
 returns-in-Ok-clause-whole c =
     let k = known_with c.unwrap_or.result c.deref.result.now c.args.pass in
     whole c.args.pass (entry_view c.args.entry.now) k c.unwrap_or-base.result _ c.requires
-    (c.in-Ok.ensures.bytes ∙ ap (λ l. bytes_after k (map fix_of l) c.args.pass.output.bytes.items) c.deref-2.ensures.value)
+    (λ few.
+    c.in-Ok.ensures.bytes
+    ∙ (ap (λ l. bytes_after k (map fix_of l) c.in_ok-bytes.bytes.items) c.deref-2.ensures.value
+    ∙ ap (bytes_after k (map fix_of c.args.pass.output.patches.items)) (c.in_ok-bytes.ensures few)))
     refl c.fields_of-fields.ensures c.in_ok-segments.ensures
 
 pub returns-in-Ok-clause-ok : goal.returns-in-Ok-clause-ok
 returns-in-Ok-clause-ok c = λ is s.
     let k = known_with c.unwrap_or.result c.deref.result.now c.args.pass in
     let e = known-so is c.args.pass c.unwrap_or-base.result c.unwrap_or.result c.deref.result.now s c.unwrap_or-base.ensures c.unwrap_or.ensures (c.deref.ensures.value ∙ c.in_ok-segments.ensures) in
-    finishes is c.args.pass (entry_view c.args.entry.now) k _ s e
+    finishes is c.args.pass (entry_view c.args.entry.now) k c.unwrap_or-base.result _ s e
     (ap (λ l. first (undefined_line k) (names_of l)) (sym c.deref-2.ensures.value) ∙ c.in-Ok.ensures.defined)
     (c.in-Ok.ensures.unmet ∙ ap (λ l. first (unmet_line k) (names_of l)) c.deref-2.ensures.value)
     (c.in-Ok.ensures.code ∙ ap (λ l. code_after k (map fix_of l) c.args.pass.output.code.items) c.deref-2.ensures.value)
-    (c.in-Ok.ensures.bytes ∙ ap (λ l. bytes_after k (map fix_of l) c.args.pass.output.bytes.items) c.deref-2.ensures.value)
-    refl c.fields_of-fields.ensures (sym c.deref.ensures.value)
+    (λ few.
+    c.in-Ok.ensures.bytes
+    ∙ (ap (λ l. bytes_after k (map fix_of l) c.in_ok-bytes.bytes.items) c.deref-2.ensures.value
+    ∙ ap (bytes_after k (map fix_of c.args.pass.output.patches.items)) (c.in_ok-bytes.ensures few)))
+    refl c.fields_of-fields.ensures (sym c.deref.ensures.value) c.in_ok-segments.ensures

@@ -1,5 +1,6 @@
 use Rattle.std.proofs.Common.{length, sym, ap, ◌∙◌}
 use Rattle.alpha_text.specs.Statements.{said}
+use Rattle.alpha_asm.specs.Data.{DataBytes}
 use Rattle.alpha_asm.specs.Statement.{cells}
 use Rattle.alpha_asm.proofs.Growing.{added_size}
 use Rattle.alpha_asm.proofs.pass.Pass.add_other.Goals as goal
@@ -7,5 +8,5 @@ use Rattle.alpha_asm.proofs.pass.Pass.add_other.Goals as goal
 pub go_on-requires-clause-added : goal.go_on-requires-clause-added
 go_on-requires-clause-added c =
     added_size _ _ _ (cells (said c.args.item.now.statement)) c.filled_pad.result _ c.len.result c.len-filled.result
-    c.in_ok-push_data.ensures.bytes c.in_ok-push_zeros.ensures (c.len.ensures ∙ c.push_zeros.new.to.ok.0)
-    (c.len-filled.ensures ∙ (c.args.self.now.output.bytes.ok.0 ∙ ap (λ v. length v.items) (sym c.in_ok-push_insn.ensures.bytes))) (c.filled_pad.ensures 0)
+    c.in_ok-push_data.ensures.bytes c.in_ok-push_zeros.ensures c.len.ensures.value
+    (c.len-filled.ensures.value ∙ ap (λ (d : DataBytes). length d.items) (sym c.in_ok-push_insn.ensures.bytes)) (c.filled_pad.ensures 0)
