@@ -33,11 +33,12 @@ mod lines;
 use std::fs;
 
 // The files of cases.
-const FILES: [&str; 11] = [
+const FILES: [&str; 12] = [
     "check.cases",
     "asm.cases",
     "fix.cases",
     "module.cases",
+    "replay.cases",
     "run.cases",
     "edges.cases",
     "imprecise.cases",

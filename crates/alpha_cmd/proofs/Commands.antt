@@ -1,5 +1,5 @@
 -- Each command has the laws of a form.
-use Rattle.alpha_request.specs.Command.{Command, check, dis, asm, fix, make_module, run, imprecise, debug, trial}
+use Rattle.alpha_request.specs.Command.{Command, check, dis, asm, fix, make_module, replay, run, imprecise, debug, trial}
 use Rattle.alpha_cmd.specs.Answer.{World}
 use Rattle.alpha_cmd.specs.Commands.{form_of, there_of}
 use Rattle.alpha_cmd.proofs.Forms.{IsLawfulForm}
@@ -10,6 +10,7 @@ use Rattle.alpha_cmd.proofs.Commands.Dis as listings
 use Rattle.alpha_cmd.proofs.Commands.Fix as fixes
 use Rattle.alpha_cmd.proofs.Commands.Imprecise as wilds
 use Rattle.alpha_cmd.proofs.Commands.Module as modules
+use Rattle.alpha_cmd.proofs.Commands.Replay as replays
 use Rattle.alpha_cmd.proofs.Commands.Run as runs
 use Rattle.alpha_cmd.proofs.Commands.Trial as trials
 pub mod Asm
@@ -19,6 +20,7 @@ pub mod Dis
 pub mod Fix
 pub mod Imprecise
 pub mod Module
+pub mod Replay
 pub mod Run
 pub mod Trial
 
@@ -28,6 +30,7 @@ lawful (dis file) w = listings.lawful file w
 lawful (asm file out) w = assemblies.lawful file out w
 lawful (fix file out) w = fixes.lawful file out w
 lawful (make_module file out) w = modules.lawful file out w
+lawful (replay file journal) w = replays.lawful file journal w
 lawful (run options file) w = runs.lawful options file w
 lawful (imprecise options choices force file) w = wilds.lawful options choices force file w
 lawful (debug file) w = sessions.lawful file w

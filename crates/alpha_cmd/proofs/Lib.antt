@@ -8,6 +8,7 @@ pub mod Keeping
 pub mod KeptModules
 pub mod Lawful
 pub mod Ran
+pub mod ReplayedRuns
 pub mod Stages
 pub mod Tested
 pub mod Told

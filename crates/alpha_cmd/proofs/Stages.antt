@@ -1,7 +1,7 @@
 -- The laws of the stages that several commands have: a file, an image, the verdict, and a file that is kept.
 use Rattle.std.proofs.Common.{◌≡◌, ◌<◌, ◌≤◌, ◌∙◌, ◌⊎◌, ℕ, Bool, true, false, List, length, All, Option, None, Some, IsSome, IsSomeAnd, refl, sym, ap, subst, inl, inr, ⊎_elim, arith}
 use Rattle.std.proofs.lemmas.Bool.{cases_lt}
-use Rattle.alpha_io.specs.Files.{Files, HasFile, IfTold, Refuses}
+use Rattle.alpha_io.specs.Files.{Files, HasFile, KeepsFiles, IfTold, Refuses}
 use Rattle.alpha_io.proofs.Shelved.{Lacks-not_told}
 use Rattle.alpha_image.specs.declared.fault.ImageFault.{ImageFault}
 use Rattle.alpha_image.specs.Parts.{Parts, IsByte, IsImage, parts_of, spelling}
@@ -93,6 +93,13 @@ found_bytes files name bytes whole (Some file) e there = subst (All IsByte) ther
 pub read_bytes : (files : Files) (name bytes : List ℕ) → IsSome files → HaveBytes files → HasFile files name bytes → All IsByte bytes
 read_bytes None name bytes told whole there = cc
 read_bytes (Some files) name bytes told whole there = found_bytes files name bytes whole (files name) refl there
+
+-- files that stay are the same
+pub kept_same : (a b : Files) → KeepsFiles a b → b ≡ a
+kept_same None None kept = refl
+kept_same None (Some g) kept = absurd kept
+kept_same (Some f) None kept = absurd kept
+kept_same (Some f) (Some g) kept = λ i. Some (λ name. kept name i)
 
 -- ---- an image
 

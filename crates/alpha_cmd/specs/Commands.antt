@@ -1,5 +1,5 @@
 -- The commands: the form of each, its kind, and the files that are there where it meets no missing one.
-use Rattle.alpha_request.specs.Command.{Command, check, dis, asm, fix, make_module, run, imprecise, debug, trial}
+use Rattle.alpha_request.specs.Command.{Command, check, dis, asm, fix, make_module, replay, run, imprecise, debug, trial}
 use Rattle.std.specs.Prelude.{ℕ, List}
 use Rattle.alpha_io.specs.Files.{Files}
 use Rattle.alpha_cmd.specs.declared.status.Status.{Status}
@@ -12,6 +12,7 @@ use Rattle.alpha_cmd.specs.Commands.Dis as listings
 use Rattle.alpha_cmd.specs.Commands.Fix as fixes
 use Rattle.alpha_cmd.specs.Commands.Imprecise as wilds
 use Rattle.alpha_cmd.specs.Commands.Module as modules
+use Rattle.alpha_cmd.specs.Commands.Replay as replays
 use Rattle.alpha_cmd.specs.Commands.Run as runs
 use Rattle.alpha_cmd.specs.Commands.Trial as trials
 pub mod Asm
@@ -21,6 +22,7 @@ pub mod Dis
 pub mod Fix
 pub mod Imprecise
 pub mod Module
+pub mod Replay
 pub mod Run
 pub mod Trial
 
@@ -30,6 +32,7 @@ form_of (dis file) = listings.form file
 form_of (asm file out) = assemblies.form file out
 form_of (fix file out) = fixes.form file out
 form_of (make_module file out) = modules.form file out
+form_of (replay file journal) = replays.form file journal
 form_of (run options file) = runs.form options file
 form_of (imprecise options choices force file) = wilds.form options choices force file
 form_of (debug file) = sessions.form file
@@ -42,6 +45,7 @@ kind_of (dis file) = listings.kind
 kind_of (asm file out) = assemblies.kind out
 kind_of (fix file out) = fixes.kind out
 kind_of (make_module file out) = modules.kind out
+kind_of (replay file journal) = replays.kind
 kind_of (run options file) = runs.kind
 kind_of (imprecise options choices force file) = wilds.kind force
 kind_of (debug file) = sessions.kind
@@ -54,6 +58,7 @@ there_of (dis file) = listings.there file
 there_of (asm file out) = assemblies.there file out
 there_of (fix file out) = fixes.there file out
 there_of (make_module file out) = modules.there file out
+there_of (replay file journal) = replays.there file journal
 there_of (run options file) = runs.there file
 there_of (imprecise options choices force file) = wilds.there choices file
 there_of (debug file) = sessions.there file

@@ -6,13 +6,17 @@ use Rattle.alpha_operands.specs.declared.operands.LineFaultKind.{LineFaultKind}
 use Rattle.alpha_operands.specs.declared.operands.LineFaultKind.TheVariants.{BadToken, UnknownName, BadOperands, OutOfRange}
 use Rattle.alpha_asm.specs.declared.fault.AsmFault.{AsmFault}
 use Rattle.alpha_asm.specs.declared.fault.AsmFault.TheVariants as refusals
+use Rattle.alpha_replay.specs.declared.fault.JournalFault.{JournalFault}
+use Rattle.alpha_replay.specs.declared.fault.JournalFault.TheVariants as journals
+use Rattle.alpha_replay.specs.declared.replay_fault.ReplayFault.{ReplayFault}
+use Rattle.alpha_replay.specs.declared.replay_fault.ReplayFault.TheVariants as replays
 use Rattle.alpha_io.specs.Line.{hex_digits}
 use Rattle.alpha_shadow.specs.declared.broken.Broken.{Broken}
 use Rattle.alpha_shadow.specs.Broken.{condition_number}
 use Rattle.alpha_shadow.specs.Report.{place_address}
 use Rattle.alpha_seq.specs.Notes.{end_line}
 use Rattle.alpha_cmd.specs.declared.status.Status.{Status}
-use Rattle.alpha_cmd.specs.declared.status.Status.TheVariants.{Done, NotRestartable, BadWords, BadSource, BadImage, Stopped, StepsSpent, Lost, ShelfFault, InputFault, SinkFault, TooLarge, NoMemory, Unfixable, FixedLine, Far}
+use Rattle.alpha_cmd.specs.declared.status.Status.TheVariants.{Done, NotRestartable, BadWords, BadSource, BadImage, Stopped, StepsSpent, Lost, ShelfFault, InputFault, SinkFault, TooLarge, NoMemory, Unfixable, FixedLine, Far, BadJournal, NotARun}
 
 -- `image kind K first F second S`: the kind of the fault and its numbers, 0 where there is none
 unfoldable pub numbered_line : ℕ → ℕ → ℕ → List ℕ
@@ -70,6 +74,26 @@ unfixable_line b code_base =
 unfoldable pub fixing_line : ℕ → List ℕ
 fixing_line line = codes "fixed line " ++ decimal line ++ 10 ∷ []
 
+-- A word and `kind K at N`: the kind of the fault and its number, 0 where there is none
+unfoldable pub kind_line : List ℕ → ℕ → ℕ → List ℕ
+kind_line word kind at = word ++ codes " kind " ++ decimal kind ++ codes " at " ++ decimal at ++ 10 ∷ []
+
+abbrev pub journal_line : JournalFault → List ℕ
+journal_line (journals.Short given) = kind_line (codes "journal") 1 given
+journal_line journals.Magic = kind_line (codes "journal") 2 0
+journal_line (journals.Field field) = kind_line (codes "journal") 3 field
+journal_line (journals.Item n) = kind_line (codes "journal") 4 n
+journal_line journals.Units = kind_line (codes "journal") 5 0
+journal_line (journals.Rest at) = kind_line (codes "journal") 6 at
+journal_line journals.NoMemory = kind_line (codes "journal") 7 0
+
+abbrev pub norun_line : ReplayFault → List ℕ
+norun_line (replays.Item n) = kind_line (codes "norun") 1 n
+norun_line (replays.Output at) = kind_line (codes "norun") 2 at
+norun_line replays.End = kind_line (codes "norun") 3 0
+norun_line (replays.Input left) = kind_line (codes "norun") 4 left
+norun_line replays.NoMemory = kind_line (codes "norun") 5 0
+
 -- A call did what was asked. It was refused, by what the words and the files say. The program that it ran ended otherwise
 -- than by the system call exit, was cut off, or lost a trap. Or a device failed, or memory ran out.
 pub data Class : Type 0 where
@@ -104,6 +128,8 @@ row_of NoMemory = row 12 (codes "no memory" ++ 10 ∷ []) failed
 row_of (Unfixable b) = row 13 [] refused
 row_of (FixedLine line) = row 14 (fixing_line line) refused
 row_of (Far fault) = row 15 (refusal_line (codes "far") fault) refused
+row_of (BadJournal fault) = row 18 (journal_line fault) refused
+row_of (NotARun fault) = row 19 (norun_line fault) refused
 
 abbrev pub status_number : Status → ℕ
 status_number status = (row_of status).number

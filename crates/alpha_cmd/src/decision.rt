@@ -6,12 +6,14 @@ ghost use Rattle.alpha_cmd.specs.Status.{status_line, unfixable_line};
 ghost use Rattle.alpha_cmd.specs.Answer.{said};
 ghost use Rattle.alpha_cmd.specs.Commands.Check.{accepted};
 ghost use Rattle.alpha_cmd.specs.Commands.Imprecise.{drawn_status};
+ghost use Rattle.alpha_cmd.specs.Commands.Replay.{shown};
 ghost use Rattle.alpha_cmd.specs.Commands.Run.{end_status};
 ghost use Rattle.alpha_cmd.specs.Decision.{answer_in};
 
 use crate::Status;
-use crate::line::{line_of, text, unfixable_line};
+use crate::line::{line_of, run_line, text, unfixable_line};
 use alpha_io::{Failed, Line, Sink, write_whole};
+use alpha_replay::Replayed;
 use alpha_seq::{End, line_of_end};
 use alpha_shadow::{Broken, line_of_broken};
 
@@ -48,6 +50,18 @@ impl Decision {
         Decision {
             status: Status::Done(0),
             output: text(b"accepted\n"),
+            line: Line::new(),
+        }
+    }
+
+    /// A journal that lists a run.
+    pub(crate) fn replayed(run: &Replayed) -> Decision
+        ensures { (left : Option (List ℕ)) → answer_in left result ≡ shown left run.now }
+    {
+        let output = run_line(run);
+        Decision {
+            status: Status::Done(0),
+            output,
             line: Line::new(),
         }
     }

@@ -41,6 +41,7 @@ mod keep;
 mod laws;
 mod line;
 mod module;
+mod replay;
 mod run;
 mod status;
 mod sure;

@@ -3,12 +3,14 @@
 ghost use Rattle.std.specs.Prelude.{◌≡◌, ◌≤◌, length};
 ghost use Rattle.alpha_io.specs.declared.line.TheConstants.{LINE_ROOM};
 ghost use Rattle.alpha_shadow.specs.Report.{place_address};
-ghost use Rattle.alpha_cmd.specs.Status.{status_line, fault_line, fixing_line, kind_number, limit_line, lost_line, numbered_line, placed_line, refusal_line, unfixable_line};
+ghost use Rattle.alpha_cmd.specs.Commands.Replay.{run_line};
+ghost use Rattle.alpha_cmd.specs.Status.{status_line, fault_line, fixing_line, journal_line, kind_line, kind_number, limit_line, lost_line, norun_line, numbered_line, placed_line, refusal_line, unfixable_line};
 
 use crate::Status;
 use alpha_asm::AsmFault;
 use alpha_image::ImageFault;
 use alpha_io::Line;
+use alpha_replay::{JournalFault, ReplayFault, Replayed};
 use alpha_seq::line_of_end;
 use alpha_shadow::Broken;
 use alpha_text::{LineFault, LineFaultKind};
@@ -33,6 +35,8 @@ pub(crate) fn line_of(status: &Status) -> Line
         Status::NoMemory => text(b"no memory\n"),
         Status::FixedLine(line) => fixing_line(*line),
         Status::Far(fault) => refusal_line(b"far", fault),
+        Status::BadJournal(fault) => journal_line(fault),
+        Status::NotARun(fault) => norun_line(fault),
     }
 }
 
@@ -187,4 +191,61 @@ fn fixing_line(line: u32) -> Line
     text.push_decimal(u64::from(line));
     text.end();
     text
+}
+
+// `journal kind K at N`, the number 0 where there is none.
+fn journal_line(fault: &JournalFault) -> Line
+    ensures { result ≡ journal_line fault.now }
+{
+    match *fault {
+        JournalFault::Short(given) => kind_line(b"journal", 1, given),
+        JournalFault::Magic => kind_line(b"journal", 2, 0),
+        JournalFault::Field(field) => kind_line(b"journal", 3, u64::from(field)),
+        JournalFault::Item(n) => kind_line(b"journal", 4, u64::from(n)),
+        JournalFault::Units => kind_line(b"journal", 5, 0),
+        JournalFault::Rest(at) => kind_line(b"journal", 6, at),
+        JournalFault::NoMemory => kind_line(b"journal", 7, 0),
+    }
+}
+
+// `norun kind K at N`, the number 0 where there is none.
+fn norun_line(fault: &ReplayFault) -> Line
+    ensures { result ≡ norun_line fault.now }
+{
+    match *fault {
+        ReplayFault::Item(n) => kind_line(b"norun", 1, u64::from(n)),
+        ReplayFault::Output(at) => kind_line(b"norun", 2, at),
+        ReplayFault::End => kind_line(b"norun", 3, 0),
+        ReplayFault::Input(left) => kind_line(b"norun", 4, left),
+        ReplayFault::NoMemory => kind_line(b"norun", 5, 0),
+    }
+}
+
+#[tactic(auto, unfolding(crate::specs::Status::kind_line))]
+fn kind_line(word: &[u8], kind: u64, at: u64) -> Line
+    requires { length word.now ≤ 8 }
+    ensures { result ≡ kind_line word.now kind at }
+{
+    let mut line = Line::new();
+    line.push(word);
+    line.push(b" kind ");
+    line.push_decimal(kind);
+    line.push(b" at ");
+    line.push_decimal(at);
+    line.end();
+    line
+}
+
+/// `run units U reports R`, of a journal's run.
+#[tactic(auto, unfolding(crate::specs::Commands::Replay::run_line))]
+pub(crate) fn run_line(run: &Replayed) -> Line
+    ensures { result ≡ run_line run.now.units run.now.reports }
+{
+    let mut line = Line::new();
+    line.push(b"run units ");
+    line.push_decimal(run.units);
+    line.push(b" reports ");
+    line.push_decimal(run.reports);
+    line.end();
+    line
 }

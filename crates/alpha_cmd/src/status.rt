@@ -2,6 +2,7 @@ ghost use Rattle.std.specs.Prelude.{◌≡◌};
 
 use alpha_asm::AsmFault;
 use alpha_image::ImageFault;
+use alpha_replay::{JournalFault, ReplayFault};
 use alpha_seq::End;
 use alpha_shadow::Broken;
 use alpha_trap::Lost;
@@ -45,6 +46,10 @@ pub enum Status {
     FixedLine(u32),
     /// The source with its barriers defines no image: its first refusal.
     Far(AsmFault),
+    /// The bytes of the file are no journal: their first fault.
+    BadJournal(JournalFault),
+    /// The journal is no run of the image: its first fault.
+    NotARun(ReplayFault),
 }
 
 impl Status {
@@ -71,6 +76,8 @@ impl Status {
             Status::Unfixable(_) => 13,
             Status::FixedLine(_) => 14,
             Status::Far(_) => 15,
+            Status::BadJournal(_) => 18,
+            Status::NotARun(_) => 19,
         }
     }
 }

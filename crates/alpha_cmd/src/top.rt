@@ -22,6 +22,7 @@ ghost use Rattle.alpha_cmd.specs.Commands.Run as runs;
 ghost use Rattle.alpha_cmd.specs.Ends.{Decides, Ends, EndsPart, status_in};
 ghost use Rattle.alpha_cmd.specs.Fixed.{IsSafe};
 ghost use Rattle.alpha_cmd.specs.Kept.{Serves};
+ghost use Rattle.alpha_cmd.specs.Replayed.{ShowsRun};
 ghost use Rattle.alpha_cmd.specs.Status.{class_of, ended};
 ghost use Rattle.alpha_cmd.specs.Tried.{AreTold, IsAnswer, TriedBy};
 ghost use Rattle.alpha_cmd.specs.Tries.{CountStays, TriesBy};
@@ -35,6 +36,7 @@ use crate::dis::dis;
 use crate::fix::fix;
 use crate::imprecise::{Asked, imprecise};
 use crate::module::module;
+use crate::replay::replay;
 use crate::run::run;
 use crate::trial::trial;
 use alpha_io::{Failed, Shelf, Sink, Source};
@@ -47,7 +49,9 @@ use std::alloc::Global;
 /// least broken place to the notes. `dis FILE` writes its listing to the output. `asm FILE OUT`
 /// assembles the source of the file, and keeps its image as OUT. `module FILE OUT` does so with a
 /// module, whose code it judges. `fix FILE OUT` keeps the source with
-/// the barriers that it needs as OUT. `run FILE` runs an image's
+/// the barriers that it needs as OUT. `replay FILE JOURNAL` replays the journal on the image of FILE: the
+/// numbers of units and of reports go to the output, or why it is no run of it to the notes.
+/// `run FILE` runs an image's
 /// program over the input: what it puts goes to the output, and the lines of the run to the notes.
 /// `run --imprecise FILE` does so by the imprecise machine: an image that `check` refuses is refused,
 /// unless `--force` is given, and an accepted one has what `run FILE` has. `debug FILE` answers the
@@ -151,6 +155,11 @@ pub fn alpha_top<H: Shelf, S: Source, K: Sink, N: Sink>(
         → result ≡ Status.Done 0
         → KeepsModule file name (H.files shelf.old) (H.files shelf.new) }
 
+    // Where a replay is done, its file spells an image, and its journal lists a run of it: over the
+    // journal's input, with its output and its end. On an accepted image the sequential run is that too.
+    ensures replays { (file journal : List ℕ) → Asks words.now (commands.replay file journal)
+        → result ≡ Status.Done 0 → ShowsRun file journal (H.files shelf.old) }
+
     // A run of the imprecise machine of a file that a check accepts has the answer of the sequential
     // run with the same options, whatever words it draws and whether the verdict is passed over: only
     // the number of words, which the status carries where the program has exited, is its own.
@@ -241,6 +250,7 @@ fn perform<H: Shelf, S: Source, K: Sink, N: Sink>(
         Request::Asm { file, out } => Ok(asm(alloc, file, out, shelf)),
         Request::Fix { file, out } => Ok(fix(alloc, file, out, shelf)),
         Request::Module { file, out } => Ok(module(alloc, file, out, shelf)),
+        Request::Replay { file, journal } => Ok(replay(alloc, file, journal, shelf)),
         Request::RunImprecise {
             options,
             choices,

@@ -1,7 +1,7 @@
 -- What a request asks for, with the bytes of its texts.
 use Rattle.std.specs.Prelude.{ℕ, List, Bool}
 use Rattle.alpha_request.specs.declared.request.Request.{Request}
-use Rattle.alpha_request.specs.declared.request.Request.TheVariants.{Check, Dis, Asm, Fix, Module, Run, RunImprecise, Debug, Trial}
+use Rattle.alpha_request.specs.declared.request.Request.TheVariants.{Check, Dis, Asm, Fix, Module, Replay, Run, RunImprecise, Debug, Trial}
 use Rattle.alpha_request.specs.declared.options.RunOptions.{RunOptions}
 use Rattle.alpha_request.specs.Options.{Drawn, drawn_from}
 
@@ -11,6 +11,7 @@ pub data Command : Type 0 where
   asm : List ℕ → List ℕ → Command
   fix : List ℕ → List ℕ → Command
   make_module : List ℕ → List ℕ → Command
+  replay : List ℕ → List ℕ → Command
   run : RunOptions → List ℕ → Command
   -- the choices, and whether the verdict is passed over
   imprecise : RunOptions → Drawn → Bool → List ℕ → Command
@@ -23,6 +24,7 @@ command_of (Dis file) = dis file.now
 command_of (Asm file out) = asm file.now out.now
 command_of (Fix file out) = fix file.now out.now
 command_of (Module file out) = make_module file.now out.now
+command_of (Replay file journal) = replay file.now journal.now
 command_of (Run options file) = run options file.now
 command_of (RunImprecise options choices force file) = imprecise options (drawn_from choices) force file.now
 command_of (Debug file) = debug file.now

@@ -12,6 +12,7 @@ mod debug;
 mod dis;
 mod fix;
 mod module;
+mod replay;
 mod run;
 mod trial;
 
@@ -30,6 +31,7 @@ pub(crate) fn command_for<'a>(alloc: Global, name: Name) -> Result<Command<'a>, 
         Name::Asm => asm::command(alloc),
         Name::Fix => fix::command(alloc),
         Name::Module => module::command(alloc),
+        Name::Replay => replay::command(alloc),
         Name::Run => run::command(alloc),
         Name::Debug => debug::command(alloc),
         Name::Trial => trial::command(alloc),
@@ -46,6 +48,7 @@ pub(crate) fn request_in<'a>(name: Name, matches: &ArgMatches<'a>) -> Result<Req
         Name::Asm => asm::request(matches),
         Name::Fix => fix::request(matches),
         Name::Module => module::request(matches),
+        Name::Replay => replay::request(matches),
         Name::Run => run::request(matches),
         Name::Debug => debug::request(matches),
         Name::Trial => trial::request(matches),

@@ -14,6 +14,8 @@ pub(crate) enum Name {
     Fix,
     /// `module`
     Module,
+    /// `replay`
+    Replay,
     /// `run`
     Run,
     /// `debug`
@@ -32,6 +34,7 @@ pub(crate) fn name_of(word: &str) -> Option<Name>
         "asm" => Some(Name::Asm),
         "fix" => Some(Name::Fix),
         "module" => Some(Name::Module),
+        "replay" => Some(Name::Replay),
         "run" => Some(Name::Run),
         "debug" => Some(Name::Debug),
         "trial" => Some(Name::Trial),

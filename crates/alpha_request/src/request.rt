@@ -42,6 +42,13 @@ pub enum Request<'a> {
         /// The name under which the module is kept.
         out: &'a str,
     },
+    /// `replay FILE JOURNAL`: whether the journal JOURNAL lists a run of the image FILE.
+    Replay {
+        /// The name of the image.
+        file: &'a str,
+        /// The name of the journal.
+        journal: &'a str,
+    },
     /// `run FILE`: a run of the image FILE by the sequential machine.
     Run {
         /// How it is run.

@@ -16,6 +16,7 @@ fn asked(alloc: Global, words: &[&str]) -> Result<Option<(&'static str, String)>
         Ok(Request::Asm { file, .. }) => Ok(Some(("asm", String::from_str(alloc, file)?))),
         Ok(Request::Fix { file, .. }) => Ok(Some(("fix", String::from_str(alloc, file)?))),
         Ok(Request::Module { file, .. }) => Ok(Some(("module", String::from_str(alloc, file)?))),
+        Ok(Request::Replay { file, .. }) => Ok(Some(("replay", String::from_str(alloc, file)?))),
         Ok(Request::Run { file, .. } | Request::RunImprecise { file, .. }) => Ok(Some((
             "run",
             String::from_str(alloc, file)?,
@@ -140,6 +141,30 @@ fn a_source_comes_before_the_name_of_what_is_made(rt: HostRuntime) -> Result<(),
     ];
     for words in refused {
         assert!(rt; made(alloc, words)?.is_none());
+    }
+    Ok(())
+}
+
+#[test]
+fn an_image_comes_before_its_journal(rt: HostRuntime) -> Result<(), Fail> {
+    let alloc = rt.alloc();
+    let mut given = Words::new(alloc);
+    for word in ["replay", "a", "--", "-j"] {
+        given.push(word)?;
+    }
+    match request_of(alloc, &given) {
+        Ok(Request::Replay { file, journal }) => assert!(rt; file == "a" && journal == "-j"),
+        _ => return Err(Fail::from("no replay")),
+    }
+    let refused: [&[&str]; 5] = [
+        &["replay"],
+        &["replay", "a"],
+        &["replay", "a", "b", "c"],
+        &["replay", "a", "-j"],
+        &["replays", "a", "b"],
+    ];
+    for words in refused {
+        assert!(rt; asked(alloc, words)?.is_none());
     }
     Ok(())
 }

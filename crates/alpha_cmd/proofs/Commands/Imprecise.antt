@@ -27,7 +27,7 @@ use Rattle.alpha_cmd.specs.Form.{MayTakeBy}
 use Rattle.alpha_cmd.specs.Commands.Run.{program_by}
 use Rattle.alpha_cmd.specs.Commands.Imprecise.{Plan, plan_by, PlanOf, Passes, with_drawn, run_by, MadeByReads, MayShowWild, drawn_status, wild_status, answer_wild, RunsWild, MayLose, Ends, HasChoices, steps, kind, form, there}
 use Rattle.alpha_cmd.proofs.Lawful.{Lawful, Then-lawful, Goes-lawful, Gives-lawful}
-use Rattle.alpha_cmd.proofs.Stages.{Reads-lawful, ImageOf-lawful, Judges-lawful}
+use Rattle.alpha_cmd.proofs.Stages.{Reads-lawful, ImageOf-lawful, Judges-lawful, kept_same}
 use Rattle.alpha_cmd.proofs.Forms.{IsLawfulForm, is_fault}
 use Rattle.alpha_cmd.proofs.Commands.Run.{some_shown as some_run}
 
@@ -129,13 +129,6 @@ broken_answer w options choices force name plan s line t found judges refused is
 pub passed : (force : Bool) (plan : Plan) → (force ≡ false → IsAccepted plan.image.words) → Passes force plan (goes plan)
 passed true plan good = refl
 passed false plan good = (plan.image, (good refl, refl), refl)
-
--- files that stay are the same
-kept_same : (a b : Files) → KeepsFiles a b → b ≡ a
-kept_same None None kept = refl
-kept_same None (Some g) kept = absurd kept
-kept_same (Some f) None kept = absurd kept
-kept_same (Some f) (Some g) kept = λ i. Some (λ name. kept name i)
 
 -- choices that aren't read after the image was
 pub unchosen : (a b : Files) (name : List ℕ) (choices : Drawn) (image : Parts) (s : Status) → KeepsFiles a b → ImageOf a name (goes image)

@@ -10,6 +10,7 @@ use Rattle.alpha_cmd.specs.Commands.Asm as assemblies
 use Rattle.alpha_cmd.specs.Commands.Check as checks
 use Rattle.alpha_cmd.specs.Commands.Fix as fixes
 use Rattle.alpha_cmd.specs.Commands.Module as modules
+use Rattle.alpha_cmd.specs.Commands.Replay as replays
 use Rattle.alpha_cmd.specs.Tries.{TriesBy}
 use Rattle.alpha_cmd.proofs.Endings.{Leaves-all, Leaves-kept}
 use Rattle.alpha_cmd.proofs.top.perform.Goals as goal
@@ -65,6 +66,17 @@ returns-in-Module-clause-tried g c =
     (shelved g.H.Shelf c.args.shelf.now c.module.new.shelf)
     (g.K.Sink.written c.args.out.now) (g.N.Sink.written c.args.notes.now) (g.K.Sink.faults c.args.out.now) (g.N.Sink.faults c.args.notes.now)
     settled.1 settled.2)
+
+pub returns-in-Replay-clause-tried : goal.returns-in-Replay-clause-tried
+returns-in-Replay-clause-tried g c =
+    let w = world g.H.Shelf g.S.Source c.args.shelf.now c.args.input.now in
+    let shelf = Rose (g.H.Shelf.faults c.args.shelf.now) (g.H.Shelf.faults c.replay.new.shelf) in
+    let input = Rose (g.S.Source.faults c.args.input.now) (g.S.Source.faults c.args.input.now) in
+    rw c.in-Replay.is
+    (Leaves-all (TriesBy shelf input (replays.form c.in-Replay.file.now c.in-Replay.journal.now) w) (answer_in (g.S.Source.left c.args.input.now) c.replay.result)
+    (shelved g.H.Shelf c.args.shelf.now c.replay.new.shelf)
+    (g.K.Sink.written c.args.out.now) (g.N.Sink.written c.args.notes.now) (g.K.Sink.faults c.args.out.now) (g.N.Sink.faults c.args.notes.now)
+    (c.replay.ensures.tried (drawn g.S.Source c.args.input.now c.args.input.now)) c.replay.ensures.shelf.files)
 
 pub trial-requires-clause-some : goal.trial-requires-clause-some
 trial-requires-clause-some g c = (c.requires.blocks c.in-Trial.blocks (ap command_of c.in-Trial.is)).0

@@ -1,0 +1,120 @@
+-- The laws of `replay`, and what leads to its answers.
+use Rattle.std.proofs.Common.{◌≡◌, ◌∙◌, ◌⊎◌, ℕ, List, All, Option, None, Some, Result, Ok, Err, IfErr, refl, sym, ap, subst, inl, inr}
+use Rattle.alpha_io.specs.Files.{Files, KeepsFiles}
+use Rattle.alpha_image.specs.Parts.{Parts as Image, IsByte}
+use Rattle.alpha_image.proofs.Form.{IsBytes-All}
+use Rattle.alpha_replay.specs.declared.fault.JournalFault.{JournalFault}
+use Rattle.alpha_replay.specs.declared.replay_fault.ReplayFault.{ReplayFault}
+use Rattle.alpha_replay.specs.declared.replaying.Replayed.{Replayed}
+use Rattle.alpha_replay.specs.Journal.{Parts, IsJournal, spelling}
+use Rattle.alpha_replay.specs.JournalFault.{first_fault}
+use Rattle.alpha_replay.specs.Reading.{parts_of}
+use Rattle.alpha_replay.specs.Replay.{replayed}
+use Rattle.alpha_replay.proofs.Spelled.{one_journal, first_fault-spelling, no_fault}
+use Rattle.alpha_cmd.specs.declared.status.Status.{Status}
+use Rattle.alpha_cmd.specs.declared.status.Status.TheVariants.{BadJournal, NotARun, NoMemory}
+use Rattle.alpha_cmd.specs.Status.{class_of, status_line, Says}
+use Rattle.alpha_cmd.specs.Outcome.{goes, stops, Then, Gives}
+use Rattle.alpha_cmd.specs.Image.{Reads, ImageOf}
+use Rattle.alpha_cmd.specs.Answer.{World, Answer, AnswerBy}
+use Rattle.alpha_cmd.specs.Commands.Replay.{journal_limit, NoJournal, SpellsJournal, JournalOf, NoRun, Plays, RunOf, shown, steps, form, there}
+use Rattle.alpha_cmd.specs.Tries.{CutBy}
+use Rattle.alpha_cmd.proofs.Lawful.{Lawful, HasOutcome, Either-single, Says-one, Then-lawful, Gives-lawful}
+use Rattle.alpha_cmd.proofs.Stages.{Reads-lawful, ImageOf-lawful, read_bytes, kept_same}
+use Rattle.alpha_cmd.proofs.Forms.{IsLawfulForm, is_fault}
+
+-- ---- a journal
+
+spelled_apart : (bytes : List ℕ) (p : Parts) (s : Status) → IsJournal p → bytes ≡ spelling p → NoJournal bytes s → ⊥
+spelled_apart bytes p s good e (fault, is, first) = let none = ap first_fault e ∙ first_fault-spelling p good in cc
+
+same_fault : (bytes : List ℕ) (s t : Status) → NoJournal bytes s → NoJournal bytes t → s ≡ t
+same_fault bytes s t (f, is, first) (g, also, second) = let same : f ≡ g = cc in is ∙ (ap BadJournal same ∙ sym also)
+
+spells_some : (bytes : List ℕ) → All IsByte bytes → (fault : Option JournalFault) → first_fault bytes ≡ fault → HasOutcome (SpellsJournal bytes)
+spells_some bytes all None e = (goes (parts_of bytes), no_fault bytes (IsBytes-All bytes all) e)
+spells_some bytes all (Some fault) e = (stops (BadJournal fault) (status_line (BadJournal fault)), ((fault, refl, e), refl))
+
+SpellsJournal-lawful : (told whole there : Type 0) (bytes : List ℕ) → (whole → All IsByte bytes) → Lawful told whole there (SpellsJournal bytes)
+SpellsJournal-lawful told whole there bytes all = record {
+  single = λ h. Either-single (λ p. IsJournal p × (bytes ≡ spelling p)) (Says (NoJournal bytes)) (record {
+    good = λ a b h g. one_journal a b h.0 g.0 (sym h.1 ∙ g.1);
+    why = Says-one (NoJournal bytes) (same_fault bytes);
+    apart = λ a s l h g. spelled_apart bytes a s h.0 h.1 g.0;
+  });
+  some = λ h. spells_some bytes (all h) (first_fault bytes) refl;
+  plain = λ s line h. inl (ap class_of h.0.1);
+}
+
+-- ---- its run
+
+one_run : (image : Image) (p : Parts) (r t : Replayed) → replayed image p ≡ Ok r → replayed image p ≡ Ok t → r ≡ t
+one_run image p r t h g = cc
+
+same_norun : (image : Image) (p : Parts) (s t : Status) → NoRun image p s → NoRun image p t → s ≡ t
+same_norun image p s t (f, is, first) (g, also, second) = let same : f ≡ g = cc in is ∙ (ap NotARun same ∙ sym also)
+
+run_apart : (image : Image) (p : Parts) (r : Replayed) (s : Status) → replayed image p ≡ Ok r → NoRun image p s → ⊥
+run_apart image p r s h (f, is, first) = cc
+
+plays_some : (image : Image) (p : Parts) (answer : Result Replayed ReplayFault) → replayed image p ≡ answer → HasOutcome (Plays image p)
+plays_some image p (Ok r) e = (goes r, e)
+plays_some image p (Err fault) e = (stops (NotARun fault) (status_line (NotARun fault)), ((fault, refl, e), refl))
+
+Plays-lawful : (told whole there : Type 0) (image : Image) (p : Parts) → Lawful told whole there (Plays image p)
+Plays-lawful told whole there image p = record {
+  single = λ h. Either-single (λ r. replayed image p ≡ Ok r) (Says (NoRun image p)) (record {
+    good = one_run image p;
+    why = Says-one (NoRun image p) (same_norun image p);
+    apart = λ r s l h g. run_apart image p r s h g.0;
+  });
+  some = λ h. plays_some image p (replayed image p) refl;
+  plain = λ s line h. inl (ap class_of h.0.1);
+}
+
+-- ---- the command
+
+pub lawful : (file journal : List ℕ) (w : World) → IsLawfulForm (form file journal) (there file journal) w
+lawful file journal w = record {
+  stages =
+      Then-lawful {R = RunOf w.files file journal} {S = λ r. Gives (shown w.input r)}
+      (Then-lawful {R = ImageOf w.files file} {S = λ image. Then (JournalOf w.files journal) (Plays image)}
+      (ImageOf-lawful _ _ _ w.files file (λ h. h) (λ h. h) (λ h. h.0))
+      (λ image found.
+      Then-lawful {R = JournalOf w.files journal} {S = Plays image}
+      (Then-lawful {R = Reads w.files journal journal_limit} {S = SpellsJournal}
+      (Reads-lawful _ _ _ w.files journal journal_limit (λ h. h) (λ h. h.0) (λ h. h.1))
+      (λ bytes read. SpellsJournal-lawful _ _ _ bytes (λ h. read_bytes w.files journal bytes h.0 h.1 read.0)))
+      (λ p spelled. Plays-lawful _ _ _ image p)))
+      (λ r ran. Gives-lawful (shown w.input r));
+  ends = λ a h. inl (ap (λ (x : Answer). is_fault x.status) h.2);
+  status = λ a h. ap (λ (x : Answer). x.status) h.2;
+}
+
+-- ---- its answers
+
+-- a journal that is read after the image
+pub journal_after : (a b : Files) (name : List ℕ) (p : Parts) → KeepsFiles a b → JournalOf b name (goes p) → JournalOf a name (goes p)
+journal_after a b name p kept h = subst (λ f. JournalOf f name (goes p)) (kept_same a b kept) h
+
+-- one that isn't
+pub unread_after : (a b : Files) (file name : List ℕ) (image : Image) (s : Status) → KeepsFiles a b → ImageOf a file (goes image)
+    → JournalOf b name (stops s (status_line s)) → RunOf a file name (stops s (status_line s))
+unread_after a b file name image s kept found h =
+    inr (image, found, inl (subst (λ f. JournalOf f name (stops s (status_line s))) (kept_same a b kept) h))
+
+-- a journal that is no run, or want of memory
+played : (shelf : Type 0) (a : Files) (file name : List ℕ) (image : Image) (p : Parts) (s : Status) → ImageOf a file (goes image) → JournalOf a name (goes p)
+    → Plays image p (stops s (status_line s)) ⊎ (s ≡ NoMemory) → RunOf a file name (stops s (status_line s)) ⊎ CutBy shelf s
+played shelf a file name image p s found spelled (inl h) = inl (inr (image, found, inr (p, spelled, h)))
+played shelf a file name image p s found spelled (inr e) = inr (inl e)
+
+pub played_by : (shelf : Type 0) (a : Files) (file name : List ℕ) (image : Image) (p : Parts) (r : Result Replayed Status) → ImageOf a file (goes image)
+    → JournalOf a name (goes p) → IfErr r (λ s. Plays image p (stops s (status_line s)) ⊎ (s ≡ NoMemory))
+    → IfErr r (λ s. RunOf a file name (stops s (status_line s)) ⊎ CutBy shelf s)
+played_by shelf a file name image p (Ok x) found spelled h = tt
+played_by shelf a file name image p (Err s) found spelled h = played shelf a file name image p s found spelled h
+
+pub shown_answer : (w : World) (file journal : List ℕ) (r : Replayed) (t : Answer) → RunOf w.files file journal (goes r) → t ≡ shown w.input r
+    → AnswerBy (steps file journal) w t
+shown_answer w file journal r t ran is = (goes (shown w.input r), (r, ran, refl), is)

@@ -1,0 +1,107 @@
+//! `replay FILE JOURNAL`: whether a journal lists a run of an image.
+
+ghost use Rattle.std.specs.Prelude.{◌≡◌, ◌≢◌, ◌⊎◌, Err, IfOk, IfErr, None};
+ghost use Rattle.alpha_io.specs.Faults.{Rose};
+ghost use Rattle.alpha_io.specs.Shelved.{shelved, OnlyReads};
+ghost use Rattle.alpha_replay.specs.JournalFault.{first_fault};
+ghost use Rattle.alpha_seq.specs.Devices.{Drawn};
+ghost use Rattle.alpha_cmd.specs.Outcome.{goes, stops};
+ghost use Rattle.alpha_cmd.specs.Status.{status_line};
+ghost use Rattle.alpha_cmd.specs.Commands.Replay as forms;
+ghost use Rattle.alpha_cmd.specs.Commands.Replay.{SpellsJournal, JournalOf, Plays, RunOf};
+ghost use Rattle.alpha_cmd.specs.Decision.{answer_in};
+ghost use Rattle.alpha_cmd.specs.Tries.{CutBy, TriesBy};
+
+use crate::Status;
+use crate::decision::Decision;
+use crate::image::{load, read_file};
+use alpha_image::Image;
+use alpha_io::Shelf;
+use alpha_replay::{Journal, JournalFault, ReplayFault, Replayed, read_journal};
+use std::alloc::Global;
+
+/// The most bytes of a journal file.
+pub const JOURNAL_LIMIT: u64 = 33_554_432;
+
+/// Reads the image of a file and the journal of another, and replays the journal on the image.
+pub(crate) fn replay<H: Shelf>(alloc: Global, file: &str, journal: &str, shelf: &mut H) -> Decision
+    ensures tried { (input : Drawn)
+        → TriesBy (Rose (H.faults shelf.old) (H.faults shelf.new))
+        (Rose input.before input.now) (forms.form file.now journal.now)
+        (record { files = H.files shelf.old; takes = H.takes shelf.old; input = input.old })
+        (answer_in input.old result) }
+    ensures shelf { OnlyReads (shelved H.Shelf shelf.old shelf.new)
+        (result.status ≢ Status.ShelfFault) }
+{
+    match run_of(alloc, file, journal, shelf) {
+        Ok(replayed) => Decision::replayed(&replayed),
+        Err(status) => Decision::said(status),
+    }
+}
+
+// The run of a file's journal on the image of another file, which is read first.
+fn run_of<H: Shelf>(
+    alloc: Global,
+    file: &str,
+    journal: &str,
+    shelf: &mut H,
+) -> Result<Replayed, Status>
+    ensures ok { IfOk result (λ r.
+        RunOf (H.files shelf.old) file.now journal.now (goes r)) }
+    ensures refused { IfErr result (λ status.
+        RunOf (H.files shelf.old) file.now journal.now (stops status (status_line status))
+        ⊎ CutBy (Rose (H.faults shelf.old) (H.faults shelf.new)) status) }
+    ensures shelf { OnlyReads (shelved H.Shelf shelf.old shelf.new)
+        (result ≢ Err Status.ShelfFault) }
+{
+    match load(alloc, shelf, file) {
+        Ok(image) => match load_journal(alloc, shelf, journal) {
+            Ok(journal) => play(alloc, image, &journal),
+            Err(status) => Err(status),
+        },
+        Err(status) => Err(status),
+    }
+}
+
+// The journal of a file.
+fn load_journal<H: Shelf>(alloc: Global, shelf: &mut H, name: &str) -> Result<Journal, Status>
+    ensures ok { IfOk result (λ journal. JournalOf (H.files shelf.old) name.now (goes journal)) }
+    ensures refused { IfErr result (λ status.
+        JournalOf (H.files shelf.old) name.now (stops status (status_line status))
+        ⊎ CutBy (Rose (H.faults shelf.old) (H.faults shelf.new)) status) }
+    ensures shelf { OnlyReads (shelved H.Shelf shelf.old shelf.new)
+        (result ≢ Err Status.ShelfFault) }
+{
+    match read_file(alloc, shelf, name, JOURNAL_LIMIT) {
+        Ok(bytes) => journal_of(alloc, bytes.as_slice()),
+        Err(status) => Err(status),
+    }
+}
+
+// The journal that the bytes of a file spell.
+fn journal_of(alloc: Global, bytes: &[u8]) -> Result<Journal, Status>
+    ensures ok { IfOk result (λ journal. SpellsJournal bytes.now (goes journal)) }
+    ensures refused { IfErr result (λ status.
+        SpellsJournal bytes.now (stops status (status_line status))
+        ⊎ ((status ≡ Status.NoMemory) × (first_fault bytes.now ≡ None))) }
+{
+    match read_journal(alloc, bytes) {
+        Ok(journal) => Ok(journal),
+        Err(JournalFault::NoMemory) => Err(Status::NoMemory),
+        Err(fault) => Err(Status::BadJournal(fault)),
+    }
+}
+
+// The run of a journal on an image.
+fn play(alloc: Global, image: Image, journal: &Journal) -> Result<Replayed, Status>
+    ensures ok { IfOk result (λ r. Plays image journal.now (goes r)) }
+    ensures refused { IfErr result (λ status.
+        Plays image journal.now (stops status (status_line status))
+        ⊎ (status ≡ Status.NoMemory)) }
+{
+    match alpha_replay::replay(alloc, image, journal) {
+        Ok(replayed) => Ok(replayed),
+        Err(ReplayFault::NoMemory) => Err(Status::NoMemory),
+        Err(fault) => Err(Status::NotARun(fault)),
+    }
+}
