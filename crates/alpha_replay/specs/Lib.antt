@@ -12,3 +12,8 @@ pub mod Puts
 pub mod Compared
 pub mod Replay
 pub mod Playing
+pub mod Kept
+pub mod Keeping
+pub mod Looks
+pub mod Taped
+pub mod Turned

@@ -15,6 +15,9 @@ ghost use Rattle.alpha_replay.specs.Replay.{replayed, IsRun, IsSequential};
 ghost use Rattle.alpha_replay.specs.Journal.{Parts, IsJournal, spelling};
 ghost use Rattle.alpha_replay.specs.Reading.{parts_of};
 ghost use Rattle.alpha_replay.specs.JournalFault.{first_fault};
+ghost use Rattle.alpha_replay.specs.Kept.{closed};
+ghost use Rattle.alpha_replay.specs.Keeping.{Keeping, unkept, IsKept};
+ghost use Rattle.alpha_imprecise.specs.Made.{begun, steps_making};
 
 /// Bytes have no first fault exactly where they are the spelling of a good journal, and then they are the
 /// spelling of one journal alone.
@@ -42,4 +45,16 @@ pub fn laws_of_replays()
         → IsRun image p r.units }
     ensures restarted { (image : Image) (p : Parts) (r : Replayed) → replayed image p ≡ Ok r
         → IsRestartable image → IsSequential image p r.units }
+{}
+
+/// The laws of runs that words make and that are kept: there is one place where such a run stops, it is reached by
+/// steps of the run that these words make, and the items that are kept of it list these steps over its input.
+pub fn laws_of_kept_runs()
+    ensures one { (n : ℕ) (g : Program) (from k l : Keeping) → IsKept n g from k → IsKept n g from l
+        → k ≡ l }
+    ensures runs { (n : ℕ) (g : Program) (from k : Keeping) → IsKept n g from k
+        → (steps : ℕ) × (k.making ≡ steps_making g from.making steps) }
+    ensures listed { (n : ℕ) (g : Program) (input words : List ℕ) (k : Keeping)
+        → IsKept n g (unkept (begun (start g input) None 0 words)) k
+        → listed g input (closed k.kept) ≡ Ok (record { run = k.making.run; waited = k.making.waited }) }
 {}

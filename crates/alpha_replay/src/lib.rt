@@ -30,6 +30,7 @@
 //!   says what that shows.
 //! - [`laws_of_journals`]: bytes have no fault exactly where they are the spelling of a good journal, and
 //!   that is one journal.
+//! - [`laws_of_kept_runs`]: where a run that words make stops that is kept, and that its items list it.
 //!
 //! `src/front.rt` reads what stands before the input, `src/items.rt` the items; `src/read.rt` and
 //! `src/write.rt` are the ways in and out. All tests of bytes come before the first memory is taken.
@@ -43,7 +44,12 @@
 //! keeps of them. `specs/Moves.antt` has what a move chooses and where it is possible, `specs/Listed.antt` the
 //! steps that items list, or the first item that is impossible, and `specs/Replay.antt` what a replay answers, over the
 //! outputs of `specs/Compared.antt`. `specs/Puts.antt` says what a step puts, and `specs/Playing.antt` what the code did
-//! that plays items.
+//! that plays items. `specs/Kept.antt` has the items of the moves that words
+//! make, `specs/Keeping.antt` the journal of a run by them, which stops where it passes a limit.
+//!
+//! `src/turn.rt` makes a step of the machine and keeps it on the `src/tape.rt`: `src/look.rt` says before it what it
+//! draws, puts and takes, and `src/words.rt` draws its words. `specs/Looks.antt`, `specs/Puts.antt`, `specs/Taped.antt`
+//! and `specs/Turned.antt` are what they say.
 #![tactic(auto)]
 
 mod compare;
@@ -55,21 +61,25 @@ mod item;
 mod items;
 mod journal;
 mod laws;
+mod look;
 mod moves;
 mod number;
 mod play;
 mod read;
 mod replay_fault;
 mod replaying;
+mod tape;
 #[cfg(test)]
 mod tests;
+mod turn;
+mod words;
 mod write;
 
 pub use ending::Ending;
 pub use fault::JournalFault;
 pub use item::Item;
 pub use journal::Journal;
-pub use laws::{laws_of_journals, laws_of_replays};
+pub use laws::{laws_of_journals, laws_of_kept_runs, laws_of_replays};
 pub use moves::Move;
 pub use read::read_journal;
 pub use replay_fault::ReplayFault;

@@ -12,8 +12,8 @@ use crate::items::{read_items, scan_items};
 use crate::{Journal, JournalFault};
 use std::alloc::Global;
 
-// How many units the items of a journal use at most.
-const MOST_UNITS: u64 = 1_000_000_000;
+/// How many units the items of a journal use at most.
+pub(crate) const MOST_UNITS: u32 = 1_000_000_000;
 
 // Refuses items that are bad, use too many units, or have bytes behind them.
 #[tactic(auto, unfolding(crate::specs::Reading::items_in))]
@@ -29,7 +29,7 @@ fn check_items(front: &Front, bytes: &[u8]) -> Result<(), JournalFault>
         Ok(scanned) => scanned,
         Err(n) => return Err(JournalFault::Item(n)),
     };
-    if MOST_UNITS < scanned.units {
+    if u64::from(MOST_UNITS) < scanned.units {
         return Err(JournalFault::Units);
     }
     if scanned.bytes < items.len() {

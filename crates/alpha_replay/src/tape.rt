@@ -1,0 +1,174 @@
+//! What is kept of a run while it is made.
+
+ghost use Rattle.std.specs.Prelude.{◌≡◌, ◌≤◌, ◌++◌, [], length, vec_capacity, nat_le, true, false, IfOk};
+ghost use Rattle.alpha_replay.specs.Journal.{most_bytes, parts};
+ghost use Rattle.alpha_replay.specs.Endings.{FitsEnding};
+ghost use Rattle.alpha_replay.specs.Items.{FitsItem, is_units};
+ghost use Rattle.alpha_replay.specs.Kept.{no_moves, closed, closed_by, with_item, kept_by};
+ghost use Rattle.alpha_replay.specs.Taped.{Taped, taped, has_room};
+
+use crate::front::{MOST_BYTES, MOST_ITEMS};
+use crate::read::MOST_UNITS;
+use crate::{Ending, Item, Journal, Move};
+use alpha_words::{Completion, NoMemory};
+use std::alloc::Global;
+use std::marker::Model;
+
+/// The bytes that a run has taken and put so far, and its moves: no more than a journal may have. All of its
+/// memory is taken at the beginning.
+#[derive(Debug, Drop)]
+pub(crate) struct Tape {
+    input: Vec<u8>,
+    output: Vec<u8>,
+    items: Vec<Item>,
+    ones: u32,
+    units: u32,
+}
+
+impl Model for Tape {
+    ghost use Rattle.alpha_replay.specs.Taped.{Taped};
+
+    ghost Value = { Taped };
+
+    ghost use Rattle.alpha_replay.specs.Taped.{taped_in, IsTape};
+
+    ghost view = { taped_in };
+
+    ghost invariant = { IsTape };
+}
+
+impl Tape {
+    /// Nothing was taken, put or moved.
+    pub fn new(alloc: Global) -> Result<Tape, NoMemory>
+        ensures { IfOk result (λ tape. tape ≡ taped [] [] no_moves) }
+    {
+        let input = Vec::with_capacity(alloc, MOST_BYTES as usize)?;
+        let output = Vec::with_capacity(alloc, MOST_BYTES as usize)?;
+        let items = Vec::with_capacity(alloc, MOST_ITEMS as usize)?;
+        Ok(Tape {
+            input,
+            output,
+            items,
+            ones: 0,
+            units: 0,
+        })
+    }
+
+    /// Keeps bytes that were taken. Where that would be too many it keeps none of them.
+    #[inline(always)]
+    pub fn take(&mut self, bytes: &[u8]) -> bool
+        ensures value { result ≡ nat_le (length (self.old.taken ++ bytes.now)) most_bytes }
+        ensures state { result ≡ true
+            → self.new ≡ record self.old { taken = self.old.taken ++ bytes.now } }
+    {
+        if MOST_BYTES as usize - self.input.len() < bytes.len() {
+            return false;
+        }
+        self.input.extend_from_slice(bytes).is_ok()
+    }
+
+    /// Keeps bytes that are put. Where that would be too many it keeps none of them.
+    #[inline(always)]
+    pub fn put(&mut self, bytes: &[u8]) -> bool
+        ensures value { result ≡ nat_le (length (self.old.put ++ bytes.now)) most_bytes }
+        ensures state { result ≡ true
+            → self.new ≡ record self.old { put = self.old.put ++ bytes.now } }
+    {
+        if MOST_BYTES as usize - self.output.len() < bytes.len() {
+            return false;
+        }
+        self.output.extend_from_slice(bytes).is_ok()
+    }
+
+    /// Keeps a move. Where that would be too many items or units it keeps nothing of it.
+    #[inline(always)]
+    pub fn note(&mut self, step: Move) -> bool
+        ensures value { result ≡ has_room (kept_by self.old.kept step) }
+        ensures state { result ≡ true
+            → self.new ≡ record self.old { kept = kept_by self.old.kept step } }
+    {
+        match step {
+            Move::One => self.note_one(),
+            Move::Trips(value) => self.note_item(Item::Trigger(value)),
+            Move::Waits { adds, value } => self.note_item(Item::Wait { adds, value }),
+            Move::Reports => self.note_item(Item::Report),
+        }
+    }
+}
+
+impl Tape {
+    // Keeps a step with nothing pending that doesn't overflow.
+    #[inline(always)]
+    fn note_one(&mut self) -> bool
+        ensures value { result ≡ has_room (kept_by self.old.kept Move.One) }
+        ensures state { result ≡ true
+            → self.new ≡ record self.old { kept = kept_by self.old.kept Move.One } }
+    {
+        let full = self.ones == 0 && self.items.len() == MOST_ITEMS as usize;
+        if full || self.units == MOST_UNITS {
+            return false;
+        }
+        self.ones += 1;
+        self.units += 1;
+        true
+    }
+
+    // Keeps an item that is no Units, behind the steps that are no item yet.
+    fn note_item(&mut self, item: Item) -> bool
+        requires fits { FitsItem item }
+        requires other { is_units item ≡ false }
+        ensures value { result ≡ has_room (with_item self.old.kept item) }
+        ensures state { result ≡ true
+            → self.new ≡ record self.old { kept = with_item self.old.kept item } }
+    {
+        let closed = closed_len(&self.items, self.ones);
+        if closed == MOST_ITEMS as usize || MOST_UNITS - self.units < item.units() {
+            return false;
+        }
+        close(&mut self.items, self.ones);
+        self.ones = 0;
+        self.items.push_reserved(item);
+        self.units += item.units();
+        true
+    }
+
+    /// The journal of what is kept, of a run with this end.
+    pub fn journal(self, completion: Completion, ending: Ending) -> Journal
+        requires { FitsEnding ending }
+        ensures { result ≡ parts completion ending self.taken self.put (closed self.kept) }
+    {
+        let Tape {
+            input,
+            output,
+            mut items,
+            ones,
+            units: _,
+        } = self;
+        close(&mut items, ones);
+        Journal::of_parts(completion, ending, input, output, items)
+    }
+}
+
+// Makes an item of steps that are none yet.
+#[inline(always)]
+fn close(items: &mut Vec<Item>, ones: u32)
+    requires { length (closed_by items.old.items ones) ≤ vec_capacity items.old }
+    ensures items { items.new.items ≡ closed_by items.old.items ones }
+    ensures capacity { vec_capacity items.new ≡ vec_capacity items.old }
+{
+    if ones != 0 {
+        items.push_reserved(Item::Units(ones));
+    }
+}
+
+// How many items there are with that one.
+#[inline(always)]
+fn closed_len(items: &Vec<Item>, ones: u32) -> usize
+    ensures { result ≡ length (closed_by items.now.items ones) }
+{
+    if ones == 0 {
+        items.len()
+    } else {
+        items.len() + 1
+    }
+}
