@@ -1,5 +1,7 @@
 mod Examples
 pub mod Seeing
+pub mod Recording
+pub mod Recorded
 pub mod Turning
 pub mod Putting
 pub mod Taking

@@ -1,40 +1,13 @@
 -- The journal of a run that coming words make.
 use Rattle.std.specs.Prelude.{◌≡◌, ℕ, zero, suc, ◌-◌, ◌==◌, Bool, true, not, ◌&&◌, ◌||◌, nat_le, is_none, if◌then◌else◌, List, length, take}
 use Rattle.alpha_words.specs.declared.Completion.{Completion}
-use Rattle.alpha_seq.specs.declared.end.End.{End}
-use Rattle.alpha_seq.specs.declared.end.End.TheVariants as ends
-use Rattle.alpha_seq.specs.State.{Program, Event, Went, Barriered, Overflowed, Ends}
-use Rattle.alpha_imprecise.specs.Moment.{Happening, Precisely, Triggered, Waited, Reported, Lost}
+use Rattle.alpha_seq.specs.State.{Program}
 use Rattle.alpha_imprecise.specs.Run.{finished}
 use Rattle.alpha_imprecise.specs.Made.{Making, advance_making}
-use Rattle.alpha_replay.specs.declared.ending.Ending.{Ending}
-use Rattle.alpha_replay.specs.declared.ending.Ending.TheVariants as endings
 use Rattle.alpha_replay.specs.Items.{units_of}
 use Rattle.alpha_replay.specs.Journal.{Parts, parts, most_bytes, most_items, most_units}
+use Rattle.alpha_replay.specs.Replay.{ending_of}
 use Rattle.alpha_replay.specs.Kept.{Kept, no_moves, closed, kept_by, noted}
-
--- ---- how a run ends, as a journal has it
-
-abbrev pub ending_at : End → Ending
-ending_at (ends.Exit v) = endings.Exit v
-ending_at (ends.Signal code pc) = endings.Signal code pc
-ending_at (ends.Fetch pc) = endings.Fetch pc
-ending_at (ends.Access pc addr) = endings.Access pc addr
-ending_at (ends.Align pc addr) = endings.Align pc addr
-ending_at (ends.Overflow pc) = endings.Overflow pc
-
-abbrev pub ending_by : Event → Ending
-ending_by Went = endings.Spent
-ending_by Barriered = endings.Spent
-ending_by (Overflowed at) = endings.Spent
-ending_by (Ends end) = ending_at end
-
-abbrev pub ending_of : Happening → Ending
-ending_of (Precisely event) = ending_by event
-ending_of Triggered = endings.Spent
-ending_of Waited = endings.Spent
-ending_of (Reported at) = endings.Spent
-ending_of (Lost pc mask) = endings.Lost pc mask
 
 -- ---- the run and its items
 

@@ -17,3 +17,4 @@ pub mod Keeping
 pub mod Looks
 pub mod Taped
 pub mod Turned
+pub mod JournalEnd

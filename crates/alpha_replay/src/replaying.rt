@@ -5,6 +5,7 @@ ghost use Rattle.alpha_image.specs.Parts.{Parts as Image};
 ghost use Rattle.alpha_words.specs.declared.Completion.{Completion};
 ghost use Rattle.alpha_imprecise.specs.Wild.{trap_in, IsFresh};
 ghost use Rattle.alpha_seq.specs.Machine.{program_of};
+ghost use Rattle.alpha_replay.specs.Endings.{FitsEnding};
 ghost use Rattle.alpha_replay.specs.Items.{units_of};
 ghost use Rattle.alpha_replay.specs.Journal.{most_items, most_bytes, parts};
 ghost use Rattle.alpha_replay.specs.Playing.{happened_of, Begins};
@@ -30,8 +31,9 @@ pub struct Replayed {
 
 impl Ending {
     // How a program ends.
-    fn of_end(end: End) -> Ending
-        ensures { result ≡ ending_by end }
+    pub(crate) fn of_end(end: End) -> Ending
+        ensures value { result ≡ ending_by end }
+        ensures fits { FitsEnding result }
     {
         match end {
             End::Exit(value) => Ending::Exit(value),

@@ -1,5 +1,9 @@
 use crate::*;
+use alpha_imprecise::{ListChooser, Wild};
+use alpha_io::{ReadSource, WriteSink};
 use alpha_samples::sample;
+use alpha_seq::Machine;
+use alpha_words::Completion;
 use std::alloc::Global;
 use std::test::Fail;
 
@@ -194,5 +198,26 @@ fn a_run_is_replayed(rt: HostRuntime) -> Result<(), Fail> {
     assert_eq!(rt; found, Told::Other(ReplayFault::Item(1)));
     let found = told_of(rt.alloc(), &RUN[..37])?;
     assert_eq!(rt; found, Told::Bad(JournalFault::Short(37)));
+    Ok(())
+}
+
+#[test]
+fn a_run_is_kept(rt: HostRuntime) -> Result<(), Fail> {
+    let alloc = rt.alloc();
+    let image = sample(alloc, &PROGRAM, 0)?;
+    let machine = Machine::new(alloc, image, Completion::Wrap).ok().ok_or("memory")?;
+    let mut wild = Wild::new(machine);
+    let mut choices = [0; 32];
+    (choices[0], choices[8], choices[16], choices[24]) = (9, 5, 9, 9);
+    let mut chooser = ListChooser::new(alloc, &choices).ok().ok_or("memory")?;
+    let mut input = ReadSource::new(&b""[..]);
+    let mut out = WriteSink::new(std::io::sink());
+    let mut notes = WriteSink::new(std::io::sink());
+    let end = make_journal(alloc, &mut wild, &mut chooser, &mut input, &mut out, &mut notes, 9);
+    let JournalEnd::Made(_, journal) = end else {
+        return Err("no journal".into());
+    };
+    let bytes = journal_bytes(alloc, &journal).ok().ok_or("memory")?;
+    assert_eq!(rt; bytes.as_slice(), RUN.as_slice());
     Ok(())
 }

@@ -1,0 +1,109 @@
+-- A kept run between two steps, and one step more.
+use Rattle.std.proofs.Common.{◌≡◌, ◌+◌, ℕ, zero, suc, Bool, true, false, cond, List, [], ◌++◌, length, Option, Some, None, refl, sym, ap, subst, ◌∙◌, append_assoc}
+use Rattle.std.proofs.lemmas.List.{length-append}
+use Rattle.alpha_io.specs.Sunk.{Sunk, Puts}
+use Rattle.alpha_io.proofs.Sinks.{Puts-then}
+use Rattle.alpha_seq.specs.State.{Program}
+use Rattle.alpha_seq.specs.Machine.{program_of, state_of, class_here}
+use Rattle.alpha_seq.specs.Step.{next_class}
+use Rattle.alpha_seq.specs.Devices.{Drawn, Draws}
+use Rattle.alpha_seq.proofs.RunSteps.{Times, drawn_before, drawn_after, drawn_over, sunk_before, sunk_after, sunk_over}
+use Rattle.alpha_imprecise.specs.Moment.{Happening}
+use Rattle.alpha_imprecise.specs.Run.{WildRun, finished}
+use Rattle.alpha_imprecise.specs.Made.{Making, advance_making}
+use Rattle.alpha_imprecise.specs.Telling.{Telling, Moves}
+use Rattle.alpha_imprecise.specs.Wild.{WildState, trap_in, waited_in}
+use Rattle.alpha_imprecise.specs.WildEffect.{WildSteps}
+use Rattle.alpha_imprecise.specs.WildRunEffect.{begun_at, making_at}
+use Rattle.alpha_imprecise.proofs.RunSteps.{onto, advanced_at, Moves-then}
+use Rattle.alpha_replay.specs.declared.moves.Move.{Move}
+use Rattle.alpha_replay.specs.JournalEnd.{keeping}
+use Rattle.alpha_replay.specs.Kept.{Kept, kept_by, noted_at, noted}
+use Rattle.alpha_replay.specs.Keeping.{Keeping, unkept, is_kept, kept_more, advance_keeping, steps_keeping}
+use Rattle.alpha_replay.specs.Taped.{Taped}
+use Rattle.alpha_replay.specs.Turned.{taped_by}
+
+record Joined (input : Times) (taken rest taken' rest' : List ℕ) : Type 0 where
+  same : rest ≡ taken' ++ rest'
+  took : Draws (drawn_over input) (taken ++ taken') rest'
+
+joined_at : (xs : List ℕ) (mid last : Option (List ℕ)) (a b c : ℕ) (taken rest taken' rest' : List ℕ)
+    → Draws (record { old = Some xs; new = mid; before = a; now = b }) taken rest
+    → Draws (record { old = mid; new = last; before = b; now = c }) taken' rest'
+    → Joined (record { first = Some xs; mid = mid; last = last; faults_first = a; faults_mid = b; faults_last = c }) taken rest taken' rest'
+joined_at xs None last a b c taken rest taken' rest' one two = absurd (let e = one.took.1 in cc)
+joined_at xs (Some ys) last a b c taken rest taken' rest' one two =
+    let told : ys ≡ rest = (let e = one.took.1 in cc) in
+    let same : rest ≡ taken' ++ rest' = sym told ∙ two.took.0 in
+    record {
+      same = same;
+      took = record {
+        took = (one.took.0 ∙ ap (λ l. taken ++ l) same ∙ sym (append_assoc taken taken' rest'), two.took.1);
+        same = two.same ∙ one.same;
+      };
+    }
+
+joined : (xs : List ℕ) (input : Times) (taken rest taken' rest' : List ℕ) → input.first ≡ Some xs
+    → Draws (drawn_before input) taken rest → Draws (drawn_after input) taken' rest' → Joined input taken rest taken' rest'
+joined xs input taken rest taken' rest' told one two =
+    let P : Option (List ℕ) → Type 0 = λ first.
+    Draws (record { old = first; new = input.mid; before = input.faults_first; now = input.faults_mid }) taken rest
+    → Joined (record input { first = first }) taken rest taken' rest' in
+    subst P (sym told) (λ first. joined_at xs input.mid input.last input.faults_first input.faults_mid input.faults_last taken rest taken' rest' first two) one
+
+-- so many kept steps lead here
+pub record Reaches (n : ℕ) (run : WildRun) (t : Taped) (old new : WildState) (before after : Telling) (input : Drawn) (out : Sunk) : Type 0 where
+  pub words : List ℕ
+  pub rest : List ℕ
+  pub steps : ℕ
+  pub drew : Moves before after words
+  pub took : Draws input t.taken rest
+  pub wrote : Puts out t.put
+  pub is : (coming : List ℕ)
+      → steps_keeping n (program_of old.machine) (unkept (begun_at old (t.taken ++ rest) [] (words ++ coming))) steps
+      ≡ keeping (making_at run new rest t.put coming (length words)) t.kept (t.taken ++ rest)
+  pub program : program_of new.machine ≡ program_of old.machine
+
+-- the run that has come here hasn't stopped
+abbrev pub GoesOn : ℕ → WildRun → Taped → WildState → Program → Type 0
+GoesOn n run t mid g = (rest coming : List ℕ) (count : ℕ) → is_kept n g.how (keeping (making_at run mid rest t.put coming count) t.kept (t.taken ++ rest)) ≡ false
+
+pub reaches_more : (xs : List ℕ) (n : ℕ) (run : WildRun) (h : Happening) (t : Taped) (move : Move) (old mid new : WildState) (before told after : Telling) (input out : Times)
+    → input.first ≡ Some xs → finished run.last ≡ false → GoesOn n run t mid (program_of old.machine)
+    → Reaches n run t old mid before told (drawn_before input) (sunk_before out)
+    → (s : WildSteps h mid new told after (drawn_after input) (sunk_after out))
+    → ((left put coming : List ℕ) → noted_at (class_here mid.machine) (state_of mid.machine left put) (trap_in mid.pending) (waited_in mid.pending) (s.words ++ coming) ≡ move)
+    → Reaches n (onto run h mid new) (taped_by t s.taken s.bytes move) old new before after (drawn_over input) (sunk_over out)
+reaches_more xs n run h t move old mid new before told after input out tells going open_still one s notes =
+    let j = joined xs input t.taken one.rest s.taken s.rest tells one.took s.took in
+    let g = program_of old.machine in
+    record {
+      words = one.words ++ s.words;
+      rest = s.rest;
+      steps = suc one.steps;
+      drew = Moves-then before told after one.words s.words one.drew s.drew;
+      took = j.took;
+      wrote = Puts-then out.first out.mid out.last out.faults_first out.faults_mid out.faults_last t.put s.bytes one.wrote s.wrote;
+      is = λ coming.
+          let k = making_at run mid one.rest t.put (s.words ++ coming) (length one.words) in
+          let whole : t.taken ++ one.rest ≡ (t.taken ++ s.taken) ++ s.rest = ap (λ (l : List ℕ). t.taken ++ l) j.same ∙ sym (append_assoc t.taken s.taken s.rest) in
+          let begin : begun_at old (t.taken ++ one.rest) [] (one.words ++ (s.words ++ coming)) ≡ begun_at old ((t.taken ++ s.taken) ++ s.rest) [] ((one.words ++ s.words) ++ coming) =
+          ap (λ (l : List ℕ). begun_at old l [] (one.words ++ (s.words ++ coming))) whole
+          ∙ ap (λ (l : List ℕ). begun_at old ((t.taken ++ s.taken) ++ s.rest) [] l) (sym (append_assoc one.words s.words coming)) in
+          let next : advance_making g k ≡ making_at (onto run h mid new) new s.rest (t.put ++ s.bytes) coming (length (one.words ++ s.words)) =
+          ap (λ (l : List ℕ). advance_making g (making_at run mid l t.put (s.words ++ coming) (length one.words))) j.same
+          ∙ (advanced_at g run mid new h (s.taken ++ s.rest) t.put s.rest (t.put ++ s.bytes) s.words coming (length one.words) going one.program (s.is coming t.put) s.waited
+          ∙ ap (λ (m : ℕ). making_at (onto run h mid new) new s.rest (t.put ++ s.bytes) coming m) (sym (length-append one.words s.words))) in
+          let moved : noted g k ≡ move =
+          ap (λ (p : Program). noted_at (next_class p mid.machine.pc) (state_of mid.machine one.rest t.put) (trap_in mid.pending) (waited_in mid.pending) (s.words ++ coming)) (sym one.program)
+          ∙ notes one.rest t.put coming in
+          let at : Keeping = keeping k t.kept (t.taken ++ one.rest) in
+          let more : advance_keeping n g at ≡ kept_more g at = ap (λ (b : Bool). cond b at (kept_more g at)) (open_still one.rest (s.words ++ coming) (length one.words)) in
+          ap (λ (from : Making). steps_keeping n g (unkept from) (suc one.steps)) (sym begin)
+          ∙ (ap (λ (x : Keeping). advance_keeping n g x) (one.is (s.words ++ coming))
+          ∙ (more
+          ∙ (ap (λ (m : Making). keeping m (kept_by t.kept (noted g k)) (t.taken ++ one.rest)) next
+          ∙ (ap (λ (m : Move). keeping (making_at (onto run h mid new) new s.rest (t.put ++ s.bytes) coming (length (one.words ++ s.words))) (kept_by t.kept m) (t.taken ++ one.rest)) moved
+          ∙ ap (λ (l : List ℕ). keeping (making_at (onto run h mid new) new s.rest (t.put ++ s.bytes) coming (length (one.words ++ s.words))) (kept_by t.kept move) l) whole))));
+      program = s.program ∙ one.program;
+    }

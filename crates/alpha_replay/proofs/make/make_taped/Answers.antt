@@ -1,0 +1,84 @@
+use Rattle.std.proofs.Common.{◌≡◌, ◌+◌, ◌-◌, ◌*◌, ◌≤◌, ◌<◌, false, refl, sym, subst, ◌∙◌, arith}
+use Rattle.alpha_io.specs.Sunk.{sunk}
+use Rattle.alpha_seq.specs.Devices.{drawn}
+use Rattle.alpha_seq.proofs.RunSteps.{times, drawn_after, sunk_after}
+use Rattle.alpha_imprecise.specs.Telling.{telling}
+use Rattle.alpha_imprecise.specs.Run.{unit_of}
+use Rattle.alpha_imprecise.specs.Wild.{trap_in}
+use Rattle.alpha_imprecise.proofs.Causes.{stays_then}
+use Rattle.alpha_imprecise.proofs.RunGoes.{turn_shortens, wait_left, fewer_left}
+use Rattle.alpha_replay.proofs.Recorded.{remains_none, remains_spent, turn_remains, turn_full, turn_outcome}
+use Rattle.alpha_replay.proofs.make.make_taped.Goals as goal
+
+pub steps-init : goal.steps-init
+steps-init g c = record {
+  most = omega arith;
+  made = λ bytes told.
+      remains_none c.args.units c.args.tape.now c.args.wild.now (telling g.C.Chooser.ahead g.C.Chooser.drawn c.args.chooser.now) (g.S.Source.left c.args.input.now) (g.K.Sink.written c.args.out.now) (g.N.Sink.written c.args.notes.now) bytes (g.S.Source.faults c.args.input.now) (g.K.Sink.faults c.args.out.now) (g.N.Sink.faults c.args.notes.now) c.requires.empty told;
+  same = record { program = refl; mode = refl };
+}
+
+pub returns-then-is_past-clause-effect : goal.returns-then-is_past-clause-effect
+returns-then-is_past-clause-effect g c =
+    let before = telling g.C.Chooser.ahead g.C.Chooser.drawn c.args.chooser.now in
+    let mid = telling g.C.Chooser.ahead g.C.Chooser.drawn c.steps.chooser in
+    let after = telling g.C.Chooser.ahead g.C.Chooser.drawn c.turn-end.new.chooser in
+    let input = times g.S.Source.left g.S.Source.faults c.args.input.now c.steps.input c.turn-end.new.input in
+    let out = times g.K.Sink.written g.K.Sink.faults c.args.out.now c.steps.out c.turn-end.new.out in
+    let notes = times g.N.Sink.written g.N.Sink.faults c.args.notes.now c.steps.notes c.turn-end.new.notes in
+    let some = subst (λ n. n ≤ c.steps.left) c.unit.ensures.value c.steps-test.true in
+    λ bytes told.
+    turn_full bytes c.args.units c.steps.left c.turn-end.result.end c.steps.tape c.turn-end.new.tape c.turn-end.result.fits c.args.wild.now c.steps.wild c.turn-end.new.wild before mid after input out notes told c.steps.invariant.most some (sym c.is_past.ensures ∙ c.if-is_past.true) (c.steps.invariant.made bytes told) c.turn-end.ensures.keeps c.turn-end.ensures.effect
+
+pub returns-in-Some-clause-effect : goal.returns-in-Some-clause-effect
+returns-in-Some-clause-effect g c =
+    let before = telling g.C.Chooser.ahead g.C.Chooser.drawn c.args.chooser.now in
+    let mid = telling g.C.Chooser.ahead g.C.Chooser.drawn c.steps.chooser in
+    let after = telling g.C.Chooser.ahead g.C.Chooser.drawn c.turn-end.new.chooser in
+    let input = times g.S.Source.left g.S.Source.faults c.args.input.now c.steps.input c.turn-end.new.input in
+    let out = times g.K.Sink.written g.K.Sink.faults c.args.out.now c.steps.out c.turn-end.new.out in
+    let notes = times g.N.Sink.written g.N.Sink.faults c.args.notes.now c.steps.notes c.turn-end.new.notes in
+    let stops = sym c.run_ended_by.ensures ∙ c.in-Some.is in
+    λ bytes told.
+    turn_outcome bytes c.args.units c.steps.left c.unit.result c.turn-end.result.end c.in-Some.end c.steps.tape c.turn-end.new.tape c.turn-end.result.fits c.args.wild.now c.steps.wild c.turn-end.new.wild before mid after input out notes told c.unit.ensures.bound c.steps.invariant.most c.unit.ensures.value c.steps-test.true (sym c.is_past.ensures ∙ c.if-is_past.false) stops (c.steps.invariant.made bytes told) c.turn-end.ensures.keeps c.turn-end.ensures.effect
+
+pub steps-smaller : goal.steps-smaller
+steps-smaller g c =
+    let mid = telling g.C.Chooser.ahead g.C.Chooser.drawn c.steps.chooser in
+    let after = telling g.C.Chooser.ahead g.C.Chooser.drawn c.turn-end.new.chooser in
+    let input = times g.S.Source.left g.S.Source.faults c.args.input.now c.steps.input c.turn-end.new.input in
+    let out = times g.K.Sink.written g.K.Sink.faults c.args.out.now c.steps.out c.turn-end.new.out in
+    let notes = times g.N.Sink.written g.N.Sink.faults c.args.notes.now c.steps.notes c.turn-end.new.notes in
+    let goes = sym c.run_ended_by.ensures ∙ c.in_default.is in
+    let some = subst (λ n. n ≤ c.steps.left) c.unit.ensures.value c.steps-test.true in
+    subst (λ n. (c.steps.left - n) * 1026 + wait_left c.turn-end.new.wild.pending < c.steps.left * 1026 + wait_left c.steps.wild.pending) (sym c.unit-left.ensures.value)
+    (turn_shortens c.steps.left false c.turn-end.result.end c.steps.wild c.turn-end.new.wild mid after (drawn_after input) (sunk_after out) (sunk_after notes) some goes c.turn-end.ensures.effect)
+
+pub steps-preserved : goal.steps-preserved
+steps-preserved g c =
+    let before = telling g.C.Chooser.ahead g.C.Chooser.drawn c.args.chooser.now in
+    let mid = telling g.C.Chooser.ahead g.C.Chooser.drawn c.steps.chooser in
+    let after = telling g.C.Chooser.ahead g.C.Chooser.drawn c.turn-end.new.chooser in
+    let input = times g.S.Source.left g.S.Source.faults c.args.input.now c.steps.input c.turn-end.new.input in
+    let out = times g.K.Sink.written g.K.Sink.faults c.args.out.now c.steps.out c.turn-end.new.out in
+    let notes = times g.N.Sink.written g.N.Sink.faults c.args.notes.now c.steps.notes c.turn-end.new.notes in
+    let goes = sym c.run_ended_by.ensures ∙ c.in_default.is in
+    let same = c.unit-left.ensures.value ∙ sym c.unit.ensures.value in
+    let some = subst (λ n. n ≤ c.steps.left) (sym same) c.steps-test.true in
+    let invariant = c.steps.invariant in
+    record {
+      most = fewer_left c.args.units c.steps.left c.unit-left.result invariant.most;
+      made = λ bytes told.
+          turn_remains bytes c.args.units c.steps.left c.unit-left.result c.turn-end.result.end c.steps.tape c.turn-end.new.tape c.turn-end.result.fits c.args.wild.now c.steps.wild c.turn-end.new.wild before mid after input out notes told c.unit.ensures.bound invariant.most c.unit-left.ensures.value some (sym c.is_past.ensures ∙ c.if-is_past.false) goes (invariant.made bytes told) c.turn-end.ensures.keeps c.turn-end.ensures.effect;
+      same = stays_then invariant.same c.turn-end.ensures.same;
+    }
+
+pub returns-clause-effect : goal.returns-clause-effect
+returns-clause-effect g c =
+    let before = telling g.C.Chooser.ahead g.C.Chooser.drawn c.args.chooser.now in
+    let after = telling g.C.Chooser.ahead g.C.Chooser.drawn c.steps.chooser in
+    let input = drawn g.S.Source c.args.input.now c.steps.input in
+    let out = sunk g.K.Sink c.args.out.now c.steps.out in
+    let notes = sunk g.N.Sink c.args.notes.now c.steps.notes in
+    λ bytes told.
+    remains_spent c.args.units c.steps.left c.steps.tape c.args.wild.now c.steps.wild before after input out notes (subst (λ n. c.steps.left < n) c.unit.ensures.value c.steps-test.false) (c.steps.invariant.made bytes told)

@@ -1,0 +1,24 @@
+use Rattle.std.proofs.Common.{◌≡◌, ◌≤◌, ◌+◌, ◌-◌, ◌*◌, ℕ, List, Some}
+use Rattle.alpha_io.specs.Sunk.{sunk}
+use Rattle.alpha_seq.specs.Devices.{drawn}
+use Rattle.alpha_seq.specs.Machine.{Stays}
+use Rattle.alpha_imprecise.specs.Telling.{telling}
+use Rattle.alpha_imprecise.proofs.RunGoes.{wait_left}
+use Rattle.alpha_replay.proofs.Recorded.{Remains}
+use Rattle.alpha_replay.proofs.make.make_taped.Given as goal
+
+abbrev pub invariant-steps : goal.invariant-steps
+invariant-steps g l = record {
+  most : l.left ≤ l.units;
+  made : (bytes : List ℕ) → g.S.Source.left l.initial.input ≡ Some bytes
+      → Remains l.units l.left l.tape l.initial.wild l.wild
+      (telling g.C.Chooser.ahead g.C.Chooser.drawn l.initial.chooser)
+      (telling g.C.Chooser.ahead g.C.Chooser.drawn l.chooser)
+      (drawn g.S.Source l.initial.input l.input)
+      (sunk g.K.Sink l.initial.out l.out)
+      (sunk g.N.Sink l.initial.notes l.notes);
+  same : Stays l.initial.wild.machine l.wild.machine;
+}
+
+abbrev pub decreases-steps : goal.decreases-steps
+decreases-steps g l = l.left * 1026 + wait_left l.wild.pending

@@ -1,0 +1,103 @@
+-- What was made of a run and its journal, by the answer.
+use Rattle.std.specs.Prelude.{◌≡◌, ℕ, Bool, true, false, not, List, [], ◌++◌, length, Option, Some, None}
+use Rattle.alpha_io.specs.Sunk.{Sunk, Puts}
+use Rattle.alpha_words.specs.declared.Completion.{Completion}
+use Rattle.alpha_imprecise.specs.declared.end.WildEnd.{WildEnd}
+use Rattle.alpha_imprecise.specs.declared.end.WildEnd.TheVariants as ends
+use Rattle.alpha_seq.specs.declared.end.RunEnd.{RunEnd}
+use Rattle.alpha_seq.specs.declared.end.RunEnd.TheVariants as runs
+use Rattle.alpha_seq.specs.Run.{notes_of}
+use Rattle.alpha_seq.specs.Machine.{program_of}
+use Rattle.alpha_seq.specs.Devices.{Drawn, Draws}
+use Rattle.alpha_imprecise.specs.Made.{Making}
+use Rattle.alpha_imprecise.specs.Run.{WildRun}
+use Rattle.alpha_imprecise.specs.Telling.{Telling, Moves}
+use Rattle.alpha_imprecise.specs.Wild.{WildState}
+use Rattle.alpha_imprecise.specs.WildRunEffect.{begun_at, making_at, answer_of, WildRunEffect}
+use Rattle.alpha_replay.specs.declared.journal_end.JournalEnd.{JournalEnd}
+use Rattle.alpha_replay.specs.declared.journal_end.JournalEnd.TheVariants as made
+use Rattle.alpha_replay.specs.declared.ending.Ending.{Ending}
+use Rattle.alpha_replay.specs.declared.ending.Ending.TheVariants as endings
+use Rattle.alpha_replay.specs.Journal.{Parts, parts}
+use Rattle.alpha_replay.specs.Kept.{Kept, closed}
+use Rattle.alpha_replay.specs.Keeping.{Keeping, unkept, IsKept}
+use Rattle.alpha_replay.specs.Replay.{ending_by, ending_of}
+use Rattle.alpha_replay.specs.Taped.{Taped}
+use Rattle.alpha_replay.specs.Turned.{tape_fits}
+
+-- the ending that a journal has of a run with this answer
+abbrev pub ended_as : RunEnd → Ending
+ended_as (runs.Ended end) = ending_by end
+ended_as runs.Spent = endings.Spent
+ended_as (runs.Lost pc mask) = endings.Lost pc mask
+ended_as runs.InputFault = endings.Spent
+ended_as runs.SinkFault = endings.Spent
+
+abbrev pub keeping : Making → Kept → List ℕ → Keeping
+keeping making kept input = record { making = making; kept = kept; input = input }
+
+-- The run of so many units stopped here, by the words that the chooser went on by, whatever comes behind them, and at an
+-- input of what was taken and the rest; what it puts is the output's growth, and its lines are that of the notes.
+pub record Stops (n : ℕ) (run : WildRun) (t : Taped) (old new : WildState) (before after : Telling)
+    (input : Drawn) (out notes : Sunk) : Type 0 where
+  pub words : List ℕ
+  pub rest : List ℕ
+  pub drew : Moves before after words
+  pub took : Draws input t.taken rest
+  pub wrote : Puts out t.put
+  pub lines : Puts notes (notes_of false run.trace)
+  pub is : (coming : List ℕ)
+      → IsKept n (program_of old.machine) (unkept (begun_at old (t.taken ++ rest) [] (words ++ coming)))
+      (keeping (making_at run new rest t.put coming (length words)) t.kept (t.taken ++ rest))
+
+-- within the limits, and this is its journal
+pub record Records (n : ℕ) (end : RunEnd) (journal : Parts) (old new : WildState) (before after : Telling)
+    (input : Drawn) (out notes : Sunk) : Type 0 where
+  pub run : WildRun
+  pub tape : Taped
+  pub stops : Stops n run tape old new before after input out notes
+  pub end_is : answer_of run.last ≡ end
+  pub fits : tape_fits tape ≡ true
+  pub is : journal ≡ parts old.machine.how (ending_of run.last) tape.taken tape.put (closed tape.kept)
+
+-- past a limit, at the first step that brings it there
+pub record IsFull (n : ℕ) (old new : WildState) (before after : Telling) (input : Drawn) (out notes : Sunk) : Type 0 where
+  pub run : WildRun
+  pub tape : Taped
+  pub stops : Stops n run tape old new before after input out notes
+  pub past : tape_fits tape ≡ false
+
+-- whether a step that no device failed is past a limit
+abbrev pub is_past : WildEnd → Bool → Bool
+is_past ends.Went fits = not fits
+is_past ends.Barrier fits = not fits
+is_past ends.Triggered fits = not fits
+is_past ends.Waited fits = not fits
+is_past (ends.Reported at) fits = not fits
+is_past (ends.Ended end) fits = not fits
+is_past (ends.Lost pc mask) fits = not fits
+is_past ends.InputFault fits = false
+is_past ends.SinkFault fits = false
+
+abbrev pub journal_of : RunEnd → Completion → Taped → JournalEnd
+journal_of end how t = made.Made end (parts how (ended_as end) t.taken t.put (closed t.kept))
+
+-- what was made, by where the run stopped: nowhere where the tape is full
+abbrev pub outcome : Option RunEnd → Completion → Taped → JournalEnd
+outcome None how t = made.Full
+outcome (Some (runs.Ended end)) how t = journal_of (runs.Ended end) how t
+outcome (Some runs.Spent) how t = journal_of runs.Spent how t
+outcome (Some (runs.Lost pc mask)) how t = journal_of (runs.Lost pc mask) how t
+outcome (Some runs.InputFault) how t = made.InputFault
+outcome (Some runs.SinkFault) how t = made.SinkFault
+
+-- where the input is told
+abbrev pub JournalEffect : JournalEnd → ℕ → WildState → WildState → Telling → Telling → Drawn → Sunk → Sunk → Type 0
+JournalEffect (made.Made end journal) n old new before after input out notes =
+    WildRunEffect end n false old new before after input out notes × Records n end journal old new before after input out notes
+JournalEffect made.InputFault n old new before after input out notes =
+    WildRunEffect runs.InputFault n false old new before after input out notes
+JournalEffect made.SinkFault n old new before after input out notes =
+    WildRunEffect runs.SinkFault n false old new before after input out notes
+JournalEffect made.Full n old new before after input out notes = IsFull n old new before after input out notes
+JournalEffect made.NoMemory n old new before after input out notes = (new ≡ old) × (out.new ≡ out.old) × (notes.new ≡ notes.old)

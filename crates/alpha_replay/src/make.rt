@@ -1,0 +1,188 @@
+//! A run of the imprecise machine, with its journal.
+
+ghost use Rattle.std.specs.Prelude.{◌≡◌, ◌≤◌, ℕ, List, [], Some, IfSome};
+ghost use Rattle.alpha_io.specs.Sunk.{sunk};
+ghost use Rattle.alpha_seq.specs.Devices.{drawn};
+ghost use Rattle.alpha_seq.specs.Machine.{Stays};
+ghost use Rattle.alpha_imprecise.specs.Run.{unit_of};
+ghost use Rattle.alpha_imprecise.specs.Telling.{telling};
+ghost use Rattle.alpha_imprecise.specs.Wild.{trap_in};
+ghost use Rattle.alpha_imprecise.specs.WildTurn.{run_ended_by};
+ghost use Rattle.alpha_replay.specs.Kept.{no_moves};
+ghost use Rattle.alpha_replay.specs.Taped.{taped};
+ghost use Rattle.alpha_replay.specs.Endings.{FitsEnding};
+ghost use Rattle.alpha_replay.specs.JournalEnd.{JournalEffect, ended_as, is_past, journal_of, outcome};
+
+use crate::tape::Tape;
+use crate::turn::{Turned, turn};
+use crate::{Ending, JournalEnd};
+use alpha_imprecise::{Chooser, Wild, WildEnd};
+use alpha_io::{Sink, Source};
+use alpha_seq::RunEnd;
+use alpha_words::{Completion, RegSet};
+use std::alloc::Global;
+
+/// Makes the run that [`alpha_imprecise::run`] makes of so many units without `watch`, and keeps its journal,
+/// whose input is the bytes that the run has taken. `Full` comes directly after the first step that brings the run
+/// past one of the four limits of a journal, before its end is looked at; a device's fault in the same step comes
+/// before it. All memory is taken before the first step.
+///
+/// From a machine at the start and with nothing pending the items list the run, as [`crate::laws_of_kept_runs`] says.
+/// What a source gives that tells nothing is not said.
+pub fn make_journal<C: Chooser, S: Source, K: Sink, N: Sink>(
+    alloc: Global,
+    wild: &mut Wild,
+    chooser: &mut C,
+    input: &mut S,
+    out: &mut K,
+    notes: &mut N,
+    units: u64,
+) -> JournalEnd
+    ensures effect { (bytes : List ℕ) → S.left input.old ≡ Some bytes
+        → JournalEffect result units wild.old wild.new
+        (telling C.ahead C.drawn chooser.old) (telling C.ahead C.drawn chooser.new)
+        (drawn S.Source input.old input.new)
+        (sunk K.Sink out.old out.new)
+        (sunk N.Sink notes.old notes.new) }
+    ensures same { Stays wild.old.machine wild.new.machine }
+{
+    let Ok(mut tape) = Tape::new(alloc) else {
+        return JournalEnd::NoMemory;
+    };
+    let completion = wild.machine().how;
+    let stop = make_taped(&mut tape, wild, chooser, input, out, notes, units);
+    outcome(tape, completion, stop)
+}
+
+// Makes the run, and keeps it on the tape, until it is over, a device fails, or the tape is full, which is `None`.
+fn make_taped<C: Chooser, S: Source, K: Sink, N: Sink>(
+    tape: &mut Tape,
+    wild: &mut Wild,
+    chooser: &mut C,
+    input: &mut S,
+    out: &mut K,
+    notes: &mut N,
+    units: u64,
+) -> Option<RunEnd>
+    requires empty { tape.old ≡ taped [] [] no_moves }
+    ensures effect { (bytes : List ℕ) → S.left input.old ≡ Some bytes
+        → JournalEffect (outcome result wild.old.machine.how tape.new) units wild.old wild.new
+        (telling C.ahead C.drawn chooser.old) (telling C.ahead C.drawn chooser.new)
+        (drawn S.Source input.old input.new)
+        (sunk K.Sink out.old out.new)
+        (sunk N.Sink notes.old notes.new) }
+    ensures same { Stays wild.old.machine wild.new.machine }
+{
+    let mut left = units;
+    'steps: while unit(wild) <= left {
+        left -= unit(wild);
+        let Turned { end, fits } = turn(tape, wild, chooser, input, out, notes);
+        if is_past(&end, fits) {
+            return None;
+        }
+        if let Some(end) = run_ended_by(end) {
+            return Some(end);
+        }
+    }
+    Some(RunEnd::Spent)
+}
+
+// Whether a step that no device failed is past a limit.
+#[inline(always)]
+fn is_past(step: &WildEnd, fits: bool) -> bool
+    ensures { result ≡ is_past step.now fits }
+{
+    match step {
+        WildEnd::InputFault | WildEnd::SinkFault => false,
+        WildEnd::Went
+        | WildEnd::Barrier
+        | WildEnd::Triggered
+        | WildEnd::Waited
+        | WildEnd::Reported(_)
+        | WildEnd::Ended(_)
+        | WildEnd::Lost(..) => !fits,
+    }
+}
+
+// The units that the next step uses: one with nothing pending, else none.
+#[inline(always)]
+fn unit(wild: &Wild) -> u64
+    ensures value { result ≡ unit_of (trap_in wild.now.pending) }
+    ensures bound { IfSome wild.now.pending (λ p. p.waited ≤ 1024) }
+{
+    match wild.pending() {
+        None => 1,
+        Some(_) => 0,
+    }
+}
+
+// How the run ends, if this step ends it.
+#[inline(always)]
+fn run_ended_by(step: WildEnd) -> Option<RunEnd>
+    ensures { result ≡ run_ended_by step }
+{
+    match step {
+        WildEnd::Went
+        | WildEnd::Barrier
+        | WildEnd::Triggered
+        | WildEnd::Waited
+        | WildEnd::Reported(_) => None,
+        WildEnd::Ended(end) => Some(RunEnd::Ended(end)),
+        WildEnd::Lost(pc, mask) => Some(RunEnd::Lost(pc, mask)),
+        WildEnd::InputFault => Some(RunEnd::InputFault),
+        WildEnd::SinkFault => Some(RunEnd::SinkFault),
+    }
+}
+
+// What was made, by where the run stopped.
+fn outcome(tape: Tape, completion: Completion, stop: Option<RunEnd>) -> JournalEnd
+    ensures { result ≡ outcome stop completion tape }
+{
+    match stop {
+        None => JournalEnd::Full,
+        Some(end) => ended(tape, completion, end),
+    }
+}
+
+// What was made by a run that has stopped within the limits.
+fn ended(tape: Tape, completion: Completion, end: RunEnd) -> JournalEnd
+    ensures { result ≡ outcome (Some end) completion tape }
+{
+    match end {
+        RunEnd::InputFault => JournalEnd::InputFault,
+        RunEnd::SinkFault => JournalEnd::SinkFault,
+        RunEnd::Spent | RunEnd::Ended(_) | RunEnd::Lost(..) => journal_of(tape, completion, end),
+    }
+}
+
+// The run with its journal.
+fn journal_of(tape: Tape, completion: Completion, end: RunEnd) -> JournalEnd
+    ensures { result ≡ journal_of end completion tape }
+{
+    let ending = ending_of(&end);
+    JournalEnd::Made(end, tape.journal(completion, ending))
+}
+
+// The ending that a journal has of a run.
+fn ending_of(end: &RunEnd) -> Ending
+    ensures value { result ≡ ended_as end.now }
+    ensures fits { FitsEnding result }
+{
+    match *end {
+        RunEnd::Ended(end) => Ending::of_end(end),
+        RunEnd::Lost(pc, mask) => lost(pc, mask),
+        RunEnd::Spent | RunEnd::InputFault | RunEnd::SinkFault => Ending::Spent,
+    }
+}
+
+// A trap that is lost.
+#[inline(always)]
+fn lost(pc: u64, mask: RegSet) -> Ending
+    ensures value { result ≡ Ending.Lost pc mask }
+    ensures fits { FitsEnding result }
+{
+    Ending::Lost {
+        pc,
+        mask: u64::from(mask.bits()),
+    }
+}
