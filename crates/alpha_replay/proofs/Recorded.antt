@@ -1,5 +1,5 @@
 -- The loop that makes a run with its journal: between two steps, and where it stops.
-use Rattle.std.proofs.Common.{◌≡◌, ◌<◌, ◌≤◌, ◌+◌, ◌-◌, ◌==◌, ◌&&◌, ◌||◌, not, nat_le, ℕ, zero, suc, Bool, true, false, cond, List, [], ◌++◌, length, take, Option, Some, None, is_none, IfSome, refl, sym, ap, subst, ◌∙◌, arith}
+use Rattle.std.proofs.Common.{◌≡◌, ◌<◌, ◌≤◌, ◌+◌, ◌-◌, ◌==◌, ◌&&◌, ◌||◌, not, nat_le, ℕ, Bool, true, false, List, [], ◌++◌, length, take, Option, Some, None, is_none, IfSome, refl, sym, ap, subst, ◌∙◌, arith}
 use Rattle.std.proofs.Math.Seq.{take-append_seam}
 use Rattle.std.proofs.lemmas.Bool.{ne_eqb, eq-eqb}
 use Rattle.std.proofs.lemmas.List.{length-append}
@@ -8,7 +8,7 @@ use Rattle.alpha_io.proofs.Sinks.{Puts-none}
 use Rattle.alpha_words.specs.declared.Completion.{Completion}
 use Rattle.alpha_seq.specs.declared.end.RunEnd.{RunEnd}
 use Rattle.alpha_seq.specs.declared.end.RunEnd.TheVariants as runs
-use Rattle.alpha_seq.specs.State.{Program, Event, Went, Barriered, Overflowed, Ends}
+use Rattle.alpha_seq.specs.State.{Event, Went, Barriered, Overflowed, Ends}
 use Rattle.alpha_seq.specs.Run.{is_over, notes_of}
 use Rattle.alpha_seq.specs.Machine.{program_of}
 use Rattle.alpha_seq.specs.Devices.{Drawn, Draws}
@@ -17,27 +17,25 @@ use Rattle.alpha_imprecise.specs.declared.end.WildEnd.{WildEnd}
 use Rattle.alpha_imprecise.specs.declared.end.WildEnd.TheVariants as ends
 use Rattle.alpha_imprecise.specs.declared.pending.Pending.{Pending}
 use Rattle.alpha_imprecise.specs.Moment.{Happening, Precisely, Triggered, Waited, Reported, Lost}
-use Rattle.alpha_imprecise.specs.Run.{WildRun, wild_marks, finished, resumed, unit_of}
+use Rattle.alpha_imprecise.specs.Run.{WildRun, finished, resumed, unit_of}
 use Rattle.alpha_imprecise.specs.Chosen.{most_waited}
 use Rattle.alpha_imprecise.specs.Telling.{Telling}
 use Rattle.alpha_imprecise.specs.Wild.{WildState, bare, trap_in}
 use Rattle.alpha_imprecise.specs.WildTurn.{WildTurns, WildTurnEffect, run_ended_by}
-use Rattle.alpha_imprecise.specs.WildRunEffect.{begun_at, making_at, answer_of, WildRunEffect}
+use Rattle.alpha_imprecise.specs.WildRunEffect.{making_at, answer_of, WildRunEffect}
 use Rattle.alpha_imprecise.proofs.Choosing.{Moves-none}
 use Rattle.alpha_imprecise.proofs.RunSteps.{onto}
 use Rattle.alpha_imprecise.proofs.RunGoes.{Goes, Goes-none, turn_goes_on, lines_more, all_used, none_left, room, room_less}
 use Rattle.alpha_imprecise.proofs.RunStops.{spent, goes_calm, turn_stops}
 use Rattle.alpha_replay.specs.declared.ending.Ending.{Ending}
 use Rattle.alpha_replay.specs.declared.ending.Ending.TheVariants as endings
-use Rattle.alpha_replay.specs.Items.{units_of}
-use Rattle.alpha_replay.specs.Journal.{Parts, parts, most_bytes}
-use Rattle.alpha_replay.specs.Kept.{Kept, no_moves, closed}
+use Rattle.alpha_replay.specs.Journal.{parts, most_bytes}
+use Rattle.alpha_replay.specs.Kept.{no_moves, closed}
 use Rattle.alpha_replay.specs.Replay.{ending_of}
-use Rattle.alpha_replay.specs.Keeping.{Keeping, taken_by, journal_at, is_within, is_kept}
+use Rattle.alpha_replay.specs.Keeping.{journal_at, is_within, is_kept}
 use Rattle.alpha_replay.specs.Taped.{Taped, taped, has_room}
 use Rattle.alpha_replay.specs.Turned.{taped_by, tape_fits, Keeps, TurnKeeps}
-use Rattle.alpha_replay.specs.JournalEnd.{keeping, ended_as, is_past, outcome, Stops, Records, IsFull, JournalEffect}
-use Rattle.alpha_replay.specs.declared.journal_end.JournalEnd.TheVariants as made
+use Rattle.alpha_replay.specs.JournalEnd.{keeping, is_past, outcome, Stops, Records, IsFull, JournalEffect}
 use Rattle.alpha_replay.proofs.Recording.{Reaches, GoesOn, reaches_more}
 
 -- ---- where the run stands
@@ -256,10 +254,9 @@ pub remains_spent : (units left : ℕ) (t : Taped) (old new : WildState) (before
     → JournalEffect (outcome (Some runs.Spent) old.machine.how t) units old new before after input out notes
 remains_spent units left t old new before after input out notes none one =
     let all = all_used left new.pending none in
-    let same = none_left units left all.1 in
-    (
+    let same = none_left units left all.1 in (
       subst (λ (n : ℕ). WildRunEffect runs.Spent n false old new before after input out notes) same
-      (goes_calm (units - left) false old new before after input out notes all.0 one.goes),
+          (goes_calm (units - left) false old new before after input out notes all.0 one.goes),
       record {
         run = one.run;
         tape = t;

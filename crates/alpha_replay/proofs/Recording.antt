@@ -1,5 +1,5 @@
 -- A kept run between two steps, and one step more.
-use Rattle.std.proofs.Common.{◌≡◌, ◌+◌, ℕ, zero, suc, Bool, true, false, cond, List, [], ◌++◌, length, Option, Some, None, refl, sym, ap, subst, ◌∙◌, append_assoc}
+use Rattle.std.proofs.Common.{◌≡◌, ℕ, suc, Bool, false, cond, List, [], ◌++◌, length, Option, Some, None, sym, ap, subst, ◌∙◌, append_assoc}
 use Rattle.std.proofs.lemmas.List.{length-append}
 use Rattle.alpha_io.specs.Sunk.{Sunk, Puts}
 use Rattle.alpha_io.proofs.Sinks.{Puts-then}
@@ -18,7 +18,7 @@ use Rattle.alpha_imprecise.specs.WildRunEffect.{begun_at, making_at}
 use Rattle.alpha_imprecise.proofs.RunSteps.{onto, advanced_at, Moves-then}
 use Rattle.alpha_replay.specs.declared.moves.Move.{Move}
 use Rattle.alpha_replay.specs.JournalEnd.{keeping}
-use Rattle.alpha_replay.specs.Kept.{Kept, kept_by, noted_at, noted}
+use Rattle.alpha_replay.specs.Kept.{kept_by, noted_at, noted}
 use Rattle.alpha_replay.specs.Keeping.{Keeping, unkept, is_kept, kept_more, advance_keeping, steps_keeping}
 use Rattle.alpha_replay.specs.Taped.{Taped}
 use Rattle.alpha_replay.specs.Turned.{taped_by}

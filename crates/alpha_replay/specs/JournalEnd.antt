@@ -33,6 +33,7 @@ ended_as (runs.Lost pc mask) = endings.Lost pc mask
 ended_as runs.InputFault = endings.Spent
 ended_as runs.SinkFault = endings.Spent
 
+-- a run with what is kept of it
 abbrev pub keeping : Making → Kept → List ℕ → Keeping
 keeping making kept input = record { making = making; kept = kept; input = input }
 
@@ -79,6 +80,7 @@ is_past (ends.Lost pc mask) fits = not fits
 is_past ends.InputFault fits = false
 is_past ends.SinkFault fits = false
 
+-- a run with its journal
 abbrev pub journal_of : RunEnd → Completion → Taped → JournalEnd
 journal_of end how t = made.Made end (parts how (ended_as end) t.taken t.put (closed t.kept))
 

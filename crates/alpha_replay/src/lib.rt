@@ -26,6 +26,7 @@
 //!   A [`Move`] is one step of the machine, as items have it.
 //! - [`read_journal`] answers the journal that bytes spell, or a [`JournalFault`]. [`journal_bytes`] gives
 //!   the spelling.
+//! - [`make_journal`] makes a run and its journal, and answers a [`JournalEnd`].
 //! - [`replay`] answers whether a journal is a run of an image: [`Replayed`], or a [`ReplayFault`]. [`laws_of_replays`]
 //!   says what that shows.
 //! - [`laws_of_journals`]: bytes have no fault exactly where they are the spelling of a good journal, and
@@ -49,7 +50,8 @@
 //!
 //! `src/turn.rt` makes a step of the machine and keeps it on the `src/tape.rt`: `src/look.rt` says before it what it
 //! draws, puts and takes, and `src/words.rt` draws its words. `specs/Looks.antt`, `specs/Puts.antt`, `specs/Taped.antt`
-//! and `specs/Turned.antt` are what they say.
+//! and `specs/Turned.antt` are what they say. `src/make.rt` has the loop over such steps, and `specs/JournalEnd.antt` what
+//! is answered of a run.
 #![tactic(auto)]
 
 mod compare;

@@ -205,7 +205,9 @@ fn a_run_is_replayed(rt: HostRuntime) -> Result<(), Fail> {
 fn a_run_is_kept(rt: HostRuntime) -> Result<(), Fail> {
     let alloc = rt.alloc();
     let image = sample(alloc, &PROGRAM, 0)?;
-    let machine = Machine::new(alloc, image, Completion::Wrap).ok().ok_or("memory")?;
+    let machine = Machine::new(alloc, image, Completion::Wrap)
+        .ok()
+        .ok_or("memory")?;
     let mut wild = Wild::new(machine);
     let mut choices = [0; 32];
     (choices[0], choices[8], choices[16], choices[24]) = (9, 5, 9, 9);
@@ -213,7 +215,15 @@ fn a_run_is_kept(rt: HostRuntime) -> Result<(), Fail> {
     let mut input = ReadSource::new(&b""[..]);
     let mut out = WriteSink::new(std::io::sink());
     let mut notes = WriteSink::new(std::io::sink());
-    let end = make_journal(alloc, &mut wild, &mut chooser, &mut input, &mut out, &mut notes, 9);
+    let end = make_journal(
+        alloc,
+        &mut wild,
+        &mut chooser,
+        &mut input,
+        &mut out,
+        &mut notes,
+        9,
+    );
     let JournalEnd::Made(_, journal) = end else {
         return Err("no journal".into());
     };

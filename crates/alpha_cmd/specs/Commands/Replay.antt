@@ -1,5 +1,5 @@
 -- `replay FILE JOURNAL`: whether a journal lists a run of an image.
-use Rattle.std.specs.Prelude.{◌≡◌, ℕ, List, [], ◌∷◌, ◌++◌, codes, decimal, Option, Some, Result, Ok, Err}
+use Rattle.std.specs.Prelude.{◌≡◌, ℕ, List, [], ◌∷◌, ◌++◌, codes, decimal, Option, Some, Ok, Err}
 use Rattle.alpha_io.specs.Files.{Files}
 use Rattle.alpha_image.specs.Parts.{Parts as Image}
 use Rattle.alpha_replay.specs.declared.fault.JournalFault.{JournalFault}

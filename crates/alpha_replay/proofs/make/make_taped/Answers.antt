@@ -1,10 +1,8 @@
-use Rattle.std.proofs.Common.{◌≡◌, ◌+◌, ◌-◌, ◌*◌, ◌≤◌, ◌<◌, false, refl, sym, subst, ◌∙◌, arith}
+use Rattle.std.proofs.Common.{◌+◌, ◌-◌, ◌*◌, ◌≤◌, ◌<◌, false, refl, sym, subst, ◌∙◌, arith}
 use Rattle.alpha_io.specs.Sunk.{sunk}
 use Rattle.alpha_seq.specs.Devices.{drawn}
 use Rattle.alpha_seq.proofs.RunSteps.{times, drawn_after, sunk_after}
 use Rattle.alpha_imprecise.specs.Telling.{telling}
-use Rattle.alpha_imprecise.specs.Run.{unit_of}
-use Rattle.alpha_imprecise.specs.Wild.{trap_in}
 use Rattle.alpha_imprecise.proofs.Causes.{stays_then}
 use Rattle.alpha_imprecise.proofs.RunGoes.{turn_shortens, wait_left, fewer_left}
 use Rattle.alpha_replay.proofs.Recorded.{remains_none, remains_spent, turn_remains, turn_full, turn_outcome}
