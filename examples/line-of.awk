@@ -1,12 +1,13 @@
-# The line of a source whose instruction stands at the address `at`, where the code base is 0x10000:
+# The line of a source whose instruction stands at the address `at`. The code base is 0x10000, or `base`:
 #     awk -f examples/line-of.awk -v at=0x10014 FILE
+#     awk -f examples/line-of.awk -v base=0x12000 -v at=0x12014 FILE
 function hexadecimal(text,    value, n) {
     text = tolower(text)
     for (n = 3; n <= length(text); n++)
         value = 16 * value + index("0123456789abcdef", substr(text, n, 1)) - 1
     return value
 }
-BEGIN { wanted = (hexadecimal(at) - 65536) / 4 }
+BEGIN { wanted = (hexadecimal(at) - hexadecimal(base == "" ? "0x10000" : base)) / 4 }
 {
     statement = $0
     sub(/#.*/, "", statement)
