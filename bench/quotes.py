@@ -5,8 +5,11 @@
 - Each law, a function `laws_of_..` or `limits_of_..`, is in the index of docs/theorems.md with its crate, each law of
   the index is one, and the section of its crate names each of its clauses.
 - Each must-fail edit that a table of docs/theorems.md names is there.
-- Each file of a reading order has as many lines as the table says, and each name of a table of names stands in its file.
-- Each clause of the table of clauses reaches as many lines of definitions as it says (bench/reading.py).
+- Each file of a reading order has as many lines as the table says, and the order of a clause has just the files of
+  definitions that it reaches (bench/reading.py).
+- Each clause of the table of clauses reaches as many lines of definitions as it says.
+- Each name of a table of names stands in its file, and each fact or type that a quoted clause names is quoted too, or in
+  that table.
 
     bench/quotes.py [--write]
 
@@ -26,6 +29,11 @@ LAW = re.compile(r"^pub fn ((?:laws|limits)_of_\w+)\(\)(.*?)^\{\}$", re.M | re.S
 INDEXED = re.compile(r"^\| `((?:laws|limits)_of_\w+)` \| `(alpha_\w+)` \|", re.M)
 EDIT = re.compile(r"^\| `(alpha_\w+)` \| `(\w+)` \|", re.M)
 COUNTED = re.compile(r"^\| `(crates/\S+\.(?:antt|rt))` \| ([\d,]+) \|", re.M)
+PART = re.compile(r"^\*\*\d\. ", re.M)
+# What the kit defines: the page says in its table of notation what each means.
+OF_THE_KIT = set("Bool Global IfErr IfSome IsSome List None Ok OnOk Option Result Some Type".split())
+FACT = re.compile(r"(?<![\w.])[A-Z]\w+")
+DEFINED = re.compile(r"pub (?:record )?(\w+) ")
 NAMED = re.compile(r"^\| `(crates/\S+\.(?:antt|rt))` \| (`[^|]*) \|$", re.M)
 REACHED = re.compile(r"^\| `(\w+)` of `(\w+)` of `(alpha_\w+)`([^|\n]*) \| (.* files) \| (.*) \|$", re.M)
 CLAUSE = re.compile(r"ensures (\w+) \{")
@@ -103,7 +111,32 @@ def check_reached(text, write, wrong):
     return REACHED.sub(checked, text)
 
 
+def check_orders(text, wrong):
+    """Holds the three reading orders against what their clauses reach."""
+    def section(title):
+        return text.split(f"\n### {title}", 1)[1].split("\n### ", 1)[0]
+
+    def files(part):
+        return {path for path, _ in COUNTED.findall(part) if "/specs/" in path}
+
+    _, *law = [files(part) for part in PART.split(section("For the law"))]
+    restarts, alike = files(section("For `restarts`, besides")), files(section("For `alike`, besides"))
+    shadow = {path for path in law[2] if "alpha_shadow" in path}
+    orders = (("alpha_restart", "laws_of_restarts", "accepted", set().union(*law)),
+              ("alpha_cmd", "alpha_top", "restarts", set().union(*law) - shadow | restarts),
+              ("alpha_cmd", "alpha_top", "alike", set().union(*law[1:]) | restarts | alike))
+    for crate, function, clause, listed in orders:
+        rows, names, modules = reading.clauses(crate, function)
+        there = {str(file.path.relative_to(TOP)) for file in reading.reading(dict(rows)[clause], names, modules)}
+        wrong.extend(f"the reading order of {clause} lacks {path}" for path in sorted(there - listed))
+        wrong.extend(f"{clause} doesn't reach {path}" for path in sorted(listed - there))
+
+
 def check_names(text, wrong):
+    blocks = "".join(block for _, block in BLOCK.findall(text))
+    tables = {name for _, names in NAMED.findall(text) for name in re.findall(r"`(\w+)`", names)}
+    unknown = set(FACT.findall(blocks)) - OF_THE_KIT - tables - set(DEFINED.findall(blocks))
+    wrong.extend(f"a clause names {name}, and no table says where it stands" for name in sorted(unknown))
     for path, names in NAMED.findall(text):
         file = TOP / path
         there = set(re.findall(r"\w+", file.read_text())) if file.exists() else set()
@@ -138,6 +171,7 @@ def main():
         new = check_blocks(page.relative_to(TOP), text, write, wrong)
         if page == THEOREMS:
             new = check_reached(check_counts(new, write, wrong), write, wrong)
+            check_orders(new, wrong)
             check_names(new, wrong)
             check_laws(new, wrong)
             wrong.extend(f"there is no edit {edit} of {crate}" for crate, edit in EDIT.findall(new)
