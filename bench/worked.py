@@ -213,7 +213,9 @@ def byte_words(name):
     if name.endswith("l"):
         which = "byte *n*" if size == 1 else f"the bytes *n* to *n* + {size - 1}, those up to byte 7,"
         return f"*a* with {which} cleared"
-    return f"*a* with the low *n* + {size} - 8 bytes cleared, none where that isn't above 0"
+    if size == 8:
+        return "*a* with the low *n* bytes cleared"
+    return f"*a* with the low *n* - {8 - size} bytes cleared, none where *n* is at most {8 - size}"
 
 
 OPERATE_WORDS = {
