@@ -144,7 +144,8 @@ def try_look(room):
     show("a first look has the program's answer and status, and says that it is not proved",
          status == 1, output == "", "not proved" in said, said.endswith("broken trigger 0000000000010000 at 0000000000010000 condition C2\n"))
     status, output, _ = call([f"{room}/look"])
-    show("a look without words shows examples", status == 0, "check examples/repaired.img\naccepted\n[status 0]\n" in output)
+    show("a look without words shows examples", status == 0, "check examples/repaired.img\naccepted\n[status 0]\n" in output,
+         "overflow 000000000001000c\nexit 6\n[status 0]\n" in output)
 
 
 def main():
