@@ -10,7 +10,11 @@ import sys
 
 BARRIERS = {0x60000000: 0x63FF0000, 0x60000400: 0x63FF0400, 0x60004000: 0x63FF4000, 0x60004400: 0x63FF4400}
 
+if len(sys.argv) not in (3, 4):
+    sys.exit(__doc__)
 code = open(sys.argv[1], "rb").read()
+if len(code) % 4:
+    sys.exit(f"{sys.argv[1]} has {len(code)} bytes, which are no whole words")
 data = open(sys.argv[3], "rb").read() if len(sys.argv) > 3 else b""
 words = [BARRIERS.get(word, word) for (word,) in struct.iter_unpack("<I", code)]
 head = struct.pack("<8sQQQIIII", b"ALPHAIM1", 0x10000, 0x10000000, 0x10000, len(words), len(data), 0, 65536)
