@@ -394,11 +394,34 @@ def a_c_program_goes_the_way_of_the_page(folder):
     runs_as_shown(folder, "docs/from-a-compiler.md", blocks("docs/from-a-compiler.md"))
 
 
+# What the compiler once made of sum.c, by how its calls on the page end.
+STAND_IN = """#!/bin/sh
+case "$*" in
+*"-S sum.c") cp {data}/sum.s . ;;
+*"start.s sum.fixed.s -o sum.elf") cp {data}/sum.fixed.elf sum.elf ;;
+*"start.s sum.c -o sum.elf") cp {data}/sum.elf . ;;
+*) exit 1 ;;
+esac
+"""
+
+
+@test(needs_program=True)
+def what_the_compiler_made_goes_the_way_of_the_page(folder):
+    """The same without a compiler, but for the last block, in which programs are refused."""
+    os.mkdir(os.path.join(folder, "bin"))
+    compiler = os.path.join(folder, "bin", "alpha-linux-gnu-gcc")
+    with open(compiler, "w", encoding="utf-8") as file:
+        file.write(STAND_IN.format(data=DATA))
+    os.chmod(compiler, 0o755)
+    path = os.path.dirname(compiler) + os.pathsep + os.environ["PATH"]
+    runs_as_shown(folder, "docs/from-a-compiler.md", blocks("docs/from-a-compiler.md")[:-1], PATH=path)
+
+
 def blocks(page):
     return re.findall(r"^```(?:console|shell-session)\n(.*?)^```$", read(os.path.join(TOP, page)), re.S | re.M)
 
 
-def runs_as_shown(folder, page, shown_blocks):
+def runs_as_shown(folder, page, shown_blocks, **variables):
     """Runs the commands of a page one after another, and holds what they write against the page."""
     for name, path in (("companions", HERE), ("alpha", os.path.abspath(ASKED)), ("examples", os.path.join(TOP, "examples"))):
         if not os.path.exists(os.path.join(folder, name)):
@@ -407,7 +430,7 @@ def runs_as_shown(folder, page, shown_blocks):
     for block in shown_blocks:
         for command, shown in re.findall(r"^\$ (.*)\n((?:(?!\$ ).*\n)*)", block, re.M):
             done = subprocess.run(["bash", "-c", command], cwd=folder, stdout=subprocess.PIPE, stderr=subprocess.STDOUT,
-                                  env=os.environ | {"ALPHA": os.path.abspath(ASKED)}, check=False)
+                                  env=os.environ | {"ALPHA": os.path.abspath(ASKED)} | variables, check=False)
             want(done.stdout.decode("utf-8", "replace"), shown, f"{page}: {command}")
 
 
