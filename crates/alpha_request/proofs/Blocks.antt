@@ -6,8 +6,9 @@ use Rattle.clap.specs.Walk.{Row, Text}
 use Rattle.clap.specs.Words.{first_of}
 use Rattle.alpha_request.specs.declared.name.Name.{Name}
 use Rattle.alpha_request.specs.declared.name.Name.TheVariants as names
-use Rattle.alpha_request.specs.Command.{Command, check, dis, asm, fix, make_module, replay, run, imprecise, debug, trial}
+use Rattle.alpha_request.specs.Command.{Command, check, dis, asm, fix, make_module, link, replay, run, imprecise, debug, trial}
 use Rattle.alpha_request.specs.Options.{options_in, choices_in, force_in, number_of}
+use Rattle.alpha_request.specs.Commands.Link.{entry_in, files_in}
 use Rattle.alpha_request.specs.Commands.Run.{has_choices, imprecise_in, is_imprecise, plain_in}
 use Rattle.alpha_request.specs.Commands.Trial.{blocks_in, blocks_of, within_blocks}
 use Rattle.alpha_request.specs.Asked.{app_of_name, asked, asked_as, command_in, matches_on, name_of}
@@ -75,6 +76,8 @@ in_command names.Fix rows n e =
     absurd (then_not _ n (λ file. map_not (fix file) n (λ out e. cc) (first_of (codes "out") rows)) (first_of (codes "file") rows) e)
 in_command names.Module rows n e =
     absurd (then_not _ n (λ file. map_not (make_module file) n (λ out e. cc) (first_of (codes "out") rows)) (first_of (codes "file") rows) e)
+in_command names.Link rows n e =
+    absurd (then_not _ n (λ out. map_not (link (entry_in rows) out) n (λ files e. cc) (files_in rows)) (first_of (codes "out") rows) e)
 in_command names.Replay rows n e =
     absurd (then_not _ n (λ file. map_not (replay file) n (λ journal e. cc) (first_of (codes "journal") rows)) (first_of (codes "file") rows) e)
 in_command names.Run rows n e = absurd (run_not (is_imprecise rows) (has_choices rows) rows n e)

@@ -20,6 +20,7 @@ name_of word =
     else if bytes_eq word (codes "asm") then Some names.Asm
     else if bytes_eq word (codes "fix") then Some names.Fix
     else if bytes_eq word (codes "module") then Some names.Module
+    else if bytes_eq word (codes "link") then Some names.Link
     else if bytes_eq word (codes "replay") then Some names.Replay
     else if bytes_eq word (codes "run") then Some names.Run
     else if bytes_eq word (codes "debug") then Some names.Debug

@@ -7,6 +7,7 @@ use Rattle.alpha_request.specs.Commands.Dis as dis
 use Rattle.alpha_request.specs.Commands.Asm as asm
 use Rattle.alpha_request.specs.Commands.Fix as fix
 use Rattle.alpha_request.specs.Commands.Module as modules
+use Rattle.alpha_request.specs.Commands.Link as links
 use Rattle.alpha_request.specs.Commands.Replay as replays
 use Rattle.alpha_request.specs.Commands.Run as run
 use Rattle.alpha_request.specs.Commands.Debug as debug
@@ -16,6 +17,7 @@ pub mod Check
 pub mod Debug
 pub mod Dis
 pub mod Fix
+pub mod Link
 pub mod Module
 pub mod Replay
 pub mod Run
@@ -27,6 +29,7 @@ spoken names.Dis = dis.spoken
 spoken names.Asm = asm.spoken
 spoken names.Fix = fix.spoken
 spoken names.Module = modules.spoken
+spoken names.Link = links.spoken
 spoken names.Replay = replays.spoken
 spoken names.Run = run.spoken
 spoken names.Debug = debug.spoken

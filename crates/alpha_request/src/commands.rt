@@ -11,6 +11,7 @@ mod check;
 mod debug;
 mod dis;
 mod fix;
+mod link;
 mod module;
 mod replay;
 mod run;
@@ -31,6 +32,7 @@ pub(crate) fn command_for<'a>(alloc: Global, name: Name) -> Result<Command<'a>, 
         Name::Asm => asm::command(alloc),
         Name::Fix => fix::command(alloc),
         Name::Module => module::command(alloc),
+        Name::Link => link::command(alloc),
         Name::Replay => replay::command(alloc),
         Name::Run => run::command(alloc),
         Name::Debug => debug::command(alloc),
@@ -39,7 +41,11 @@ pub(crate) fn command_for<'a>(alloc: Global, name: Name) -> Result<Command<'a>, 
 }
 
 /// The request that a named command's matches make.
-pub(crate) fn request_in<'a>(name: Name, matches: &ArgMatches<'a>) -> Result<Request<'a>, Refusal>
+pub(crate) fn request_in<'a>(
+    alloc: Global,
+    name: Name,
+    matches: &ArgMatches<'a>,
+) -> Result<Request<'a>, Refusal>
     ensures { Reads (command_in name (rows_of (found_of matches.now))) result }
 {
     match name {
@@ -48,6 +54,7 @@ pub(crate) fn request_in<'a>(name: Name, matches: &ArgMatches<'a>) -> Result<Req
         Name::Asm => asm::request(matches),
         Name::Fix => fix::request(matches),
         Name::Module => module::request(matches),
+        Name::Link => link::request(alloc, matches),
         Name::Replay => replay::request(matches),
         Name::Run => run::request(matches),
         Name::Debug => debug::request(matches),

@@ -2,7 +2,8 @@
 //!
 //! - [`Words`] are the words, in their order.
 //! - [`Request`] is what good words ask for, [`Refusal`] why there is no request. [`RunOptions`] is
-//!   how a program is run, [`Choices`] where the choices of the imprecise machine come from.
+//!   how a program is run, [`Choices`] where the choices of the imprecise machine come from, and
+//!   [`FileNames`] the names of the files that are linked.
 //! - [`request_of`] reads the words. The first is a command's name exactly. `clap` reads the others
 //!   by the definition that it has of a simple command, which has no subcommands, no help and no
 //!   version flag. Then the product's own rules decide. So words ask for one command at most, and
@@ -13,11 +14,13 @@
 //! matches of `clap`, and `request.rt` the requests. The words of a command are one module of
 //! `commands.rt` and its namesake of `specs/Commands.antt`: what `clap` is told (`args.rt`,
 //! `specs/Rules.antt`), and the request that the matches make. `options.rt` and `specs/Options.antt`
-//! have the options of a run. What a further command touches is listed in docs/ARCHITECTURE.md.
+//! have the options of a run, and `files.rt` has the files of a link. What a further command touches is
+//! listed in docs/ARCHITECTURE.md.
 #![tactic(auto)]
 
 mod args;
 mod commands;
+mod files;
 mod laws;
 mod matches;
 mod name;
@@ -27,6 +30,7 @@ mod request;
 mod tests;
 mod words;
 
+pub use files::FileNames;
 pub use laws::laws_of_trial_words;
 pub use options::{Choices, RunOptions};
 pub use request::{Refusal, Request, request_of};

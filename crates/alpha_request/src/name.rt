@@ -14,6 +14,8 @@ pub(crate) enum Name {
     Fix,
     /// `module`
     Module,
+    /// `link`
+    Link,
     /// `replay`
     Replay,
     /// `run`
@@ -34,6 +36,7 @@ pub(crate) fn name_of(word: &str) -> Option<Name>
         "asm" => Some(Name::Asm),
         "fix" => Some(Name::Fix),
         "module" => Some(Name::Module),
+        "link" => Some(Name::Link),
         "replay" => Some(Name::Replay),
         "run" => Some(Name::Run),
         "debug" => Some(Name::Debug),

@@ -4,11 +4,11 @@ ghost use Rattle.alpha_request.specs.Reading.{Reads};
 use crate::commands::request_in;
 use crate::matches::matches_of;
 use crate::name::name_of;
-use crate::{Choices, RunOptions, Words};
+use crate::{Choices, FileNames, RunOptions, Words};
 use std::alloc::Global;
 
 /// What good words ask for.
-#[derive(Clone, Copy, Debug, PartialEq, Eq)]
+#[derive(Debug, Drop)]
 pub enum Request<'a> {
     /// `check FILE`: whether the code of the image FILE is accepted, and so can be restarted after
     /// a late trap.
@@ -41,6 +41,15 @@ pub enum Request<'a> {
         file: &'a str,
         /// The name under which the module is kept.
         out: &'a str,
+    },
+    /// `link [--entry NAME] OUT FILE...`: the image that the modules of the files link to, kept as OUT.
+    Link {
+        /// The name of the entry, `start` where it isn't given.
+        entry: &'a str,
+        /// The name under which the image is kept.
+        out: &'a str,
+        /// The names of the modules' files, in the order in which they are linked.
+        files: FileNames<'a>,
     },
     /// `replay FILE JOURNAL`: whether the journal JOURNAL lists a run of the image FILE.
     Replay {
@@ -104,7 +113,7 @@ pub fn request_of<'a>(alloc: Global, words: &'a Words) -> Result<Request<'a>, Re
         return Err(Refusal::BadWords);
     };
     match matches_of(alloc, name, words) {
-        Ok(matches) => request_in(name, &matches),
+        Ok(matches) => request_in(alloc, name, &matches),
         Err(refusal) => Err(refusal),
     }
 }

@@ -1,3 +1,5 @@
+mod links;
+
 use crate::{Choices, Refusal, Request, RunOptions, Words, request_of};
 use alpha_words::Completion;
 use std::alloc::Global;
@@ -16,6 +18,7 @@ fn asked(alloc: Global, words: &[&str]) -> Result<Option<(&'static str, String)>
         Ok(Request::Asm { file, .. }) => Ok(Some(("asm", String::from_str(alloc, file)?))),
         Ok(Request::Fix { file, .. }) => Ok(Some(("fix", String::from_str(alloc, file)?))),
         Ok(Request::Module { file, .. }) => Ok(Some(("module", String::from_str(alloc, file)?))),
+        Ok(Request::Link { out, .. }) => Ok(Some(("link", String::from_str(alloc, out)?))),
         Ok(Request::Replay { file, .. }) => Ok(Some(("replay", String::from_str(alloc, file)?))),
         Ok(Request::Run { file, .. } | Request::RunImprecise { file, .. }) => Ok(Some((
             "run",
