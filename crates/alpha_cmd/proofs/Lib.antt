@@ -5,8 +5,10 @@ pub mod Endings
 pub mod Fixed
 pub mod Forms
 pub mod Keeping
+pub mod KeptLinks
 pub mod KeptModules
 pub mod Lawful
+pub mod Listed
 pub mod Ran
 pub mod ReplayedRuns
 pub mod Stages

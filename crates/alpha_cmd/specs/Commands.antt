@@ -1,5 +1,5 @@
 -- The commands: the form of each, its kind, and the files that are there where it meets no missing one.
-use Rattle.alpha_request.specs.Command.{Command, check, dis, asm, fix, make_module, replay, run, imprecise, debug, trial}
+use Rattle.alpha_request.specs.Command.{Command, check, dis, asm, fix, make_module, link, replay, run, imprecise, debug, trial}
 use Rattle.std.specs.Prelude.{ℕ, List}
 use Rattle.alpha_io.specs.Files.{Files}
 use Rattle.alpha_cmd.specs.declared.status.Status.{Status}
@@ -11,6 +11,7 @@ use Rattle.alpha_cmd.specs.Commands.Debug as sessions
 use Rattle.alpha_cmd.specs.Commands.Dis as listings
 use Rattle.alpha_cmd.specs.Commands.Fix as fixes
 use Rattle.alpha_cmd.specs.Commands.Imprecise as wilds
+use Rattle.alpha_cmd.specs.Commands.Link as links
 use Rattle.alpha_cmd.specs.Commands.Module as modules
 use Rattle.alpha_cmd.specs.Commands.Replay as replays
 use Rattle.alpha_cmd.specs.Commands.Run as runs
@@ -21,6 +22,7 @@ pub mod Debug
 pub mod Dis
 pub mod Fix
 pub mod Imprecise
+pub mod Link
 pub mod Module
 pub mod Replay
 pub mod Run
@@ -32,6 +34,7 @@ form_of (dis file) = listings.form file
 form_of (asm file out) = assemblies.form file out
 form_of (fix file out) = fixes.form file out
 form_of (make_module file out) = modules.form file out
+form_of (link entry out files) = links.form entry out files
 form_of (replay file journal) = replays.form file journal
 form_of (run options file) = runs.form options file
 form_of (imprecise options choices force file) = wilds.form options choices force file
@@ -45,6 +48,7 @@ kind_of (dis file) = listings.kind
 kind_of (asm file out) = assemblies.kind out
 kind_of (fix file out) = fixes.kind out
 kind_of (make_module file out) = modules.kind out
+kind_of (link entry out files) = links.kind out
 kind_of (replay file journal) = replays.kind
 kind_of (run options file) = runs.kind
 kind_of (imprecise options choices force file) = wilds.kind force
@@ -58,6 +62,7 @@ there_of (dis file) = listings.there file
 there_of (asm file out) = assemblies.there file out
 there_of (fix file out) = fixes.there file out
 there_of (make_module file out) = modules.there file out
+there_of (link entry out files) = links.there entry out files
 there_of (replay file journal) = replays.there file journal
 there_of (run options file) = runs.there file
 there_of (imprecise options choices force file) = wilds.there choices file

@@ -1,5 +1,5 @@
 -- A command is a row of stages. A stage goes on with what it found, or it stops with a status and its line.
-use Rattle.std.specs.Prelude.{◌≡◌, ◌⊎◌, ℕ, List}
+use Rattle.std.specs.Prelude.{◌≡◌, ◌⊎◌, ℕ, List, [], ◌∷◌, ◌++◌}
 use Rattle.alpha_cmd.specs.declared.status.Status.{Status}
 
 pub data Outcome (X : Type 0) : Type 0 where
@@ -24,3 +24,8 @@ Never status line = ⊥
 -- the last stage: it goes on with this
 abbrev pub Gives : {X : Type 0} → X → Outcome X → Type 0
 Gives x = Either (λ y. y ≡ x) Never
+
+-- A stage for each of a list, in its order, which knows what those before it went on with. It goes on with all of that.
+abbrev pub Each : {X Y : Type 0} → (List Y → X → Outcome Y → Type 0) → List Y → List X → Outcome (List Y) → Type 0
+Each R before [] = Gives before
+Each R before (x ∷ xs) = Then (R before x) (λ y. Each R (before ++ y ∷ []) xs)

@@ -6,6 +6,10 @@ use Rattle.alpha_operands.specs.declared.operands.LineFaultKind.{LineFaultKind}
 use Rattle.alpha_operands.specs.declared.operands.LineFaultKind.TheVariants.{BadToken, UnknownName, BadOperands, OutOfRange}
 use Rattle.alpha_asm.specs.declared.fault.AsmFault.{AsmFault}
 use Rattle.alpha_asm.specs.declared.fault.AsmFault.TheVariants as refusals
+use Rattle.alpha_link.specs.declared.fault.ModuleFault.{ModuleFault}
+use Rattle.alpha_link.specs.declared.fault.ModuleFault.TheVariants as modules
+use Rattle.alpha_link.specs.declared.fault.LinkFault.{LinkFault}
+use Rattle.alpha_link.specs.declared.fault.LinkFault.TheVariants as links
 use Rattle.alpha_replay.specs.declared.fault.JournalFault.{JournalFault}
 use Rattle.alpha_replay.specs.declared.fault.JournalFault.TheVariants as journals
 use Rattle.alpha_replay.specs.declared.replay_fault.ReplayFault.{ReplayFault}
@@ -16,7 +20,7 @@ use Rattle.alpha_shadow.specs.Broken.{condition_number}
 use Rattle.alpha_shadow.specs.Report.{place_address}
 use Rattle.alpha_seq.specs.Notes.{end_line}
 use Rattle.alpha_cmd.specs.declared.status.Status.{Status}
-use Rattle.alpha_cmd.specs.declared.status.Status.TheVariants.{Done, NotRestartable, BadWords, BadSource, BadImage, Stopped, StepsSpent, Lost, ShelfFault, InputFault, SinkFault, TooLarge, NoMemory, Unfixable, FixedLine, Far, BadJournal, NotARun}
+use Rattle.alpha_cmd.specs.declared.status.Status.TheVariants.{Done, NotRestartable, BadWords, BadSource, BadImage, Stopped, StepsSpent, Lost, ShelfFault, InputFault, SinkFault, TooLarge, NoMemory, Unfixable, FixedLine, Far, BadModule, BadLink, BadJournal, NotARun}
 
 -- `image kind K first F second S`: the kind of the fault and its numbers, 0 where there is none
 unfoldable pub numbered_line : ℕ → ℕ → ℕ → List ℕ
@@ -74,6 +78,33 @@ unfixable_line b code_base =
 unfoldable pub fixing_line : ℕ → List ℕ
 fixing_line line = codes "fixed line " ++ decimal line ++ 10 ∷ []
 
+-- `module F kind K first N`: the number of the file, the kind of its fault and the fault's number, 0 where there is none
+unfoldable pub module_line : ℕ → ℕ → ℕ → List ℕ
+module_line file kind first = codes "module " ++ decimal file ++ codes " kind " ++ decimal kind ++ codes " first " ++ decimal first ++ 10 ∷ []
+
+abbrev pub module_fault_line : ℕ → ModuleFault → List ℕ
+module_fault_line file modules.Header = module_line file 1 0
+module_fault_line file (modules.Size which) = module_line file 2 which
+module_fault_line file (modules.Cut length) = module_line file 3 length
+module_fault_line file (modules.Word place) = module_line file 4 place
+module_fault_line file (modules.Symbol n) = module_line file 5 n
+module_fault_line file (modules.Relocation n) = module_line file 6 n
+module_fault_line file (modules.Rest at) = module_line file 7 at
+module_fault_line file modules.NoMemory = module_line file 8 0
+
+-- `link kind K first F second S`: the kind of the refusal and its numbers, 0 where there is none
+unfoldable pub link_line : ℕ → ℕ → ℕ → List ℕ
+link_line kind first second =
+    codes "link kind " ++ decimal kind ++ codes " first " ++ decimal first ++ codes " second " ++ decimal second ++ 10 ∷ []
+
+abbrev pub link_fault_line : LinkFault → List ℕ
+link_fault_line (links.Duplicate number symbol) = link_line 1 number symbol
+link_fault_line (links.Undefined number symbol) = link_line 2 number symbol
+link_fault_line links.Entry = link_line 3 0 0
+link_fault_line (links.ImageField field) = link_line 4 field 0
+link_fault_line (links.Reach number relocation) = link_line 5 number relocation
+link_fault_line links.NoMemory = link_line 6 0 0
+
 -- A word and `kind K at N`: the kind of the fault and its number, 0 where there is none
 unfoldable pub kind_line : List ℕ → ℕ → ℕ → List ℕ
 kind_line word kind at = word ++ codes " kind " ++ decimal kind ++ codes " at " ++ decimal at ++ 10 ∷ []
@@ -128,6 +159,8 @@ row_of NoMemory = row 12 (codes "no memory" ++ 10 ∷ []) failed
 row_of (Unfixable b) = row 13 [] refused
 row_of (FixedLine line) = row 14 (fixing_line line) refused
 row_of (Far fault) = row 15 (refusal_line (codes "far") fault) refused
+row_of (BadModule file fault) = row 16 (module_fault_line file fault) refused
+row_of (BadLink fault) = row 17 (link_fault_line fault) refused
 row_of (BadJournal fault) = row 18 (journal_line fault) refused
 row_of (NotARun fault) = row 19 (norun_line fault) refused
 

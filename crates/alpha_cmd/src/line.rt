@@ -4,12 +4,13 @@ ghost use Rattle.std.specs.Prelude.{◌≡◌, ◌≤◌, length};
 ghost use Rattle.alpha_io.specs.declared.line.TheConstants.{LINE_ROOM};
 ghost use Rattle.alpha_shadow.specs.Report.{place_address};
 ghost use Rattle.alpha_cmd.specs.Commands.Replay.{run_line};
-ghost use Rattle.alpha_cmd.specs.Status.{status_line, fault_line, fixing_line, journal_line, kind_line, kind_number, limit_line, lost_line, norun_line, numbered_line, placed_line, refusal_line, unfixable_line};
+ghost use Rattle.alpha_cmd.specs.Status.{status_line, fault_line, fixing_line, journal_line, kind_line, kind_number, limit_line, link_fault_line, link_line, lost_line, module_fault_line, module_line, norun_line, numbered_line, placed_line, refusal_line, unfixable_line};
 
 use crate::Status;
 use alpha_asm::AsmFault;
 use alpha_image::ImageFault;
 use alpha_io::Line;
+use alpha_link::{LinkFault, ModuleFault};
 use alpha_replay::{JournalFault, ReplayFault, Replayed};
 use alpha_seq::line_of_end;
 use alpha_shadow::Broken;
@@ -35,6 +36,8 @@ pub(crate) fn line_of(status: &Status) -> Line
         Status::NoMemory => text(b"no memory\n"),
         Status::FixedLine(line) => fixing_line(*line),
         Status::Far(fault) => refusal_line(b"far", fault),
+        Status::BadModule(file, fault) => module_fault_line(*file, fault),
+        Status::BadLink(fault) => link_fault_line(fault),
         Status::BadJournal(fault) => journal_line(fault),
         Status::NotARun(fault) => norun_line(fault),
     }
@@ -191,6 +194,68 @@ fn fixing_line(line: u32) -> Line
     text.push_decimal(u64::from(line));
     text.end();
     text
+}
+
+// `module F kind K first N`, the number N 0 where there is none.
+fn module_fault_line(file: u32, fault: &ModuleFault) -> Line
+    ensures { result ≡ module_fault_line file fault.now }
+{
+    match *fault {
+        ModuleFault::Header => module_line(file, 1, 0),
+        ModuleFault::Size(which) => module_line(file, 2, u64::from(which)),
+        ModuleFault::Cut(length) => module_line(file, 3, length),
+        ModuleFault::Word(place) => module_line(file, 4, u64::from(place)),
+        ModuleFault::Symbol(n) => module_line(file, 5, u64::from(n)),
+        ModuleFault::Relocation(n) => module_line(file, 6, u64::from(n)),
+        ModuleFault::Rest(at) => module_line(file, 7, at),
+        ModuleFault::NoMemory => module_line(file, 8, 0),
+    }
+}
+
+#[tactic(auto, unfolding(crate::specs::Status::module_line))]
+fn module_line(file: u32, kind: u64, first: u64) -> Line
+    ensures { result ≡ module_line file kind first }
+{
+    let mut line = Line::new();
+    line.push(b"module ");
+    line.push_decimal(u64::from(file));
+    line.push(b" kind ");
+    line.push_decimal(kind);
+    line.push(b" first ");
+    line.push_decimal(first);
+    line.end();
+    line
+}
+
+// `link kind K first F second S`, the numbers 0 where there is none.
+fn link_fault_line(fault: &LinkFault) -> Line
+    ensures { result ≡ link_fault_line fault.now }
+{
+    match *fault {
+        LinkFault::Duplicate(module, symbol) => link_line(1, u64::from(module), u64::from(symbol)),
+        LinkFault::Undefined(module, symbol) => link_line(2, u64::from(module), u64::from(symbol)),
+        LinkFault::Entry => link_line(3, 0, 0),
+        LinkFault::ImageField(field) => link_line(4, u64::from(field), 0),
+        LinkFault::Reach(module, relocation) => {
+            link_line(5, u64::from(module), u64::from(relocation))
+        }
+        LinkFault::NoMemory => link_line(6, 0, 0),
+    }
+}
+
+#[tactic(auto, unfolding(crate::specs::Status::link_line))]
+fn link_line(kind: u64, first: u64, second: u64) -> Line
+    ensures { result ≡ link_line kind first second }
+{
+    let mut line = Line::new();
+    line.push(b"link kind ");
+    line.push_decimal(kind);
+    line.push(b" first ");
+    line.push_decimal(first);
+    line.push(b" second ");
+    line.push_decimal(second);
+    line.end();
+    line
 }
 
 // `journal kind K at N`, the number 0 where there is none.

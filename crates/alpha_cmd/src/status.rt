@@ -2,6 +2,7 @@ ghost use Rattle.std.specs.Prelude.{◌≡◌};
 
 use alpha_asm::AsmFault;
 use alpha_image::ImageFault;
+use alpha_link::{LinkFault, ModuleFault};
 use alpha_replay::{JournalFault, ReplayFault};
 use alpha_seq::End;
 use alpha_shadow::Broken;
@@ -46,6 +47,11 @@ pub enum Status {
     FixedLine(u32),
     /// The source with its barriers defines no image: its first refusal.
     Far(AsmFault),
+    /// The bytes of a file are no module: the number of the first such file in the order of the words,
+    /// from 0, and its first fault.
+    BadModule(u32, ModuleFault),
+    /// The modules link to no image: their first refusal.
+    BadLink(LinkFault),
     /// The bytes of the file are no journal: their first fault.
     BadJournal(JournalFault),
     /// The journal is no run of the image: its first fault.
@@ -76,6 +82,8 @@ impl Status {
             Status::Unfixable(_) => 13,
             Status::FixedLine(_) => 14,
             Status::Far(_) => 15,
+            Status::BadModule(_, _) => 16,
+            Status::BadLink(_) => 17,
             Status::BadJournal(_) => 18,
             Status::NotARun(_) => 19,
         }

@@ -17,6 +17,7 @@ ghost use Rattle.alpha_cmd.specs.Answer.{Answer, AnswerBy, world, IsAnswered};
 ghost use Rattle.alpha_cmd.specs.Asks.{Asks};
 ghost use Rattle.alpha_cmd.specs.Commands.{form_of, EndsBy, MayTake, Spares};
 ghost use Rattle.alpha_cmd.specs.Commands.Debug.{LeavesTail, script_most};
+ghost use Rattle.alpha_cmd.specs.Commands.Link.{KeepsLink};
 ghost use Rattle.alpha_cmd.specs.Commands.Module.{KeepsModule};
 ghost use Rattle.alpha_cmd.specs.Commands.Run as runs;
 ghost use Rattle.alpha_cmd.specs.Ends.{Decides, Ends, EndsPart, status_in};
@@ -35,6 +36,7 @@ use crate::decision::Decision;
 use crate::dis::dis;
 use crate::fix::fix;
 use crate::imprecise::{Asked, imprecise};
+use crate::link::link;
 use crate::module::module;
 use crate::replay::replay;
 use crate::run::run;
@@ -48,7 +50,8 @@ use std::alloc::Global;
 /// `check FILE` judges the image of the file: `accepted` goes to the output, or the line of the
 /// least broken place to the notes. `dis FILE` writes its listing to the output. `asm FILE OUT`
 /// assembles the source of the file, and keeps its image as OUT. `module FILE OUT` does so with a
-/// module, whose code it judges. `fix FILE OUT` keeps the source with
+/// module, whose code it judges. `link OUT FILE...` links modules, and keeps their image as OUT.
+/// `fix FILE OUT` keeps the source with
 /// the barriers that it needs as OUT. `replay FILE JOURNAL` replays the journal on the image of FILE: the
 /// numbers of units and of reports go to the output, or why it is no run of it to the notes.
 /// `run FILE` runs an image's
@@ -155,6 +158,14 @@ pub fn alpha_top<H: Shelf, S: Source, K: Sink, N: Sink>(
         → result ≡ Status.Done 0
         → KeepsModule file name (H.files shelf.old) (H.files shelf.new) }
 
+    // Where modules are linked, each of the files spells one, and the file that is kept spells the image
+    // that they link to. Where no place of a module's code is broken, and that holds of each, the image
+    // is accepted and can be restarted.
+    ensures links { (entry name : List ℕ) (files : List (List ℕ))
+        → Asks words.now (commands.link entry name files)
+        → result ≡ Status.Done 0
+        → KeepsLink entry name files (H.files shelf.old) (H.files shelf.new) }
+
     // Where a replay is done, its file spells an image, and its journal lists a run of it: over the
     // journal's input, with its output and its end. On an accepted image the sequential run is that too.
     ensures replays { (file journal : List ℕ) → Asks words.now (commands.replay file journal)
@@ -250,6 +261,7 @@ fn perform<H: Shelf, S: Source, K: Sink, N: Sink>(
         Request::Asm { file, out } => Ok(asm(alloc, file, out, shelf)),
         Request::Fix { file, out } => Ok(fix(alloc, file, out, shelf)),
         Request::Module { file, out } => Ok(module(alloc, file, out, shelf)),
+        Request::Link { entry, out, files } => Ok(link(alloc, entry, out, files.as_slice(), shelf)),
         Request::Replay { file, journal } => Ok(replay(alloc, file, journal, shelf)),
         Request::RunImprecise {
             options,

@@ -19,6 +19,7 @@ use Rattle.alpha_cmd.proofs.Trying.{MayTake-sink, Spares-sink}
 use Rattle.alpha_cmd.proofs.Accepted.{accepted_call}
 use Rattle.alpha_cmd.proofs.Alike.{tried_restarts, alike_call}
 use Rattle.alpha_cmd.proofs.Fixed.{tried_fixed}
+use Rattle.alpha_cmd.proofs.KeptLinks.{kept_link}
 use Rattle.alpha_cmd.proofs.KeptModules.{kept_module}
 use Rattle.alpha_cmd.proofs.ReplayedRuns.{shows_run}
 use Rattle.alpha_cmd.proofs.top.alpha_top.Goals as goal
@@ -198,6 +199,17 @@ returns-in-Ok-clause-modules g c = λ file name asks e.
 
 pub returns-in-Err-clause-modules : goal.returns-in-Err-clause-modules
 returns-in-Err-clause-modules g c = λ file name asks e. absurd (let x : SinkFault ≡ Done 0 = e in cc)
+
+pub returns-in-Ok-clause-links : goal.returns-in-Ok-clause-links
+returns-in-Ok-clause-links g c = λ entry name files asks e.
+    let w = world g.H.Shelf g.S.Source c.args.shelf.now c.args.input.now in
+    let shelf = Rose (g.H.Shelf.faults c.args.shelf.now) (g.H.Shelf.faults c.decide.new.shelf) in
+    let input = Rose (g.S.Source.faults c.args.input.now) (g.S.Source.faults c.decide.new.input) in
+    let ends = returns-in-Ok-clause-whole g c (λ failed. let x : Done 0 ≡ SinkFault = sym e ∙ failed in cc) in
+    kept_link shelf input c.args.words.now entry name files w ends.tried (shelved g.H.Shelf c.args.shelf.now c.decide.new.shelf) asks ends.is (sym ends.status_is ∙ e) ends.files
+
+pub returns-in-Err-clause-links : goal.returns-in-Err-clause-links
+returns-in-Err-clause-links g c = λ entry name files asks e. absurd (let x : SinkFault ≡ Done 0 = e in cc)
 
 pub returns-in-Ok-clause-replays : goal.returns-in-Ok-clause-replays
 returns-in-Ok-clause-replays g c = λ file journal asks e.

@@ -2,13 +2,14 @@ use Rattle.std.proofs.Common.{ap}
 use Rattle.alpha_io.specs.Faults.{Rose}
 use Rattle.alpha_io.specs.Shelved.{shelved}
 use Rattle.alpha_io.proofs.Shelved.{KeepsFiles-refl}
-use Rattle.alpha_request.specs.Command.{command_of}
+use Rattle.alpha_request.specs.Command.{command_of, names_of}
 use Rattle.alpha_seq.specs.Devices.{drawn}
 use Rattle.alpha_cmd.specs.Answer.{world}
 use Rattle.alpha_cmd.specs.Decision.{answer_in}
 use Rattle.alpha_cmd.specs.Commands.Asm as assemblies
 use Rattle.alpha_cmd.specs.Commands.Check as checks
 use Rattle.alpha_cmd.specs.Commands.Fix as fixes
+use Rattle.alpha_cmd.specs.Commands.Link as links
 use Rattle.alpha_cmd.specs.Commands.Module as modules
 use Rattle.alpha_cmd.specs.Commands.Replay as replays
 use Rattle.alpha_cmd.specs.Tries.{TriesBy}
@@ -64,6 +65,18 @@ returns-in-Module-clause-tried g c =
     rw c.in-Module.is
     (Leaves-kept (TriesBy shelf input (modules.form c.in-Module.file.now c.in-Module.out.now) w) (answer_in (g.S.Source.left c.args.input.now) c.module.result) settled.0
     (shelved g.H.Shelf c.args.shelf.now c.module.new.shelf)
+    (g.K.Sink.written c.args.out.now) (g.N.Sink.written c.args.notes.now) (g.K.Sink.faults c.args.out.now) (g.N.Sink.faults c.args.notes.now)
+    settled.1 settled.2)
+
+pub returns-in-Link-clause-tried : goal.returns-in-Link-clause-tried
+returns-in-Link-clause-tried g c =
+    let w = world g.H.Shelf g.S.Source c.args.shelf.now c.args.input.now in
+    let shelf = Rose (g.H.Shelf.faults c.args.shelf.now) (g.H.Shelf.faults c.link.new.shelf) in
+    let input = Rose (g.S.Source.faults c.args.input.now) (g.S.Source.faults c.args.input.now) in
+    let settled = rw c.as_slice.ensures.names at (c.link.ensures.tried (drawn g.S.Source c.args.input.now c.args.input.now)) in
+    rw c.in-Link.is
+    (Leaves-kept (TriesBy shelf input (links.form c.in-Link.entry.now c.in-Link.out.now (names_of c.in-Link.files)) w) (answer_in (g.S.Source.left c.args.input.now) c.link.result) settled.0
+    (shelved g.H.Shelf c.args.shelf.now c.link.new.shelf)
     (g.K.Sink.written c.args.out.now) (g.N.Sink.written c.args.notes.now) (g.K.Sink.faults c.args.out.now) (g.N.Sink.faults c.args.notes.now)
     settled.1 settled.2)
 

@@ -1,0 +1,197 @@
+-- The laws of `link`, and what leads to its answers.
+use Rattle.std.proofs.Common.{◌≡◌, ◌∙◌, ℕ, List, [], ◌∷◌, ◌++◌, length, map, drop, get_or, suc, Bor, Vec, Global, ◌<◌, ◌+◌, All, Result, Ok, Err, IsSome, refl, sym, ap, subst, inl}
+use Rattle.std.specs.List.{AllByRecursion}
+use Rattle.std.proofs.lemmas.List.{map-append}
+use Rattle.std.proofs.lemmas.List.Elements.{All-nil, All-cons}
+use Rattle.alpha_io.specs.Files.{Files, HasFile, IfTold, KeepsFiles}
+use Rattle.alpha_image.specs.Parts.{Parts, IsImage, IsByte}
+use Rattle.alpha_image.specs.Parts as images
+use Rattle.alpha_asm.specs.Program.{Program, program_of}
+use Rattle.alpha_round.proofs.Listing.{assembled-listing}
+use Rattle.alpha_round.proofs.Same.{one-image}
+use Rattle.alpha_dis.specs.Listing.{listing}
+use Rattle.alpha_link.specs.declared.fault.ModuleFault.{ModuleFault}
+use Rattle.alpha_link.specs.declared.fault.LinkFault.{LinkFault}
+use Rattle.alpha_link.specs.Parts.{ModuleParts, IsModule}
+use Rattle.alpha_link.specs.Spelled.{module_at, spelling}
+use Rattle.alpha_link.specs.Linked.{linked}
+use Rattle.alpha_link.proofs.Imaged.{linked_image}
+use Rattle.alpha_link.proofs.ModuleBytes.{bytes_of_all, module_takes, module_again}
+use Rattle.alpha_link.proofs.Results.{ok_is}
+use Rattle.alpha_cmd.specs.declared.status.Status.{Status}
+use Rattle.alpha_cmd.specs.declared.status.Status.TheVariants.{BadModule, BadLink}
+use Rattle.alpha_cmd.specs.Status.{class_of, status_line, Says}
+use Rattle.alpha_cmd.specs.Outcome.{goes, stops, Then}
+use Rattle.alpha_cmd.specs.Image.{Reads}
+use Rattle.alpha_cmd.specs.Answer.{World, HaveBytes}
+use Rattle.alpha_cmd.specs.Form.{IsThere}
+use Rattle.alpha_cmd.specs.Commands.Link.{module_limit, FilesOf, NoModule, ModuleOf, ModulesOf, NoLink, IsLinked, Links, Makes, Spell, form, there}
+use Rattle.alpha_cmd.proofs.Lawful.{Lawful, HasOutcome, Either-single, Says-one, Then-lawful}
+use Rattle.alpha_cmd.proofs.Listed.{Each-lawful, Each-zip, Zip, Rest, drop_at, rest_next, rest_stops}
+use Rattle.alpha_cmd.proofs.Stages.{Reads-lawful, read_bytes, kept_same}
+use Rattle.alpha_cmd.proofs.Forms.{IsLawfulForm, making_lawful}
+
+-- ---- a module
+
+one_module : (m n : ModuleParts) → IsModule m → IsModule n → spelling m ≡ spelling n → m ≡ n
+one_module m n good other e = ok_is m n (sym (module_again m good) ∙ (ap module_at e ∙ module_again n other))
+
+module_apart : (number : ℕ) (bytes : List ℕ) (m : ModuleParts) (s : Status) → IsModule m → bytes ≡ spelling m → NoModule number bytes s → ⊥
+module_apart number bytes m s good e (fault, is, first) = let ok = ap module_at e ∙ module_again m good in cc
+
+same_fault : (number : ℕ) (bytes : List ℕ) (s t : Status) → NoModule number bytes s → NoModule number bytes t → s ≡ t
+same_fault number bytes s t (f, is, first) (g, also, second) = let same : f ≡ g = cc in is ∙ (ap (BadModule number) same ∙ sym also)
+
+module_some : (number : ℕ) (bytes : List ℕ) → All IsByte bytes → (r : Result ModuleParts ModuleFault) → module_at bytes ≡ r → HasOutcome (ModuleOf number bytes)
+module_some number bytes all (Ok m) e = (goes m, module_takes bytes m (bytes_of_all bytes all) e)
+module_some number bytes all (Err fault) e = (stops (BadModule number fault) (status_line (BadModule number fault)), ((fault, refl, e), refl))
+
+ModuleOf-lawful : (told whole there : Type 0) (number : ℕ) (bytes : List ℕ) → (whole → All IsByte bytes) → Lawful told whole there (ModuleOf number bytes)
+ModuleOf-lawful told whole there number bytes all = record {
+  single = λ h. Either-single (λ m. IsModule m × (bytes ≡ spelling m)) (Says (NoModule number bytes)) (record {
+    good = λ a b h g. one_module a b h.0 g.0 (sym h.1 ∙ g.1);
+    why = Says-one (NoModule number bytes) (same_fault number bytes);
+    apart = λ a s l h g. module_apart number bytes a s h.0 h.1 g.0;
+  });
+  some = λ h. module_some number bytes (all h) (module_at bytes) refl;
+  plain = λ s line h. inl (ap class_of h.0.1);
+}
+
+-- ---- the image
+
+-- two images are one where their programs are, since the listing of one is a source of both
+same_image : (p q : Parts) → IsImage p → IsImage q → program_of p ≡ program_of q → p ≡ q
+same_image p q good other e = one-image (listing p) p q (good, assembled-listing p good) (other, assembled-listing p good ∙ ap Ok e)
+
+ok_program : Program → Result Program LinkFault
+ok_program p = Ok p
+
+one_program : (entry : List ℕ) (ms : List ModuleParts) (p q : Program) → linked ms entry ≡ Ok p → linked ms entry ≡ Ok q → p ≡ q
+one_program entry ms p q h g = cc
+
+same_linked : (entry : List ℕ) (ms : List ModuleParts) (a b : List ℕ) → IsLinked entry ms a → IsLinked entry ms b → a ≡ b
+same_linked entry ms a b (p, good, (h, s)) (q, other, (g, t)) =
+    s ∙ (ap images.spelling (same_image p q good other (one_program entry ms (program_of p) (program_of q) h g)) ∙ sym t)
+
+same_refused : (entry : List ℕ) (ms : List ModuleParts) (s t : Status) → NoLink entry ms s → NoLink entry ms t → s ≡ t
+same_refused entry ms s t (f, is, first) (g, also, second) = let same : f ≡ g = cc in is ∙ (ap BadLink same ∙ sym also)
+
+linked_apart : (entry : List ℕ) (ms : List ModuleParts) (a : List ℕ) (s : Status) → IsLinked entry ms a → NoLink entry ms s → ⊥
+linked_apart entry ms a s (p, good, (h, is)) (f, so, first) = cc
+
+links_some : (entry : List ℕ) (ms : List ModuleParts) → All IsModule ms → (r : Result Program LinkFault) → linked ms entry ≡ r → HasOutcome (Links entry ms)
+links_some entry ms good (Ok p) e =
+    let (image, is, same) = linked_image ms entry p good e in
+    (goes (images.spelling image), (image, is, (e ∙ ap Ok (sym same), refl)))
+links_some entry ms good (Err fault) e = (stops (BadLink fault) (status_line (BadLink fault)), ((fault, refl, e), refl))
+
+Links-lawful : (told whole there : Type 0) (entry : List ℕ) (ms : List ModuleParts) → All IsModule ms → Lawful told whole there (Links entry ms)
+Links-lawful told whole there entry ms good = record {
+  single = λ h. Either-single (IsLinked entry ms) (Says (NoLink entry ms)) (record {
+    good = same_linked entry ms;
+    why = Says-one (NoLink entry ms) (same_refused entry ms);
+    apart = λ a s l h g. linked_apart entry ms a s h g.0;
+  });
+  some = λ h. links_some entry ms good (linked ms entry) refl;
+  plain = λ s line h. inl (ap class_of h.0.1);
+}
+
+-- ---- what was read
+
+-- a name has these bytes, and bytes spell this module
+abbrev pub IsRead : Files → List ℕ → List ℕ → Type 0
+IsRead files name bytes = HasFile files name bytes
+
+abbrev pub IsSpelled : List ℕ → ModuleParts → Type 0
+IsSpelled bytes m = IsModule m × (bytes ≡ spelling m)
+
+pub files_read : (files : Files) (names all : List (List ℕ)) → FilesOf files names (goes all) → Zip (IsRead files) names all
+files_read files names all h =
+    Each-zip (λ before name. Reads files name module_limit) (IsRead files) (λ before name bytes read. read.0) names all h
+
+pub modules_spelled : (all : List (List ℕ)) (ms : List ModuleParts) → ModulesOf all (goes ms) → Zip IsSpelled all ms
+modules_spelled all ms h = Each-zip (λ before bytes. ModuleOf (length before) bytes) IsSpelled (λ before bytes m read. read) all ms h
+
+pub spell : (files : Files) (names all : List (List ℕ)) (ms : List ModuleParts) → Zip (IsRead files) names all → Zip IsSpelled all ms → Spell files names ms
+spell files [] [] [] h g = tt
+spell files [] [] (m ∷ ms) h g = absurd g
+spell files [] (b ∷ all) ms h g = absurd h
+spell files (n ∷ names) [] ms h g = absurd h
+spell files (n ∷ names) (b ∷ all) [] h g = absurd g
+spell files (n ∷ names) (b ∷ all) (m ∷ ms) h g = ((g.0.0, subst (HasFile files n) g.0.1 h.0), spell files names all ms h.1 g.1)
+
+pub all_modules : (all : List (List ℕ)) (ms : List ModuleParts) → Zip IsSpelled all ms → All IsModule ms
+all_modules [] [] h = All-nil IsModule
+all_modules [] (m ∷ ms) h = absurd h
+all_modules (b ∷ all) [] h = absurd h
+all_modules (b ∷ all) (m ∷ ms) h = All-cons IsModule m ms h.0.0 (all_modules all ms h.1)
+
+-- ---- the command
+
+-- each of the names is there
+each_there : (w : World) (there : Type 0) (names : List (List ℕ)) → (there → AllByRecursion (λ name. IsThere name w) names)
+    → AllByRecursion (λ name. there → IfTold w.files name (λ bytes. Unit {0})) names
+each_there w there [] h = tt
+each_there w there (n ∷ names) h = ((λ t. (h t).0), each_there w there names (λ t. (h t).1))
+
+files_lawful : (told whole there : Type 0) (files : Files) (names : List (List ℕ)) → (told → IsSome files) → (whole → IsSome files)
+    → AllByRecursion (λ name. there → IfTold files name (λ bytes. Unit {0})) names
+    → AllByRecursion (λ name. (before : List (List ℕ)) → Lawful told whole there (Reads files name module_limit)) names
+files_lawful told whole there files [] is_told is_whole has = tt
+files_lawful told whole there files (n ∷ names) is_told is_whole has =
+    ((λ before. Reads-lawful told whole there files n module_limit is_told is_whole has.0), files_lawful told whole there files names is_told is_whole has.1)
+
+modules_lawful : (told whole there : Type 0) (files : Files) (names all : List (List ℕ)) → (whole → IsSome files × HaveBytes files) → Zip (IsRead files) names all
+    → AllByRecursion (λ bytes. (before : List ModuleParts) → Lawful told whole there (ModuleOf (length before) bytes)) all
+modules_lawful told whole there files [] [] is_whole read = tt
+modules_lawful told whole there files [] (b ∷ all) is_whole read = absurd read
+modules_lawful told whole there files (n ∷ names) [] is_whole read = absurd read
+modules_lawful told whole there files (n ∷ names) (b ∷ all) is_whole read = (
+  (λ before. ModuleOf-lawful told whole there (length before) b (λ h. read_bytes files n b (is_whole h).0 (is_whole h).1 read.0)),
+  modules_lawful told whole there files names all is_whole read.1,
+)
+
+pub lawful : (entry out : List ℕ) (names : List (List ℕ)) (w : World) → IsLawfulForm (form entry out names) (there entry out names) w
+lawful entry out names w =
+    making_lawful names (λ w. Makes w.files entry names) out w
+    (Then-lawful {R = FilesOf w.files names} {S = λ all. Then (ModulesOf all) (Links entry)}
+    (Each-lawful (λ before name. Reads w.files name module_limit) [] names
+    (files_lawful _ _ _ w.files names (λ h. h) (λ h. h.0) (each_there w (there entry out names w) names (λ h. h.0))))
+    (λ all read.
+    Then-lawful {R = ModulesOf all} {S = Links entry}
+    (Each-lawful (λ before bytes. ModuleOf (length before) bytes) [] all (modules_lawful _ _ _ w.files names all (λ h. h) (files_read w.files names all read)))
+    (λ ms found. Links-lawful _ _ _ entry ms (all_modules all ms (modules_spelled all ms found)))))
+
+-- ---- its answers
+
+-- the files of the names from a place on, behind those that were read
+abbrev pub FilesLeft : Files → List (Bor (List ℕ)) → List (Vec ℕ Global) → ℕ → Type 0
+FilesLeft files names all i =
+    Rest (λ before name. Reads files name module_limit) (λ (name : Bor (List ℕ)). name.now) names (FilesOf files (map (λ name. name.now) names))
+    (map (λ file. file.items) all) i
+
+pub files_next : (old middle : Files) (names : List (Bor (List ℕ))) (all after : List (Vec ℕ Global)) (i : ℕ) (name : Bor (List ℕ)) (file : Vec ℕ Global)
+    → drop i names ≡ name ∷ drop (suc i) names → KeepsFiles old middle → Reads middle name.now module_limit (goes file.items) → after ≡ all ++ file ∷ []
+    → FilesLeft old names all i → FilesLeft old names after (i + 1)
+files_next old middle names all after i name file cut kept read is rest =
+    let found = subst (λ f. Reads f name.now module_limit (goes file.items)) (kept_same old middle kept) read in
+    let more = ap (map (λ (f : Vec ℕ Global). f.items)) is ∙ map-append (λ (f : Vec ℕ Global). f.items) all (file ∷ []) in
+    rest_next (λ before name. Reads old name module_limit) (λ (n : Bor (List ℕ)). n.now) names (FilesOf old (map (λ n. n.now) names))
+    (map (λ f. f.items) all) (map (λ f. f.items) after) i name file.items cut found more rest
+
+-- the modules of the files from a place on, behind those that were read
+abbrev pub ModulesLeft : List (Vec ℕ Global) → List ModuleParts → ℕ → Type 0
+ModulesLeft files all i =
+    Rest (λ before bytes. ModuleOf (length before) bytes) (λ (file : Vec ℕ Global). file.items) files (ModulesOf (map (λ file. file.items) files)) all i
+
+pub modules_next : (files : List (Vec ℕ Global)) (all after : List ModuleParts) (i : ℕ) (file : Vec ℕ Global) (m : ModuleParts) → i < length files → file ≡ get_or files i file
+    → length all ≡ i → ModuleOf i file.items (goes m) → after ≡ all ++ m ∷ [] → ModulesLeft files all i → ModulesLeft files after (i + 1)
+modules_next files all after i file m within at count found is rest =
+    rest_next (λ before bytes. ModuleOf (length before) bytes) (λ (f : Vec ℕ Global). f.items) files (ModulesOf (map (λ f. f.items) files)) all after i file m
+    (drop_at files i file within at) (subst (λ n. ModuleOf n file.items (goes m)) (sym count) found) is rest
+
+pub modules_stop : (files : List (Vec ℕ Global)) (all : List ModuleParts) (i : ℕ) (file : Vec ℕ Global) (s : Status) → i < length files → file ≡ get_or files i file
+    → length all ≡ i → ModuleOf i file.items (stops s (status_line s)) → ModulesLeft files all i → ModulesOf (map (λ f. f.items) files) (stops s (status_line s))
+modules_stop files all i file s within at count stopped rest =
+    rest_stops (λ before bytes. ModuleOf (length before) bytes) (λ (f : Vec ℕ Global). f.items) files (ModulesOf (map (λ f. f.items) files)) all i file s (status_line s)
+    (drop_at files i file within at) (subst (λ n. ModuleOf n file.items (stops s (status_line s))) (sym count) stopped) rest

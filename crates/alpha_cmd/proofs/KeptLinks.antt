@@ -1,0 +1,51 @@
+-- The file that `link` leaves where it is done.
+use Rattle.std.proofs.Common.{◌≡◌, ℕ, List, [], ◌∷◌, All, ap, subst}
+use Rattle.std.proofs.lemmas.List.Elements.{All-nil, All-cons, All-head, All-tail}
+use Rattle.alpha_words.specs.declared.Level.TheVariants.{One}
+use Rattle.alpha_io.specs.Files.{HasFile}
+use Rattle.alpha_io.specs.Shelved.{Shelved}
+use Rattle.alpha_shadow.specs.Broken.{IsAccepted}
+use Rattle.alpha_restart.proofs.Agreeing.{accepted_restarts}
+use Rattle.alpha_link.specs.Parts.{ModuleParts, IsModule}
+use Rattle.alpha_link.proofs.Linked.{IsGood, image_known, linked_accepted}
+use Rattle.alpha_request.specs.Command.{link}
+use Rattle.alpha_cmd.specs.declared.status.Status.TheVariants.{Done}
+use Rattle.alpha_cmd.specs.Answer.{World, Answer}
+use Rattle.alpha_cmd.specs.Asks.{Asks}
+use Rattle.alpha_cmd.specs.Commands.Link.{form, there, KeepsLink}
+use Rattle.alpha_cmd.specs.Kept.{Kept, HasKept}
+use Rattle.alpha_cmd.specs.Status.{class_of}
+use Rattle.alpha_cmd.specs.Tried.{TriedBy}
+use Rattle.alpha_cmd.proofs.Forms.{done_goes}
+use Rattle.alpha_cmd.proofs.Commands.Link.{lawful, files_read, modules_spelled, all_modules, spell}
+use Rattle.alpha_cmd.proofs.Tried.{done_tried}
+
+abbrev HasAccepted : ModuleParts → Type 0
+HasAccepted m = IsAccepted m.words
+
+-- good modules with accepted code have words that the law of linked code asks for
+all_good : (ms : List ModuleParts) → All IsModule ms → All HasAccepted ms → All IsGood ms
+all_good [] good all = All-nil IsGood
+all_good (m ∷ ms) good all =
+    let here : IsModule m = All-head IsModule m ms good in
+    All-cons IsGood m ms (image_known One m.words here.words, All-head HasAccepted m ms all)
+    (all_good ms (All-tail IsModule m ms good) (All-tail HasAccepted m ms all))
+
+pub kept_link : (shelf input : Type 0) (words : List (List ℕ)) (entry out : List ℕ) (names : List (List ℕ)) (w : World) (t : Answer) (s : Shelved)
+    → Asks words (link entry out names) → TriedBy shelf input words w t → t.status ≡ Done 0 → HasKept t.kept s → KeepsLink entry out names w.files s.new
+kept_link shelf input words entry out names w t s asks tried e has =
+    let a = done_tried shelf input words (link entry out names) w t asks tried e in
+    let (bytes, (all, read, (ms, found, (image, good, (links, is)))), (taken, kept)) =
+    done_goes (form entry out names) (there entry out names) w (lawful entry out names w) t a (ap class_of e) in
+    let spelled = modules_spelled all ms found in
+    record {
+      modules = ms;
+      image = image;
+      read = spell w.files names all ms (files_read w.files names all read) spelled;
+      good = good;
+      links = links;
+      kept = subst (HasFile s.new out) is (subst (λ (k : Kept). HasKept k s) (ap (λ (x : Answer). x.kept) kept) has).0;
+      accepted = λ each.
+          let ok = linked_accepted ms entry image good links (all_good ms (all_modules all ms spelled) each) in
+          (ok, accepted_restarts image good ok);
+    }

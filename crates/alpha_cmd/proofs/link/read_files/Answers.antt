@@ -1,0 +1,23 @@
+use Rattle.std.proofs.Common.{◌∙◌, arith}
+use Rattle.std.proofs.Math.Seq.{drop-cons}
+use Rattle.alpha_io.proofs.Shelved.{KeepsFiles-trans}
+use Rattle.alpha_cmd.proofs.Commands.Link.{files_next}
+use Rattle.alpha_cmd.proofs.link.read_files.Goals as goal
+
+pub loop-name-preserved : goal.loop-name-preserved
+loop-name-preserved g c =
+    let old = g.H.Shelf.files c.args.shelf.now in
+    let middle = g.H.Shelf.files c.loop-name.shelf in
+    let so_far = c.loop-name.invariant in
+    let now = c.in-Ok.ensures in
+    record {
+      rest = files_next old middle c.args.names.now c.loop-name.all.items c.push.new.self.items c.loop-name.name-index _ c.in-Ok.bytes
+          (drop-cons c.args.names.now c.loop-name.name-index _ (omega arith)) so_far.shelf.files now.ok c.in-Ok-push.ensures.items so_far.rest;
+      count = omega (arith, so_far.count, c.in-Ok-push.ensures.len);
+      shelf = record {
+        files = KeepsFiles-trans old middle (g.H.Shelf.files c.read_file.new.shelf) so_far.shelf.files now.shelf.files;
+        takes = now.shelf.takes ∙ so_far.shelf.takes;
+        later = omega (arith, so_far.shelf.later, now.shelf.later);
+        calm = λ always. now.shelf.calm (λ e. cc) ∙ so_far.shelf.calm tt;
+      };
+    }

@@ -1,0 +1,177 @@
+//! `link [--entry NAME] OUT FILE...`: the image that the modules of files link to, kept as a file.
+
+ghost use Rattle.std.specs.Prelude.{◌≡◌, ◌≢◌, ◌⊎◌, ◌<◌, ◌≤◌, Err, IfOk, IfErr, length, map};
+ghost use Rattle.alpha_io.specs.Faults.{Rose};
+ghost use Rattle.alpha_io.specs.Shelved.{shelved, OnlyReads};
+ghost use Rattle.alpha_seq.specs.Devices.{Drawn};
+ghost use Rattle.alpha_cmd.specs.Outcome.{goes, stops, Then};
+ghost use Rattle.alpha_cmd.specs.Status.{status_line};
+ghost use Rattle.alpha_cmd.specs.Commands.Link as forms;
+ghost use Rattle.alpha_cmd.specs.Commands.Link.{FilesOf, ModuleOf, ModulesOf, Links, Makes};
+ghost use Rattle.alpha_cmd.specs.Decision.{answer_in};
+ghost use Rattle.alpha_cmd.specs.Ends.{Settles};
+ghost use Rattle.alpha_cmd.specs.Form.{SparesBy};
+ghost use Rattle.alpha_cmd.specs.Kept.{Serves};
+ghost use Rattle.alpha_cmd.specs.Tries.{CutBy, TriesBy};
+
+use crate::Status;
+use crate::decision::Decision;
+use crate::image::read_file;
+use crate::keep::keep_as;
+use alpha_image::image_bytes;
+use alpha_io::Shelf;
+use alpha_link::{LinkFault, Module, ModuleFault, read_module};
+use std::alloc::Global;
+
+/// The most bytes of a module file.
+pub const MODULE_LIMIT: u64 = 20_971_520;
+
+/// Links the modules of files, and keeps the spelling of their image under another name or one of
+/// theirs. The keep comes last: before it no file is changed.
+pub(crate) fn link<H: Shelf>(
+    alloc: Global,
+    entry: &str,
+    out: &str,
+    files: &[&str],
+    shelf: &mut H,
+) -> Decision
+    requires { length files.now ≤ 64 }
+    ensures tried { (input : Drawn)
+        → Settles (TriesBy (Rose (H.faults shelf.old) (H.faults shelf.new))
+        (Rose input.before input.now)
+        (forms.form entry.now out.now (map (λ name. name.now) files.now))
+        (record { files = H.files shelf.old; takes = H.takes shelf.old; input = input.old }))
+        (answer_in input.old result)
+        (shelved H.Shelf shelf.old shelf.new) }
+    ensures shelf { Serves (shelved H.Shelf shelf.old shelf.new)
+        (result.status ≢ Status.ShelfFault) }
+    ensures files { SparesBy (forms.kind out.now) result.status
+        (H.files shelf.old) (H.files shelf.new) }
+{
+    match made(alloc, entry, files, shelf) {
+        Ok(bytes) => keep_as(bytes.as_slice(), out, shelf),
+        Err(status) => Decision::said(status),
+    }
+}
+
+// The spelling of the image that the modules of files link to.
+fn made<H: Shelf>(
+    alloc: Global,
+    entry: &str,
+    names: &[&str],
+    shelf: &mut H,
+) -> Result<Vec<u8>, Status>
+    requires { length names.now ≤ 64 }
+    ensures ok { IfOk result (λ bytes. Makes (H.files shelf.old) entry.now
+        (map (λ name. name.now) names.now) (goes bytes.items)) }
+    ensures refused { IfErr result (λ status. Makes (H.files shelf.old) entry.now
+        (map (λ name. name.now) names.now) (stops status (status_line status))
+        ⊎ CutBy (Rose (H.faults shelf.old) (H.faults shelf.new)) status) }
+    ensures shelf { OnlyReads (shelved H.Shelf shelf.old shelf.new)
+        (result ≢ Err Status.ShelfFault) }
+{
+    match read_files(alloc, names, shelf) {
+        Ok(files) => linked(alloc, entry, files),
+        Err(status) => Err(status),
+    }
+}
+
+// The bytes of files within the limit of modules, read in the order of their names.
+fn read_files<H: Shelf>(
+    alloc: Global,
+    names: &[&str],
+    shelf: &mut H,
+) -> Result<Vec<Vec<u8>>, Status>
+    ensures ok { IfOk result (λ all. FilesOf (H.files shelf.old)
+        (map (λ name. name.now) names.now) (goes (map (λ file. file.items) all.items))) }
+    ensures count { IfOk result (λ all. length all.items ≡ length names.now) }
+    ensures refused { IfErr result (λ status. FilesOf (H.files shelf.old)
+        (map (λ name. name.now) names.now) (stops status (status_line status))
+        ⊎ CutBy (Rose (H.faults shelf.old) (H.faults shelf.new)) status) }
+    ensures shelf { OnlyReads (shelved H.Shelf shelf.old shelf.new)
+        (result ≢ Err Status.ShelfFault) }
+{
+    let mut all = Vec::new(alloc);
+    for name in names {
+        match read_file(alloc, shelf, name, MODULE_LIMIT) {
+            Ok(bytes) => {
+                let Ok(()) = all.push(bytes) else {
+                    return Err(Status::NoMemory);
+                };
+            }
+            Err(status) => return Err(status),
+        }
+    }
+    Ok(all)
+}
+
+// The spelling of the image that the modules of files link to, by the bytes of the files. These are let
+// go as soon as the modules are read.
+fn linked(alloc: Global, entry: &str, files: Vec<Vec<u8>>) -> Result<Vec<u8>, Status>
+    requires { length files.items ≤ 64 }
+    ensures ok { IfOk result (λ bytes. Then (ModulesOf (map (λ file. file.items) files.items))
+        (Links entry.now) (goes bytes.items)) }
+    ensures refused { IfErr result (λ status. Then (ModulesOf (map (λ file. file.items) files.items))
+        (Links entry.now) (stops status (status_line status))
+        ⊎ (status ≡ Status.NoMemory)) }
+{
+    match modules_of(alloc, files) {
+        Ok(modules) => spelled_image(alloc, entry, modules.as_slice()),
+        Err(status) => Err(status),
+    }
+}
+
+// The modules that the bytes of files spell.
+fn modules_of(alloc: Global, files: Vec<Vec<u8>>) -> Result<Vec<Module>, Status>
+    requires { length files.items ≤ 64 }
+    ensures ok { IfOk result (λ all. ModulesOf (map (λ file. file.items) files.items) (goes all.items)) }
+    ensures count { IfOk result (λ all. length all.items ≡ length files.items) }
+    ensures refused { IfErr result (λ status.
+        ModulesOf (map (λ file. file.items) files.items) (stops status (status_line status))
+        ⊎ (status ≡ Status.NoMemory)) }
+{
+    let mut all = Vec::new(alloc);
+    for (number, bytes) in files.iter().enumerate() {
+        match module_of(alloc, number as u32, bytes.as_slice()) {
+            Ok(module) => {
+                let Ok(()) = all.push(module) else {
+                    return Err(Status::NoMemory);
+                };
+            }
+            Err(status) => return Err(status),
+        }
+    }
+    Ok(all)
+}
+
+// The module that the bytes of a file spell, by the number of the file.
+fn module_of(alloc: Global, number: u32, bytes: &[u8]) -> Result<Module, Status>
+    ensures ok { IfOk result (λ m. ModuleOf number bytes.now (goes m)) }
+    ensures refused { IfErr result (λ status.
+        ModuleOf number bytes.now (stops status (status_line status))
+        ⊎ (status ≡ Status.NoMemory)) }
+{
+    match read_module(alloc, bytes) {
+        Ok(module) => Ok(module),
+        Err(ModuleFault::NoMemory) => Err(Status::NoMemory),
+        Err(fault) => Err(Status::BadModule(number, fault)),
+    }
+}
+
+// The spelling of the image that modules link to.
+fn spelled_image(alloc: Global, entry: &str, modules: &[Module]) -> Result<Vec<u8>, Status>
+    requires { length modules.now ≤ 64 }
+    ensures ok { IfOk result (λ bytes. Links entry.now modules.now (goes bytes.items)) }
+    ensures refused { IfErr result (λ status.
+        Links entry.now modules.now (stops status (status_line status))
+        ⊎ (status ≡ Status.NoMemory)) }
+{
+    match alpha_link::link(alloc, modules, entry.as_bytes()) {
+        Ok(image) => match image_bytes(alloc, &image) {
+            Ok(bytes) => Ok(bytes),
+            Err(_) => Err(Status::NoMemory),
+        },
+        Err(LinkFault::NoMemory) => Err(Status::NoMemory),
+        Err(fault) => Err(Status::BadLink(fault)),
+    }
+}
