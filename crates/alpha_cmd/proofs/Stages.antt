@@ -24,7 +24,7 @@ use Rattle.alpha_cmd.proofs.Lawful.{Lawful, HasOutcome, IsSingle, IsRefusal, Eit
 
 -- ---- a file
 
-same_file : (o : Option (List ℕ)) (a b : List ℕ) → IsSomeAnd o (λ file. file ≡ a) → IsSomeAnd o (λ file. file ≡ b) → a ≡ b
+pub same_file : (o : Option (List ℕ)) (a b : List ℕ) → IsSomeAnd o (λ file. file ≡ a) → IsSomeAnd o (λ file. file ≡ b) → a ≡ b
 same_file None a b h g = absurd h
 same_file (Some file) a b h g = sym h ∙ g
 

@@ -159,8 +159,8 @@ pub fn alpha_top<H: Shelf, S: Source, K: Sink, N: Sink>(
         → KeepsModule file name (H.files shelf.old) (H.files shelf.new) }
 
     // Where modules are linked, each of the files spells one, and the file that is kept spells the image
-    // that they link to. Where no place of a module's code is broken, and that holds of each, the image
-    // is accepted and can be restarted.
+    // that they link to. Where no place of any module's code is broken, the image is accepted and can be
+    // restarted.
     ensures links { (entry name : List ℕ) (files : List (List ℕ))
         → Asks words.now (commands.link entry name files)
         → result ≡ Status.Done 0

@@ -1,5 +1,5 @@
 -- `link [--entry NAME] OUT FILE...`: the image that modules link to, kept as a file.
-use Rattle.std.specs.Prelude.{◌≡◌, ℕ, List, [], ◌∷◌, length, All, Ok, Err}
+use Rattle.std.specs.Prelude.{◌≡◌, ℕ, List, [], ◌∷◌, length, All, Ok, Err, IsSome}
 use Rattle.alpha_io.specs.Files.{Files, HasFile}
 use Rattle.alpha_image.specs.Parts.{Parts, IsImage}
 use Rattle.alpha_image.specs.Parts as images
@@ -78,9 +78,14 @@ Spell files [] (m ∷ modules) = ⊥
 Spell files (name ∷ names) [] = ⊥
 Spell files (name ∷ names) (m ∷ modules) = (IsModule m × HasFile files name (spelling m)) × Spell files names modules
 
+-- this name has the spelling of a module, no place of whose code is broken
+abbrev pub HasAccepted : Files → List ℕ → Type 0
+HasAccepted files name = (m : ModuleParts) × IsModule m × (HasFile files name (spelling m) × IsAccepted m.words)
+
 -- Where the old files are told, those of these names spell modules, in their order, and where the new ones are, another has the
 -- spelling of the image that these link to. Where no place of a module's code is broken, and that holds of each, none of the
--- image's code is, and it can be restarted after each late trap.
+-- image's code is, and it can be restarted after each late trap. So it is where the old files are told, and each of these has
+-- the spelling of such a module.
 pub record KeepsLink (entry out : List ℕ) (names : List (List ℕ)) (old new : Files) : Type 0 where
   pub modules : List ModuleParts
   pub image : Parts
@@ -89,3 +94,4 @@ pub record KeepsLink (entry out : List ℕ) (names : List (List ℕ)) (old new :
   pub links : linked modules entry ≡ Ok (program_of image)
   pub kept : HasFile new out (images.spelling image)
   pub accepted : All (λ m. IsAccepted m.words) modules → IsAccepted image.words × IsRestartable image
+  pub restarts : IsSome old → All (HasAccepted old) names → IsAccepted image.words × IsRestartable image
