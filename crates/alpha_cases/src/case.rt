@@ -5,6 +5,7 @@ use crate::lines::{Entry, bytes_of, entries_of, number_of, numbers_of};
 use alpha_asm::assemble;
 use alpha_cmd::Status;
 use alpha_image::image_bytes;
+use alpha_link::{make_module, module_bytes};
 use anyhow::{anyhow, bail};
 use std::alloc::Global;
 
@@ -113,6 +114,7 @@ impl<'a> Scene<'a> {
         let rest = entry.rest;
         match entry.name {
             "source" => self.file(rest, image_of(alloc, entry.block.as_bytes())?),
+            "module" => self.file(rest, module_of(alloc, entry.block.as_bytes())?),
             "text" => self.file(rest, entry.block.as_bytes().to_vec(alloc)?),
             "bytes" => {
                 let (name, digits) = rest.split_once(" ").unwrap_or((rest, ""));
@@ -303,5 +305,16 @@ fn image_of(alloc: Global, source: &[u8]) -> anyhow::Result<Vec<u8>> {
     match assemble(alloc, source) {
         Ok(image) => there(image_bytes(alloc, &image)),
         Err(fault) => Err(anyhow!("no source: {fault}")),
+    }
+}
+
+// The module that a source makes.
+fn module_of(alloc: Global, source: &[u8]) -> anyhow::Result<Vec<u8>> {
+    if source.len() >= 0xffff_ffff {
+        bail!("the source is too long");
+    }
+    match make_module(alloc, source) {
+        Ok(module) => there(module_bytes(alloc, &module)),
+        Err(fault) => Err(anyhow!("no source of a module: {fault}")),
     }
 }

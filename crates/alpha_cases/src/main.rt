@@ -9,6 +9,7 @@
 //! |---|---|
 //! | `case NAME` | begins a case; the lines up to the next one are its own |
 //! | `source FILE`, with lines | a file that is the image of this source |
+//! | `module FILE`, with lines | a file that is the module of this source |
 //! | `text FILE`, with lines | a file of these lines |
 //! | `bytes FILE HEX` | a file of these bytes |
 //! | `zeros FILE N` | a file of so many zero bytes |
@@ -33,11 +34,12 @@ mod lines;
 use std::fs;
 
 // The files of cases.
-const FILES: [&str; 12] = [
+const FILES: [&str; 13] = [
     "check.cases",
     "asm.cases",
     "fix.cases",
     "module.cases",
+    "link.cases",
     "replay.cases",
     "run.cases",
     "edges.cases",
