@@ -1,0 +1,126 @@
+#!/usr/bin/env python3
+"""Measures `link` on many and on large modules: how many host instructions it takes a word beside what `asm` takes a line of
+the same source in one file, how much memory beside the image and the modules, and how both grow with the modules.
+
+    bench/link.py [PROGRAM]
+"""
+import os
+import struct
+import subprocess
+import tempfile
+
+from measure import NOP, best, counts_instructions, instructions, most_memory, the_program
+
+WORDS = 4_096
+LABELS = 78
+MEBIBYTE = 1_048_576
+
+
+def lines(number, count):
+    """A module of WORDS words and 2 * LABELS symbols: each 52 words a label, with a branch to one of the next module."""
+    start = "start:\n" if number == 0 else ""
+    code = "".join(
+        f"m{number}_{n}: br m{(number + 1) % count}_{n}\n" + "addq $1,$2,$3\n" * (WORDS // LABELS - 1) for n in range(LABELS)
+    )
+    return start + code + "addq $1,$2,$3\n" * (WORDS - WORDS // LABELS * LABELS)
+
+
+def symbol(section, name, offset=0):
+    return struct.pack("<BHI", section, len(name), offset) + name
+
+
+def module(code, data, symbols, relocations):
+    """The bytes of a module with these parts."""
+    numbers = struct.pack("<5I", len(code) // 4, len(data), 0, len(symbols), len(relocations))
+    return b"ALPHAOB1" + numbers + code + data + b"".join(symbols) + b"".join(relocations)
+
+
+def many_names(size):
+    """A module of so many bytes, with all the words and data that one may have: the rest are names of 1,024 bytes."""
+    code, data = struct.pack("<I", NOP) * 262_144, bytes(16 * MEBIBYTE)
+    count = (size - 28 - len(code) - len(data)) // 1_031
+    names = [symbol(0, b"n%01023d" % n) for n in range(count - 1)] + [symbol(0, b"start")]
+    return module(code, data, names, [])
+
+
+def short_names(size):
+    """A module of so many bytes, nearly all of them symbols of nine letters."""
+    count = (size - 64) // 16
+    names = [symbol(0, b"n%08d" % n) for n in range(count)] + [symbol(0, b"start")]
+    return module(struct.pack("<I", NOP), b"", names, [])
+
+
+def quadwords(size):
+    """A module of so many bytes, nearly all of them quadwords with the address of one label."""
+    count = (size - 64) // 21
+    places = [struct.pack("<BIIi", 3, 8 * n, 0, 0) for n in range(count)]
+    return module(struct.pack("<I", NOP), bytes(8 * count), [symbol(0, b"start")], places)
+
+
+class Folder:
+    """Files of modules, and the image that they link to."""
+
+    def __init__(self, program, folder):
+        self.program, self.folder = program, folder
+
+    def path(self, name):
+        return os.path.join(self.folder, name)
+
+    def keep(self, name, contents):
+        with open(self.path(name), "wb") as file:
+            file.write(contents)
+        return self.path(name)
+
+    def run(self, *words):
+        subprocess.run([self.program, *words], check=True)
+
+    def sized(self, name, files, per, what):
+        """What a link takes for each of `per` items, and of memory beside modules and image."""
+        command = [self.program, "link", self.path("image"), *files]
+        subprocess.run(command, check=True)
+        sizes = sum(os.path.getsize(file) for file in files) + os.path.getsize(self.path("image"))
+        least = [self.program, "link", self.path("least"), self.keep("small", short_names(64))]
+        memory = most_memory(command) - most_memory(least)
+        print(f"{name}: {best(command):.1f} ms, {memory / sizes:.2f} times image and modules, of {sizes:,} bytes")
+        if not counts_instructions():
+            return 0.0
+        each = (instructions(command) - instructions(least)) / per
+        print(f"{name}: {each:.1f} instructions a {what}")
+        return each
+
+
+def many(folder, count):
+    """So many modules of WORDS words, beside `asm` of all their lines."""
+    sources = [lines(number, count) for number in range(count)]
+    files = []
+    for number, source in enumerate(sources):
+        text = folder.keep("source", source.encode())
+        files.append(folder.path(f"m{number}"))
+        folder.run("module", text, files[-1])
+    symbols = 2 * LABELS * count + 1
+    name = f"{count} modules of {WORDS} words with {symbols} symbols in all"
+    each = folder.sized(name, files, WORDS * count, "word")
+    if counts_instructions():
+        whole = folder.keep("whole", ("".join(sources) + ".entry start\n").encode())
+        small = folder.keep("few", b"start: ret\n.entry start\n")
+        more = instructions([folder.program, "asm", whole, folder.path("o")])
+        line = (more - instructions([folder.program, "asm", small, folder.path("o")])) / (WORDS * count)
+        print(f"{name}: asm takes {line:.1f} instructions a line of them, link {each / line:.2f} times that a word")
+
+
+def main():
+    program = the_program()
+    with tempfile.TemporaryDirectory() as name:
+        folder = Folder(program, name)
+        for count in (4, 16, 64):
+            many(folder, count)
+        for size in (5, 20):
+            for make, kind in ((many_names, "most code and data"), (short_names, "short names"), (quadwords, "quadwords")):
+                if make is many_names and size < 20:
+                    continue
+                file = folder.keep("module", make(size * MEBIBYTE))
+                folder.sized(f"a module of {size} MiB, {kind}", [file], os.path.getsize(file), "byte")
+
+
+if __name__ == "__main__":
+    main()
