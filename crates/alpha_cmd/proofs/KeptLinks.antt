@@ -19,7 +19,8 @@ use Rattle.alpha_cmd.specs.Kept.{Kept, HasKept}
 use Rattle.alpha_cmd.specs.Status.{class_of}
 use Rattle.alpha_cmd.specs.Tried.{TriedBy}
 use Rattle.alpha_cmd.proofs.Forms.{done_goes}
-use Rattle.alpha_cmd.proofs.Commands.Link.{lawful, one_module, files_read, modules_spelled, all_modules, spell}
+use Rattle.alpha_cmd.proofs.Commands.Link.{lawful, files_read, modules_spelled, all_modules, spell}
+use Rattle.alpha_cmd.proofs.ModuleWords.{spelled_words}
 use Rattle.alpha_cmd.proofs.Stages.{same_file}
 use Rattle.alpha_cmd.proofs.Tried.{done_tried}
 
@@ -34,19 +35,20 @@ all_good (m ∷ ms) good all =
     All-cons IsGood m ms (image_known One m.words here.words, All-head IsSafe m ms all)
     (all_good ms (All-tail IsModule m ms good) (All-tail IsSafe m ms all))
 
--- the modules that told files spell are the ones that they were said to spell
+-- the bytes of a told file are one list
 told_bytes : (files : Files) (name a b : List ℕ) → IsSome files → HasFile files name a → HasFile files name b → a ≡ b
 told_bytes None name a b told h g = cc
 told_bytes (Some files) name a b told h g = same_file (files name) a b h g
 
+-- the modules that told files spell have the words of those that they were said to spell
 all_safe : (files : Files) (names : List (List ℕ)) (ms : List ModuleParts) → IsSome files → Spell files names ms → All (HasAccepted files) names → All IsSafe ms
 all_safe files [] [] told read each = All-nil IsSafe
 all_safe files [] (m ∷ ms) told read each = absurd read
 all_safe files (n ∷ names) [] told read each = absurd read
 all_safe files (n ∷ names) (m ∷ ms) told read each =
-    let (other, good, (has, safe)) = All-head (HasAccepted files) n names each in
-    let same = one_module other m good read.0.0 (told_bytes files n (spelling other) (spelling m) told has read.0.1) in
-    All-cons IsSafe m ms (subst IsSafe same safe) (all_safe files names ms told read.1 (All-tail (HasAccepted files) n names each))
+    let (other, known, (has, safe)) = All-head (HasAccepted files) n names each in
+    let same = spelled_words other m known read.0.0 (told_bytes files n (spelling other) (spelling m) told has read.0.1) in
+    All-cons IsSafe m ms (subst IsAccepted same safe) (all_safe files names ms told read.1 (All-tail (HasAccepted files) n names each))
 
 pub kept_link : (shelf input : Type 0) (words : List (List ℕ)) (entry out : List ℕ) (names : List (List ℕ)) (w : World) (t : Answer) (s : Shelved)
     → Asks words (link entry out names) → TriedBy shelf input words w t → t.status ≡ Done 0 → HasKept t.kept s → KeepsLink entry out names w.files s.new

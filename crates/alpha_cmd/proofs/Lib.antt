@@ -9,6 +9,7 @@ pub mod KeptLinks
 pub mod KeptModules
 pub mod Lawful
 pub mod Listed
+pub mod ModuleWords
 pub mod Ran
 pub mod ReplayedRuns
 pub mod Stages

@@ -15,6 +15,8 @@ ghost use Rattle.alpha_cmd.specs.Answer.{Answer, AnswerBy, HaveBytes, World};
 ghost use Rattle.alpha_cmd.specs.Choosing.{choices_limit};
 ghost use Rattle.alpha_cmd.specs.Commands.Dis as listings;
 ghost use Rattle.alpha_cmd.specs.Commands.Imprecise as wilds;
+ghost use Rattle.alpha_cmd.specs.Commands.Link.{HasAccepted};
+ghost use Rattle.alpha_cmd.specs.Commands.Module.{KeepsModule};
 ghost use Rattle.alpha_cmd.specs.Commands.Run as runs;
 ghost use Rattle.alpha_cmd.specs.Tried.{AreTold, IsAnswer};
 
@@ -66,4 +68,10 @@ pub fn laws_of_accepted_files()
         → IsSome w.input → HasFile w.files file (spelling image)
         → AnswerBy (runs.steps options file) w a
         → AnswerBy (wilds.steps options (choices.seed n) force file) w b → undrawn b ≡ a }
+{}
+
+/// The law of kept modules: a file that `module` keeps is one of those that make a link accepted, as
+/// `KeepsLink` says it of the files that the clause `links` of [`alpha_top`](crate::alpha_top) speaks of.
+pub fn laws_of_kept_modules()
+    ensures { (file out : List ℕ) (old new : Files) → KeepsModule file out old new → HasAccepted new out }
 {}

@@ -17,6 +17,8 @@
 //!   imprecise machine of a file that `check` accepts has the answer of the sequential run, but for
 //!   the number of words that it draws (`specs/Alike.antt`). [`laws_of_accepted_files`] says that a
 //!   file which spells an accepted image meets what those laws ask.
+//! - [`laws_of_kept_modules`] says that a file which `module` keeps is one of those that make a link
+//!   accepted.
 //!
 //! A command decides, and `Decision::deliver` writes what is then still to be written: all of it, but
 //! for a command that writes while it works, as `dis.rt`, `run.rt` and `debug.rt`. `alpha_request`
@@ -56,7 +58,10 @@ pub use alpha_trial::trial_image;
 pub use asm::SOURCE_LIMIT;
 pub use entry::alpha_main;
 pub use image::{IMAGE_LIMIT, image_of};
-pub use laws::{laws_of_accepted_files, laws_of_answers, laws_of_listed_files, laws_of_restarts};
+pub use laws::{
+    laws_of_accepted_files, laws_of_answers, laws_of_kept_modules, laws_of_listed_files,
+    laws_of_restarts,
+};
 pub use link::MODULE_LIMIT;
 pub use status::Status;
 pub use sure::alpha_sure;

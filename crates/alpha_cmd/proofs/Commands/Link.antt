@@ -33,7 +33,7 @@ use Rattle.alpha_cmd.proofs.Forms.{IsLawfulForm, making_lawful}
 
 -- ---- a module
 
-pub one_module : (m n : ModuleParts) → IsModule m → IsModule n → spelling m ≡ spelling n → m ≡ n
+one_module : (m n : ModuleParts) → IsModule m → IsModule n → spelling m ≡ spelling n → m ≡ n
 one_module m n good other e = ok_is m n (sym (module_again m good) ∙ (ap module_at e ∙ module_again n other))
 
 module_apart : (number : ℕ) (bytes : List ℕ) (m : ModuleParts) (s : Status) → IsModule m → bytes ≡ spelling m → NoModule number bytes s → ⊥

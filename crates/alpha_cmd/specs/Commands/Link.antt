@@ -1,5 +1,5 @@
 -- `link [--entry NAME] OUT FILE...`: the image that modules link to, kept as a file.
-use Rattle.std.specs.Prelude.{◌≡◌, ℕ, List, [], ◌∷◌, length, All, Ok, Err, IsSome}
+use Rattle.std.specs.Prelude.{◌≡◌, ◌⊎◌, ℕ, List, [], ◌∷◌, length, All, Ok, Err, IsSome}
 use Rattle.alpha_io.specs.Files.{Files, HasFile}
 use Rattle.alpha_image.specs.Parts.{Parts, IsImage}
 use Rattle.alpha_image.specs.Parts as images
@@ -11,6 +11,7 @@ use Rattle.alpha_link.specs.declared.fault.LinkFault.{LinkFault}
 use Rattle.alpha_link.specs.Parts.{ModuleParts, IsModule}
 use Rattle.alpha_link.specs.Spelled.{module_at, spelling}
 use Rattle.alpha_link.specs.Linked.{linked}
+use Rattle.alpha_link.specs.Made.{made_module}
 use Rattle.alpha_cmd.specs.declared.status.Status.{Status}
 use Rattle.alpha_cmd.specs.declared.status.Status.TheVariants.{BadModule, BadLink}
 use Rattle.alpha_cmd.specs.Outcome.{Outcome, Either, Then, Each}
@@ -78,9 +79,13 @@ Spell files [] (m ∷ modules) = ⊥
 Spell files (name ∷ names) [] = ⊥
 Spell files (name ∷ names) (m ∷ modules) = (IsModule m × HasFile files name (spelling m)) × Spell files names modules
 
--- this name has the spelling of a module, no place of whose code is broken
+-- some source makes this module
+abbrev pub IsMade : ModuleParts → Type 0
+IsMade m = (source : List ℕ) × (made_module source ≡ Ok m)
+
+-- this name has the spelling of a module, a good one or one that a source makes, no place of whose code is broken
 abbrev pub HasAccepted : Files → List ℕ → Type 0
-HasAccepted files name = (m : ModuleParts) × IsModule m × (HasFile files name (spelling m) × IsAccepted m.words)
+HasAccepted files name = (m : ModuleParts) × (IsModule m ⊎ IsMade m) × (HasFile files name (spelling m) × IsAccepted m.words)
 
 -- Where the old files are told, those of these names spell modules, in their order, and where the new ones are, another has the
 -- spelling of the image that these link to. Where no place of a module's code is broken, and that holds of each, none of the
