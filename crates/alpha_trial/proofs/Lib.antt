@@ -7,3 +7,9 @@ pub mod Stepping
 pub mod Joining
 pub mod Making
 pub mod Tallying
+pub mod Logging
+pub mod Buffer
+pub mod Stages
+pub mod Quiet
+pub mod Ending
+pub mod Alike

@@ -188,7 +188,7 @@ behind : (x y k : ℕ) (rest : List ℕ) → class_at (block_words x y ++ rest) 
 unfolding class_at
 behind x y k rest = refl
 
-behind_at : (x y k n : ℕ) (rest : List ℕ) → n ≡ k + 9 → class_at (block_words x y ++ rest) n ≡ class_at rest k
+pub behind_at : (x y k n : ℕ) (rest : List ℕ) → n ≡ k + 9 → class_at (block_words x y ++ rest) n ≡ class_at rest k
 behind_at x y k n rest e =
     let nine : n ≡ suc (suc (suc (suc (suc (suc (suc (suc (suc k)))))))) = omega arith in
     ap (class_at (block_words x y ++ rest)) nine ∙ behind x y k rest

@@ -5,16 +5,20 @@
 //! - [`trial`] judges the image, runs it on the sequential machine and on the imprecise one, and writes a line for
 //!   each run to a sink. [`TrialFault`] says why that wasn't done.
 //! - [`laws_of_trials`]: what the words of the program are, how many there are, that each such program is accepted,
-//!   whatever numbers are drawn, and that its image is good.
+//!   whatever numbers are drawn, that its image is good, and that both runs exit with 0 after a step a word, with the
+//!   same overflows and the same output.
 //!
 //! `specs/Program.antt` has the program by its instructions, `specs/Words.antt` the same by words and the image,
-//! `specs/Report.antt` the lines, from the runs of both machines, and `specs/Counted.antt` what the code's runs did.
+//! `specs/Report.antt` the lines, from the runs of both machines, `specs/Lines.antt` what the two have in common, and
+//! `specs/Counted.antt` what the code's runs did.
 //! `src/program.rt` makes the program, `src/runs.rt` runs it unit by unit and counts the units, `src/report.rt` writes
 //! the lines, and `src/trials.rt` puts them together.
 //!
 //! In `proofs/`, `Decoding.antt` ties words to instructions, `Shadows.antt` shows that the program is accepted,
 //! `Counting.antt` and `Good.antt` the other laws; `Stepping.antt` follows the sequential run, `Joining.antt` and
-//! `Making.antt` the imprecise one, and `Tallying.antt` says what was counted in them.
+//! `Making.antt` the imprecise one, and `Tallying.antt` says what was counted in them. `Stages.antt` says where the
+//! sequential run stands after so many steps, `Quiet.antt` takes it through the blocks, `Buffer.antt` and `Ending.antt`
+//! through the words behind them; `Logging.antt` counts what an imprecise run draws, and `Alike.antt` has both runs.
 #![tactic(auto)]
 
 mod laws;

@@ -2,7 +2,18 @@ use Rattle.alpha_trial.proofs.Decoding.{program_decoded}
 use Rattle.alpha_trial.proofs.Counting.{program_size, program_count}
 use Rattle.alpha_trial.proofs.Shadows.{program_accepted}
 use Rattle.alpha_trial.proofs.Good.{image_good}
+use Rattle.alpha_trial.proofs.Ending.{run_exits}
+use Rattle.alpha_trial.proofs.Alike.{run_alike, text_lines}
 use Rattle.alpha_trial.proofs.laws.laws_of_trials.Goals as goal
 
 pub returns : goal.returns
-returns c = record { words = program_decoded; size = program_size; triggers = program_count; accepted = program_accepted; good = image_good }
+returns c = record {
+  words = program_decoded;
+  size = program_size;
+  triggers = program_count;
+  accepted = program_accepted;
+  good = image_good;
+  exits = run_exits;
+  alike = run_alike;
+  lines = text_lines;
+}

@@ -1,0 +1,146 @@
+-- A run by coming words draws a word at least for each overflow that it logs: each trigger draws one, and is logged once.
+use Rattle.std.proofs.Common.{◌≡◌, ◌≤◌, ◌+◌, ◌||◌, not, ℕ, zero, suc, Bool, true, false, cond, List, Option, Some, None, refl, arith}
+use Rattle.alpha_words.specs.declared.PalCall.{PalCall}
+use Rattle.alpha_table.specs.declared.columns.MemAccess.{MemAccess}
+use Rattle.alpha_table.specs.Class.{Class, operate, trigger, address, load, store, load_locked, store_conditional, branch, jump, barrier, idle}
+use Rattle.alpha_mem.specs.declared.access.MemFault.{MemFault}
+use Rattle.alpha_pal.specs.Call.{Called, goes, exits, signals}
+use Rattle.alpha_values.specs.TrapOp.{stops}
+use Rattle.alpha_seq.specs.declared.end.End.TheVariants.{Overflow}
+use Rattle.alpha_seq.specs.State.{Program, State, Ends}
+use Rattle.alpha_seq.specs.Step.{next_class, step, unless, conditional, returned, lock_block, matches}
+use Rattle.alpha_trap.specs.Scan.{scan}
+use Rattle.alpha_imprecise.specs.Moment.{Trap, Choice, Precisely, Reported, Moment, moment}
+use Rattle.alpha_imprecise.specs.Step.{triggers, triggered, precisely, with_none, completed, landed, report_at, report, address_at, can_wait, spoilt, spoilt_conditional, waited, with_trap}
+use Rattle.alpha_imprecise.specs.Run.{finished}
+use Rattle.alpha_imprecise.specs.Chosen.{most_waited, first_word, triggering, reporting, draw_at, draw, chosen}
+use Rattle.alpha_imprecise.specs.Made.{Making, begun, advance_making, is_settled, settled_within, made}
+use Rattle.alpha_imprecise.proofs.Settling.{stepped_making}
+
+-- one for a trap that is pending
+abbrev owed : Option Trap → ℕ
+owed None = 0
+owed (Some t) = 1
+
+-- the overflows that were logged, and one that will be
+abbrev total : Moment → ℕ
+total m = m.state.count + owed m.pending
+
+-- ---- a precise step that doesn't overflow logs nothing
+
+same_unless : (fault : Option MemFault) (addr : ℕ) (s after : State) → after.count ≡ s.count → (unless fault addr s after).state.count ≡ s.count
+same_unless None addr s after e = e
+same_unless (Some fault) addr s after e = refl
+
+same_conditional : (b : Bool) (at : MemAccess) (ra : ℕ) (s : State) → (conditional b at ra s).count ≡ s.count
+same_conditional true at ra s = refl
+same_conditional false at ra s = refl
+
+same_returned : (function : PalCall) (c : Called) (s : State) → (returned function c s).state.count ≡ s.count
+same_returned function (goes regs mem outside) s = refl
+same_returned function (exits v) s = refl
+same_returned function (signals code) s = refl
+
+same_count : (g : Program) (o : Option Class) (s : State) → triggers o s ≡ false → (step g o s).state.count ≡ s.count
+same_count g None s e = refl
+same_count g (Some (operate op ra src rc)) s e = refl
+same_count g (Some (trigger op ra src rc)) s e = rw e refl
+same_count g (Some (address op ra rb disp)) s e = refl
+same_count g (Some (load extension at ra)) s e = same_unless _ _ s _ refl
+same_count g (Some (store at ra)) s e = same_unless _ _ s _ refl
+same_count g (Some (load_locked extension at ra)) s e = same_unless _ _ s _ refl
+same_count g (Some (store_conditional at ra)) s e = same_unless _ _ s _ (same_conditional (matches s.lock (lock_block at s)) at ra s)
+same_count g (Some (branch None ra disp)) s e = refl
+same_count g (Some (branch (Some condition) ra disp)) s e = refl
+same_count g (Some (jump ra rb)) s e = refl
+same_count g (Some (barrier None)) s e = refl
+same_count g (Some (barrier (Some function))) s e = same_returned function _ s
+same_count g (Some idle) s e = refl
+
+free_total : (g : Program) (o : Option Class) (s : State) (n : ℕ) (words : List ℕ)
+    → total (with_none g o s (draw_at o s None n words).choice) ≤ s.count + (draw_at o s None n words).count
+free_total g o s n words = by (triggers o s) refl
+  where
+    by : (b : Bool) → triggers o s ≡ b
+        → total (cond b (triggered g o s (draw_at o s None n words).choice) (precisely (step g o s))) ≤ s.count + (cond b (triggering (first_word words)) (reporting 0)).count
+    by true e = omega arith
+    by false e = let same = same_count g o s e in omega arith
+
+-- ---- a step with a trap pending
+
+landed_total : (g : Program) (s : State) (at : ℕ) → total (landed g s at) ≤ s.count + 1
+landed_total g s at = by (stops g.how)
+  where
+    by : (b : Bool) → total (cond b (moment (record s { pc = address_at g.image at }) None (Precisely (Ends (Overflow (address_at g.image at)))))
+        (moment (completed g s at) None (Reported (address_at g.image at)))) ≤ s.count + 1
+    by true = omega arith
+    by false = omega arith
+
+report_total : (g : Program) (s : State) (t : Trap) → total (report g s t) ≤ s.count + 1
+report_total g s t = by (scan g.image s.pc t.mask)
+  where
+    by : (o : Option ℕ) → total (report_at g s t o) ≤ s.count + 1
+    by None = omega arith
+    by (Some at) = landed_total g s at
+
+spoilt_count : (o : Option Class) (s : State) (c : Choice) → (spoilt o s c).count ≡ s.count
+spoilt_count None s c = refl
+spoilt_count (Some (operate op ra src rc)) s c = refl
+spoilt_count (Some (trigger op ra src rc)) s c = refl
+spoilt_count (Some (address op ra rb disp)) s c = refl
+spoilt_count (Some (load extension at ra)) s c = refl
+spoilt_count (Some (store at ra)) s c = refl
+spoilt_count (Some (load_locked extension at ra)) s c = refl
+spoilt_count (Some (store_conditional at ra)) s c = by (matches s.lock (lock_block at s))
+  where
+    by : (b : Bool) → (spoilt_conditional b at ra s c).count ≡ s.count
+    by true = refl
+    by false = refl
+spoilt_count (Some (branch None ra disp)) s c = refl
+spoilt_count (Some (branch (Some condition) ra disp)) s c = refl
+spoilt_count (Some (jump ra rb)) s c = refl
+spoilt_count (Some (barrier call)) s c = refl
+spoilt_count (Some idle) s c = refl
+
+trap_total : (g : Program) (o : Option Class) (s : State) (t : Trap) (c : Choice) → total (with_trap g o s t c) ≤ s.count + 1
+trap_total g o s t c = by (c.report || not (can_wait o s))
+  where
+    by : (b : Bool) → total (cond b (report g s t) (waited o s t c)) ≤ s.count + 1
+    by true = report_total g s t
+    by false = let same = spoilt_count o s c in omega arith
+
+-- ---- runs
+
+chosen_total : (g : Program) (s : State) (pending : Option Trap) (n : ℕ) (words : List ℕ)
+    → total (chosen g s pending n words) ≤ s.count + owed pending + (draw g s pending n words).count
+chosen_total g s None n words = let one = free_total g (next_class g s.pc) s n words in omega arith
+chosen_total g s (Some t) n words =
+    let one = trap_total g (next_class g s.pc) s t (draw g s (Some t) n words).choice in omega arith
+
+-- a run has drawn a word for each overflow beyond so many
+abbrev Paid : ℕ → Making → Type 0
+Paid first k = k.run.state.count + owed k.run.pending ≤ first + k.count
+
+either : (first : ℕ) (b : Bool) (k l : Making) → Paid first k → Paid first l → Paid first (cond b k l)
+either first true k l p q = p
+either first false k l p q = q
+
+module _ (g : Program) (first : ℕ) where
+  step_pays : (k : Making) → Paid first k → Paid first (advance_making g k)
+  step_pays k h =
+      let more = chosen_total g k.run.state k.run.pending k.waited k.words in
+      either first (finished k.run.last) k (stepped_making g k) h (omega arith)
+
+  settling_pays : (fuel : ℕ) (k : Making) → Paid first k → Paid first (settled_within fuel g k)
+  settling_pays zero k h = h
+  settling_pays (suc fuel) k h =
+      either first (is_settled k) k (settled_within fuel g (advance_making g k)) h (settling_pays fuel (advance_making g k) (step_pays k h))
+
+  run_pays : (k : Making) (n : ℕ) → Paid first k → Paid first (made g k n)
+  run_pays k zero h = settling_pays (most_waited + 1) k h
+  run_pays k (suc n) h = settling_pays (most_waited + 1) (advance_making g (made g k n)) (step_pays (made g k n) (run_pays k n h))
+
+-- a run with nothing pending at the beginning logs an overflow at most for each word that it draws
+pub logged : (g : Program) (s : State) (words : List ℕ) (n : ℕ)
+    → (made g (begun s None 0 words) n).run.state.count ≤ s.count + (made g (begun s None 0 words) n).count
+logged g s words n = let h = run_pays g s.count (begun s None 0 words) n (omega arith) in omega arith
