@@ -50,8 +50,12 @@ impl From<AllocError> for ReadFault {
     }
 }
 
-/// The file's bytes, read in pieces of at most 64 KiB. Of a file of more than `limit` bytes only
-/// those at the places 0 to `limit` are taken.
+/// The bytes of a file that has at most `limit` of them.
+///
+/// # Errors
+///
+/// `Shelf` where the shelf failed, or tells its files and has none of this name. `TooLarge` where the
+/// file has more bytes than the limit. `NoMemory` where memory runs out.
 pub fn read_whole<H: Shelf>(
     alloc: Global,
     shelf: &mut H,
@@ -66,6 +70,7 @@ pub fn read_whole<H: Shelf>(
     ensures files { KeepsFiles (H.files shelf.old) (H.files shelf.new) }
     ensures takes { H.takes shelf.new ≡ H.takes shelf.old }
 {
+    // One byte past the limit shows that the file is too large, so no more are asked for.
     let most = (limit + 1) as usize;
     let mut space = vec![in alloc; 0u8; most.min(PIECE)]?;
     let buffer = space.as_mut_slice();
