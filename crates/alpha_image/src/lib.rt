@@ -68,8 +68,6 @@ mod read;
 mod region;
 mod rules;
 mod segment;
-#[cfg(test)]
-mod tests;
 mod version;
 mod words;
 mod write;
