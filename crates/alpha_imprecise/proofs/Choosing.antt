@@ -4,16 +4,21 @@ use Rattle.std.proofs.Common.{◌≡◌, ◌<◌, ◌+◌, ◌/◌, ◌%◌, ◌
 use Rattle.std.proofs.lemmas.Bool.Decides.{nat_tests}
 use Rattle.alpha_words.specs.declared.PalCall.{PalCall}
 use Rattle.alpha_table.specs.Class.{Class, operate, trigger, address, load, store, load_locked, store_conditional, branch, jump, barrier, idle}
+use Rattle.alpha_words.specs.Regs.{reg}
+use Rattle.alpha_values.specs.Source.{source_value}
+use Rattle.alpha_values.specs.TrapOp.{completed_of, stops}
 use Rattle.alpha_mem.specs.declared.access.MemFault.{MemFault}
 use Rattle.alpha_pal.specs.Call.{Called, goes, exits, signals}
 use Rattle.alpha_io.specs.Sunk.{Sunk}
 use Rattle.alpha_image.specs.Parts.{place_of}
 use Rattle.alpha_seq.specs.declared.machine.Machine.{Machine}
-use Rattle.alpha_seq.specs.State.{Program, State, Event, Went, Barriered, Overflowed, Ends, Stepped}
-use Rattle.alpha_seq.specs.Step.{step, unless, returned, setting}
+use Rattle.alpha_seq.specs.declared.end.End.TheVariants.{Overflow}
+use Rattle.alpha_seq.specs.State.{Program, State, Event, Went, Barriered, Overflowed, Ends, Stepped, stepped}
+use Rattle.alpha_seq.specs.Step.{step, unless, returned, went, ended, setting, logging, overflowed}
 use Rattle.alpha_seq.specs.Machine.{program_of, state_of, class_here}
 use Rattle.alpha_seq.specs.Devices.{Drawn}
 use Rattle.alpha_seq.specs.StepEffect.{Steps}
+use Rattle.alpha_seq.specs.Executed.{GoesOn}
 use Rattle.alpha_imprecise.specs.declared.pending.Pending.{Pending}
 use Rattle.alpha_imprecise.specs.Moment.{Trap, with_register, Happening, Precisely, Triggered, Waited, moment}
 use Rattle.alpha_imprecise.specs.Step.{triggers, triggered, precisely, with_none, can_wait, report, mask_after, waited, with_trap}
@@ -108,6 +113,44 @@ never_overflows at old new input out exact steps =
     let no = quiet (program_of old) (class_here old) s (exact_here old _ [] exact) in
     let yes : overflows_so (step (program_of old) (class_here old) s).event ≡ true = ap (λ (t : Stepped). overflows_so t.event) (steps.is []) in
     absurd cc
+
+-- a word that overflows doesn't only go on
+abbrev goes_so : Event → Bool
+goes_so Went = true
+goes_so Barriered = false
+goes_so (Overflowed at) = false
+goes_so (Ends end) = false
+
+loud : (g : Program) (o : Option Class) (s : State) → triggers o s ≡ true → goes_so (step g o s).event ≡ false
+loud g None s e = cc
+loud g (Some (operate op ra src rc)) s e = cc
+loud g (Some (trigger op ra src rc)) s e =
+    let value = completed_of op (reg s.regs ra) (source_value s.regs src) g.how in
+    ap (λ (b : Bool). goes_so (cond b (overflowed g.how s rc value) (went (setting s rc value))).event) e ∙ by (stops g.how)
+  where
+    by : (b : Bool) → goes_so (cond b (ended s (Overflow s.pc)) (stepped (logging s rc (completed_of op (reg s.regs ra) (source_value s.regs src) g.how)) (Overflowed s.pc))).event ≡ false
+    by true = refl
+    by false = refl
+loud g (Some (address op ra rb disp)) s e = cc
+loud g (Some (load extension at ra)) s e = cc
+loud g (Some (store at ra)) s e = cc
+loud g (Some (load_locked extension at ra)) s e = cc
+loud g (Some (store_conditional at ra)) s e = cc
+loud g (Some (branch condition ra disp)) s e = cc
+loud g (Some (jump ra rb)) s e = cc
+loud g (Some (barrier call)) s e = cc
+loud g (Some idle) s e = cc
+
+pub goes_exact : (old new : Machine) → GoesOn old new → triggers (class_here old) (bare old) ≡ false
+goes_exact old new h = by (triggers (class_here old) (bare old)) refl
+  where
+    by : (b : Bool) → triggers (class_here old) (bare old) ≡ b → b ≡ false
+    by false e = refl
+    by true e =
+        let no = loud (program_of old) (class_here old) (bare old) e in
+        let yes : goes_so (step (program_of old) (class_here old) (bare old)).event ≡ true =
+        ap (λ (o : Option Class). goes_so (step (program_of old) o (bare old)).event) h.here ∙ ap (λ (t : Stepped). goes_so t.event) (h.does.is [] []) in
+        absurd cc
 
 pub precise-steps : (event : Event) (old new : Machine) (chooser : Telling) (input : Drawn) (out : Sunk)
     → triggers (class_here old) (bare old) ≡ false → program_of new ≡ program_of old → Steps event old new input out

@@ -1,5 +1,5 @@
 -- Runs in which each step finds an input of its own: one step more, and what is told of the input.
-use Rattle.std.proofs.Common.{◌≡◌, ◌+◌, ℕ, zero, suc, Bool, true, false, cond, List, [], ◌∷◌, ◌++◌, Option, Some, None, refl, sym, ap, ◌∙◌}
+use Rattle.std.proofs.Common.{◌≡◌, ℕ, zero, suc, Bool, true, false, cond, List, [], ◌∷◌, ◌++◌, Option, Some, None, refl, sym, ap, ◌∙◌}
 use Rattle.alpha_table.specs.Class.{Class}
 use Rattle.alpha_pal.specs.Kernel.{KernelState}
 use Rattle.alpha_seq.specs.declared.machine.Machine.{Machine}

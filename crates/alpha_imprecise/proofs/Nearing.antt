@@ -1,5 +1,5 @@
 -- How many steps a run by coming words takes at most.
-use Rattle.std.proofs.Common.{◌≡◌, ◌≤◌, ◌+◌, ◌*◌, ℕ, zero, suc, Bool, true, false, cond, Option, Some, None, refl, sym, ap, subst, ◌∙◌, arith}
+use Rattle.std.proofs.Common.{◌≡◌, ◌+◌, ℕ, zero, suc, Bool, true, false, cond, Option, Some, None, refl, sym, ap, subst, ◌∙◌, arith}
 use Rattle.alpha_seq.specs.State.{Program}
 use Rattle.alpha_imprecise.specs.Moment.{Trap, Happening}
 use Rattle.alpha_imprecise.specs.Run.{finished, unit_of}

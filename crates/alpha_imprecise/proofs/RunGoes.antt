@@ -4,7 +4,7 @@ use Rattle.std.proofs.Common.{◌≡◌, ◌<◌, ◌≤◌, ◌+◌, ◌-◌, �
 use Rattle.std.proofs.lemmas.Grind.{flat_map-append}
 use Rattle.alpha_io.specs.Sunk.{Sunk, Puts}
 use Rattle.alpha_io.proofs.Sinks.{Puts-none, Puts-then}
-use Rattle.alpha_seq.specs.State.{Program, State, Went}
+use Rattle.alpha_seq.specs.State.{Program, State}
 use Rattle.alpha_seq.specs.Step.{next_class}
 use Rattle.alpha_seq.specs.Run.{Mark, mark_lines, notes_of}
 use Rattle.alpha_seq.specs.Machine.{program_of, state_of}

@@ -77,6 +77,36 @@ fn with_none<C: Chooser, S: Source, K: Sink, N: Sink>(
     ensures user { IsTrue machine.new.kernel.user }
     ensures bound { IfSome pending.new (λ p. p.waited ≤ 1024) }
 {
+    if machine.goes_on() {
+        return WildEnd::Went;
+    }
+    with_none_rarely(machine, pending, chooser, input, out, notes)
+}
+
+// The same for what is rare, an overflow too, and the words that only go on. It stands apart, so that the loop of the
+// run is short.
+#[inline(never)]
+fn with_none_rarely<C: Chooser, S: Source, K: Sink, N: Sink>(
+    machine: &mut Machine,
+    pending: &mut Option<Pending>,
+    chooser: &mut C,
+    input: &mut S,
+    out: &mut K,
+    notes: &mut N,
+) -> WildEnd
+    requires user { IsTrue machine.old.kernel.user }
+    requires none { pending.old ≡ None }
+    ensures effect { WildEffect result
+        (wild_state machine.old pending.old) (wild_state machine.new pending.new)
+        (telling C.ahead C.drawn chooser.old) (telling C.ahead C.drawn chooser.new)
+        (drawn S.Source input.old input.new)
+        (sunk K.Sink out.old out.new)
+        (sunk N.Sink notes.old notes.new) }
+    ensures kernel { machine.new.kernel ≡ kernel_left (class_here machine.old)
+        (next_pc (bare machine.old)) machine.old.regs machine.old.kernel }
+    ensures user { IsTrue machine.new.kernel.user }
+    ensures bound { IfSome pending.new (λ p. p.waited ≤ 1024) }
+{
     let Some(insn) = machine.insn() else {
         return precise(machine, None, input, out, notes);
     };

@@ -7,19 +7,25 @@ use Rattle.alpha_words.specs.declared.PalCall.{PalCall}
 use Rattle.alpha_pal.specs.Kernel.{KernelState}
 use Rattle.alpha_pal.specs.CallEffect.{kernel_after}
 use Rattle.alpha_pal.proofs.Serving.{rest_of, Takes-nothing}
+use Rattle.alpha_table.specs.declared.op.Op.{Op}
+use Rattle.alpha_table.specs.declared.op.OpRole.{OpRole}
+use Rattle.alpha_table.specs.declared.op.OpRole.TheVariants.{Plain, Move, Trap}
+use Rattle.alpha_table.specs.declared.form.Src.{Src}
 use Rattle.alpha_table.specs.declared.form.Form.{Form}
-use Rattle.alpha_table.specs.Class.{Class, barrier, class_of}
+use Rattle.alpha_table.specs.declared.form.Form.TheVariants.{Operate}
+use Rattle.alpha_table.specs.Op.{role_trap, trap_of, op_row}
+use Rattle.alpha_table.specs.Class.{Class, operate, barrier, operate_class, class_of}
 use Rattle.alpha_table.specs.Code.{class_at}
 use Rattle.alpha_table.specs.Decoded.{decoded}
 use Rattle.alpha_mem.specs.Block.{shapes}
 use Rattle.alpha_image.specs.Parts.{place_of}
 use Rattle.alpha_seq.specs.declared.machine.Machine.{Machine}
-use Rattle.alpha_seq.specs.State.{Event, Barriered, Stepped, stepped}
+use Rattle.alpha_seq.specs.State.{Event, Went, Barriered, Stepped, stepped}
 use Rattle.alpha_seq.specs.Step.{next_pc, step}
 use Rattle.alpha_seq.specs.Next.{next_insn}
 use Rattle.alpha_seq.specs.Machine.{program_of, state_of, class_here, kernel_left}
 use Rattle.alpha_seq.specs.StepEffect.{Steps}
-use Rattle.alpha_seq.specs.Executed.{Does}
+use Rattle.alpha_seq.specs.Executed.{Does, GoesOn}
 use Rattle.alpha_seq.proofs.Stepping.{Leaves-step}
 
 -- the class of a place's word is that of its instruction
@@ -56,6 +62,28 @@ Steps-quiet event class old new left written faults count here does = record {
       ∙ (does (rest_of left left) output
       ∙ ap (λ l. stepped (state_of new (rest_of left left) l) event) (sym (append-nil output)));
 }
+
+-- a step that only went on leaves its devices alone, the kernel, and where the blocks lie
+pub GoesOn-steps : (old new : Machine) (left written : Option (List ℕ)) (faults count : ℕ) → GoesOn old new
+    → Steps Went old new (record { old = left; new = left; before = faults; now = faults }) (record { old = written; new = written; before = count; now = count })
+GoesOn-steps old new left written faults count h = Steps-quiet Went (Some h.class) old new left written faults count h.here h.does.is
+
+pub GoesOn-kernel : (old new : Machine) → GoesOn old new → new.kernel ≡ kernel_left (class_here old) (next_pc (state_of old [] [])) old.regs old.kernel
+GoesOn-kernel old new h = Does-kernel Went h.class old new h.here h.does
+
+pub GoesOn-shapes : (old new : Machine) → GoesOn old new → shapes new.memory ≡ shapes old.memory
+GoesOn-shapes old new h = Does-shapes Went h.class old new h.does
+
+-- an instruction that never traps
+plain_class : (role : OpRole) (op : Op) (ra : ℕ) (src : Src) (rc : ℕ) → role_trap role ≡ None → operate_class role op ra src rc ≡ operate op ra src rc
+plain_class Plain op ra src rc e = refl
+plain_class Move op ra src rc e = refl
+plain_class (Trap trap) op ra src rc e = cc
+
+pub Does-plain : (op : Op) (ra : ℕ) (src : Src) (rc : ℕ) (i : Form) (old new : Machine) → trap_of op ≡ None → Operate op ra src rc ≡ i
+    → Does Went (operate op ra src rc) old new → Does Went (class_of i) old new
+Does-plain op ra src rc i old new never is does =
+    subst (λ (class : Class). Does Went class old new) (sym (plain_class (op_row op).role op ra src rc never) ∙ ap class_of is) does
 
 -- a barrier that is no PAL call
 pub Does-passed : (class : Class) (old mid new : Machine) → class ≡ barrier None → mid ≡ old → new ≡ record mid { pc = (mid.pc + 4) % 2 ^ 64 } → Does Barriered class old new

@@ -14,7 +14,7 @@ use Rattle.alpha_mem.specs.declared.access.MemFault.{MemFault}
 use Rattle.alpha_mem.specs.Intent.{Load, Store}
 use Rattle.alpha_mem.specs.Block.{shapes, within}
 use Rattle.alpha_mem.specs.Fault.{fault_of}
-use Rattle.alpha_pal.specs.Call.{outside, Served, read, write, serve, request_of, callsys, call}
+use Rattle.alpha_pal.specs.Call.{Served, read, write, serve, request_of, callsys, call}
 use Rattle.alpha_seq.specs.State.{Program, State, Event, Went, Barriered, Overflowed, Ends, Stepped, stepped}
 use Rattle.alpha_seq.specs.Step.{next_class, setting, place, went, trap, step, step_from, unless, overflowed, conditional, matches, lock_block, returned}
 use Rattle.alpha_seq.specs.Run.{Run, Mark, started, is_over, extended_by, advance, after, marks_of}

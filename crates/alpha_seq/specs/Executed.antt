@@ -10,6 +10,7 @@ use Rattle.alpha_table.specs.declared.form.Form.{Form}
 use Rattle.alpha_table.specs.Class.{Class, barrier}
 use Rattle.alpha_table.specs.Rows.{mem_row}
 use Rattle.alpha_values.specs.Numbers.{signed, register_of}
+use Rattle.alpha_mem.specs.declared.access.MemFault.{MemFault}
 use Rattle.alpha_seq.specs.declared.end.End.{End}
 use Rattle.alpha_seq.specs.declared.end.Next.{Next}
 use Rattle.alpha_seq.specs.declared.end.Next.TheVariants as nexts
@@ -17,8 +18,8 @@ use Rattle.alpha_seq.specs.declared.execute.Executed.{Executed}
 use Rattle.alpha_seq.specs.declared.execute.Executed.TheVariants as answers
 use Rattle.alpha_seq.specs.declared.machine.Machine.{Machine}
 use Rattle.alpha_seq.specs.State.{Event, Went, Overflowed, Ends, stepped}
-use Rattle.alpha_seq.specs.Step.{next_pc, step}
-use Rattle.alpha_seq.specs.Machine.{program_of, state_of, kernel_left}
+use Rattle.alpha_seq.specs.Step.{next_pc, fault_end, place, step}
+use Rattle.alpha_seq.specs.Machine.{program_of, state_of, class_here, kernel_left}
 
 -- The step of the definition at a word of this class, at each input and output, which it leaves.
 pub record Does (event : Event) (class : Class) (old new : Machine) : Type 0 where
@@ -33,6 +34,17 @@ ExecuteEffect answers.Went class old new = Does Went class old new
 ExecuteEffect (answers.Overflowed at) class old new = Does (Overflowed at) class old new
 ExecuteEffect (answers.Ended end) class old new = Does (Ends end) class old new
 ExecuteEffect (answers.Barrier call) class old new = (class ≡ barrier call) × (new ≡ old)
+
+-- an access of a word that faults ends the program, and all is as before
+abbrev pub FaultEffect : MemFault → Class → MemAccess → Machine → Machine → Type 0
+FaultEffect fault class at old new =
+    (new ≡ old) × Does (Ends (fault_end fault old.pc (place at (state_of old [] [])))) class old new
+
+-- The step of the definition only went on, at each input and output, which it leaves.
+pub record GoesOn (old new : Machine) : Type 0 where
+  pub class : Class
+  pub here : class_here old ≡ Some class
+  pub does : Does Went class old new
 
 -- the machine after an overflow that is completed
 abbrev pub logged_machine : Machine → ℕ → ℕ → Machine

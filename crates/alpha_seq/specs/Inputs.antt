@@ -1,7 +1,7 @@
 -- Runs in which each step finds an input of its own. A source that tells nothing may answer any bytes at each read, and a
 -- terminal may end one read and give more to the next: so what a run over such a source does is said by one input a step. A
 -- read takes bytes of its input, and no other step looks at it.
-use Rattle.std.specs.Prelude.{◌≡◌, ◌≤◌, ◌<◌, ℕ, zero, suc, ◌+◌, ◌==◌, ◌&&◌, Bool, false, if◌then◌else◌, List, [], ◌∷◌, ◌++◌, length, Option, Some, None}
+use Rattle.std.specs.Prelude.{◌≡◌, ◌≤◌, ◌<◌, ℕ, zero, suc, ◌==◌, ◌&&◌, Bool, false, if◌then◌else◌, List, [], ◌∷◌, ◌++◌, length, Option, Some, None}
 use Rattle.std.specs.Io.KnownBytes.{Appends}
 use Rattle.alpha_words.specs.declared.PalCall.TheVariants.{Callsys}
 use Rattle.alpha_words.specs.Regs.{reg}

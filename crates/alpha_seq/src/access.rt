@@ -1,4 +1,4 @@
-ghost use Rattle.std.specs.Prelude.{◌≡◌, ◌==◌, [], IfOk, if◌then◌else◌};
+ghost use Rattle.std.specs.Prelude.{◌≡◌, ◌==◌, [], IfOk, IfErr, OnOk, if◌then◌else◌};
 ghost use Rattle.std.specs.Int.{w32};
 ghost use Rattle.std.specs.Result.{result_err};
 ghost use Rattle.alpha_mem.specs.Size.{size_of};
@@ -9,10 +9,10 @@ ghost use Rattle.alpha_table.specs.Class.{class_of, load, store, load_locked, st
 ghost use Rattle.alpha_table.specs.declared.form.Form.TheVariants.{Mem};
 ghost use Rattle.alpha_values.specs.Numbers.{signed, register_of};
 ghost use Rattle.alpha_seq.specs.Step.{fault_end, place, loaded};
+ghost use Rattle.alpha_seq.specs.State.{Went};
 ghost use Rattle.alpha_seq.specs.Machine.{state_of};
-ghost use Rattle.alpha_seq.specs.Executed.{ExecuteEffect, IsSized, filled, row_access};
+ghost use Rattle.alpha_seq.specs.Executed.{Does, FaultEffect, IsSized, filled, row_access};
 
-use crate::execute::Executed;
 use crate::{End, Machine};
 use alpha_mem::{MemFault, Size};
 use alpha_table::{Extension, MemAccess, MemOp};
@@ -23,12 +23,26 @@ use alpha_words::Reg;
 impl Machine {
     // An arm an operation, so that its row is known where it is executed.
     #[inline(always)]
-    pub(crate) fn memory_word(&mut self, op: MemOp, ra: Reg, rb: Reg, disp: i16) -> Executed
-        ensures { ExecuteEffect result (class_of (Mem op ra rb disp)) self.old self.new }
+    pub(crate) fn memory_word(
+        &mut self,
+        op: MemOp,
+        ra: Reg,
+        rb: Reg,
+        disp: i16,
+    ) -> Result<(), MemFault>
+        ensures went { OnOk result (Does Went (class_of (Mem op ra rb disp)) self.old self.new) }
+        ensures fault { IfErr result (λ fault. FaultEffect fault (class_of (Mem op ra rb disp))
+            (row_access op rb disp) self.old self.new) }
     {
         match op {
-            MemOp::Lda => self.address(MemOp::Lda, ra, rb, disp),
-            MemOp::Ldah => self.address(MemOp::Ldah, ra, rb, disp),
+            MemOp::Lda => {
+                self.address(MemOp::Lda, ra, rb, disp);
+                Ok(())
+            }
+            MemOp::Ldah => {
+                self.address(MemOp::Ldah, ra, rb, disp);
+                Ok(())
+            }
             MemOp::Ldbu => self.load(Extension::Zero, &memory_access(MemOp::Ldbu, rb, disp), ra),
             MemOp::Ldwu => self.load(Extension::Zero, &memory_access(MemOp::Ldwu, rb, disp), ra),
             MemOp::Ldl => self.load(Extension::Sign, &memory_access(MemOp::Ldl, rb, disp), ra),
@@ -52,60 +66,70 @@ impl Machine {
 
     // A load into R31 makes no access.
     #[inline(always)]
-    fn load(&mut self, extension: Extension, at: &MemAccess, ra: Reg) -> Executed
+    fn load(&mut self, extension: Extension, at: &MemAccess, ra: Reg) -> Result<(), MemFault>
         requires { IsSized at.now.bytes }
-        ensures { ExecuteEffect result (if ra == 31 then idle else load extension at.now ra) self.old self.new }
+        ensures went { let class = if ra == 31 then idle else load extension at.now ra in
+            OnOk result (Does Went class self.old self.new) }
+        ensures fault { let class = if ra == 31 then idle else load extension at.now ra in
+            IfErr result (λ fault. FaultEffect fault class at.now self.old self.new) }
     {
         if ra == Reg::ZERO {
-            return self.idle();
+            self.idle();
+            return Ok(());
         }
         let addr = self.place(at);
         match self.read(extension, at, addr) {
             Ok(value) => {
                 self.set(ra, value);
-                Executed::Went
+                Ok(())
             }
-            Err(fault) => Executed::Ended(fault_end(fault, self.pc, addr)),
+            Err(fault) => Err(fault),
         }
     }
 
     #[inline(always)]
-    fn load_locked(&mut self, extension: Extension, at: &MemAccess, ra: Reg) -> Executed
+    fn load_locked(&mut self, extension: Extension, at: &MemAccess, ra: Reg) -> Result<(), MemFault>
         requires { IsSized at.now.bytes }
-        ensures { ExecuteEffect result (load_locked extension at.now ra) self.old self.new }
+        ensures went { OnOk result (Does Went (load_locked extension at.now ra) self.old self.new) }
+        ensures fault { IfErr result (λ fault. FaultEffect fault (load_locked extension at.now ra)
+            at.now self.old self.new) }
     {
         let addr = self.place(at);
         match self.read(extension, at, addr) {
             Ok(value) => {
                 self.set(ra, value);
                 self.lock = Some(addr / 16);
-                Executed::Went
+                Ok(())
             }
-            Err(fault) => Executed::Ended(fault_end(fault, self.pc, addr)),
+            Err(fault) => Err(fault),
         }
     }
 
     #[inline(always)]
-    fn store(&mut self, at: &MemAccess, ra: Reg) -> Executed
+    fn store(&mut self, at: &MemAccess, ra: Reg) -> Result<(), MemFault>
         requires { IsSized at.now.bytes }
-        ensures { ExecuteEffect result (store at.now ra) self.old self.new }
+        ensures went { OnOk result (Does Went (store at.now ra) self.old self.new) }
+        ensures fault { IfErr result (λ fault. FaultEffect fault (store at.now ra) at.now
+            self.old self.new) }
     {
         let addr = self.place(at);
         let value = self.regs.get(ra);
         match self.memory.store(addr, size(at.bytes), value) {
             Ok(()) => {
                 self.advance();
-                Executed::Went
+                Ok(())
             }
-            Err(fault) => Executed::Ended(fault_end(fault, self.pc, addr)),
+            Err(fault) => Err(fault),
         }
     }
 
     // It stores where the lock flag has the number of its sixteen bytes, and faults alike where it doesn't.
     #[inline(always)]
-    fn store_conditional(&mut self, at: &MemAccess, ra: Reg) -> Executed
+    fn store_conditional(&mut self, at: &MemAccess, ra: Reg) -> Result<(), MemFault>
         requires { IsSized at.now.bytes }
-        ensures { ExecuteEffect result (store_conditional at.now ra) self.old self.new }
+        ensures went { OnOk result (Does Went (store_conditional at.now ra) self.old self.new) }
+        ensures fault { IfErr result (λ fault. FaultEffect fault (store_conditional at.now ra) at.now
+            self.old self.new) }
     {
         let addr = self.place(at);
         let value = self.regs.get(ra);
@@ -119,9 +143,9 @@ impl Machine {
             Ok(()) => {
                 self.set(ra, u64::from(succeeds));
                 self.lock = None;
-                Executed::Went
+                Ok(())
             }
-            Err(fault) => Executed::Ended(fault_end(fault, self.pc, addr)),
+            Err(fault) => Err(fault),
         }
     }
 

@@ -36,6 +36,31 @@ impl Machine {
         ensures shapes { shapes self.new.memory ≡ shapes self.old.memory }
         ensures same { Stays self.old self.new }
     {
+        if self.goes_on() {
+            return StepEnd::Went;
+        }
+        self.step_rarely(input, out, notes)
+    }
+
+    // The same for what is rare, and the words that only go on. It stands apart, so that the loops of the runs are
+    // short.
+    #[inline(never)]
+    fn step_rarely<S: Source, K: Sink, N: Sink>(
+        &mut self,
+        input: &mut S,
+        out: &mut K,
+        notes: &mut N,
+    ) -> StepEnd
+        requires { IsTrue self.old.kernel.user }
+        ensures effect { StepEffect result self.old self.new
+            (drawn S.Source input.old input.new)
+            (sunk K.Sink out.old out.new)
+            (sunk N.Sink notes.old notes.new) }
+        ensures kernel { self.new.kernel ≡ kernel_left (class_here self.old)
+            (next_pc (state_of self.old [] [])) self.old.regs self.old.kernel }
+        ensures shapes { shapes self.new.memory ≡ shapes self.old.memory }
+        ensures same { Stays self.old self.new }
+    {
         let insn = self.insn();
         self.step_by(insn, input, out, notes)
     }

@@ -1,10 +1,13 @@
-ghost use Rattle.std.specs.Prelude.{◌≡◌, ◌+◌, ◌+ℤ◌, ◌*ℤ◌, pos, false};
+ghost use Rattle.std.specs.Prelude.{◌≡◌, ◌+◌, ◌+ℤ◌, ◌*ℤ◌, pos, true, false, IsTrue};
+ghost use Rattle.alpha_words.specs.Regs.{reg};
 ghost use Rattle.alpha_table.specs.Class.{operate, trigger, address, branch, jump, idle};
 ghost use Rattle.alpha_table.specs.Rows.{branch_row};
 ghost use Rattle.alpha_values.specs.Numbers.{register_of};
+ghost use Rattle.alpha_values.specs.Source.{source_value};
 ghost use Rattle.alpha_values.specs.TrapOp.{overflow_of, completed_of};
+ghost use Rattle.alpha_seq.specs.State.{Went};
 ghost use Rattle.alpha_seq.specs.Step.{computed};
-ghost use Rattle.alpha_seq.specs.Executed.{ExecuteEffect, logged_machine};
+ghost use Rattle.alpha_seq.specs.Executed.{Does, ExecuteEffect, logged_machine};
 
 use crate::execute::Executed;
 use crate::{End, Machine};
@@ -15,34 +18,49 @@ use alpha_words::{Completion, Reg};
 // The words that access no memory, one function a family.
 impl Machine {
     #[inline(always)]
-    pub(crate) fn operate(&mut self, op: Op, ra: Reg, src: &Src, rc: Reg) -> Executed
-        ensures { ExecuteEffect result (operate op ra src.now rc) self.old self.new }
+    pub(crate) fn operate(&mut self, op: Op, ra: Reg, src: &Src, rc: Reg)
+        ensures { Does Went (operate op ra src.now rc) self.old self.new }
     {
         let a = self.regs.get(ra);
         let b = self.source(src);
         let old = self.regs.get(rc);
         let value = operate_at(self.image.level(), op, a, b, old);
         self.set(rc, value);
-        Executed::Went
     }
 
     #[inline(always)]
     pub(crate) fn trigger(&mut self, op: TrapOp, ra: Reg, src: &Src, rc: Reg) -> Executed
         ensures { ExecuteEffect result (trigger op ra src.now rc) self.old self.new }
     {
-        let a = self.regs.get(ra);
-        let b = self.source(src);
-        if !overflows(op, a, b) {
-            let value = self.exact(op, a, b);
-            self.set(rc, value);
+        if self.exactly(op, ra, src, rc) {
             return Executed::Went;
         }
         let at = self.pc;
         if self.how == Completion::Stop {
             return Executed::Ended(End::Overflow { pc: at });
         }
+        let a = self.regs.get(ra);
+        let b = self.source(src);
         self.complete(op, a, b, rc);
         Executed::Overflowed(at)
+    }
+
+    // Executes an instruction that may trap, if it doesn't overflow.
+    #[inline(always)]
+    pub(crate) fn exactly(&mut self, op: TrapOp, ra: Reg, src: &Src, rc: Reg) -> bool
+        ensures went { IsTrue result → Does Went (trigger op ra src.now rc) self.old self.new }
+        ensures stays { result ≡ false → self.new ≡ self.old }
+        ensures overflows { result ≡ false
+            → overflow_of op (reg self.old.regs ra) (source_value self.old.regs src.now) ≡ true }
+    {
+        let a = self.regs.get(ra);
+        let b = self.source(src);
+        if overflows(op, a, b) {
+            return false;
+        }
+        let value = self.exact(op, a, b);
+        self.set(rc, value);
+        true
     }
 
     // The result of an instruction that doesn't overflow: every completion has it.
@@ -67,17 +85,16 @@ impl Machine {
     }
 
     #[inline(always)]
-    pub(crate) fn address(&mut self, op: MemOp, ra: Reg, rb: Reg, disp: i16) -> Executed
-        ensures { ExecuteEffect result (address op ra rb disp) self.old self.new }
+    pub(crate) fn address(&mut self, op: MemOp, ra: Reg, rb: Reg, disp: i16)
+        ensures { Does Went (address op ra rb disp) self.old self.new }
     {
         let value = computed(op, self.regs.get(rb), disp);
         self.set(ra, value);
-        Executed::Went
     }
 
     #[inline(always)]
-    pub(crate) fn branch(&mut self, op: BranchOp, ra: Reg, disp: i32) -> Executed
-        ensures { ExecuteEffect result (branch (branch_row op).condition ra disp) self.old self.new }
+    pub(crate) fn branch(&mut self, op: BranchOp, ra: Reg, disp: i32)
+        ensures { Does Went (branch (branch_row op).condition ra disp) self.old self.new }
     {
         let target = branch_target(self.pc, disp);
         match op.row().condition {
@@ -88,25 +105,22 @@ impl Machine {
             Some(condition) if taken(condition, self.regs.get(ra)) => self.pc = target,
             Some(_) => self.advance(),
         }
-        Executed::Went
     }
 
     #[inline(always)]
-    pub(crate) fn jump(&mut self, ra: Reg, rb: Reg) -> Executed
-        ensures { ExecuteEffect result (jump ra rb) self.old self.new }
+    pub(crate) fn jump(&mut self, ra: Reg, rb: Reg)
+        ensures { Does Went (jump ra rb) self.old self.new }
     {
         let target = self.regs.get(rb);
         self.set(ra, self.next_pc());
         self.pc = target / 4 * 4;
-        Executed::Went
     }
 
     #[inline(always)]
-    pub(crate) fn idle(&mut self) -> Executed
-        ensures { ExecuteEffect result idle self.old self.new }
+    pub(crate) fn idle(&mut self)
+        ensures { Does Went idle self.old self.new }
     {
         self.advance();
-        Executed::Went
     }
 }
 

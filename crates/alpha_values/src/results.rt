@@ -31,6 +31,7 @@ pub fn operate(op: Op, a: u64, b: u64, old: u64) -> u64
 /// is Ra, `b` is Rb or the literal, and `old` is what the destination had, which a conditional move
 /// may leave there. A `/V` row gives the wrapped result. AMASK and IMPLVER alone depend on the level.
 #[tactic(auto, unfolding(crate::specs::Op::result_of, crate::specs::TrapOp::completed_of))]
+#[inline(always)]
 pub fn operate_at(level: Level, op: Op, a: u64, b: u64, old: u64) -> u64
     ensures { result ≡ result_of level op a b old }
 {
