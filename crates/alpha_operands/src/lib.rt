@@ -3,7 +3,8 @@
 //! - A [`Piece`] is a token by its form, and where its value goes; a [`Shape`] is a list of patterns
 //!   of pieces. [`Shape::operands`] reads the [`Operands`] of a line, or its first [`OperandFault`].
 //! - [`next_value`] is the first value of a list of data.
-//! - [`register`] and [`operator`] are the tables of the names that begin with `$` and `%`.
+//! - [`register`] and [`operator`] are the tables of the names that begin with `$` and `%`;
+//!   [`number_at`] holds a number to the range of its piece.
 //! - [`laws_of_operands`] says that what is read is what a pattern of the shape spells, and that the
 //!   fault that is read is the first of all that the line has; [`laws_of_lists`] that lists and texts
 //!   are read to their ends.
@@ -27,8 +28,8 @@ mod walk;
 
 pub use laws::{laws_of_lists, laws_of_operands};
 pub use names::{Half, operator, register};
-pub use number::{Number, Sign};
-pub use operands::{LineFaultKind, Operands, is_label};
+pub use number::{Number, Sign, number_at};
+pub use operands::{LineFaultKind, Operands, is_label, offset_at};
 pub use piece::Piece;
 pub use shape::Shape;
 pub use values::{Expr, ListValue, next_value};

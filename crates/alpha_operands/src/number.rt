@@ -112,7 +112,8 @@ fn value(most: u64, least: u64, sign: Sign, n: u64) -> Option<Number>
 
 /// The number at a piece of a pattern, `None` exactly where it is outside the piece's range.
 #[tactic(auto, unfolding(crate::specs::Ranges::number_of))]
-pub(crate) fn number_at(piece: Piece, sign: Sign, n: u64) -> Option<Number>
+#[inline(always)]
+pub fn number_at(piece: Piece, sign: Sign, n: u64) -> Option<Number>
     ensures { result ≡ number_of piece sign n }
 {
     match piece {

@@ -69,16 +69,25 @@ fn number_of(piece: Piece, sign: Sign, text: &[u8]) -> Option<Number>
     }
 }
 
-// A label's offset, `None` exactly where it is outside its range.
+/// A label's offset, `None` exactly where it is outside its range.
+#[inline(always)]
+pub fn offset_at(sign: Sign, n: u64) -> Option<i64>
+    ensures { result ≡ offset_of sign n }
+{
+    match sign {
+        Sign::Plus if n < 1 << 31 => Some(n as i64),
+        Sign::Minus if n < 1 << 31 => Some(-(n as i64)),
+        _ => None,
+    }
+}
+
+// The offset that a number's text stands for, `None` exactly where it is outside its range.
 fn offset_of(sign: Sign, text: &[u8]) -> Option<i64>
     ensures { result ≡ offset_of sign (number_value text.now) }
 {
     match number(text) {
-        Some(n) if n < 1 << 31 => match sign {
-            Sign::Plus => Some(n as i64),
-            Sign::Minus => Some(-(n as i64)),
-        },
-        _ => None,
+        Some(n) => offset_at(sign, n),
+        None => None,
     }
 }
 

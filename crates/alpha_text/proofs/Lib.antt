@@ -1,6 +1,8 @@
 pub mod Behind
 pub mod Bounds
 pub mod Formats
+pub mod Forwards
+pub mod Meanings
 pub mod Items
 pub mod Joined
 pub mod LineFaults

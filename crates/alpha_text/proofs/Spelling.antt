@@ -1,5 +1,5 @@
 -- The tokens of the words of a canonical line.
-use Rattle.std.proofs.Common.{◌≡◌, ◌≢◌, ℕ, List, [], ◌∷◌, ◌++◌, ◌<◌, ◌^◌, ◌==◌, if◌then◌else◌, ◌&&◌, Bool, true, false, cond, eqb, Some, decimal, length, refl, sym, ◌∙◌, ap, add-one, arith}
+use Rattle.std.proofs.Common.{◌≡◌, ◌≢◌, ℕ, List, [], ◌∷◌, ◌++◌, ◌<◌, ◌^◌, ◌==◌, if◌then◌else◌, ◌&&◌, Bool, true, false, not, cond, eqb, Some, decimal, length, refl, sym, ◌∙◌, ap, add-one, arith}
 use Rattle.std.specs.List.{prefix_len, list_all}
 use Rattle.std.specs.Str.{all_ascii_digits}
 use Rattle.std.specs.Str.Parse.{digits_value}
@@ -13,15 +13,11 @@ use Rattle.alpha_token.specs.declared.token.TokenKind.{TokenKind}
 use Rattle.alpha_token.specs.declared.token.TokenKind.TheVariants as kinds
 use Rattle.alpha_token.specs.Bytes.{is_blank, begins_name, goes_on_name}
 use Rattle.alpha_token.specs.Numeral.{hex_len, number_more, number_value}
-use Rattle.alpha_token.specs.Tokens.{Lexeme, Tokens, End, Next, token_at, tokens, if_any}
+use Rattle.alpha_token.specs.Tokens.{Lexeme, Tokens, End, Next, token_at, tokens, if_any, name_kind}
 use Rattle.alpha_token.proofs.Choices.{both}
 use Rattle.alpha_token.proofs.Reading.{tokens-next}
+use Rattle.alpha_text.specs.Words.{Stops}
 use Rattle.alpha_text.specs.Canon.{Word, reg, num, mark, spell, behind_name}
-
--- a list doesn't begin with what passes a test
-abbrev pub Stops : (ℕ → Bool) → List ℕ → Type 0
-Stops p [] = Unit {0}
-Stops p (b ∷ s) = p b ≡ false
 
 pub prefix_len-run : (p : ℕ → Bool) (ds s : List ℕ) → list_all p ds ≡ true → Stops p s → prefix_len p (ds ++ s) ≡ length ds
 prefix_len-run p [] [] h stop = refl
@@ -122,8 +118,12 @@ abbrev pub is_word : List ℕ → Bool
 is_word [] = false
 is_word (b ∷ ds) = is_ascii_alphabetic b && list_all goes_on_name ds
 
-letter_apart : (b : ℕ) → is_ascii_alphabetic b ≡ true → (begins_name b ≡ true) × (eqb b 46 ≡ false)
+pub letter_apart : (b : ℕ) → is_ascii_alphabetic b ≡ true → (begins_name b ≡ true) × (eqb b 46 ≡ false)
 letter_apart b h = (rw h refl, grind (arith, nat_tests))
+
+not_true : (b : Bool) → not b ≡ true → b ≡ false
+not_true true h = cc
+not_true false h = refl
 
 -- what begins a name is no blank and no `#`
 begins_apart : (b : ℕ) → begins_name b ≡ true → (is_blank b ≡ false) × (b ≢ 35)
@@ -132,6 +132,19 @@ begins_apart b h = grind (arith, nat_tests)
 name_at : (b : ℕ) (s : List ℕ) → begins_name b ≡ true → eqb b 46 ≡ false → token_at b s ≡ Some (kinds.Name, prefix_len goes_on_name s)
 unfolding token_at
 name_at b s a d = rw (a, d) refl
+
+named_at : (b : ℕ) (s : List ℕ) → begins_name b ≡ true → token_at b s ≡ Some (name_kind b (prefix_len goes_on_name s), prefix_len goes_on_name s)
+unfolding token_at
+named_at b s a = rw a refl
+
+kind_named : (b n : ℕ) → not (eqb b 46 && eqb n 0) ≡ true → name_kind b n ≡ kinds.Name
+kind_named b n h = let e : (eqb b 46 && eqb n 0) ≡ false = not_true (eqb b 46 && eqb n 0) h in rw e refl
+
+-- a name that isn't `.` alone
+pub token-named : (b : ℕ) (ds s : List ℕ) → begins_name b ≡ true → not (eqb b 46 && eqb (length ds) 0) ≡ true → list_all goes_on_name ds ≡ true → Stops goes_on_name s → tokens ((b ∷ ds) ++ s) ≡ Next (record { kind = kinds.Name; text = b ∷ ds; rest = s }) (tokens s)
+token-named b ds s begins more rest stop =
+    let (plain, apart) = begins_apart b begins in
+    token-next b ds s kinds.Name plain apart (named_at b (ds ++ s) begins ∙ ap (λ n. Some (name_kind b n, n)) (prefix_len-run goes_on_name ds s rest stop) ∙ ap (λ k. Some (k, length ds)) (kind_named b (length ds) more))
 
 -- a name that doesn't begin with `.`
 pub token-begun : (b : ℕ) (ds s : List ℕ) → begins_name b ≡ true → eqb b 46 ≡ false → list_all goes_on_name ds ≡ true → Stops goes_on_name s → tokens ((b ∷ ds) ++ s) ≡ Next (record { kind = kinds.Name; text = b ∷ ds; rest = s }) (tokens s)
@@ -178,6 +191,14 @@ token-plus s = token-mark 43 s kinds.Plus refl (λ e. cc) refl
 pub token-dot : (b : ℕ) (s : List ℕ) → goes_on_name b ≡ false → tokens (46 ∷ b ∷ s) ≡ Next (record { kind = kinds.Dot; text = 46 ∷ []; rest = b ∷ s }) (tokens (b ∷ s))
 unfolding token_at
 token-dot b s h = token-mark 46 (b ∷ s) kinds.Dot refl (λ e. cc) (rw h refl)
+
+pub token-high : (s : List ℕ) → tokens (37 ∷ 104 ∷ 105 ∷ 40 ∷ s) ≡ Next (record { kind = kinds.Operator; text = 37 ∷ 104 ∷ 105 ∷ []; rest = 40 ∷ s }) (tokens (40 ∷ s))
+unfolding token_at
+token-high s = token-next 37 (104 ∷ 105 ∷ []) (40 ∷ s) kinds.Operator refl (λ e. cc) refl
+
+pub token-low : (s : List ℕ) → tokens (37 ∷ 108 ∷ 111 ∷ 40 ∷ s) ≡ Next (record { kind = kinds.Operator; text = 37 ∷ 108 ∷ 111 ∷ []; rest = 40 ∷ s }) (tokens (40 ∷ s))
+unfolding token_at
+token-low s = token-next 37 (108 ∷ 111 ∷ []) (40 ∷ s) kinds.Operator refl (λ e. cc) refl
 
 -- the mark of a byte
 abbrev pub mark_kind : ℕ → TokenKind

@@ -5,3 +5,4 @@ pub mod Heads
 pub mod Quick
 pub mod Reading
 pub mod Statements
+pub mod Words

@@ -1,48 +1,66 @@
 -- What stands behind a name, read apart from the name.
-use Rattle.std.specs.Prelude.{◌≡◌, ◌+◌, ℕ, ℤ, List, [], ◌∷◌, Bool, true, false, not, Option, Ok, ⊤, ◌==◌, ◌||◌, ◌&&◌, if◌then◌else◌}
-use Rattle.std.specs.List.{list_all}
+use Rattle.std.specs.Prelude.{◌≡◌, ◌+◌, ℕ, List, [], ◌∷◌, Bool, true, false, not, Option, Some, None, Ok, ⊤, ◌==◌, ◌||◌, ◌&&◌, if◌then◌else◌}
 use Rattle.std.specs.Char.{is_ascii_alphabetic}
 use Rattle.alpha_table.specs.declared.form.Form.{Form}
-use Rattle.alpha_table.specs.declared.form.Form.TheVariants.{Branch}
-use Rattle.alpha_table.specs.declared.rows.BranchOp.{BranchOp}
 use Rattle.alpha_table.specs.declared.names.Mnemonic.{Mnemonic}
-use Rattle.alpha_table.specs.Row.{IsInsn}
-use Rattle.alpha_table.specs.Names.{mnemonic_of, name_of}
+use Rattle.alpha_table.specs.Names.{name_of}
 use Rattle.alpha_token.specs.Bytes.{goes_on_name}
 use Rattle.alpha_token.specs.Tokens.{tokens}
 use Rattle.alpha_operands.specs.Shapes.{patterns}
 use Rattle.alpha_operands.specs.Operands.{Slots}
 use Rattle.alpha_operands.specs.Walk.{operands}
 use Rattle.alpha_text.specs.declared.head.Head.TheVariants as heads
-use Rattle.alpha_text.specs.Heads.{shape_of}
-use Rattle.alpha_text.specs.Statements.{Said, insn_said}
-use Rattle.alpha_text.specs.Reading.{line_of}
-use Rattle.alpha_text.specs.Canon.{behind_name, words_of, spell, distance_words}
-
--- the instruction has this name, and its canonical line has this behind the name
-abbrev pub IsBehind : Mnemonic → List ℕ → Form → Type 0
-IsBehind m behind i = IsInsn i × (mnemonic_of i ≡ m) × (behind ≡ behind_name (words_of i))
-
--- a branch over a distance, which these words spell
-abbrev pub IsOver : BranchOp → ℕ → List ℕ → Form → Type 0
-IsOver op ra words i = IsInsn i × (disp : ℤ) × (i ≡ Branch op ra disp) × (words ≡ spell (distance_words disp))
+use Rattle.alpha_text.specs.declared.head.Head.{Head}
+use Rattle.alpha_table.specs.declared.op.Op.{Op}
+use Rattle.alpha_table.specs.declared.op.Op.TheVariants.{Bis, Ornot, Subl, Subq, SublV, SubqV, Addl}
+use Rattle.alpha_text.specs.declared.head.Own.{Own}
+use Rattle.alpha_text.specs.declared.head.Own.TheVariants as owns
+use Rattle.alpha_text.specs.Heads.{own_name, own_shape, shape_of}
+use Rattle.alpha_text.specs.Statements.{Said, empty, insn_said, pseudo_form, said_by}
+use Rattle.alpha_text.specs.Words.{HasEnd}
+use Rattle.alpha_text.specs.Reading.{line_of, list_in}
 
 -- the operands behind a name say, with the name, so much
 abbrev pub Says : Mnemonic → List ℕ → Said → Type 0
 Says m behind s = (o : Slots) × (operands (patterns (shape_of (heads.Insn m))) (tokens behind) ≡ Ok o) × (insn_said m o ≡ s)
 
--- it is empty, or begins with a space
+-- the instruction that a pseudo-operation stands for with the operands behind it
+abbrev pub StandsFor : Own → List ℕ → Form → Type 0
+StandsFor own behind i = (o : Slots) × (operands (patterns (own_shape own)) (tokens behind) ≡ Ok o) × (pseudo_form own o ≡ Some i)
+
+-- the operation that a pseudo-operation of two registers stands for
+abbrev pub operation_of : Own → Option Op
+operation_of owns.Mov = Some Bis
+operation_of owns.Not = Some Ornot
+operation_of owns.Negl = Some Subl
+operation_of owns.Negq = Some Subq
+operation_of owns.NeglV = Some SublV
+operation_of owns.NegqV = Some SubqV
+operation_of owns.Sextl = Some Addl
+operation_of own = None
+
+-- the operands behind any name say so much
+abbrev pub SaysBy : Head → List ℕ → Said → Type 0
+SaysBy head behind s = (o : Slots) × (operands (patterns (shape_of head)) (tokens behind) ≡ Ok o) × (said_by head o (list_in behind o.left) ≡ s)
+
+-- it doesn't go on a name, and isn't the colon of a label
 abbrev pub IsApart : List ℕ → Type 0
 IsApart [] = ⊤
-IsApart (b ∷ s) = b ≡ 32
+IsApart (b ∷ s) = (goes_on_name b ≡ false) × ((b == 58) ≡ false)
 
--- the same behind a name of the table, where a space or nothing stands behind it
+abbrev pub head_name : Head → List ℕ
+head_name (heads.Insn m) = name_of m
+head_name (heads.Own own) = own_name own
+
+-- the same behind a name, where the name ends there
 abbrev pub SaysNamed : List ℕ → List ℕ → Said → Type 0
-SaysNamed name behind s = (m : Mnemonic) × (name_of m ≡ name) × IsApart behind × Says m behind s
+SaysNamed name behind s = (head : Head) × (head_name head ≡ name) × IsApart behind × SaysBy head behind s
 
--- a line has this label, and behind it this name and more, whatever they say
+-- a line has this label, and behind it this name and more, whatever they say, or nothing
 abbrev pub IsParted : List ℕ → Option (List ℕ) → List ℕ → List ℕ → Type 0
-IsParted line label name behind = (s : Said) → SaysNamed name behind s → line_of (tokens line) ≡ Ok (record { label = label; statement = s })
+IsParted line label name behind =
+    ((s : Said) → SaysNamed name behind s → line_of (tokens line) ≡ Ok (record { label = label; statement = s }))
+    × (name ≡ [] → HasEnd behind → line_of (tokens line) ≡ Ok (record { label = label; statement = empty }))
 
 -- a name that begins with a letter or `_`
 abbrev pub begins_label : List ℕ → Bool
@@ -52,10 +70,6 @@ begins_label (b ∷ s) = is_ascii_alphabetic b || b == 95
 -- what goes on a name but `/`
 abbrev pub goes_on_label : ℕ → Bool
 goes_on_label b = goes_on_name b && not (b == 47)
-
--- the whole of it is a label
-abbrev pub is_all_label : List ℕ → Bool
-is_all_label s = begins_label s && list_all goes_on_label s
 
 abbrev pub class_of : ℕ → ℕ
 class_of b = if goes_on_label b then 1 else 0

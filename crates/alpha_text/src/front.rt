@@ -1,6 +1,8 @@
-ghost use Rattle.std.specs.Prelude.{◌≡◌, ◌==◌, ◌<◌, ◌++◌, true, false, not, IsTrue, length};
+ghost use Rattle.std.specs.Prelude.{◌≡◌, ◌==◌, ◌<◌, ◌++◌, true, IsTrue, length};
 ghost use Rattle.std.specs.List.{list_all};
-ghost use Rattle.alpha_text.specs.Quick.{class_of, goes_on_label, are_classes, begins_label, is_all_label};
+ghost use Rattle.alpha_token.specs.Bytes.{goes_on_name};
+ghost use Rattle.alpha_text.specs.Words.{Stops};
+ghost use Rattle.alpha_text.specs.Quick.{class_of, goes_on_label, are_classes, begins_label};
 
 // By each byte: 1 for those that go on a label, and 0.
 static CLASSES: [u8; 256] = [
@@ -91,10 +93,13 @@ pub(crate) fn begins_label(name: &[u8]) -> bool
     }
 }
 
-/// Whether the whole of it is a label.
+/// Whether nothing goes on a name here.
 #[inline(always)]
-pub(crate) fn is_all_label(s: &[u8]) -> bool
-    ensures { IsTrue result → is_all_label s.now ≡ true }
+pub(crate) fn ends_name(s: &[u8]) -> bool
+    ensures { IsTrue result → Stops goes_on_name s.now }
 {
-    begins_label(s) && Front::of(s).behind.is_empty()
+    match s {
+        [first, ..] => class_of(*first) == 0 && *first != b'/',
+        [] => true,
+    }
 }

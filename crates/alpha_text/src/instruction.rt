@@ -58,7 +58,7 @@ pub(crate) fn expr<'a>(label: &'a [u8], o: &Operands<'a>) -> Expr<'a>
 }
 
 // An instruction with half of a label's address.
-fn halved(half: Option<Half>, insn: Insn, address: Expr<'_>) -> Statement<'_>
+pub(crate) fn halved(half: Option<Half>, insn: Insn, address: Expr<'_>) -> Statement<'_>
     ensures { said result ≡ half_said half insn address.entry.label.now address.entry.offset }
 {
     match half {
@@ -115,7 +115,7 @@ fn words(number: Option<Number>) -> i32
 }
 
 // The register that a branch writes where none is written: `br` alone writes none, `bsr` R26.
-fn link(op: BranchOp) -> Reg
+pub(crate) fn link(op: BranchOp) -> Reg
     ensures { result ≡ link op }
 {
     match op {

@@ -18,6 +18,7 @@
 #![tactic(auto)]
 
 mod directive;
+mod forms;
 mod front;
 mod head;
 mod instruction;

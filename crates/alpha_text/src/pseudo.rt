@@ -13,7 +13,7 @@ use alpha_table::{Form, Insn, MemOp, Op, Src};
 use alpha_words::{PalCall, Reg};
 
 // An operation whose first source is R31.
-fn of_zero(op: Op, src: Src, rc: Reg) -> Insn
+pub(crate) fn of_zero(op: Op, src: Src, rc: Reg) -> Insn
     requires rule { (op_row op).operands ≡ Any }
     requires source { IsSource src }
     ensures { result ≡ Operate op 31 src rc }
@@ -37,7 +37,7 @@ fn of_register(op: Op, o: &Operands<'_>) -> Insn
 }
 
 // `mov` of a number: the literal where it is one, and else an address.
-fn move_number(n: i16, rc: Reg) -> Insn
+pub(crate) fn move_number(n: i16, rc: Reg) -> Insn
     ensures { result ≡ move_number n rc }
 {
     match u8::try_from(n) {

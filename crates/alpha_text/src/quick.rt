@@ -1,215 +1,30 @@
-//! Lines as programs write them, read in one pass: blanks, a label, a name, a space, and operands in
-//! their canonical form, or the label that a branch goes to. What is written otherwise is `None` here and
-//! is left to the reader of all lines.
-ghost use Rattle.std.specs.Prelude.{◌≡◌, [], ◌∷◌, ◌++◌, IfSome, Ok, true};
-ghost use Rattle.alpha_text.specs.Canon.{mark, reg, spell, source_word, first_words};
+//! Lines as programs write them, read in one pass: blanks, a label, a name, and the words behind it. What is
+//! written otherwise is `None` here and is left to the reader of all lines.
+ghost use Rattle.std.specs.Prelude.{◌≡◌, ◌∷◌, ◌++◌, IfSome, Ok, List, ℕ, true};
 ghost use Rattle.std.specs.List.{list_all};
 ghost use Rattle.std.specs.Option.{option_map};
 ghost use Rattle.alpha_token.specs.Tokens.{tokens};
-ghost use Rattle.alpha_table.specs.declared.names.Mnemonic.TheVariants as mnemonics;
 ghost use Rattle.alpha_text.specs.Statements.{said};
 ghost use Rattle.alpha_text.specs.Reading.{item_said, line_of};
-ghost use Rattle.alpha_text.specs.Quick.{IsBehind, IsOver, Says, SaysNamed, IsApart, IsParted, goes_on_label};
+ghost use Rattle.alpha_text.specs.Quick.{SaysNamed, IsApart, IsParted, goes_on_label};
 
-use crate::front::{Front, begins_label, is_all_label};
-use crate::instruction::insn;
-use crate::rows::row_named;
-use crate::words::{base, behind_byte, distance, first, last, number, signed, source};
+use crate::forms::{of_own, of_row};
+use crate::front::{Front, begins_label};
+use crate::rows::{own_named, row_named};
+use crate::words::{behind_blanks, behind_byte, is_end};
 use crate::{Item, Statement};
-use alpha_operands::Expr;
-use alpha_table::{BranchOp, Form, Insn, JumpKind, MemOp, Mnemonic, Op, OperandRule, Src};
 use alpha_token::without_blanks;
-use alpha_words::Reg;
 
-// A memory instruction.
+// What stands behind a name, where the name ends there.
 #[inline(always)]
-fn memory(op: MemOp, words: &[u8]) -> Option<Insn>
-    ensures { IfSome result (λ i. IsBehind (mnemonics.Mem op) (32 ∷ words.now) i) }
-{
-    let Some((ra, rest)) = first(words) else {
-        return None;
-    };
-    let (disp, rest) = signed(rest)?;
-    let Some((rb, rest)) = base(rest) else {
-        return None;
-    };
-    if rest.is_empty() {
-        Insn::of(Form::Mem { op, ra, rb, disp })
-    } else {
-        None
-    }
-}
-
-// A jump.
-#[inline(always)]
-fn jump(kind: JumpKind, words: &[u8]) -> Option<Insn>
-    ensures { IfSome result (λ i. IsBehind (mnemonics.Jump kind) (32 ∷ words.now) i) }
-{
-    let Some((ra, rest)) = first(words) else {
-        return None;
-    };
-    let Some((rb, rest)) = base(rest) else {
-        return None;
-    };
-    let rest = behind_byte(b',', rest)?;
-    let (hint, rest) = number(rest)?;
-    if rest.is_empty() && hint < 1 << 14 {
-        let hint = hint as u16;
-        Insn::of(Form::Jump { kind, ra, rb, hint })
-    } else {
-        None
-    }
-}
-
-// The second source of an operate instruction, a comma, and its destination, to the end.
-#[inline(always)]
-fn source_and_last(words: &[u8]) -> Option<(Src, Reg)>
-    ensures { IfSome result (λ r. words.now ≡ spell (source_word r.0 ∷ mark 44 ∷ reg r.1 ∷ [])) }
-{
-    let Some((src, rest)) = source(words) else {
-        return None;
-    };
-    let rest = behind_byte(b',', rest)?;
-    let rc = last(rest)?;
-    Some((src, rc))
-}
-
-// An operate instruction with any first source.
-#[inline(always)]
-fn operate(op: Op, words: &[u8]) -> Option<Insn>
-    ensures { IfSome result (λ i. IsBehind (mnemonics.Operate op) (32 ∷ words.now) i) }
-{
-    match op.row().operands {
-        OperandRule::Any => {
-            let Some((ra, rest)) = first(words) else {
-                return None;
-            };
-            let Some((src, rc)) = source_and_last(rest) else {
-                return None;
-            };
-            Insn::of(Form::Operate { op, ra, src, rc })
-        }
-        OperandRule::Unary | OperandRule::UnaryRegister => {
-            let Some((src, rc)) = source_and_last(words) else {
-                return None;
-            };
-            let ra = Reg::ZERO;
-            Insn::of(Form::Operate { op, ra, src, rc })
-        }
-        OperandRule::Version => {
-            let rc = last(words)?;
-            let (ra, src) = (Reg::ZERO, Src::Lit(1));
-            Insn::of(Form::Operate { op, ra, src, rc })
-        }
-    }
-}
-
-// A prefetch.
-#[inline(always)]
-fn prefetch(modify: bool, words: &[u8]) -> Option<Insn>
-    ensures { IfSome result (λ i. IsBehind (mnemonics.Fetch modify) (32 ∷ words.now) i) }
-{
-    let (none, rest) = number(words)?;
-    let Some((rb, rest)) = base(rest) else {
-        return None;
-    };
-    if none == 0 && rest.is_empty() {
-        Insn::of(Form::Fetch { modify, rb })
-    } else {
-        None
-    }
-}
-
-// An instruction that is a name alone.
-#[inline(always)]
-fn alone(mnemonic: Mnemonic) -> Option<Insn>
-    ensures { IfSome result (λ i. IsBehind mnemonic [] i) }
-{
-    match mnemonic {
-        Mnemonic::Misc(op) => Insn::of(Form::Misc(op)),
-        Mnemonic::Pal(call) => Insn::of(Form::Pal(call)),
-        _ => None,
-    }
-}
-
-// An instruction with words behind its name and a space.
-#[inline(always)]
-fn with_words(mnemonic: Mnemonic, words: &[u8]) -> Option<Insn>
-    ensures { IfSome result (λ i. IsBehind mnemonic (32 ∷ words.now) i) }
-{
-    match mnemonic {
-        Mnemonic::Mem(op) => memory(op, words),
-        Mnemonic::Jump(kind) => jump(kind, words),
-        Mnemonic::Operate(op) => operate(op, words),
-        Mnemonic::Fetch { modify } => prefetch(modify, words),
-        _ => None,
-    }
-}
-
-// An instruction with what stands behind its name.
-#[inline(always)]
-fn canonical(mnemonic: Mnemonic, behind: &[u8]) -> Option<Insn>
-    ensures { IfSome result (λ i. IsBehind mnemonic behind.now i) }
+fn apart(behind: &[u8]) -> Option<&[u8]>
+    ensures { IfSome result (λ words. IsApart behind.now × (tokens behind.now ≡ tokens words.now)) }
 {
     match behind {
-        [] => alone(mnemonic),
-        [b' ', words @ ..] => with_words(mnemonic, words),
+        [] => Some(behind),
+        [b' ' | b'\t', ..] => Some(without_blanks(behind)),
+        [b'#', ..] => Some(behind),
         _ => None,
-    }
-}
-
-// A branch over a distance.
-#[inline(always)]
-fn branch_over(op: BranchOp, ra: Reg, words: &[u8]) -> Option<Insn>
-    ensures { IfSome result (λ i. IsOver op ra words.now i) }
-{
-    let disp = distance(words)?;
-    Insn::of(Form::Branch { op, ra, disp })
-}
-
-// A branch, over a distance or to a label, behind its register and a comma.
-#[inline(always)]
-fn branch_behind<'a>(op: BranchOp, ra: Reg, words: &'a [u8]) -> Option<Statement<'a>>
-    ensures { IfSome result (λ s. Says (mnemonics.Branch op) (32 ∷ spell (first_words ra) ++ words.now) (said s)) }
-{
-    match words {
-        [b'.', ..] => {
-            let insn = branch_over(op, ra, words)?;
-            Some(Statement::Code(insn))
-        }
-        _ if is_all_label(words) => Some(Statement::Target {
-            insn: insn(Form::Branch { op, ra, disp: 0 }),
-            target: Expr {
-                label: words,
-                offset: 0,
-            },
-        }),
-        _ => None,
-    }
-}
-
-// A branch.
-#[inline(always)]
-fn branch(op: BranchOp, words: &[u8]) -> Option<Statement<'_>>
-    ensures { IfSome result (λ s. Says (mnemonics.Branch op) (32 ∷ words.now) (said s)) }
-{
-    let Some((ra, rest)) = first(words) else {
-        return None;
-    };
-    branch_behind(op, ra, rest)
-}
-
-// The statement of a row's name with what stands behind it.
-#[inline(always)]
-fn of_row(row: Mnemonic, behind: &[u8]) -> Option<Statement<'_>>
-    ensures { IfSome result (λ s. IsApart behind.now × Says row behind.now (said s)) }
-{
-    match row {
-        Mnemonic::Branch(op) => branch(op, behind_byte(b' ', behind)?),
-        _ => {
-            let insn = canonical(row, behind)?;
-            Some(Statement::Code(insn))
-        }
     }
 }
 
@@ -218,18 +33,14 @@ fn of_row(row: Mnemonic, behind: &[u8]) -> Option<Statement<'_>>
 fn of_name<'a>(front: &Front<'a>) -> Option<Statement<'a>>
     ensures { IfSome result (λ s. SaysNamed front.now.name.now front.now.behind.now (said s)) }
 {
-    let row = row_named(front.name, front.key)?;
-    of_row(row, front.behind)
-}
-
-// What stands behind the blanks of a line, which most lines don't begin with.
-#[inline(always)]
-fn behind_blanks(line: &[u8]) -> &[u8]
-    ensures { tokens line.now ≡ tokens result.now }
-{
-    match line {
-        [b' ' | b'\t', ..] => without_blanks(line),
-        _ => line,
+    let words = apart(front.behind)?;
+    match row_named(front.name, front.key) {
+        Some(row) => of_row(row, words),
+        None => {
+            let own = own_named(front.name, front.key)?;
+            let insn = of_own(own, words)?;
+            Some(Statement::Code(insn))
+        }
     }
 }
 
@@ -280,6 +91,27 @@ fn part(line: &[u8]) -> Option<Parted<'_>>
     }
 }
 
+// The item of a line in two.
+#[inline(always)]
+fn of_parts<'a>(parted: &Parted<'a>) -> Option<Item<'a>>
+    ensures { IfSome result (λ i. (line : List ℕ) → IsParted line (option_map (λ l. l.now) parted.now.label) parted.now.front.name.now parted.now.front.behind.now → line_of (tokens line) ≡ Ok (item_said i)) }
+{
+    let label = parted.label;
+    if parted.front.name.is_empty() {
+        if is_end(parted.front.behind) {
+            let statement = Statement::Empty;
+            Some(Item { label, statement })
+        } else {
+            None
+        }
+    } else {
+        match of_name(&parted.front) {
+            Some(statement) => Some(Item { label, statement }),
+            None => None,
+        }
+    }
+}
+
 /// The item of a line that is written so, behind any blanks.
 #[inline(always)]
 pub(crate) fn item(line: &[u8]) -> Option<Item<'_>>
@@ -287,11 +119,5 @@ pub(crate) fn item(line: &[u8]) -> Option<Item<'_>>
 {
     let line = behind_blanks(line);
     let parted = part(line)?;
-    match of_name(&parted.front) {
-        Some(statement) => Some(Item {
-            label: parted.label,
-            statement,
-        }),
-        None => None,
-    }
+    of_parts(&parted)
 }

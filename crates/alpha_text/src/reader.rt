@@ -130,7 +130,7 @@ fn unlabelled<'a>(token: &Token<'a>, left: usize) -> Result<Item<'a>, OperandFau
 
 // An optional label, and then at most one statement.
 #[inline(never)]
-fn line_of(line: &[u8]) -> Result<Item<'_>, OperandFault>
+pub(crate) fn line_of(line: &[u8]) -> Result<Item<'_>, OperandFault>
     ensures { Gives item_said result (line_of (tokens line.now)) }
 {
     match next(line) {

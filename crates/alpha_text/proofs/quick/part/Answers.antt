@@ -1,11 +1,11 @@
 use Rattle.std.proofs.Common.{◌≡◌, ◌∙◌, ◌++◌, ◌∷◌, IfSome, ap, sym, subst}
 use Rattle.std.specs.Option.{option_map}
 use Rattle.alpha_text.specs.Quick.{IsParted}
-use Rattle.alpha_text.proofs.Behind.{named_line}
+use Rattle.alpha_text.proofs.Behind.{unlabelled_parts}
 use Rattle.alpha_text.proofs.quick.part.Goals as goal
 
 pub returns-in-None : goal.returns-in-None
-returns-in-None c = λ s h. named_line c.args.line.now c.with_trap.result.name.now c.with_trap.result.behind.now s c.with_trap.ensures h
+returns-in-None c = unlabelled_parts c.args.line.now c.with_trap.result.name.now c.with_trap.result.behind.now c.with_trap.ensures
 
 pub returns-in-Some : goal.returns-in-Some
 returns-in-Some c =

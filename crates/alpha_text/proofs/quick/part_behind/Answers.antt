@@ -1,6 +1,6 @@
 use Rattle.std.proofs.Common.{◌∙◌, sym}
-use Rattle.alpha_text.proofs.Behind.{labelled_line}
+use Rattle.alpha_text.proofs.Behind.{labelled_parts}
 use Rattle.alpha_text.proofs.quick.part_behind.Goals as goal
 
 pub returns : goal.returns
-returns c = λ s h. labelled_line c.args.label.now c.args.rest.now c.trapping_front.result.name.now c.trapping_front.result.behind.now s (sym c.if-not-begins_label.ensures) c.requires (sym c.without_blanks-line.ensures.value ∙ c.trapping_front.ensures) h
+returns c = labelled_parts c.args.label.now c.args.rest.now c.trapping_front.result.name.now c.trapping_front.result.behind.now (sym c.if-not-begins_label.ensures) c.requires (sym c.without_blanks-line.ensures.value ∙ c.trapping_front.ensures)

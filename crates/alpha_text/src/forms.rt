@@ -1,0 +1,322 @@
+//! What a name says with the words behind it, where they stand as most programs write them. What is written
+//! otherwise is `None` here.
+ghost use Rattle.std.specs.Prelude.{◌≡◌, List, ℕ, IfSome};
+ghost use Rattle.alpha_table.specs.declared.names.Mnemonic.TheVariants as mnemonics;
+ghost use Rattle.alpha_text.specs.declared.head.Own.TheVariants as owns;
+ghost use Rattle.alpha_text.specs.Statements.{said};
+ghost use Rattle.alpha_text.specs.Quick.{Says, StandsFor, operation_of};
+ghost use Rattle.alpha_text.specs.Words.{HasFirst};
+
+use crate::Statement;
+use crate::head::Own;
+use crate::instruction::{halved, insn, link, numbered};
+use crate::pseudo::{move_number, of_zero};
+use crate::words::{
+    address, binary, comma, distance, first, is_end, jump, last, last_base, number, pair, signed,
+    tail, target, unary,
+};
+use alpha_operands::{Number, Piece, Sign, number_at};
+use alpha_table::{BranchOp, Form, Insn, JumpKind, MemOp, Mnemonic, Op, OperandRule, Src};
+use alpha_words::Reg;
+
+// A memory instruction with a number, behind its register and a comma.
+#[inline(always)]
+fn displaced<'a>(op: MemOp, ra: Reg, words: &'a [u8]) -> Option<Statement<'a>>
+    ensures { IfSome result (λ s. (line : List ℕ) → HasFirst line ra words.now → Says (mnemonics.Mem op) line (said s)) }
+{
+    let (sign, n, rest) = signed(words)?;
+    let Some(Number::Displacement(disp)) = number_at(Piece::Displacement, sign, n) else {
+        return None;
+    };
+    let rb = tail(rest)?;
+    let insn = Insn::of(Form::Mem { op, ra, rb, disp })?;
+    Some(Statement::Code(insn))
+}
+
+// A memory instruction with half of the address of a label, behind its register and a comma.
+#[inline(always)]
+fn addressed<'a>(op: MemOp, ra: Reg, words: &'a [u8]) -> Option<Statement<'a>>
+    ensures { IfSome result (λ s. (line : List ℕ) → HasFirst line ra words.now → Says (mnemonics.Mem op) line (said s)) }
+{
+    let (half, address, rest) = address(words)?;
+    let rb = tail(rest)?;
+    let disp = 0;
+    let insn = insn(Form::Mem { op, ra, rb, disp });
+    Some(halved(Some(half), insn, address))
+}
+
+// A memory instruction with a base alone, behind its register and a comma.
+#[inline(always)]
+fn based<'a>(op: MemOp, ra: Reg, words: &'a [u8]) -> Option<Statement<'a>>
+    ensures { IfSome result (λ s. (line : List ℕ) → HasFirst line ra words.now → Says (mnemonics.Mem op) line (said s)) }
+{
+    let rb = last_base(words)?;
+    let disp = 0;
+    let insn = Insn::of(Form::Mem { op, ra, rb, disp })?;
+    Some(Statement::Code(insn))
+}
+
+// A memory instruction.
+#[inline(always)]
+fn memory(op: MemOp, words: &[u8]) -> Option<Statement<'_>>
+    ensures { IfSome result (λ s. Says (mnemonics.Mem op) words.now (said s)) }
+{
+    let Some((ra, rest)) = first(words) else {
+        return None;
+    };
+    match rest {
+        [b'%', ..] => addressed(op, ra, rest),
+        [b'(', ..] => based(op, ra, rest),
+        _ => displaced(op, ra, rest),
+    }
+}
+
+// A branch behind its register and a comma.
+#[inline(always)]
+fn linked<'a>(op: BranchOp, ra: Reg, words: &'a [u8]) -> Option<Statement<'a>>
+    ensures { IfSome result (λ s. (line : List ℕ) → HasFirst line ra words.now → Says (mnemonics.Branch op) line (said s)) }
+{
+    match words {
+        [b'.', ..] => {
+            let disp = distance(words)?;
+            let insn = Insn::of(Form::Branch { op, ra, disp })?;
+            Some(Statement::Code(insn))
+        }
+        _ => {
+            let target = target(words)?;
+            let disp = 0;
+            let insn = insn(Form::Branch { op, ra, disp });
+            Some(Statement::Target { insn, target })
+        }
+    }
+}
+
+// A branch to a label, where no register is written.
+#[inline(always)]
+fn unlinked(op: BranchOp, words: &[u8]) -> Option<Statement<'_>>
+    ensures { IfSome result (λ s. Says (mnemonics.Branch op) words.now (said s)) }
+{
+    let (ra, disp) = (link(op), 0);
+    match op {
+        BranchOp::Br | BranchOp::Bsr => {
+            let target = target(words)?;
+            let insn = insn(Form::Branch { op, ra, disp });
+            Some(Statement::Target { insn, target })
+        }
+        _ => None,
+    }
+}
+
+// A branch.
+#[inline(always)]
+fn branch(op: BranchOp, words: &[u8]) -> Option<Statement<'_>>
+    ensures { IfSome result (λ s. Says (mnemonics.Branch op) words.now (said s)) }
+{
+    match words {
+        [b'$', ..] => {
+            let Some((ra, rest)) = first(words) else {
+                return None;
+            };
+            linked(op, ra, rest)
+        }
+        _ => unlinked(op, words),
+    }
+}
+
+// A jump with its registers, and a hint or none.
+#[inline(always)]
+fn jumping(kind: JumpKind, words: &[u8]) -> Option<Statement<'_>>
+    ensures { IfSome result (λ s. Says (mnemonics.Jump kind) words.now (said s)) }
+{
+    let to = jump(words)?;
+    let (ra, rb, hint) = (to.ra, to.rb, to.hint);
+    let insn = Insn::of(Form::Jump { kind, ra, rb, hint })?;
+    Some(Statement::Code(insn))
+}
+
+// `ret` alone.
+#[inline(always)]
+fn bare(kind: JumpKind, words: &[u8]) -> Option<Statement<'_>>
+    ensures { IfSome result (λ s. Says (mnemonics.Jump kind) words.now (said s)) }
+{
+    match kind {
+        JumpKind::Ret => {
+            let (ra, rb, hint) = (Reg::ZERO, numbered(26), 1);
+            if is_end(words) {
+                let insn = Insn::of(Form::Jump { kind, ra, rb, hint })?;
+                Some(Statement::Code(insn))
+            } else {
+                None
+            }
+        }
+        _ => None,
+    }
+}
+
+// An operate instruction.
+#[inline(always)]
+fn operate(op: Op, words: &[u8]) -> Option<Statement<'_>>
+    ensures { IfSome result (λ s. Says (mnemonics.Operate op) words.now (said s)) }
+{
+    match op.row().operands {
+        OperandRule::Any => {
+            let of = binary(words)?;
+            let (ra, src, rc) = (of.ra, of.src, of.rc);
+            let insn = Insn::of(Form::Operate { op, ra, src, rc })?;
+            Some(Statement::Code(insn))
+        }
+        OperandRule::Unary => {
+            let Some((src, rc)) = unary(words) else {
+                return None;
+            };
+            let ra = Reg::ZERO;
+            let insn = Insn::of(Form::Operate { op, ra, src, rc })?;
+            Some(Statement::Code(insn))
+        }
+        OperandRule::UnaryRegister => {
+            let of = pair(words)?;
+            let (ra, src, rc) = (Reg::ZERO, Src::Reg(of.rb), of.rc);
+            let insn = Insn::of(Form::Operate { op, ra, src, rc })?;
+            Some(Statement::Code(insn))
+        }
+        OperandRule::Version => {
+            let rc = last(words)?;
+            let (ra, src) = (Reg::ZERO, Src::Lit(1));
+            let insn = Insn::of(Form::Operate { op, ra, src, rc })?;
+            Some(Statement::Code(insn))
+        }
+    }
+}
+
+// A prefetch.
+#[inline(always)]
+fn prefetch(modify: bool, words: &[u8]) -> Option<Statement<'_>>
+    ensures { IfSome result (λ s. Says (mnemonics.Fetch modify) words.now (said s)) }
+{
+    let (n, rest) = number(words)?;
+    let Some(Number::Nothing) = number_at(Piece::Nothing, Sign::Plus, n) else {
+        return None;
+    };
+    let rb = last_base(rest)?;
+    let insn = Insn::of(Form::Fetch { modify, rb })?;
+    Some(Statement::Code(insn))
+}
+
+/// What a row's name says with the words behind it.
+#[inline(always)]
+pub(crate) fn of_row(row: Mnemonic, words: &[u8]) -> Option<Statement<'_>>
+    ensures { IfSome result (λ s. Says row words.now (said s)) }
+{
+    match row {
+        Mnemonic::Mem(op) => memory(op, words),
+        Mnemonic::Branch(op) => branch(op, words),
+        Mnemonic::Operate(op) => operate(op, words),
+        Mnemonic::Jump(kind) => match words {
+            [b'$', ..] => jumping(kind, words),
+            _ => bare(kind, words),
+        },
+        Mnemonic::Fetch { modify } => prefetch(modify, words),
+        Mnemonic::Misc(op) => {
+            let insn = Insn::of(Form::Misc(op))?;
+            if is_end(words) {
+                Some(Statement::Code(insn))
+            } else {
+                None
+            }
+        }
+        Mnemonic::Pal(call) => {
+            let insn = Insn::of(Form::Pal(call))?;
+            if is_end(words) {
+                Some(Statement::Code(insn))
+            } else {
+                None
+            }
+        }
+    }
+}
+
+// `mov` of a number.
+#[inline(always)]
+fn move_of_number(words: &[u8]) -> Option<Insn>
+    ensures { IfSome result (λ i. StandsFor owns.Mov words.now i) }
+{
+    let (sign, n, rest) = signed(words)?;
+    let Some(Number::Immediate(n)) = number_at(Piece::Immediate, sign, n) else {
+        return None;
+    };
+    let rest = comma(rest)?;
+    let rc = last(rest)?;
+    Some(move_number(n, rc))
+}
+
+// The operation that a pseudo-operation of two registers stands for.
+#[inline(always)]
+fn operation(own: Own) -> Option<Op>
+    ensures { result ≡ operation_of own }
+{
+    match own {
+        Own::Mov => Some(Op::Bis),
+        Own::Not => Some(Op::Ornot),
+        Own::Negl => Some(Op::Subl),
+        Own::Negq => Some(Op::Subq),
+        Own::NeglV => Some(Op::SublV),
+        Own::NegqV => Some(Op::SubqV),
+        Own::Sextl => Some(Op::Addl),
+        _ => None,
+    }
+}
+
+// A pseudo-operation of two registers.
+#[inline(always)]
+fn paired(own: Own, words: &[u8]) -> Option<Insn>
+    ensures { IfSome result (λ i. StandsFor own words.now i) }
+{
+    let op = operation(own)?;
+    let of = pair(words)?;
+    Some(of_zero(op, Src::Reg(of.rb), of.rc))
+}
+
+// `nop`.
+#[inline(always)]
+fn nop(words: &[u8]) -> Option<Insn>
+    ensures { IfSome result (λ i. StandsFor owns.Nop words.now i) }
+{
+    if is_end(words) {
+        Some(of_zero(Op::Bis, Src::Reg(Reg::ZERO), Reg::ZERO))
+    } else {
+        None
+    }
+}
+
+// `clr`.
+#[inline(always)]
+fn clear(words: &[u8]) -> Option<Insn>
+    ensures { IfSome result (λ i. StandsFor owns.Clr words.now i) }
+{
+    let rc = last(words)?;
+    Some(of_zero(Op::Bis, Src::Reg(Reg::ZERO), rc))
+}
+
+// `mov`.
+#[inline(always)]
+fn moved(words: &[u8]) -> Option<Insn>
+    ensures { IfSome result (λ i. StandsFor owns.Mov words.now i) }
+{
+    match words {
+        [b'$', ..] => paired(Own::Mov, words),
+        _ => move_of_number(words),
+    }
+}
+
+/// The instruction that a pseudo-operation stands for with the words behind it.
+#[inline(always)]
+pub(crate) fn of_own(own: Own, words: &[u8]) -> Option<Insn>
+    ensures { IfSome result (λ i. StandsFor own words.now i) }
+{
+    match own {
+        Own::Mov => moved(words),
+        Own::Clr => clear(words),
+        Own::Nop => nop(words),
+        _ => paired(own, words),
+    }
+}
