@@ -7,6 +7,8 @@ use Rattle.alpha_text.specs.Reading.{LineSaid}
 use Rattle.alpha_asm.specs.declared.fault.AsmFault.{AsmFault}
 use Rattle.alpha_asm.specs.declared.kind.SourceKind.{SourceKind}
 use Rattle.alpha_asm.specs.declared.pass.Pass.{Pass}
+use Rattle.alpha_asm.specs.declared.line_kind.LineKind.{LineKind}
+use Rattle.alpha_asm.specs.LineKinds.{line_kind, kinds_of}
 use Rattle.alpha_asm.specs.Assembled.{item_at, refused, first_refused}
 use Rattle.alpha_asm.specs.Pass.{IsBounded, Stands}
 
@@ -53,3 +55,17 @@ ends_stands kind source rest p u h =
 
 pub ends_taken : (kind : SourceKind) (source rest : List ℕ) (p : Pass) → Underway kind source rest p → length rest ≡ 0 → first_refused kind [] (lines source) ≡ None
 ends_taken kind source rest p u h = let e : rest ≡ [] = empty_list rest h in sym u.refusals ∙ ap (λ r. first_refused kind u.items (lines r)) e
+
+-- the kinds of the lines so far
+abbrev pub kinds_in : List ℕ → List LineKind
+kinds_in source = kinds_of (map item_at (lines source))
+
+pub kinds_go_on : (first old new : List LineKind) (source rest line more : List ℕ) → lines rest ≡ line ∷ lines more → new ≡ old ++ line_kind (item_at line).statement ∷ []
+    → old ++ kinds_in rest ≡ first ++ kinds_in source → new ++ kinds_in more ≡ first ++ kinds_in source
+kinds_go_on first old new source rest line more e pushed all =
+    ap (λ ks. ks ++ kinds_in more) pushed
+    ∙ append_assoc old (line_kind (item_at line).statement ∷ []) (kinds_in more)
+    ∙ sym (ap (λ ls. old ++ kinds_of (map item_at ls)) e) ∙ all
+
+pub kinds_end : (first old : List LineKind) (source rest : List ℕ) → length rest ≡ 0 → old ++ kinds_in rest ≡ first ++ kinds_in source → old ≡ first ++ kinds_in source
+kinds_end first old source rest h all = sym (append-nil old) ∙ (ap (λ r. old ++ kinds_in r) (sym (empty_list rest h)) ∙ all)

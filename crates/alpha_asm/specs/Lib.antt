@@ -10,3 +10,5 @@ pub mod Pass
 pub mod Bases
 pub mod Finished
 pub mod Data
+pub mod LineKinds
+pub mod Kept

@@ -1,12 +1,14 @@
-ghost use Rattle.std.specs.Prelude.{◌≡◌, ◌≢◌, ◌<◌, ◌^◌, [], length, map, Some, None, Ok, Err, OnOk, IfOk, IfErr};
+ghost use Rattle.std.specs.Prelude.{◌≡◌, ◌≢◌, ◌<◌, ◌^◌, ◌++◌, [], length, map, true, Some, None, Ok, Err, OnOk, IfOk, IfErr};
 ghost use Rattle.std.specs.Str.Lines.{lines};
 ghost use Rattle.alpha_asm.specs.Program.{program_of};
 ghost use Rattle.alpha_asm.specs.Assembled.{item_at, first_refused, assembled};
+ghost use Rattle.alpha_asm.specs.LineKinds.{kinds_of};
 ghost use Rattle.alpha_asm.specs.Pass.{Stands};
 ghost use Rattle.alpha_asm.specs.declared.fault.AsmFault.TheVariants as faults;
 
 use crate::AsmFault;
 use crate::kind::SourceKind;
+use crate::line_kind::LineKinds;
 use crate::lines::first_line;
 use crate::pass::Pass;
 use crate::program::made;
@@ -24,28 +26,31 @@ pub fn assemble(alloc: Global, source: &[u8]) -> Result<Image, AsmFault>
     ensures ok { IfOk result (λ image. assembled source.now ≡ Ok (program_of image)) }
     ensures refused { IfErr result (λ fault. fault ≢ faults.NoMemory → assembled source.now ≡ Err fault) }
 {
-    match read_lines(alloc, SourceKind::Program, source) {
-        Ok(pass) => made(pass),
-        Err(fault) => Err(fault),
-    }
+    let mut kinds = LineKinds::none(alloc);
+    let pass = read_lines(alloc, SourceKind::Program, source, &mut kinds)?;
+    let (image, _labels) = made(pass)?;
+    Ok(image)
 }
 
-/// Goes over all lines of a source of this kind.
-pub(crate) fn read_lines(
+/// Goes over all lines of a source of this kind, and adds their kinds to those that are kept.
+pub(crate) fn read_lines<'a>(
     alloc: Global,
     kind: SourceKind,
-    source: &[u8],
-) -> Result<Pass<'_>, AsmFault>
+    source: &'a [u8],
+    kinds: &mut LineKinds,
+) -> Result<Pass<'a>, AsmFault>
     requires { length source.now < 2 ^ 32 }
     ensures stands { IfOk result (Stands (map item_at (lines source.now))) }
     ensures taken { OnOk result (first_refused kind [] (lines source.now) ≡ None) }
+    ensures kinds { OnOk result (kinds.old.keeps ≡ true →
+        kinds.new.items.items ≡ kinds.old.items.items ++ kinds_of (map item_at (lines source.now))) }
     ensures refused { IfErr result (λ fault. fault ≢ faults.NoMemory → first_refused kind [] (lines source.now) ≡ Some fault) }
 {
     let mut pass = Pass::new(alloc, source);
     let mut rest = source;
     while !rest.is_empty() {
         let (line, more) = first_line(rest);
-        pass.take_line(kind, line)?;
+        pass.take_line(kind, line, kinds)?;
         rest = more;
     }
     Ok(pass)

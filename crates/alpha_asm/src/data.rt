@@ -126,7 +126,8 @@ impl Data {
 
     /// All bytes, or none where there are more than so many.
     pub(crate) fn spread_within(self, most: usize) -> Result<Vec<u8>, AllocError>
-        ensures { IfOk result (λ all. length self.items ≤ most → all.items ≡ self.items) }
+        ensures value { IfOk result (λ all. length self.items ≤ most → all.items ≡ self.items) }
+        ensures bound { IfOk result (λ all. length all.items ≤ length self.items) }
     {
         if self.len <= most {
             self.spread()

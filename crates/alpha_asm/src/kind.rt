@@ -14,7 +14,8 @@ pub enum SourceKind {
     Module,
 }
 
-fn is_ldah(insn: &Insn) -> bool
+/// Whether an instruction is an LDAH.
+pub(crate) fn is_ldah(insn: &Insn) -> bool
     ensures { result ≡ is_ldah insn.now }
 {
     match insn.form() {
@@ -23,7 +24,8 @@ fn is_ldah(insn: &Insn) -> bool
     }
 }
 
-fn is_lda(insn: &Insn) -> bool
+/// Whether an instruction is an LDA.
+pub(crate) fn is_lda(insn: &Insn) -> bool
     ensures { result ≡ is_lda insn.now }
 {
     match insn.form() {

@@ -1,7 +1,8 @@
 //! The assembler: from a source to the image that it defines.
 //!
 //! - [`assemble`] gives the image of a source, or the first refusal, an [`AsmFault`].
-//! - [`Symbols`] says of a source whose lines are read which labels name words of the code.
+//! - [`assemble_kept`] gives beside the image what is kept of its source, [`Symbols`]: which labels name
+//!   words of the code, and what each line is to whoever puts instructions before it, a [`LineKind`].
 //! - [`Unlinked`] is what the source of a module makes: instructions, data bytes, labels, and the
 //!   addresses that a link puts in.
 //!
@@ -38,6 +39,7 @@ mod fault;
 mod fields;
 mod kind;
 mod label;
+mod line_kind;
 mod lines;
 mod output;
 mod pass;
@@ -55,9 +57,10 @@ pub use bases::put_quad;
 pub use fault::AsmFault;
 pub use kind::SourceKind;
 pub use label::{Label, Labels, Seeded};
+pub use line_kind::LineKind;
 pub use patch::{Displacement, Need, Patch, displaced};
 pub use place::{Section, Spot, padding};
 pub use program::are_within;
 pub use statement::Use;
-pub use symbols::Symbols;
+pub use symbols::{Symbols, assemble_kept};
 pub use unlinked::Unlinked;

@@ -1,9 +1,10 @@
-ghost use Rattle.std.specs.Prelude.{◌≡◌, ◌≢◌, ◌+◌, ◌^◌, ◌<◌, ◌++◌, ◌∷◌, ℕ, false, List, [], length, map, Some, None, OnOk, IfOk, IfErr};
+ghost use Rattle.std.specs.Prelude.{◌≡◌, ◌≢◌, ◌+◌, ◌^◌, ◌<◌, ◌++◌, ◌∷◌, ℕ, true, false, List, [], length, map, Some, None, OnOk, IfOk, IfErr};
 ghost use Rattle.std.specs.Option.{option_map};
 ghost use Rattle.alpha_text.specs.Statements.{said};
 ghost use Rattle.alpha_text.specs.Bounds.{IsWithin};
 ghost use Rattle.alpha_text.specs.Reading.{item_said};
 ghost use Rattle.alpha_asm.specs.Statement.{cells};
+ghost use Rattle.alpha_asm.specs.LineKinds.{line_kind};
 ghost use Rattle.alpha_asm.specs.Layout.{spot, repeats_label};
 ghost use Rattle.alpha_asm.specs.Assembled.{item_at, refused};
 ghost use Rattle.alpha_asm.specs.Patches.{coded_of, AddsCells};
@@ -14,6 +15,7 @@ use crate::AsmFault;
 use crate::fields::FieldsRead;
 use crate::kind::SourceKind;
 use crate::label::Labels;
+use crate::line_kind::LineKinds;
 use crate::output::{Output, push_entry};
 use crate::place::Place;
 use crate::statement::{Coded, coded_in, is_statement};
@@ -50,12 +52,17 @@ impl<'a> Pass<'a> {
         }
     }
 
-    /// Goes over the next line of a source of this kind.
+    /// Goes over the next line of a source of this kind, and adds its kind to those that are kept.
     ///
     /// # Errors
     ///
     /// `LongLine`, `Line`, `Section` or `Duplicate`, the first in this order.
-    pub(crate) fn take_line(&mut self, kind: SourceKind, line: &'a [u8]) -> Result<(), AsmFault>
+    pub(crate) fn take_line(
+        &mut self,
+        kind: SourceKind,
+        line: &'a [u8],
+        kinds: &mut LineKinds,
+    ) -> Result<(), AsmFault>
         requires bounded { IsBounded self.old }
         requires lines { self.old.line + 1 < 2 ^ 32 }
         ensures ok { OnOk result ((is : _) → Stands is self.old → Stands (is ++ item_at line.entry.now ∷ []) self.new) }
@@ -64,12 +71,18 @@ impl<'a> Pass<'a> {
             (is : _) → Stands is self.old → refused kind is line.entry.now ≡ Some fault) }
         ensures bounded { OnOk result (IsBounded self.new) }
         ensures line { OnOk result (self.new.line ≡ self.old.line + 1) }
+        ensures keeps { kinds.new.keeps ≡ kinds.old.keeps }
+        ensures kinds { OnOk result (kinds.old.keeps ≡ true → kinds.new.items.items
+            ≡ kinds.old.items.items ++ line_kind (item_at line.entry.now).statement ∷ []) }
     {
         if line.len() > LONGEST_LINE {
             return Err(AsmFault::LongLine(self.line + 1));
         }
         match read_line(line) {
-            Ok(item) => self.take_item(kind, &item),
+            Ok(item) => match self.take_item(kind, &item) {
+                Ok(()) => Ok(kinds.push(&item.statement)?),
+                Err(fault) => Err(fault),
+            },
             Err(fault) => Err(AsmFault::Line(self.line + 1, fault)),
         }
     }

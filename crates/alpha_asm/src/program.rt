@@ -15,6 +15,7 @@ ghost use Rattle.alpha_asm.specs.declared.fault.AsmFault.TheVariants as faults;
 use crate::AsmFault;
 use crate::bases::{Bases, put_all};
 use crate::fields::{Entry, FieldsRead};
+use crate::label::Labels;
 use crate::pass::Pass;
 use alpha_image::{Image, LevelFields, Segment, Version};
 use alpha_table::{Insn, level_of};
@@ -28,7 +29,7 @@ const CODE_BASE: u64 = 0x10000;
 const DATA_BASE: u64 = 0x1000_0000;
 
 /// The most data bytes of an image.
-const MOST_DATA: usize = 16_777_216;
+pub(crate) const MOST_DATA: usize = 16_777_216;
 
 /// Without a `.stack`.
 const STACK: u64 = 65_536;
@@ -152,14 +153,15 @@ impl Finished {
     }
 }
 
-/// The image behind the last line.
+/// The image behind the last line, and the labels.
 ///
 /// # Errors
 ///
 /// `NoEntry`, `Undefined`, `ImageField` or `Reach`, the first in this order.
-pub(crate) fn made(pass: Pass<'_>) -> Result<Image, AsmFault>
+pub(crate) fn made<'a>(pass: Pass<'a>) -> Result<(Image, Labels<'a>), AsmFault>
     requires { Sound (place_of pass) (length pass.output.bytes.items) }
-    ensures ok { IfOk result (λ image. (is : _) → Stands is pass.entry → made is ≡ Ok (program_of image)) }
+    ensures ok { IfOk result (λ r. (is : _) → Stands is pass.entry → made is ≡ Ok (program_of r.0)) }
+    ensures labels { IfOk result (λ r. r.1 ≡ pass.entry.labels) }
     ensures refused { IfErr result (λ fault. fault ≢ faults.NoMemory →
         (is : _) → Stands is pass.entry → made is ≡ Err fault) }
 {
@@ -169,16 +171,20 @@ pub(crate) fn made(pass: Pass<'_>) -> Result<Image, AsmFault>
     }
 }
 
-// The image behind the last line, with an entry.
-fn made_at<'a>(pass: Pass<'a>, entry: &Entry<'a>) -> Result<Image, AsmFault>
+// The image behind the last line, with an entry, and the labels.
+fn made_at<'a>(pass: Pass<'a>, entry: &Entry<'a>) -> Result<(Image, Labels<'a>), AsmFault>
     requires { Sound (place_of pass) (length pass.output.bytes.items) }
-    ensures ok { IfOk result (λ image. (is : _) → Stands is pass.entry →
-        made_at is (Some (entry_view entry.now)) ≡ Ok (program_of image)) }
+    ensures ok { IfOk result (λ r. (is : _) → Stands is pass.entry →
+        made_at is (Some (entry_view entry.now)) ≡ Ok (program_of r.0)) }
+    ensures labels { IfOk result (λ r. r.1 ≡ pass.entry.labels) }
     ensures refused { IfErr result (λ fault. fault ≢ faults.NoMemory →
         (is : _) → Stands is pass.entry → made_at is (Some (entry_view entry.now)) ≡ Err fault) }
 {
     match finish(pass, entry) {
-        Ok(finished) => finished.image(),
+        Ok((finished, labels)) => match finished.image() {
+            Ok(image) => Ok((image, labels)),
+            Err(fault) => Err(fault),
+        },
         Err(fault) => Err(fault),
     }
 }
@@ -201,11 +207,12 @@ fn fields_of<'a>(
 }
 
 // Puts all addresses in.
-fn finish<'a>(pass: Pass<'a>, entry: &Entry<'a>) -> Result<Finished, AsmFault>
+fn finish<'a>(pass: Pass<'a>, entry: &Entry<'a>) -> Result<(Finished, Labels<'a>), AsmFault>
     requires { Sound (place_of pass) (length pass.output.bytes.items) }
-    ensures whole { IfOk result IsWhole }
-    ensures ok { IfOk result (λ finished. (is : _) → Stands is pass.entry →
-        Finishes is (entry_view entry.now) finished) }
+    ensures whole { IfOk result (λ r. IsWhole r.0) }
+    ensures ok { IfOk result (λ r. (is : _) → Stands is pass.entry →
+        Finishes is (entry_view entry.now) r.0) }
+    ensures labels { IfOk result (λ r. r.1 ≡ pass.entry.labels) }
     ensures undefined { IfErr result (λ fault. fault ≢ faults.NoMemory → (is : _) → Stands is pass.entry →
         option_map faults.Undefined (first (undefined_line (known is)) (flat_map names_in (layout is))) ≡ Some fault) }
 {
@@ -223,14 +230,15 @@ fn finish<'a>(pass: Pass<'a>, entry: &Entry<'a>) -> Result<Finished, AsmFault>
     match put_all(&bases, &patches, &mut code, &mut bytes) {
         Ok(unmet) => {
             let fields = fields_of(&bases, &pass.fields, level, entry);
-            Ok(Finished {
+            let finished = Finished {
                 level,
                 fields,
                 segments,
                 code,
                 bytes,
                 unmet,
-            })
+            };
+            Ok((finished, pass.labels))
         }
         Err(fault) => Err(fault),
     }

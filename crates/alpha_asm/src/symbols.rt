@@ -1,63 +1,83 @@
-ghost use Rattle.std.specs.Prelude.{◌≡◌, ◌≢◌, ◌<◌, ◌^◌, [], length, map, Some, None, OnOk, IfOk, IfErr};
+ghost use Rattle.std.specs.Prelude.{◌≡◌, ◌≢◌, ◌<◌, ◌^◌, length, map, Some, None, Ok, Err, OnOk, IfOk, IfErr};
 ghost use Rattle.std.specs.Str.Lines.{lines};
 ghost use Rattle.alpha_asm.specs.Layout.{layout, spot_of, is_of_code};
-ghost use Rattle.alpha_asm.specs.Assembled.{item_at, first_refused};
+ghost use Rattle.alpha_asm.specs.LineKinds.{kinds_of};
+ghost use Rattle.alpha_asm.specs.Program.{program_of};
+ghost use Rattle.alpha_asm.specs.Assembled.{item_at, assembled};
 ghost use Rattle.alpha_asm.specs.declared.fault.AsmFault.TheVariants as faults;
-ghost use Rattle.alpha_asm.specs.declared.kind.SourceKind.TheVariants as kinds;
 
 use crate::AsmFault;
 use crate::assembler::read_lines;
 use crate::kind::SourceKind;
-use crate::pass::Pass;
+use crate::label::Labels;
+use crate::line_kind::{LineKind, LineKinds};
 use crate::place::Spot;
+use crate::program::made;
+use alpha_image::Image;
 use std::alloc::Global;
 use std::marker::Model;
 
-/// The labels of a source whose lines are read. A clause sees the source.
+/// What is kept of a source that has an image: its labels and the kinds of its lines. A clause sees the
+/// source.
 #[derive(Drop)]
 pub struct Symbols<'a> {
     source: &'a [u8],
-    pass: Pass<'a>,
+    labels: Labels<'a>,
+    kinds: Vec<LineKind>,
 }
 
 impl<'a> Model for Symbols<'a> {
-    ghost use Rattle.std.specs.Prelude.{ℕ, List, map};
-    ghost use Rattle.std.specs.Str.Lines.{lines};
-    ghost use Rattle.alpha_asm.specs.Assembled.{item_at};
-    ghost use Rattle.alpha_asm.specs.Pass.{Stands};
+    ghost use Rattle.std.specs.Prelude.{ℕ, List};
+    ghost use Rattle.alpha_asm.specs.Kept.{IsKept};
 
     ghost Value = { List ℕ };
 
     ghost view = { λ s. s.source.now };
 
-    ghost invariant = { λ s. Stands (map item_at (lines s.source.now)) s.pass };
+    ghost invariant = { IsKept };
+}
+
+/// The image that a source defines, with what is kept of the source.
+///
+/// # Errors
+///
+/// The first refusal, in the order of [`AsmFault`]. `NoMemory` may come in place of any answer.
+#[tactic(auto, unfolding(crate::specs::Assembled::assembled))]
+pub fn assemble_kept<'a>(alloc: Global, source: &'a [u8]) -> Result<(Image, Symbols<'a>), AsmFault>
+    requires { length source.now < 2 ^ 32 }
+    ensures ok { IfOk result (λ kept. assembled source.now ≡ Ok (program_of kept.0)) }
+    ensures symbols { IfOk result (λ kept. kept.1 ≡ source.now) }
+    ensures refused { IfErr result (λ fault. fault ≢ faults.NoMemory → assembled source.now ≡ Err fault) }
+{
+    let mut kinds = LineKinds::kept(alloc);
+    let pass = read_lines(alloc, SourceKind::Program, source, &mut kinds)?;
+    let (image, labels) = made(pass)?;
+    let kinds = kinds.items;
+    Ok((
+        image,
+        Symbols {
+            source,
+            labels,
+            kinds,
+        },
+    ))
 }
 
 impl<'a> Symbols<'a> {
-    /// Reads the lines of a source.
-    ///
-    /// # Errors
-    ///
-    /// The refusal of the least line that is refused. `NoMemory` may come in place of any answer.
-    pub fn of(alloc: Global, source: &'a [u8]) -> Result<Symbols<'a>, AsmFault>
-        requires { length source.now < 2 ^ 32 }
-        ensures value { IfOk result (λ symbols. symbols ≡ source.now) }
-        ensures taken { OnOk result (first_refused kinds.Program [] (lines source.now) ≡ None) }
-        ensures refused { IfErr result (λ fault. fault ≢ faults.NoMemory → first_refused kinds.Program [] (lines source.now) ≡ Some fault) }
-    {
-        match read_lines(alloc, SourceKind::Program, source) {
-            Ok(pass) => Ok(Symbols { source, pass }),
-            Err(fault) => Err(fault),
-        }
-    }
-
     /// Whether a label names a word of the code.
     pub fn names_code(&self, label: &'a [u8]) -> bool
         ensures { result ≡ is_of_code (spot_of (layout (map item_at (lines self.now))) label.now) }
     {
-        match self.pass.labels.spot(label) {
+        match self.labels.spot(label) {
             Some(Spot::Code(_)) => true,
             Some(Spot::Data(..)) | None => false,
         }
+    }
+
+    /// The kinds of the lines, one a line.
+    pub fn kinds(&self) -> &[LineKind]
+        ensures { result.now ≡ kinds_of (map item_at (lines self.now)) }
+    {
+        &self.kinds
     }
 }

@@ -1,4 +1,4 @@
-ghost use Rattle.std.specs.Prelude.{◌≡◌, ◌≢◌, ◌<◌, ◌^◌, [], length, map, Some, None, OnOk, IfOk, IfErr};
+ghost use Rattle.std.specs.Prelude.{◌≡◌, ◌≢◌, ◌≤◌, ◌<◌, ◌^◌, [], length, map, Some, None, OnOk, IfOk, IfErr};
 ghost use Rattle.std.specs.Str.Lines.{lines};
 ghost use Rattle.alpha_asm.specs.Assembled.{item_at, first_refused};
 ghost use Rattle.alpha_asm.specs.Pass.{Stands};
@@ -10,8 +10,10 @@ use crate::AsmFault;
 use crate::assembler::read_lines;
 use crate::kind::SourceKind;
 use crate::label::Labels;
+use crate::line_kind::LineKinds;
 use crate::pass::Pass;
 use crate::patch::Patch;
+use crate::program::MOST_DATA;
 use alpha_table::Insn;
 use std::alloc::{AllocError, Global};
 
@@ -20,7 +22,9 @@ use std::alloc::{AllocError, Global};
 pub struct Unlinked<'a> {
     /// The instructions. Those that are to reach an address have displacement 0.
     pub code: Vec<Insn>,
-    /// The data bytes. Those of an address are 0.
+    /// How many data bytes.
+    pub filled: usize,
+    /// The data bytes, where there are at most 16,777,216. Those of an address are 0.
     pub bytes: Vec<u8>,
     /// How many zeroed bytes stand behind them.
     pub zeroed: u64,
@@ -39,11 +43,13 @@ impl<'a> Unlinked<'a> {
     pub fn of(alloc: Global, source: &'a [u8]) -> Result<Unlinked<'a>, AsmFault>
         requires { length source.now < 2 ^ 32 }
         ensures makes { IfOk result (Makes (map item_at (lines source.now))) }
+        ensures few { IfOk result (λ made. length made.bytes.items ≤ made.filled) }
         ensures taken { OnOk result (first_refused kinds.Module [] (lines source.now) ≡ None) }
         ensures refused { IfErr result (λ fault. fault ≢ faults.NoMemory →
             first_refused kinds.Module [] (lines source.now) ≡ Some fault) }
     {
-        match read_lines(alloc, SourceKind::Module, source) {
+        let mut kinds = LineKinds::none(alloc);
+        match read_lines(alloc, SourceKind::Module, source, &mut kinds) {
             Ok(pass) => Ok(Unlinked::behind(pass)?),
             Err(fault) => Err(fault),
         }
@@ -51,14 +57,17 @@ impl<'a> Unlinked<'a> {
 
     // What a pass has made.
     fn behind(pass: Pass<'a>) -> Result<Unlinked<'a>, AllocError>
-        ensures { IfOk result (λ made. (is : _) → Stands is pass.entry → Makes is made) }
+        ensures makes { IfOk result (λ made. (is : _) → Stands is pass.entry → Makes is made) }
+        ensures few { IfOk result (λ made. length made.bytes.items ≤ made.filled) }
     {
+        let filled = pass.output.bytes.len();
         let zeroed = pass.place.last.zeroed;
         let code = pass.output.code;
         let patches = pass.output.patches;
-        let bytes = pass.output.bytes.spread()?;
+        let bytes = pass.output.bytes.spread_within(MOST_DATA)?;
         Ok(Unlinked {
             code,
+            filled,
             bytes,
             zeroed,
             labels: pass.labels,

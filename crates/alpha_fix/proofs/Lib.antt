@@ -14,3 +14,4 @@ pub mod Building
 pub mod Answering
 pub mod FixedSources
 pub mod Existing
+pub mod Roles

@@ -1,5 +1,5 @@
 -- Lines that fix where words of the code stand: a word before them would make them name another one, or none.
-use Rattle.std.specs.Prelude.{ℕ, ◌+◌, ◌==◌, ◌&&◌, ◌||◌, ℤ, pos, negsuc, Bool, true, false, not, List, [], ◌∷◌, ◌++◌, map, Option, None, Some, if◌then◌else◌}
+use Rattle.std.specs.Prelude.{ℕ, ◌+◌, ◌==◌, ◌&&◌, ◌||◌, Bool, true, false, not, List, [], ◌∷◌, ◌++◌, map, Option, None, Some, if◌then◌else◌}
 use Rattle.std.specs.Option.{option_map, option_and_then}
 use Rattle.std.specs.List.{list_any, filter_map}
 use Rattle.std.specs.Str.Lines.{lines}
@@ -11,6 +11,7 @@ use Rattle.alpha_text.specs.Statements.{Said}
 use Rattle.alpha_text.specs.Statements as says
 use Rattle.alpha_text.specs.Reading.{LineSaid}
 use Rattle.alpha_asm.specs.Statement.{Reference, coded, Cell, number, address, cells, Entry, entry_at, entry_of, entry_in}
+use Rattle.alpha_asm.specs.LineKinds.{is_nothing}
 use Rattle.alpha_asm.specs.Layout.{layout, fields, spot_of, is_of_code}
 use Rattle.alpha_asm.specs.Program.{list_of, code_base_of}
 use Rattle.alpha_asm.specs.Assembled.{item_at}
@@ -58,10 +59,6 @@ abbrev pub references : Said → List Reference
 references s =
     list_of (option_and_then (λ c. option_map (λ r. r.1) c.reach) (coded s))
     ++ (filter_map cell_reference (cells s) ++ list_of (option_and_then entry_reference (entry_in s)))
-
-abbrev pub is_nothing : ℤ → Bool
-is_nothing (pos n) = n == 0
-is_nothing (negsuc n) = false
 
 -- an address some way off a label that names code
 abbrev pub is_off : (List ℕ → Bool) → Reference → Bool

@@ -1,7 +1,9 @@
-ghost use Rattle.std.specs.Prelude.{◌≡◌, ◌+◌, ◌<◌, ◌≤◌, ◌^◌, ◌++◌, ◌==◌, ◌&&◌, ℕ, [], length, is_some, None, OnOk, IfOk, IfErr};
+ghost use Rattle.std.specs.Prelude.{◌≡◌, ◌+◌, ◌<◌, ◌≤◌, ◌^◌, ◌++◌, ◌∷◌, ◌==◌, ◌&&◌, ℕ, List, [], length, is_some, None, OnOk, IfOk, IfErr};
 ghost use Rattle.std.specs.List.{flat_map};
 ghost use Rattle.std.specs.Str.Lines.{lines};
 ghost use Rattle.alpha_text.specs.Statements.{said};
+ghost use Rattle.alpha_asm.specs.declared.line_kind.LineKind.{LineKind as LineKindOf};
+ghost use Rattle.alpha_asm.specs.LineKinds.{line_kind};
 ghost use Rattle.alpha_asm.specs.Statement.{coded};
 ghost use Rattle.alpha_asm.specs.Assembled.{item_at, first_refused};
 ghost use Rattle.alpha_asm.specs.declared.kind.SourceKind.TheVariants as source_kinds;
@@ -14,7 +16,7 @@ ghost use Rattle.alpha_fix.specs.Lines.{Is, role, Hinders};
 use crate::FixFault;
 use crate::fixed_line::is_fixed;
 use crate::line::Line;
-use alpha_asm::Symbols;
+use alpha_asm::{LineKind, Symbols};
 use alpha_text::{Statement, read_line};
 use std::alloc::{AllocError, Global};
 
@@ -66,6 +68,30 @@ fn role_of<'a>(symbols: &Symbols<'a>, base: u64, text: &'a [u8]) -> Role
     match read_line(text) {
         Ok(item) => role_by(symbols, base, &item.statement),
         Err(_) => Role::Other,
+    }
+}
+
+// What a line of a source is, by its kind. Only one that may be fixed is read again.
+fn role_here<'a>(kind: LineKind, symbols: &Symbols<'a>, base: u64, text: &'a [u8]) -> Role
+    requires short { length text.now ≤ 1024 }
+    requires kind { kind ≡ line_kind (item_at text.now).statement }
+    ensures { let i = item_at text.now in
+        result ≡ role (is_fixed (names_code (items_of symbols.now)) base i.statement) (has_insn i) }
+{
+    match kind {
+        LineKind::Other => Role::Other,
+        LineKind::Insn => Role::Insn,
+        LineKind::Bound => role_of(symbols, base, text),
+    }
+}
+
+// The kind of the first line, and those behind it.
+fn first_kind(kinds: &[LineKind]) -> (LineKind, &[LineKind])
+    ensures { (k : LineKindOf) (ks : List LineKindOf) → kinds.now ≡ k ∷ ks → (result.0 ≡ k) × (result.1.now ≡ ks) }
+{
+    match kinds {
+        [kind, more @ ..] => (*kind, more),
+        [] => (LineKind::Bound, kinds),
     }
 }
 
@@ -131,13 +157,13 @@ fn put_line(
 /// `Fixed` with the first fixed line.
 pub(crate) fn with_barriers<'a>(
     alloc: Global,
-    symbols: &Symbols<'a>,
+    symbols: Symbols<'a>,
     source: &'a [u8],
     base: u64,
     words: u32,
     cuts: &[u32],
 ) -> Result<Vec<u8>, FixFault>
-    requires symbols { symbols.now ≡ source.now }
+    requires symbols { symbols ≡ source.now }
     requires base { base ≡ code_base (items_of source.now) }
     requires words { words ≡ word_count source.now }
     requires rise { Rise 0 cuts.now }
@@ -152,9 +178,11 @@ pub(crate) fn with_barriers<'a>(
     let mut number: u32 = 1;
     let mut place: u32 = 0;
     let mut left = cuts;
+    let mut kinds = symbols.kinds();
     while !rest.is_empty() {
         let line = Line::first(rest);
-        match role_of(symbols, base, line.text) {
+        let (kind, more) = first_kind(kinds);
+        match role_here(kind, &symbols, base, line.text) {
             Role::FixedLine => return Err(FixFault::Fixed(number)),
             Role::Insn => {
                 let (before, later) = take_cut(left, place);
@@ -166,6 +194,7 @@ pub(crate) fn with_barriers<'a>(
             Role::Other => put_line(&mut text, &line, false, false)?,
         }
         rest = line.rest;
+        kinds = more;
         number += 1;
     }
     Ok(text)

@@ -6,7 +6,7 @@ ghost use Rattle.alpha_fix.specs.Fix.{HasImage, HasCuts, IsFixedSource, IsFar, R
 
 use crate::barriers::with_barriers;
 use crate::{CutFault, FixFault, cuts_of};
-use alpha_asm::{AsmFault, Symbols, assemble};
+use alpha_asm::{AsmFault, Symbols, assemble, assemble_kept};
 use alpha_image::Image;
 use std::alloc::Global;
 
@@ -21,16 +21,22 @@ pub fn fix(alloc: Global, source: &[u8]) -> Result<Vec<u8>, FixFault>
     ensures ok { IfOk result (λ text. IsFixedSource source.now text.items) }
     ensures refused { IfErr result (Refuses source.now) }
 {
-    match assemble(alloc, source) {
-        Ok(image) => fix_image(alloc, source, &image),
+    match assemble_kept(alloc, source) {
+        Ok((image, symbols)) => fix_image(alloc, source, &image, symbols),
         Err(AsmFault::NoMemory) => Err(FixFault::NoMemory),
         Err(fault) => Err(FixFault::Source(fault)),
     }
 }
 
 // The same for a source of an image.
-fn fix_image(alloc: Global, source: &[u8], image: &Image) -> Result<Vec<u8>, FixFault>
+fn fix_image<'a>(
+    alloc: Global,
+    source: &'a [u8],
+    image: &Image,
+    symbols: Symbols<'a>,
+) -> Result<Vec<u8>, FixFault>
     requires size { length source.now < 2 ^ 31 }
+    requires symbols { symbols ≡ source.now }
     requires image { assembled source.now ≡ Ok (program_of image.now) }
     ensures ok { IfOk result (λ text. IsFixedSource source.now text.items) }
     ensures refused { IfErr result (Refuses source.now) }
@@ -42,7 +48,7 @@ fn fix_image(alloc: Global, source: &[u8], image: &Image) -> Result<Vec<u8>, Fix
                 Ok(Vec::from_slice(alloc, source)?)
             } else {
                 let base = image.code_base();
-                fix_at(alloc, source, base, words, &cuts, image)
+                fix_at(alloc, source, base, words, &cuts, image, symbols)
             }
         }
         Err(CutFault::Unfixable(broken)) => Err(FixFault::Unfixable(broken)),
@@ -51,15 +57,17 @@ fn fix_image(alloc: Global, source: &[u8], image: &Image) -> Result<Vec<u8>, Fix
 }
 
 // The same for cuts.
-fn fix_at(
+fn fix_at<'a>(
     alloc: Global,
-    source: &[u8],
+    source: &'a [u8],
     base: u64,
     words: u32,
     cuts: &[u32],
     image: &Image,
+    symbols: Symbols<'a>,
 ) -> Result<Vec<u8>, FixFault>
     requires size { length source.now < 2 ^ 31 }
+    requires symbols { symbols ≡ source.now }
     requires cuts { HasCuts source.now image.now cuts.now }
     requires some { cuts.now ≢ [] }
     requires base { base ≡ image.now.code_base }
@@ -67,13 +75,8 @@ fn fix_at(
     ensures ok { IfOk result (λ text. IsFixedSource source.now text.items) }
     ensures refused { IfErr result (Refuses source.now) }
 {
-    match Symbols::of(alloc, source) {
-        Ok(symbols) => {
-            let text = with_barriers(alloc, &symbols, source, base, words, cuts)?;
-            checked(alloc, text)
-        }
-        Err(_) => Err(FixFault::NoMemory),
-    }
+    let text = with_barriers(alloc, symbols, source, base, words, cuts)?;
+    checked(alloc, text)
 }
 
 // A text that has an image.

@@ -79,29 +79,29 @@ same_symbols known others (n ∷ names) same =
     ∙ ap (λ l. symbol_at_spot n.now (known n.now) ∷ l) (same_symbols known others names same)
 
 -- the parts that the items make are those that were made of what was read
-pub module_is : (is : List LineSaid) (u : Unlinked) (names : List (Bor (List ℕ))) (symbols : List Named) (relocations : List Relocation) → Makes is u → map (λ n. n.now) names ≡ all_names is
+pub module_is : (is : List LineSaid) (u : Unlinked) (names : List (Bor (List ℕ))) (symbols : List Named) (relocations : List Relocation) → Makes is u → u.filled ≤ 16777216 → map (λ n. n.now) names ≡ all_names is
     → symbols ≡ map (λ n. symbol_at_spot n.now (spot_named u.labels n.now)) names
     → relocations ≡ filter_map (relocation_for sides.Code (map (λ n. n.now) names)) (map fix_of u.patches.items) ++ filter_map (relocation_for sides.Data (map (λ n. n.now) names)) (map fix_of u.patches.items)
     → module_of is ≡ record { words = map encoded u.code.items; bytes = u.bytes.items; zeroed = u.zeroed; symbols = symbols; relocations = relocations }
 unfolding module_of
-module_is is u names symbols relocations m named made put =
+module_is is u names symbols relocations m few named made put =
     let first : symbols ≡ map (λ n. symbol_at_spot n (spot_of (layout is) n)) (all_names is) =
     made ∙ (sym (same_symbols (spot_named u.labels) (spot_of (layout is)) names m.labels) ∙ ap (map (λ n. symbol_at_spot n (spot_of (layout is) n))) named) in
     let second : relocations ≡ filter_map (relocation_for sides.Code (all_names is)) (fixes 0 (layout is)) ++ filter_map (relocation_for sides.Data (all_names is)) (fixes 0 (layout is)) =
     put ∙ (ap (λ ns. filter_map (relocation_for sides.Code ns) (map fix_of u.patches.items) ++ filter_map (relocation_for sides.Data ns) (map fix_of u.patches.items)) named
     ∙ ap (λ fs. filter_map (relocation_for sides.Code (all_names is)) fs ++ filter_map (relocation_for sides.Data (all_names is)) fs) m.patches) in
-    rw (m.code, m.bytes, m.zeroed, first, second) refl
+    rw (m.code, m.bytes few, m.zeroed, first, second) refl
 
-same_field : (is : List LineSaid) (u : Unlinked) → Makes is u → bad_field (length (module_of is).words) (length (module_of is).bytes) (module_of is).zeroed ≡ bad_field (length u.code.items) (length u.bytes.items) u.zeroed
+same_field : (is : List LineSaid) (u : Unlinked) → Makes is u → bad_field (length (module_of is).words) (length (module_of is).bytes) (module_of is).zeroed ≡ bad_field (length u.code.items) u.filled u.zeroed
 unfolding module_of
 same_field is u m =
     ap (λ (l : List Form). bad_field (length (map encoded l)) (length (module_of is).bytes) (module_of is).zeroed) (sym m.code)
     ∙ (ap (λ (n : ℕ). bad_field n (length (module_of is).bytes) (module_of is).zeroed) (length-map u.code.items encoded)
-    ∙ (ap (λ (l : List ℕ). bad_field (length u.code.items) (length l) (module_of is).zeroed) (sym m.bytes)
-    ∙ ap (bad_field (length u.code.items) (length u.bytes.items)) (sym m.zeroed)))
+    ∙ (ap (λ (n : ℕ). bad_field (length u.code.items) n (module_of is).zeroed) (sym m.filled)
+    ∙ ap (bad_field (length u.code.items) u.filled) (sym m.zeroed)))
 
-pub sized_refused : (is : List LineSaid) (u : Unlinked) (field : ℕ) → Makes is u → bad_field (length u.code.items) (length u.bytes.items) u.zeroed ≡ Some field → sized (module_of is) ≡ Err (ImageField field)
+pub sized_refused : (is : List LineSaid) (u : Unlinked) (field : ℕ) → Makes is u → bad_field (length u.code.items) u.filled u.zeroed ≡ Some field → sized (module_of is) ≡ Err (ImageField field)
 sized_refused is u field m e = let same = same_field is u m ∙ e in rw same refl
 
-pub sized_ok : (is : List LineSaid) (u : Unlinked) (made : ModuleParts) → Makes is u → bad_field (length u.code.items) (length u.bytes.items) u.zeroed ≡ None → module_of is ≡ made → sized (module_of is) ≡ Ok made
+pub sized_ok : (is : List LineSaid) (u : Unlinked) (made : ModuleParts) → Makes is u → bad_field (length u.code.items) u.filled u.zeroed ≡ None → module_of is ≡ made → sized (module_of is) ≡ Ok made
 sized_ok is u made m e same = let none = same_field is u m ∙ e in rw none (ap Ok same)

@@ -43,6 +43,7 @@ fn bad_field(words: usize, filled: usize, zeroed: u64) -> Option<u8>
 // first.
 fn module_of(alloc: Global, unlinked: Unlinked<'_>) -> Result<Module, NoMemory>
     requires words { length unlinked.code.items ≤ 262144 }
+    requires filled { unlinked.filled ≤ 16777216 }
     requires data { length unlinked.bytes.items + unlinked.zeroed ≤ 16777216 }
     ensures value { IfOk result (λ m. (is : _) → Makes is unlinked.entry → module_of is ≡ m) }
 {
@@ -83,11 +84,12 @@ fn module_of(alloc: Global, unlinked: Unlinked<'_>) -> Result<Module, NoMemory>
 
 // The module of what was read, unless its sizes are too great.
 fn sized(alloc: Global, unlinked: Unlinked<'_>) -> Result<Module, AsmFault>
+    requires { length unlinked.bytes.items ≤ unlinked.filled }
     ensures ok { IfOk result (λ m. (is : _) → Makes is unlinked.entry → sized (module_of is) ≡ Ok m) }
     ensures refused { IfErr result (λ fault. fault ≢ faults.NoMemory →
         (is : _) → Makes is unlinked.entry → sized (module_of is) ≡ Err fault) }
 {
-    let bad = bad_field(unlinked.code.len(), unlinked.bytes.len(), unlinked.zeroed);
+    let bad = bad_field(unlinked.code.len(), unlinked.filled, unlinked.zeroed);
     if let Some(field) = bad {
         return Err(AsmFault::ImageField(field));
     }

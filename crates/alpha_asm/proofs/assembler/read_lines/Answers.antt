@@ -1,12 +1,31 @@
-use Rattle.std.proofs.Common.{rules}
-use Rattle.alpha_asm.proofs.Underway.{goes_on, ends_stands}
+use Rattle.std.proofs.Common.{◌≡◌, length, refl, ◌∙◌, rules}
+use Rattle.alpha_asm.proofs.Underway.{begins, goes_on, ends_stands, ends_taken, kinds_go_on, kinds_end}
 use Rattle.alpha_asm.proofs.assembler.read_lines.Goals as goal
 
+pub loop-rest-init : goal.loop-rest-init
+loop-rest-init c = record {
+  pass = begins c.args.kind c.args.source.now c.new-pass.result c.new-pass.ensures.stands c.new-pass.ensures.bounded c.new-pass.ensures.line;
+  keeps = refl;
+  kinds = λ h. refl;
+}
+
 pub loop-rest-preserved : goal.loop-rest-preserved
-loop-rest-preserved c =
-    goes_on c.args.kind c.args.source.now c.loop-rest.rest.now c.first_line.result.0.now c.first_line.result.1.now c.loop-rest.pass c.take_line.new.self
-    c.loop-rest.invariant c.first_line.ensures.value c.first_line.ensures.shorter
-    c.in_ok-take_line.ensures.taken c.in_ok-take_line.ensures.ok c.in_ok-take_line.ensures.bounded c.in_ok-take_line.ensures.line
+loop-rest-preserved c = record {
+  pass = goes_on c.args.kind c.args.source.now c.loop-rest.rest.now c.first_line.result.0.now c.first_line.result.1.now c.loop-rest.pass c.take_line.new.self
+      c.loop-rest.invariant.pass c.first_line.ensures.value c.first_line.ensures.shorter
+      c.in_ok-take_line.ensures.taken c.in_ok-take_line.ensures.ok c.in_ok-take_line.ensures.bounded c.in_ok-take_line.ensures.line;
+  keeps = c.in_ok-take_line.ensures.keeps ∙ c.loop-rest.invariant.keeps;
+  kinds = λ h. kinds_go_on _ _ _ c.args.source.now c.loop-rest.rest.now c.first_line.result.0.now c.first_line.result.1.now c.first_line.ensures.value
+      (c.in_ok-take_line.ensures.kinds (c.loop-rest.invariant.keeps ∙ h)) (c.loop-rest.invariant.kinds h);
+}
 
 pub returns-clause-stands : goal.returns-clause-stands
-returns-clause-stands c = ends_stands c.args.kind c.args.source.now c.loop-rest.rest.now c.loop-rest.pass c.loop-rest.invariant (search rules)
+returns-clause-stands c = ends_stands c.args.kind c.args.source.now c.loop-rest.rest.now c.loop-rest.pass c.loop-rest.invariant.pass (search rules)
+
+pub returns-clause-taken : goal.returns-clause-taken
+returns-clause-taken c = ends_taken c.args.kind c.args.source.now c.loop-rest.rest.now c.loop-rest.pass c.loop-rest.invariant.pass (search rules)
+
+pub returns-clause-kinds : goal.returns-clause-kinds
+returns-clause-kinds c = λ h.
+    let none : length c.loop-rest.rest.now ≡ 0 = search rules in
+    kinds_end _ _ c.args.source.now c.loop-rest.rest.now none (c.loop-rest.invariant.kinds h)

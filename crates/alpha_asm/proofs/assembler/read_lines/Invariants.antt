@@ -1,9 +1,13 @@
-use Rattle.std.proofs.Common.{length}
-use Rattle.alpha_asm.proofs.Underway.{Underway}
+use Rattle.std.proofs.Common.{◌≡◌, ◌++◌, true, length}
+use Rattle.alpha_asm.proofs.Underway.{Underway, kinds_in}
 use Rattle.alpha_asm.proofs.assembler.read_lines.Given as goal
 
 abbrev pub decreases-loop-rest : goal.decreases-loop-rest
 decreases-loop-rest l = length l.rest
 
 abbrev pub invariant-loop-rest : goal.invariant-loop-rest
-invariant-loop-rest l = Underway l.kind l.source l.rest l.pass
+invariant-loop-rest l = record {
+  pass : Underway l.kind l.source l.rest l.pass;
+  keeps : l.kinds.keeps ≡ l.initial.kinds.keeps;
+  kinds : l.initial.kinds.keeps ≡ true → l.kinds.items.items ++ kinds_in l.rest ≡ l.initial.kinds.items.items ++ kinds_in l.source;
+}

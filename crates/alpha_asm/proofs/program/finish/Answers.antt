@@ -20,7 +20,7 @@ returns-in-Ok-clause-whole c =
     (λ few.
     c.in-Ok.ensures.bytes
     ∙ (ap (λ l. bytes_after k (map fix_of l) c.in_ok-bytes.bytes.items) c.deref-2.ensures.value
-    ∙ ap (bytes_after k (map fix_of c.args.pass.output.patches.items)) (c.in_ok-bytes.ensures few)))
+    ∙ ap (bytes_after k (map fix_of c.args.pass.output.patches.items)) (c.in_ok-bytes.ensures.value few)))
     refl c.fields_of-fields.ensures c.in_ok-segments.ensures
 
 pub returns-in-Ok-clause-ok : goal.returns-in-Ok-clause-ok
@@ -34,5 +34,5 @@ returns-in-Ok-clause-ok c = λ is s.
     (λ few.
     c.in-Ok.ensures.bytes
     ∙ (ap (λ l. bytes_after k (map fix_of l) c.in_ok-bytes.bytes.items) c.deref-2.ensures.value
-    ∙ ap (bytes_after k (map fix_of c.args.pass.output.patches.items)) (c.in_ok-bytes.ensures few)))
+    ∙ ap (bytes_after k (map fix_of c.args.pass.output.patches.items)) (c.in_ok-bytes.ensures.value few)))
     refl c.fields_of-fields.ensures (sym c.deref.ensures.value) c.in_ok-segments.ensures

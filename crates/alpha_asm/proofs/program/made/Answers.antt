@@ -14,5 +14,5 @@ pub returns-in-Some-clause-refused : goal.returns-in-Some-clause-refused
 returns-in-Some-clause-refused c = on_err c.made_at.result c.made_at.ensures.refused
     (λ fault h other is s. made_so is c.args.pass s ∙ (ap (λ e. made_at is (option_map entry_view e)) c.in-Some.is ∙ h other is s))
 
-pub returns-in-None-clause-refused : goal.returns-in-None-clause-refused
-returns-in-None-clause-refused c = λ other is s. made_so is c.args.pass s ∙ ap (λ e. made_at is (option_map entry_view e)) c.in-None.is
+pub returns-clause-refused : goal.returns-clause-refused
+returns-clause-refused c = λ other is s. made_so is c.args.pass s ∙ ap (λ e. made_at is (option_map entry_view e)) c.in-None.is

@@ -1,9 +1,14 @@
-use Rattle.std.proofs.Common.{length}
+use Rattle.std.proofs.Common.{◌≡◌, length}
+use Rattle.alpha_fix.specs.SourceLines.{source_lines}
 use Rattle.alpha_fix.proofs.Building.{Underway}
+use Rattle.alpha_fix.proofs.Roles.{kinds_from}
 use Rattle.alpha_fix.proofs.barriers.with_barriers.Given as goal
 
 abbrev pub decreases-loop-rest : goal.decreases-loop-rest
 decreases-loop-rest l = length l.rest
 
 abbrev pub invariant-loop-rest : goal.invariant-loop-rest
-invariant-loop-rest l = Underway l.source l.cuts l.words l.base l.rest l.text.items l.left l.number l.place
+invariant-loop-rest l = record {
+  text : Underway l.source l.cuts l.words l.base l.rest l.text.items l.left l.number l.place;
+  kinds : l.kinds ≡ kinds_from (source_lines l.rest);
+}

@@ -2,7 +2,7 @@ use Rattle.std.proofs.Common.{◌∙◌, arith}
 use Rattle.alpha_asm.specs.Program.{program_of}
 use Rattle.alpha_fix.proofs.Answering.{ok_with, err_with, is_fixed_source, refused_far}
 use Rattle.alpha_fix.proofs.Marks.{rise-less, cuts_rise}
-use Rattle.alpha_fix.proofs.Sources.{words_are, code_base_is, text_size}
+use Rattle.alpha_fix.proofs.Sources.{taken, words_are, code_base_is, text_size}
 use Rattle.alpha_fix.proofs.inserter.fix_at.Goals as goal
 
 pub with_barriers-requires-clause-base : goal.with_barriers-requires-clause-base
@@ -16,17 +16,20 @@ pub with_barriers-requires-clause-rise : goal.with_barriers-requires-clause-rise
 with_barriers-requires-clause-rise c =
     rise-less 1 0 c.args.cuts.now (omega arith) (cuts_rise c.args.image.now.words 0 c.args.cuts.now c.requires.cuts.are_cuts)
 
+pub with_barriers-requires-clause-taken : goal.with_barriers-requires-clause-taken
+with_barriers-requires-clause-taken c = taken c.args.source.now (program_of c.args.image.now) c.requires.cuts.has_image.assembles
+
 pub checked-requires : goal.checked-requires
-checked-requires c = text_size c.args.source.now c.args.cuts.now c.in_ok-text-in-Ok.text.items c.args.image.now c.requires.cuts.has_image c.in_ok-text-in-Ok.ensures.ok c.requires.size
+checked-requires c = text_size c.args.source.now c.args.cuts.now c.in_ok-text.text.items c.args.image.now c.requires.cuts.has_image c.in_ok-text.ensures.ok c.requires.size
 
-pub returns-in_ok-text-in-Ok-clause-ok : goal.returns-in_ok-text-in-Ok-clause-ok
-returns-in_ok-text-in-Ok-clause-ok c =
+pub returns-clause-ok : goal.returns-clause-ok
+returns-clause-ok c =
     ok_with c.checked.result c.checked.ensures.ok c.checked.ensures.image
-    (λ same e i. is_fixed_source c.args.source.now c.args.cuts.now c.in_ok-text-in-Ok.text.items c.args.image.now c.requires.cuts c.requires.some
-    c.in_ok-text-in-Ok.ensures.free c.in_ok-text-in-Ok.ensures.ok same.items e i)
+    (λ same e i. is_fixed_source c.args.source.now c.args.cuts.now c.in_ok-text.text.items c.args.image.now c.requires.cuts c.requires.some
+    c.in_ok-text.ensures.free c.in_ok-text.ensures.ok same.items e i)
 
-pub returns-in_ok-text-in-Ok-clause-refused : goal.returns-in_ok-text-in-Ok-clause-refused
-returns-in_ok-text-in-Ok-clause-refused c =
+pub returns-clause-refused : goal.returns-clause-refused
+returns-clause-refused c =
     err_with c.checked.result c.checked.ensures.refused
-    (λ fault far. refused_far c.args.source.now c.args.cuts.now c.in_ok-text-in-Ok.text.items c.args.image.now c.requires.cuts c.requires.some
-    c.in_ok-text-in-Ok.ensures.free c.in_ok-text-in-Ok.ensures.ok fault far)
+    (λ fault far. refused_far c.args.source.now c.args.cuts.now c.in_ok-text.text.items c.args.image.now c.requires.cuts c.requires.some
+    c.in_ok-text.ensures.free c.in_ok-text.ensures.ok fault far)

@@ -32,7 +32,7 @@ invariant_of-result c =
 
 pub returns : goal.returns
 returns c = record {
-  value = λ is m. module_is is c.args.unlinked c.in_ok-names.names.items (map named c.in_ok-symbols.symbols.items) c.in_ok-relocations.relocations.items m (c.in_ok-names.ensures.value is m)
+  value = λ is m. module_is is c.args.unlinked c.in_ok-names.names.items (map named c.in_ok-symbols.symbols.items) c.in_ok-relocations.relocations.items m c.requires.filled (c.in_ok-names.ensures.value is m)
       (rw c.deref-2.ensures.value at c.in_ok-symbols.ensures.value)
       (rw (c.deref-3.ensures.value, c.deref-6.ensures.value) at c.in_ok-relocations.ensures.value);
 }

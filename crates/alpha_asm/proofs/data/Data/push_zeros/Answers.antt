@@ -1,4 +1,4 @@
-use Rattle.std.proofs.Common.{◌≡◌, ◌+◌, ◌-◌, ◌≤◌, ◌++◌, length, replicate, ap, ◌∙◌, arith}
+use Rattle.std.proofs.Common.{◌≡◌, ◌+◌, ◌-◌, ◌++◌, length, replicate, ap, ◌∙◌, arith}
 use Rattle.alpha_asm.specs.declared.data.Gap.{Gap}
 use Rattle.alpha_asm.specs.Data.{DataBytes, before_gaps, zeros_of_gaps, spread}
 use Rattle.alpha_asm.proofs.Spreading.{before-snoc, zeros-snoc, spread-gap}

@@ -1,0 +1,13 @@
+-- A source whose lines are read, as the code keeps it.
+use Rattle.std.specs.Prelude.{◌≡◌, ℕ, List, map}
+use Rattle.std.specs.Str.Lines.{lines}
+use Rattle.alpha_asm.specs.declared.symbols.Symbols.TheInside.{Inside}
+use Rattle.alpha_asm.specs.Labels.{spot_named}
+use Rattle.alpha_asm.specs.Layout.{layout, spot_of}
+use Rattle.alpha_asm.specs.LineKinds.{kinds_of}
+use Rattle.alpha_asm.specs.Assembled.{item_at}
+
+-- its labels and the kinds of its lines
+pub record IsKept (i : Inside) : Type 0 where
+  pub labels : (name : List ℕ) → spot_named i.labels name ≡ spot_of (layout (map item_at (lines i.source.now))) name
+  pub kinds : i.kinds.items ≡ kinds_of (map item_at (lines i.source.now))

@@ -1,0 +1,109 @@
+//! What the lines of a source are to whoever puts instructions before them.
+
+ghost use Rattle.std.specs.Prelude.{◌≡◌, ◌++◌, ◌∷◌, [], true, false, OnOk};
+ghost use Rattle.alpha_text.specs.Statements.{said};
+ghost use Rattle.alpha_asm.specs.LineKinds.{is_branch, insn_if, line_kind};
+
+use crate::kind::{is_lda, is_ldah};
+use alpha_table::{Form, Insn};
+use alpha_text::Statement;
+use std::alloc::{AllocError, Global};
+
+/// What a line is to whoever puts instructions before it.
+#[derive(Clone, Copy, Debug, PartialEq, Eq)]
+pub enum LineKind {
+    /// It has no instruction and names no address.
+    Other,
+    /// It has an instruction, which names no place of the code or a label alone.
+    Insn,
+    /// What it says may depend on where instructions stand.
+    Bound,
+}
+
+fn is_branch(insn: &Insn) -> bool
+    ensures { result ≡ is_branch insn.now }
+{
+    matches!(insn.form(), Form::Branch { .. })
+}
+
+// An instruction, which names no place in its own way where this is so.
+fn insn_if(free: bool) -> LineKind
+    ensures { result ≡ insn_if free }
+{
+    if free {
+        LineKind::Insn
+    } else {
+        LineKind::Bound
+    }
+}
+
+// The kind of a line with a statement.
+fn line_kind(statement: &Statement<'_>) -> LineKind
+    ensures { result ≡ line_kind (said statement.now) }
+{
+    match statement {
+        Statement::Code(insn) => insn_if(!is_branch(insn)),
+        Statement::Target { target, .. } => insn_if(target.offset == 0),
+        Statement::High { insn, address } => {
+            insn_if(address.offset == 0 && (is_lda(insn) || is_ldah(insn)))
+        }
+        Statement::Low { insn, address } => {
+            insn_if(address.offset == 0 && (is_lda(insn) || is_ldah(insn)))
+        }
+        Statement::EntryAt(_) | Statement::EntryLabel(_) | Statement::Values { .. } => {
+            LineKind::Bound
+        }
+        Statement::Empty
+        | Statement::Level(_)
+        | Statement::Segment(_)
+        | Statement::CodeBase(_)
+        | Statement::DataBase(_)
+        | Statement::Stack(_)
+        | Statement::CodeSection
+        | Statement::DataSection
+        | Statement::Zero(_)
+        | Statement::Align(_)
+        | Statement::Text(_) => LineKind::Other,
+    }
+}
+
+/// The kinds of the lines so far, where they are kept.
+#[derive(Drop)]
+pub(crate) struct LineKinds {
+    keeps: bool,
+    /// One a line.
+    pub items: Vec<LineKind>,
+}
+
+impl LineKinds {
+    /// Of no line, to be kept.
+    pub(crate) fn kept(alloc: Global) -> LineKinds
+        ensures keeps { result.keeps ≡ true }
+        ensures items { result.items.items ≡ [] }
+    {
+        LineKinds {
+            keeps: true,
+            items: Vec::new(alloc),
+        }
+    }
+
+    /// None, of however many lines.
+    pub(crate) fn none(alloc: Global) -> LineKinds {
+        LineKinds {
+            keeps: false,
+            items: Vec::new(alloc),
+        }
+    }
+
+    /// Adds that of a line with a statement.
+    pub(crate) fn push(&mut self, statement: &Statement<'_>) -> Result<(), AllocError>
+        ensures keeps { self.new.keeps ≡ self.old.keeps }
+        ensures items { OnOk result (self.old.keeps ≡ true →
+            self.new.items.items ≡ self.old.items.items ++ line_kind (said statement.now) ∷ []) }
+    {
+        if self.keeps {
+            self.items.push(line_kind(statement))?;
+        }
+        Ok(())
+    }
+}

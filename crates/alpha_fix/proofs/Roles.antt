@@ -1,0 +1,95 @@
+-- What a line is to the barriers, by its kind.
+use Rattle.std.proofs.Common.{◌≡◌, ℕ, List, ◌∷◌, map, Bool, true, false, not, ◌&&◌, ◌||◌, refl, ◌∙◌, ap}
+use Rattle.std.specs.Prelude.{is_some}
+use Rattle.alpha_table.specs.declared.form.Form.{Form}
+use Rattle.alpha_table.specs.declared.form.Form.TheVariants.{Mem, Branch, Jump, Operate, Misc, Fetch, Pal}
+use Rattle.alpha_table.specs.declared.rows.MemOp.TheVariants.{Lda, Ldah}
+use Rattle.alpha_text.specs.Statements.{Said}
+use Rattle.alpha_text.specs.Statements as says
+use Rattle.alpha_asm.specs.declared.line_kind.LineKind.{LineKind}
+use Rattle.alpha_asm.specs.declared.line_kind.LineKind.TheVariants as kinds
+use Rattle.alpha_asm.specs.LineKinds.{is_nothing, is_branch, insn_if, line_kind, kinds_of}
+use Rattle.alpha_asm.specs.Layout.{is_lda, is_ldah}
+use Rattle.alpha_asm.specs.Statement.{Reference, to, coded, cells}
+use Rattle.alpha_asm.specs.Assembled.{item_at}
+use Rattle.alpha_fix.specs.declared.line.Line.{Line}
+use Rattle.alpha_fix.specs.declared.barriers.Role.TheVariants as roles
+use Rattle.alpha_fix.specs.SourceLines.{SourceLine, source_lines, line_item}
+use Rattle.alpha_fix.specs.FixedLines.{is_address, is_off, is_fixed}
+use Rattle.alpha_fix.specs.Lines.{IsFirst, role}
+use Rattle.alpha_fix.proofs.Values.{none_in_text}
+
+free : (b : Bool) → insn_if b ≡ kinds.Insn → b ≡ true
+free true e = refl
+free false e = cc
+
+never_other : (b : Bool) → insn_if b ≡ kinds.Other → ⊥
+never_other true e = cc
+never_other false e = cc
+
+both : (a b : Bool) → (a && b) ≡ true → (a ≡ true) × (b ≡ true)
+both true true e = (refl, refl)
+both true false e = cc
+both false b e = cc
+
+unless_not : (a b : Bool) → b ≡ true → (a && not b) ≡ false
+unless_not true b e = rw e refl
+unless_not false b e = refl
+
+address : (insn : Form) → (is_lda insn || is_ldah insn) ≡ true → is_address insn ≡ true
+address (Mem Lda ra rb disp) e = refl
+address (Mem Ldah ra rb disp) e = refl
+address _ e = cc
+
+-- an instruction with half of an address that is none in its own way
+half : (of_code : List ℕ → Bool) (insn : Form) (r : Reference) → (is_nothing r.offset && (is_lda insn || is_ldah insn)) ≡ true
+    → (is_off of_code r ≡ false) × ((of_code r.label && not (is_address insn)) ≡ false)
+half of_code insn r e =
+    let (nothing, good) = both (is_nothing r.offset) (is_lda insn || is_ldah insn) e in
+    (unless_not (of_code r.label) (is_nothing r.offset) nothing, unless_not (of_code r.label) (is_address insn) (address insn good))
+
+pub insn_role : (of_code : List ℕ → Bool) (base : ℕ) (s : Said) → line_kind s ≡ kinds.Insn → roles.Insn ≡ role (is_fixed of_code base s) (is_some (coded s))
+unfolding cells
+insn_role of_code base (says.code (Branch op ra disp)) e = cc
+insn_role of_code base (says.code (Mem op ra rb disp)) e = refl
+insn_role of_code base (says.code (Jump kind ra rb hint)) e = refl
+insn_role of_code base (says.code (Operate op ra src rc)) e = refl
+insn_role of_code base (says.code (Misc op)) e = refl
+insn_role of_code base (says.code (Fetch modify rb)) e = refl
+insn_role of_code base (says.code (Pal call)) e = refl
+insn_role of_code base (says.target insn label offset) e =
+    let none : is_off of_code (to label offset) ≡ false = unless_not (of_code label) (is_nothing offset) (free (is_nothing offset) e) in
+    rw none refl
+insn_role of_code base (says.high insn label offset) e =
+    let (none, good) = half of_code insn (to label offset) (free _ e) in
+    rw (none, good) refl
+insn_role of_code base (says.low insn label offset) e =
+    let (none, good) = half of_code insn (to label offset) (free _ e) in
+    rw (none, good) refl
+insn_role of_code base _ e = cc
+
+text_role : (of_code : List ℕ → Bool) (base : ℕ) (text : List ℕ) → roles.Other ≡ role (is_fixed of_code base (says.text text)) (is_some (coded (says.text text)))
+text_role of_code base text = ap (λ b. role (false || (b || (false || false))) false) (none_in_text (is_off of_code) text)
+
+pub other_role : (of_code : List ℕ → Bool) (base : ℕ) (s : Said) → line_kind s ≡ kinds.Other → roles.Other ≡ role (is_fixed of_code base s) (is_some (coded s))
+unfolding cells
+other_role of_code base (says.code insn) e = absurd (never_other (not (is_branch insn)) e)
+other_role of_code base (says.target insn label offset) e = absurd (never_other _ e)
+other_role of_code base (says.high insn label offset) e = absurd (never_other _ e)
+other_role of_code base (says.low insn label offset) e = absurd (never_other _ e)
+other_role of_code base (says.entry_at n) e = cc
+other_role of_code base (says.entry_label label offset) e = cc
+other_role of_code base (says.values bytes list) e = cc
+other_role of_code base (says.text text) e = text_role of_code base text
+other_role of_code base _ e = refl
+
+-- the kinds from a line on
+abbrev pub kinds_from : List SourceLine → List LineKind
+kinds_from lines = kinds_of (map line_item lines)
+
+pub kind_here : (rest : List ℕ) (ks : List LineKind) (k : LineKind) (more : List LineKind) (l : Line) → IsFirst rest l → ks ≡ kinds_from (source_lines rest)
+    → ((first : LineKind) (others : List LineKind) → ks ≡ first ∷ others → (k ≡ first) × (more ≡ others))
+    → (k ≡ line_kind (item_at l.text.now).statement) × (more ≡ kinds_from (source_lines l.rest.now))
+kind_here rest ks k more l f e cut =
+    let (one, others) = cut (line_kind (line_item f.line).statement) (kinds_from (source_lines l.rest.now)) (e ∙ ap kinds_from f.lines) in
+    (one ∙ ap (λ (t : List ℕ). line_kind (item_at t).statement) f.is.text, others)
