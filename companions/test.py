@@ -222,6 +222,52 @@ def real_programs_are_refused_repaired_and_run(folder):
         runs_alike(asked, name, made)
 
 
+@test(needs_program=True)
+def fix_puts_back_the_barriers_of_real_programs(folder):
+    """Without any one of its barriers, and without all of them, a repaired program is fixed to one that is accepted and
+    runs alike; where a barrier wasn't needed the source comes back as it is."""
+    asked = program.Program(ASKED)
+    for name in PROGRAMS:
+        repaired = os.path.join(folder, f"{name}.fixed.s")
+        companion("shadowfix", data(f"{name}.s"), "-o", repaired)
+        assembled(asked, folder, name, repaired)
+        lines = read(os.path.join(folder, f"{name}.as"), "rb").splitlines(keepends=True)
+        barriers = [n for n, line in enumerate(lines) if line.split(b"#")[0].strip() == b"trapb"]
+        for number in barriers:
+            fixed_again(asked, folder, b"".join(lines[:number] + lines[number + 1:]), 1)
+        bare = b"".join(line for n, line in enumerate(lines) if n not in barriers)
+        runs_alike(asked, name, fixed_again(asked, folder, bare, len(barriers)))
+
+
+def fixed_again(asked, folder, source, most):
+    """The image of a source once it is fixed: by at most so many lines, each a barrier without which it is refused."""
+    path, out, made = (os.path.join(folder, name) for name in ("bare.as", "barred.as", "barred.img"))
+    write(path, source)
+    want(asked.call("fix", path, out), (0, b"", ""), "fix")
+    given, made_of = source.splitlines(), read(out, "rb").splitlines()
+    added = added_lines(given, made_of)
+    want(len(added) <= most, True, f"{len(added)} barriers are added")
+    want({made_of[n] for n in added} <= {b"trapb"}, True, "another line is added")
+    for without in [None, *added]:
+        write(path, b"\n".join(line for n, line in enumerate(made_of) if n != without) + b"\n")
+        want(asked.call("asm", path, made), (0, b"", ""), "asm")
+        want(asked.verdict(made) is None, without is None, f"the verdict without line {without}")
+    want(asked.call("asm", out, made), (0, b"", ""), "asm")
+    return made
+
+
+def added_lines(old, new):
+    """The numbers of the lines that the new text has more than the old one."""
+    numbers, behind = [], 0
+    for number, line in enumerate(new):
+        if behind < len(old) and line == old[behind]:
+            behind += 1
+        else:
+            numbers.append(number)
+    want(behind, len(old), "lines are lost")
+    return numbers
+
+
 def assembled(asked, folder, name, text):
     source, made = os.path.join(folder, f"{name}.as"), os.path.join(folder, f"{name}.img")
     companion("gas2source", os.path.join(HERE, "start.s"), os.path.join(HERE, "divide.s"), text, "-o", source)
@@ -241,6 +287,11 @@ def runs_alike(asked, name, made):
 def read(path, how="r"):
     with open(path, how) as file:
         return file.read()
+
+
+def write(path, content):
+    with open(path, "wb") as file:
+        file.write(content)
 
 
 @test(needs_program=True)

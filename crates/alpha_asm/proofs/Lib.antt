@@ -11,3 +11,5 @@ pub mod Making
 pub mod Adding
 pub mod Naming
 pub mod Spreading
+pub mod Cells
+pub mod Said

@@ -3,6 +3,8 @@
 //! - [`assemble`] gives the image of a source, or the first refusal, an [`AsmFault`].
 //! - [`assemble_kept`] gives beside the image what is kept of its source, [`Symbols`]: which labels name
 //!   words of the code, and what each line is to whoever puts instructions before it, a [`LineKind`].
+//! - [`laws_of_sources`] says by the relations of the line grammar what the lines, the lists and the texts
+//!   of a source are read as.
 //! - [`Unlinked`] is what the source of a module makes: instructions, data bytes, labels, and the
 //!   addresses that a link puts in.
 //!
@@ -39,6 +41,7 @@ mod fault;
 mod fields;
 mod kind;
 mod label;
+mod laws;
 mod line_kind;
 mod lines;
 mod output;
@@ -57,6 +60,7 @@ pub use bases::put_quad;
 pub use fault::AsmFault;
 pub use kind::SourceKind;
 pub use label::{Label, Labels, Seeded};
+pub use laws::laws_of_sources;
 pub use line_kind::LineKind;
 pub use patch::{Displacement, Need, Patch, displaced};
 pub use place::{Section, Spot, padding};

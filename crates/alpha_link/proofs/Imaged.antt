@@ -1,5 +1,5 @@
 -- Modules that link, link to an image.
-use Rattle.std.proofs.Common.{◌≡◌, ℕ, ℤ, zero, suc, ◌+◌, ◌-◌, ◌*◌, ◌/◌, ◌%◌, ◌<◌, ◌≤◌, Bool, true, false, cond, nat_le, List, [], ◌∷◌, ◌++◌, length, map, take, drop, replicate, get_or, slice_get, Option, None, Some, Result, Ok, refl, sym, ap, subst, ◌∙◌, arith}
+use Rattle.std.proofs.Common.{◌≡◌, ℕ, ℤ, zero, suc, ◌+◌, ◌-◌, ◌*◌, ◌/◌, ◌%◌, ◌≤◌, Bool, true, false, cond, nat_le, List, [], ◌∷◌, ◌++◌, length, map, take, drop, replicate, slice_get, Option, None, Some, Result, Ok, refl, sym, ap, subst, ◌∙◌, arith}
 use Rattle.std.specs.Prelude.{All, slice_set, IsSomeAnd}
 use Rattle.std.specs.List.{flat_map, filter_map, cons_option}
 use Rattle.std.specs.Option.{option_map, option_map_or, option_and_then}
@@ -16,7 +16,6 @@ use Rattle.alpha_table.specs.Decoded.{decoded}
 use Rattle.alpha_table.specs.Encoded.{encoded}
 use Rattle.alpha_table.proofs.Decoding.{Row-decoded, IsInsn-Row}
 use Rattle.alpha_image.specs.Parts.{Parts, parts_with, IsByte, IsCodeWord, IsCodeInsn, IsWithin, IsImage}
-use Rattle.alpha_image.specs.Numbers.{Numbers}
 use Rattle.alpha_image.specs.Rules.{FieldsFit, least_bad_field}
 use Rattle.alpha_image.specs.declared.version.Version.TheVariants.{One}
 use Rattle.alpha_image.proofs.CodeInsns.{code_words_of_insns}

@@ -1,9 +1,8 @@
 -- Modules are joined one after the other.
-use Rattle.std.proofs.Common.{◌≡◌, ℕ, suc, ◌+◌, ◌-◌, ◌%◌, ◌^◌, ◌<◌, ◌≤◌, List, [], ◌∷◌, ◌++◌, length, map, take, drop, replicate, get_or, Option, None, Some, is_none, not, slice_get, refl, sym, subst, ap, ◌∙◌, append_assoc, arith}
+use Rattle.std.proofs.Common.{◌≡◌, ℕ, ◌+◌, ◌-◌, ◌<◌, ◌≤◌, List, [], ◌∷◌, ◌++◌, length, take, drop, replicate, get_or, Option, None, Some, is_none, not, slice_get, refl, sym, subst, ap, ◌∙◌, append_assoc, arith}
 use Rattle.std.specs.Prelude.{position}
 use Rattle.std.specs.List.{flat_map, filter_map}
-use Rattle.std.specs.Option.{option_map, option_map_or, option_or}
-use Rattle.std.proofs.Math.Path.{fun_ext}
+use Rattle.std.specs.Option.{option_map, option_map_or}
 use Rattle.std.proofs.lemmas.List.{length-append, length-replicate, append-nil}
 use Rattle.std.proofs.Math.Seq.{take-length}
 use Rattle.alpha_table.specs.declared.form.Form.{Form}
@@ -13,7 +12,7 @@ use Rattle.alpha_link.specs.Parts.{ModuleParts}
 use Rattle.alpha_link.specs.Linked.{Located, located, size, room, symbol_in, address_of, addresses_of, code_after, code_of, bytes_after, bytes_of, data_in, words_in, filled_in, is_met, unmet_in, unmet}
 use Rattle.alpha_link.specs.declared.output.Output.{Output}
 use Rattle.alpha_link.specs.Output.{code_with_all, bytes_with_all, StandBehind, addresses_by, JoinsOne, JoinsAll}
-use Rattle.alpha_link.proofs.Lists.{next, none_left, first_goes, first_stops, first_ends}
+use Rattle.alpha_link.proofs.Lists.{next, none_left, first_goes}
 use Rattle.alpha_link.proofs.Naming.{behind}
 use Rattle.alpha_link.proofs.Shifting.{code_shift, bytes_shift, length-code_after, length-bytes_after}
 

@@ -1,5 +1,5 @@
 -- The addresses of names.
-use Rattle.std.proofs.Common.{◌≡◌, ℕ, ◌+◌, List, [], ◌∷◌, ◌++◌, take, drop, map, Bool, true, false, cond, length, get_or, ◌<◌, Option, None, Some, is_some, is_none, refl, sym, ◌∙◌, ap}
+use Rattle.std.proofs.Common.{◌≡◌, ℕ, ◌+◌, List, [], ◌∷◌, ◌++◌, take, drop, Bool, true, false, cond, length, get_or, ◌<◌, Option, None, Some, is_some, refl, sym, ◌∙◌, ap}
 use Rattle.std.specs.Prelude.{◌&&◌, position}
 use Rattle.std.specs.Option.{option_map, option_or}
 use Rattle.std.specs.Str.{bytes_eq}
@@ -8,7 +8,7 @@ use Rattle.std.proofs.Math.Path.{fun_ext}
 use Rattle.std.proofs.lemmas.List.{take_more}
 use Rattle.alpha_asm.specs.Layout.{first}
 use Rattle.alpha_link.specs.Symbols.{Named}
-use Rattle.alpha_link.specs.Linked.{Located, section_address, named_address, address_in, address_of, is_defined, symbol_in, repeated}
+use Rattle.alpha_link.specs.Linked.{Located, section_address, named_address, address_in, address_of, is_defined, repeated}
 use Rattle.alpha_link.proofs.Lists.{next}
 
 -- a name that has no address gets one

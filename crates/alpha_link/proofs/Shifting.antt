@@ -1,5 +1,5 @@
 -- What a relocation puts in, behind the code and the data bytes of other modules.
-use Rattle.std.proofs.Common.{◌≡◌, ℕ, suc, ◌+◌, ◌-◌, ◌/◌, ◌<◌, ◌≤◌, Bool, true, false, cond, nat_le, List, [], ◌∷◌, ◌++◌, length, take, drop, Option, None, Some, slice_get, refl, sym, ap, ◌∙◌, append_assoc, zero-add, arith}
+use Rattle.std.proofs.Common.{◌≡◌, ℕ, suc, ◌+◌, ◌-◌, ◌/◌, ◌<◌, ◌≤◌, Bool, true, false, cond, nat_le, List, [], ◌∷◌, ◌++◌, length, take, drop, Option, None, Some, slice_get, refl, ap, ◌∙◌, append_assoc, zero-add, arith}
 use Rattle.std.specs.Prelude.{slice_set}
 use Rattle.std.specs.Option.{option_map_or}
 use Rattle.std.proofs.lemmas.Bool.Decides.{nat_tests}
@@ -13,7 +13,7 @@ use Rattle.alpha_asm.proofs.Making.{length-overlaid}
 use Rattle.alpha_link.specs.declared.relocation.Relocation.{Relocation}
 use Rattle.alpha_link.specs.declared.relocation.RelocationKind.{RelocationKind}
 use Rattle.alpha_link.specs.Linked.{Located, insn_with, code_at, code_after, bytes_after, displacement, quadword}
-use Rattle.alpha_link.specs.Output.{code_with, bytes_with, code_with_all, bytes_with_all}
+use Rattle.alpha_link.specs.Output.{code_with_all, bytes_with_all}
 
 get_shift : {A : Type 0} (before xs : List A) (p : ℕ) → slice_get (before ++ xs) (length before + p) ≡ slice_get xs p
 get_shift [] xs p = ap (slice_get xs) (zero-add p)

@@ -49,7 +49,7 @@ defined_any : (q : List ℕ) (xs : List Placed) → is_some (spot_of xs q) ≡ l
 defined_any q [] = refl
 defined_any q (x ∷ xs) = found q x.item.label (spot x.place) (spot_of xs q) (labels_in xs) (defined_any q xs)
 
-map_any : {A B : Type 0} (p : B → Bool) (f : A → B) (xs : List A) → list_any p (map f xs) ≡ list_any (λ x. p (f x)) xs
+pub map_any : {A B : Type 0} (p : B → Bool) (f : A → B) (xs : List A) → list_any p (map f xs) ≡ list_any (λ x. p (f x)) xs
 map_any p f [] = refl
 map_any p f (x ∷ xs) = ap (λ b. p (f x) || b) (map_any p f xs)
 

@@ -50,18 +50,19 @@ fn module_of(alloc: Global, unlinked: Unlinked<'_>) -> Result<Module, NoMemory>
     if !are_within(Level::One, &unlinked.code) {
         return Err(NoMemory);
     }
-    let names = all_names(alloc, &unlinked)?;
-    if names.len() > 0xffff_ffff {
+    let mut names = all_names(alloc, &unlinked)?;
+    if names.names.len() > 0xffff_ffff {
         return Err(NoMemory);
     }
     let sizes = Sizes {
         words: unlinked.code.len() as u32,
         filled: unlinked.bytes.len() as u32,
         zeroed: unlinked.zeroed as u32,
-        symbols: names.len() as u32,
+        symbols: names.names.len() as u32,
         relocations: 0,
     };
-    let symbols = symbols_of(alloc, &sizes, &unlinked.labels, &names)?;
+    let symbols = symbols_of(alloc, &sizes, unlinked.labels, &names.names)?;
+    names.note_keys(alloc)?;
     let relocations = relocations_of(
         alloc,
         &names,

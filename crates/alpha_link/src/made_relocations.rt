@@ -15,7 +15,7 @@ ghost use Rattle.alpha_link.specs.Rising.{Rise};
 ghost use Rattle.alpha_link.specs.Made.{number_in, kind_in, offset_in, relocation_with, relocation_for};
 
 use crate::header::Sizes;
-use crate::labels::number_in;
+use crate::labels::SortedNames;
 use crate::relocation::{Relocation, RelocationKind};
 use crate::relocations::relocation_fits;
 use alpha_asm::{Need, Patch, Section, Use};
@@ -71,15 +71,15 @@ fn addend_of(offset: i64) -> Option<i32>
 // there is one.
 fn relocation_with<'a>(
     kind: RelocationKind,
-    names: &[&'a [u8]],
+    names: &SortedNames<'a>,
     patch: &Patch<'a>,
 ) -> Option<Relocation>
-    requires { Rise names.now }
+    requires { Rise names.now.names.items }
     ensures { IfSome result (λ r. option_map
         (relocation_with kind (offset_in (fix_of patch.now).at (fix_of patch.now).name.need) patch.now.to.offset)
-        (number_in (map (λ n. n.now) names.now) patch.now.to.label.now) ≡ Some r) }
+        (number_in (map (λ n. n.now) names.now.names.items) patch.now.to.label.now) ≡ Some r) }
 {
-    let symbol = number_in(names, patch.to.label)?;
+    let symbol = names.number(patch.to.label)?;
     let offset = offset_of(patch)?;
     let addend = addend_of(patch.to.offset)?;
     if symbol > 0xffff_ffff {
@@ -96,11 +96,11 @@ fn relocation_with<'a>(
 // The relocation of a patch that one of the two sections needs, if it does.
 fn relocation_for<'a>(
     side: Section,
-    names: &[&'a [u8]],
+    names: &SortedNames<'a>,
     patch: &Patch<'a>,
 ) -> Result<Option<Relocation>, NoMemory>
-    requires { Rise names.now }
-    ensures { IfOk result (λ r. relocation_for side (map (λ n. n.now) names.now) (fix_of patch.now) ≡ r) }
+    requires { Rise names.now.names.items }
+    ensures { IfOk result (λ r. relocation_for side (map (λ n. n.now) names.now.names.items) (fix_of patch.now) ≡ r) }
 {
     match kind_in(side, patch.need) {
         Some(kind) => match relocation_with(kind, names, patch) {
@@ -137,16 +137,16 @@ fn push_good(
 fn push_relocation_for<'a>(
     relocations: &mut Vec<Relocation>,
     side: Section,
-    names: &[&'a [u8]],
+    names: &SortedNames<'a>,
     sizes: &Sizes,
     insns: &[Insn],
     filled: &[u8],
     patch: &Patch<'a>,
 ) -> Result<(), NoMemory>
     requires known { map decoded (map encoded insns.now) ≡ map Some insns.now }
-    requires rise { Rise names.now }
+    requires rise { Rise names.now.names.items }
     ensures pushed { OnOk result (relocations.new.items ≡ relocations.old.items
-        ++ cons_option (relocation_for side (map (λ n. n.now) names.now) (fix_of patch.now)) []) }
+        ++ cons_option (relocation_for side (map (λ n. n.now) names.now.names.items) (fix_of patch.now)) []) }
     ensures good { OnOk result
         (AreGood (IsRelocation sizes.now (body (map encoded insns.now) filled.now)) [] relocations.old.items
         → AreGood (IsRelocation sizes.now (body (map encoded insns.now) filled.now)) [] relocations.new.items) }
@@ -161,16 +161,16 @@ fn push_relocation_for<'a>(
 fn push_relocations_for<'a>(
     relocations: &mut Vec<Relocation>,
     side: Section,
-    names: &[&'a [u8]],
+    names: &SortedNames<'a>,
     sizes: &Sizes,
     insns: &[Insn],
     filled: &[u8],
     patches: &[Patch<'a>],
 ) -> Result<(), NoMemory>
     requires known { map decoded (map encoded insns.now) ≡ map Some insns.now }
-    requires rise { Rise names.now }
+    requires rise { Rise names.now.names.items }
     ensures pushed { OnOk result (relocations.new.items ≡ relocations.old.items
-        ++ filter_map (relocation_for side (map (λ n. n.now) names.now)) (map fix_of patches.now)) }
+        ++ filter_map (relocation_for side (map (λ n. n.now) names.now.names.items)) (map fix_of patches.now)) }
     ensures good { OnOk result
         (AreGood (IsRelocation sizes.now (body (map encoded insns.now) filled.now)) [] relocations.old.items
         → AreGood (IsRelocation sizes.now (body (map encoded insns.now) filled.now)) [] relocations.new.items) }
@@ -184,17 +184,17 @@ fn push_relocations_for<'a>(
 /// The relocations of patches: those of the code, and then those of the data.
 pub(crate) fn relocations_of<'a>(
     alloc: Global,
-    names: &[&'a [u8]],
+    names: &SortedNames<'a>,
     sizes: &Sizes,
     insns: &[Insn],
     filled: &[u8],
     patches: &[Patch<'a>],
 ) -> Result<Vec<Relocation>, NoMemory>
     requires known { map decoded (map encoded insns.now) ≡ map Some insns.now }
-    requires rise { Rise names.now }
+    requires rise { Rise names.now.names.items }
     ensures value { IfOk result (λ relocations. relocations.items
-        ≡ filter_map (relocation_for sides.Code (map (λ n. n.now) names.now)) (map fix_of patches.now)
-        ++ filter_map (relocation_for sides.Data (map (λ n. n.now) names.now)) (map fix_of patches.now)) }
+        ≡ filter_map (relocation_for sides.Code (map (λ n. n.now) names.now.names.items)) (map fix_of patches.now)
+        ++ filter_map (relocation_for sides.Data (map (λ n. n.now) names.now.names.items)) (map fix_of patches.now)) }
     ensures good { IfOk result (λ relocations.
         AreGood (IsRelocation sizes.now (body (map encoded insns.now) filled.now)) [] relocations.items) }
     ensures bytes { OnOk result (All IsByte filled.now) }

@@ -66,16 +66,16 @@ fn push_good(symbols: &mut Vec<Symbol>, sizes: &Sizes, symbol: Symbol) -> Result
     Ok(())
 }
 
-/// The symbols of names, by the labels that are defined.
+/// The symbols of names, by the labels that are defined, which aren't needed any more.
 pub(crate) fn symbols_of<'a>(
     alloc: Global,
     sizes: &Sizes,
-    labels: &Labels<'a>,
+    labels: Labels<'a>,
     names: &[&'a [u8]],
 ) -> Result<Vec<Symbol>, NoMemory>
     requires { sizes.now.words ≤ 262144 }
     ensures value { IfOk result (λ symbols. map named symbols.items
-        ≡ map (λ n. symbol_at_spot n.now (spot_named labels.now n.now)) names.now) }
+        ≡ map (λ n. symbol_at_spot n.now (spot_named labels.entry n.now)) names.now) }
     ensures good { IfOk result (λ symbols. AreGood (IsSymbol sizes.now) [] (map named symbols.items)) }
 {
     let mut symbols = Vec::with_capacity(alloc, names.len())?;

@@ -1,4 +1,3 @@
-use Rattle.std.proofs.Common.{◌≤◌}
 use Rattle.alpha_link.proofs.Joining.{Joined}
 use Rattle.alpha_link.proofs.linker.joined.Given as goal
 

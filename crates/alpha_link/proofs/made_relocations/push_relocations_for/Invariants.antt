@@ -10,8 +10,8 @@ use Rattle.alpha_link.proofs.made_relocations.push_relocations_for.Given as goal
 
 abbrev pub invariant-loop-patch : goal.invariant-loop-patch
 invariant-loop-patch l = record {
-  pushed : l.relocations.items ++ filter_map (relocation_for l.side (map (λ n. n.now) l.names)) (map fix_of (drop l.patch-index l.patches))
-      ≡ l.initial.relocations.items ++ filter_map (relocation_for l.side (map (λ n. n.now) l.names)) (map fix_of l.patches);
+  pushed : l.relocations.items ++ filter_map (relocation_for l.side (map (λ n. n.now) l.names.names.items)) (map fix_of (drop l.patch-index l.patches))
+      ≡ l.initial.relocations.items ++ filter_map (relocation_for l.side (map (λ n. n.now) l.names.names.items)) (map fix_of l.patches);
   good : AreGood (IsRelocation l.sizes (body (map encoded l.insns) l.filled)) [] l.initial.relocations.items
       → AreGood (IsRelocation l.sizes (body (map encoded l.insns) l.filled)) [] l.relocations.items;
 }
