@@ -6,7 +6,7 @@ use Rattle.alpha_table.specs.Op.{op_row}
 use Rattle.alpha_table.specs.declared.names.Mnemonic.{Mnemonic}
 use Rattle.alpha_table.specs.declared.names.Mnemonic.TheVariants as mnemonics
 use Rattle.alpha_table.specs.declared.form.Form.{Form}
-use Rattle.alpha_table.specs.declared.form.Form.TheVariants.{Mem, Branch, Jump, Operate, Misc, Fetch, Pal}
+use Rattle.alpha_table.specs.declared.form.Form.TheVariants.{Mem, Branch, Jump, Operate, Fetch}
 use Rattle.alpha_table.specs.declared.form.Src.{Src}
 use Rattle.alpha_table.specs.declared.form.Src.TheVariants.{Reg, Lit}
 use Rattle.alpha_table.specs.declared.op.Op.{Op}
@@ -18,8 +18,6 @@ use Rattle.alpha_table.specs.declared.rows.BranchOp.{BranchOp}
 use Rattle.alpha_table.specs.declared.rows.BranchOp.TheVariants as branches
 use Rattle.alpha_table.specs.declared.rows.JumpKind.{JumpKind}
 use Rattle.alpha_table.specs.declared.rows.JumpKind.TheVariants as jumps
-use Rattle.alpha_table.specs.declared.rows.MiscOp.{MiscOp}
-use Rattle.alpha_words.specs.declared.PalCall.{PalCall}
 use Rattle.alpha_token.specs.Tokens.{tokens}
 use Rattle.alpha_operands.specs.declared.names.Half.{Half}
 use Rattle.alpha_operands.specs.declared.number.Number.TheVariants as numbers
@@ -34,9 +32,10 @@ use Rattle.alpha_text.specs.declared.head.Head.TheVariants as heads
 use Rattle.alpha_text.specs.declared.head.Own.{Own}
 use Rattle.alpha_text.specs.declared.head.Own.TheVariants as owns
 use Rattle.alpha_text.specs.Heads.{own_shape, operate_shape}
-use Rattle.alpha_text.specs.Statements.{Said, code, target, half_said, operate_form, own_said, link, move_number}
+use Rattle.alpha_text.specs.Statements.{Said, said, code, target, half_said, operate_form, own_said, link, move_number}
+use Rattle.alpha_text.specs.declared.statement.Statement.{Statement}
 use Rattle.alpha_text.specs.Reading.{list_in}
-use Rattle.alpha_text.specs.Quick.{Says, StandsFor, SaysBy, operation_of}
+use Rattle.alpha_text.specs.Quick.{Says, StandsFor, SaysBy, IsAlone, operation_of}
 use Rattle.alpha_text.specs.Words.{HasComma, HasNumber, HasEnd, HasSigned, HasFirst, HasPair, HasUnary, HasBinary, HasJump, HasLast, HasLastBase, HasTail, HasTarget, HasAddress, HasDistance}
 use Rattle.alpha_text.proofs.Forwards.{memory_plus, memory_plus_base, memory_minus, memory_minus_base, memory_half, memory_half_base, memory_half_plus, memory_half_plus_base, memory_half_minus, memory_half_minus_base, memory_base, branch_over, branch_back, branch_label, branch_label_plus, branch_label_minus, call_over, call_back, call_label, call_label_plus, call_label_minus, bare_label, bare_label_plus, bare_label_minus, jump_hint, jump_plain, return_hint, return_plain, return_alone, operate_register, operate_literal, unary_register, unary_literal, pair_words, move_register, move_plus, move_minus, single_word, alone_words, prefetch_words}
 
@@ -44,6 +43,16 @@ use Rattle.alpha_text.proofs.Forwards.{memory_plus, memory_plus_base, memory_min
 pub if-some : {A : Type 0} (P Q : A → Type 0) (r : Option A) → ((x : A) → P x → Q x) → IfSome r P → IfSome r Q
 if-some P Q None f h = h
 if-some P Q (Some x) f h = f x h
+
+-- the statement of an instruction says what the instruction does
+pub if-coded : (m : Mnemonic) (line : List ℕ) (i : Form) (r : Option Statement) → Says m line (code i) → IfSome r (λ s. said s ≡ code i) → IfSome r (λ s. Says m line (said s))
+if-coded m line i None h e = e
+if-coded m line i (Some s) (o, h, says) e = (o, h, says ∙ sym e)
+
+pub if-coded-behind : (m : Mnemonic) (ra : ℕ) (words : List ℕ) (i : Form) (r : Option Statement) → ((line : List ℕ) → HasFirst line ra words → Says m line (code i)) → IfSome r (λ s. said s ≡ code i) →
+    IfSome r (λ s. (line : List ℕ) → HasFirst line ra words → Says m line (said s))
+if-coded-behind m ra words i None h e = e
+if-coded-behind m ra words i (Some s) h e = λ line first. let (o, given, says) = h line first in (o, given, says ∙ sym e)
 
 -- the same said of what is the same
 pub said_as : (m : Mnemonic) (line : List ℕ) (s t : Said) → s ≡ t → Says m line s → Says m line t
@@ -147,11 +156,10 @@ says_version op rc line is (t, q, e) = says_rule op rules.Version line (Operate 
 pub says_prefetch : (modify : _) (rb n : ℕ) (line u : List ℕ) → HasNumber line n u → number_of pieces.Nothing signs.Plus n ≡ Some numbers.Nothing → HasLastBase u rb → Says (mnemonics.Fetch modify) line (code (Fetch modify rb))
 says_prefetch modify rb n line u d is (v, (i, k, o, b, q), e) = (_, prefetch_words line u i k v n rb numbers.Nothing d is o b q e, refl)
 
-pub says_misc : (op : MiscOp) (line : List ℕ) → HasEnd line → Says (mnemonics.Misc op) line (code (Misc op))
-says_misc op line e = (_, alone_words line e, refl)
-
-pub says_call : (call : PalCall) (line : List ℕ) → HasEnd line → Says (mnemonics.Pal call) line (code (Pal call))
-says_call call line e = (_, alone_words line e, refl)
+pub says_alone : (row : Mnemonic) (i : Form) (line : List ℕ) → IsAlone row i → HasEnd line → Says row line (code i)
+says_alone (mnemonics.Misc op) i line is e = (_, alone_words line e, ap code (sym is))
+says_alone (mnemonics.Pal call) i line is e = (_, alone_words line e, ap code (sym is))
+says_alone row i line is e = absurd is
 
 pub stands_pair : (own : Own) (op : Op) (rb rc : ℕ) (line : List ℕ) → operation_of own ≡ Some op → HasPair line rb rc → StandsFor own line (Operate op 31 (Reg rb) rc)
 stands_pair owns.Mov op rb rc line is (v, (a, r, c), (t, q, e)) = (_, move_register line a v t rb rc r c q e, ap (option_map (λ x. Operate x 31 (Reg rb) rc)) is)

@@ -2,7 +2,9 @@
 use Rattle.std.specs.Prelude.{◌≡◌, ◌+◌, ℕ, List, [], ◌∷◌, Bool, true, false, not, Option, Some, None, Ok, ⊤, ◌==◌, ◌||◌, ◌&&◌, if◌then◌else◌}
 use Rattle.std.specs.Char.{is_ascii_alphabetic}
 use Rattle.alpha_table.specs.declared.form.Form.{Form}
+use Rattle.alpha_table.specs.declared.form.Form.TheVariants.{Misc, Pal}
 use Rattle.alpha_table.specs.declared.names.Mnemonic.{Mnemonic}
+use Rattle.alpha_table.specs.declared.names.Mnemonic.TheVariants as mnemonics
 use Rattle.alpha_table.specs.Names.{name_of}
 use Rattle.alpha_token.specs.Bytes.{goes_on_name}
 use Rattle.alpha_token.specs.Tokens.{tokens}
@@ -42,6 +44,12 @@ operation_of own = None
 -- the operands behind any name say so much
 abbrev pub SaysBy : Head → List ℕ → Said → Type 0
 SaysBy head behind s = (o : Slots) × (operands (patterns (shape_of head)) (tokens behind) ≡ Ok o) × (said_by head o (list_in behind o.left) ≡ s)
+
+-- an instruction that is its name alone
+abbrev pub IsAlone : Mnemonic → Form → Type 0
+IsAlone (mnemonics.Misc op) i = i ≡ Misc op
+IsAlone (mnemonics.Pal call) i = i ≡ Pal call
+IsAlone m i = ⊥
 
 -- it doesn't go on a name, and isn't the colon of a label
 abbrev pub IsApart : List ℕ → Type 0

@@ -1,10 +1,12 @@
 //! What a name says with the words behind it, where they stand as most programs write them. What is written
 //! otherwise is `None` here.
 ghost use Rattle.std.specs.Prelude.{◌≡◌, List, ℕ, IfSome};
+ghost use Rattle.alpha_table.specs.Op.{op_row};
 ghost use Rattle.alpha_table.specs.declared.names.Mnemonic.TheVariants as mnemonics;
+ghost use Rattle.alpha_table.specs.declared.op.OperandRule.TheVariants as rules;
 ghost use Rattle.alpha_text.specs.declared.head.Own.TheVariants as owns;
-ghost use Rattle.alpha_text.specs.Statements.{said};
-ghost use Rattle.alpha_text.specs.Quick.{Says, StandsFor, operation_of};
+ghost use Rattle.alpha_text.specs.Statements.{said, code};
+ghost use Rattle.alpha_text.specs.Quick.{Says, StandsFor, IsAlone, operation_of};
 ghost use Rattle.alpha_text.specs.Words.{HasFirst};
 
 use crate::Statement;
@@ -19,6 +21,16 @@ use alpha_operands::{Number, Piece, Sign, number_at};
 use alpha_table::{BranchOp, Form, Insn, JumpKind, MemOp, Mnemonic, Op, OperandRule, Src};
 use alpha_words::Reg;
 
+// The statement of an instruction. Each has a place of its own for it, which is cleared where it is
+// used alone.
+#[inline(always)]
+fn coded<'a>(form: Form) -> Option<Statement<'a>>
+    ensures { IfSome result (λ s. said s ≡ code form) }
+{
+    let insn = Insn::of(form)?;
+    Some(Statement::Code(insn))
+}
+
 // A memory instruction with a number, behind its register and a comma.
 #[inline(always)]
 fn displaced<'a>(op: MemOp, ra: Reg, words: &'a [u8]) -> Option<Statement<'a>>
@@ -29,8 +41,7 @@ fn displaced<'a>(op: MemOp, ra: Reg, words: &'a [u8]) -> Option<Statement<'a>>
         return None;
     };
     let rb = tail(rest)?;
-    let insn = Insn::of(Form::Mem { op, ra, rb, disp })?;
-    Some(Statement::Code(insn))
+    coded(Form::Mem { op, ra, rb, disp })
 }
 
 // A memory instruction with half of the address of a label, behind its register and a comma.
@@ -52,8 +63,7 @@ fn based<'a>(op: MemOp, ra: Reg, words: &'a [u8]) -> Option<Statement<'a>>
 {
     let rb = last_base(words)?;
     let disp = 0;
-    let insn = Insn::of(Form::Mem { op, ra, rb, disp })?;
-    Some(Statement::Code(insn))
+    coded(Form::Mem { op, ra, rb, disp })
 }
 
 // A memory instruction.
@@ -71,23 +81,34 @@ fn memory(op: MemOp, words: &[u8]) -> Option<Statement<'_>>
     }
 }
 
+// A branch over a distance, behind its register and a comma.
+#[inline(always)]
+fn over<'a>(op: BranchOp, ra: Reg, words: &'a [u8]) -> Option<Statement<'a>>
+    ensures { IfSome result (λ s. (line : List ℕ) → HasFirst line ra words.now → Says (mnemonics.Branch op) line (said s)) }
+{
+    let disp = distance(words)?;
+    coded(Form::Branch { op, ra, disp })
+}
+
+// A branch to a label, behind its register and a comma.
+#[inline(always)]
+fn to_label<'a>(op: BranchOp, ra: Reg, words: &'a [u8]) -> Option<Statement<'a>>
+    ensures { IfSome result (λ s. (line : List ℕ) → HasFirst line ra words.now → Says (mnemonics.Branch op) line (said s)) }
+{
+    let target = target(words)?;
+    let disp = 0;
+    let insn = insn(Form::Branch { op, ra, disp });
+    Some(Statement::Target { insn, target })
+}
+
 // A branch behind its register and a comma.
 #[inline(always)]
 fn linked<'a>(op: BranchOp, ra: Reg, words: &'a [u8]) -> Option<Statement<'a>>
     ensures { IfSome result (λ s. (line : List ℕ) → HasFirst line ra words.now → Says (mnemonics.Branch op) line (said s)) }
 {
     match words {
-        [b'.', ..] => {
-            let disp = distance(words)?;
-            let insn = Insn::of(Form::Branch { op, ra, disp })?;
-            Some(Statement::Code(insn))
-        }
-        _ => {
-            let target = target(words)?;
-            let disp = 0;
-            let insn = insn(Form::Branch { op, ra, disp });
-            Some(Statement::Target { insn, target })
-        }
+        [b'.', ..] => over(op, ra, words),
+        _ => to_label(op, ra, words),
     }
 }
 
@@ -130,8 +151,7 @@ fn jumping(kind: JumpKind, words: &[u8]) -> Option<Statement<'_>>
 {
     let to = jump(words)?;
     let (ra, rb, hint) = (to.ra, to.rb, to.hint);
-    let insn = Insn::of(Form::Jump { kind, ra, rb, hint })?;
-    Some(Statement::Code(insn))
+    coded(Form::Jump { kind, ra, rb, hint })
 }
 
 // `ret` alone.
@@ -143,8 +163,7 @@ fn bare(kind: JumpKind, words: &[u8]) -> Option<Statement<'_>>
         JumpKind::Ret => {
             let (ra, rb, hint) = (Reg::ZERO, numbered(26), 1);
             if is_end(words) {
-                let insn = Insn::of(Form::Jump { kind, ra, rb, hint })?;
-                Some(Statement::Code(insn))
+                coded(Form::Jump { kind, ra, rb, hint })
             } else {
                 None
             }
@@ -153,38 +172,62 @@ fn bare(kind: JumpKind, words: &[u8]) -> Option<Statement<'_>>
     }
 }
 
+// An operate instruction of two sources.
+#[inline(always)]
+fn two_sources(op: Op, words: &[u8]) -> Option<Statement<'_>>
+    requires { (op_row op).operands ≡ rules.Any }
+    ensures { IfSome result (λ s. Says (mnemonics.Operate op) words.now (said s)) }
+{
+    let of = binary(words)?;
+    let (ra, src, rc) = (of.ra, of.src, of.rc);
+    coded(Form::Operate { op, ra, src, rc })
+}
+
+// An operate instruction of one source.
+#[inline(always)]
+fn one_source(op: Op, words: &[u8]) -> Option<Statement<'_>>
+    requires { (op_row op).operands ≡ rules.Unary }
+    ensures { IfSome result (λ s. Says (mnemonics.Operate op) words.now (said s)) }
+{
+    let Some((src, rc)) = unary(words) else {
+        return None;
+    };
+    let ra = Reg::ZERO;
+    coded(Form::Operate { op, ra, src, rc })
+}
+
+// An operate instruction of one source that is a register.
+#[inline(always)]
+fn one_register(op: Op, words: &[u8]) -> Option<Statement<'_>>
+    requires { (op_row op).operands ≡ rules.UnaryRegister }
+    ensures { IfSome result (λ s. Says (mnemonics.Operate op) words.now (said s)) }
+{
+    let of = pair(words)?;
+    let (ra, src, rc) = (Reg::ZERO, Src::Reg(of.rb), of.rc);
+    coded(Form::Operate { op, ra, src, rc })
+}
+
+// An operate instruction of no source.
+#[inline(always)]
+fn no_source(op: Op, words: &[u8]) -> Option<Statement<'_>>
+    requires { (op_row op).operands ≡ rules.Version }
+    ensures { IfSome result (λ s. Says (mnemonics.Operate op) words.now (said s)) }
+{
+    let rc = last(words)?;
+    let (ra, src) = (Reg::ZERO, Src::Lit(1));
+    coded(Form::Operate { op, ra, src, rc })
+}
+
 // An operate instruction.
 #[inline(always)]
 fn operate(op: Op, words: &[u8]) -> Option<Statement<'_>>
     ensures { IfSome result (λ s. Says (mnemonics.Operate op) words.now (said s)) }
 {
     match op.row().operands {
-        OperandRule::Any => {
-            let of = binary(words)?;
-            let (ra, src, rc) = (of.ra, of.src, of.rc);
-            let insn = Insn::of(Form::Operate { op, ra, src, rc })?;
-            Some(Statement::Code(insn))
-        }
-        OperandRule::Unary => {
-            let Some((src, rc)) = unary(words) else {
-                return None;
-            };
-            let ra = Reg::ZERO;
-            let insn = Insn::of(Form::Operate { op, ra, src, rc })?;
-            Some(Statement::Code(insn))
-        }
-        OperandRule::UnaryRegister => {
-            let of = pair(words)?;
-            let (ra, src, rc) = (Reg::ZERO, Src::Reg(of.rb), of.rc);
-            let insn = Insn::of(Form::Operate { op, ra, src, rc })?;
-            Some(Statement::Code(insn))
-        }
-        OperandRule::Version => {
-            let rc = last(words)?;
-            let (ra, src) = (Reg::ZERO, Src::Lit(1));
-            let insn = Insn::of(Form::Operate { op, ra, src, rc })?;
-            Some(Statement::Code(insn))
-        }
+        OperandRule::Any => two_sources(op, words),
+        OperandRule::Unary => one_source(op, words),
+        OperandRule::UnaryRegister => one_register(op, words),
+        OperandRule::Version => no_source(op, words),
     }
 }
 
@@ -198,8 +241,16 @@ fn prefetch(modify: bool, words: &[u8]) -> Option<Statement<'_>>
         return None;
     };
     let rb = last_base(rest)?;
-    let insn = Insn::of(Form::Fetch { modify, rb })?;
-    Some(Statement::Code(insn))
+    coded(Form::Fetch { modify, rb })
+}
+
+// An instruction that is a name alone.
+#[inline(always)]
+fn alone<'a>(row: Mnemonic, form: Form, words: &'a [u8]) -> Option<Statement<'a>>
+    requires { IsAlone row form }
+    ensures { IfSome result (λ s. Says row words.now (said s)) }
+{
+    if is_end(words) { coded(form) } else { None }
 }
 
 /// What a row's name says with the words behind it.
@@ -216,22 +267,8 @@ pub(crate) fn of_row(row: Mnemonic, words: &[u8]) -> Option<Statement<'_>>
             _ => bare(kind, words),
         },
         Mnemonic::Fetch { modify } => prefetch(modify, words),
-        Mnemonic::Misc(op) => {
-            let insn = Insn::of(Form::Misc(op))?;
-            if is_end(words) {
-                Some(Statement::Code(insn))
-            } else {
-                None
-            }
-        }
-        Mnemonic::Pal(call) => {
-            let insn = Insn::of(Form::Pal(call))?;
-            if is_end(words) {
-                Some(Statement::Code(insn))
-            } else {
-                None
-            }
-        }
+        Mnemonic::Misc(op) => alone(row, Form::Misc(op), words),
+        Mnemonic::Pal(call) => alone(row, Form::Pal(call), words),
     }
 }
 

@@ -15,17 +15,38 @@ use crate::words::{behind_blanks, behind_byte, is_end};
 use crate::{Item, Statement};
 use alpha_token::without_blanks;
 
+// What stands behind a name, where the name ends there and no space does.
+#[inline(always)]
+fn apart_otherwise(behind: &[u8]) -> Option<&[u8]>
+    ensures { IfSome result (λ words. IsApart behind.now × (tokens behind.now ≡ tokens words.now)) }
+{
+    match behind {
+        [] | [b'#', ..] => Some(behind),
+        [b'\t', ..] => Some(without_blanks(behind)),
+        _ => None,
+    }
+}
+
 // What stands behind a name, where the name ends there.
 #[inline(always)]
 fn apart(behind: &[u8]) -> Option<&[u8]>
     ensures { IfSome result (λ words. IsApart behind.now × (tokens behind.now ≡ tokens words.now)) }
 {
-    match behind {
-        [] => Some(behind),
-        [b' ' | b'\t', ..] => Some(without_blanks(behind)),
-        [b'#', ..] => Some(behind),
-        _ => None,
+    match behind_byte(b' ', behind) {
+        Some(words) => Some(behind_blanks(words)),
+        None => apart_otherwise(behind),
     }
+}
+
+// The statement of a name beside the table with the words behind it.
+#[inline(always)]
+fn of_own_name<'a>(front: &Front<'a>, words: &'a [u8]) -> Option<Statement<'a>>
+    requires { IsApart front.now.behind.now × (tokens front.now.behind.now ≡ tokens words.now) }
+    ensures { IfSome result (λ s. SaysNamed front.now.name.now front.now.behind.now (said s)) }
+{
+    let own = own_named(front.name, front.key)?;
+    let insn = of_own(own, words)?;
+    Some(Statement::Code(insn))
 }
 
 // The statement of a name with what stands behind it.
@@ -36,11 +57,7 @@ fn of_name<'a>(front: &Front<'a>) -> Option<Statement<'a>>
     let words = apart(front.behind)?;
     match row_named(front.name, front.key) {
         Some(row) => of_row(row, words),
-        None => {
-            let own = own_named(front.name, front.key)?;
-            let insn = of_own(own, words)?;
-            Some(Statement::Code(insn))
-        }
+        None => of_own_name(front, words),
     }
 }
 

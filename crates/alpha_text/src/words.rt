@@ -30,7 +30,7 @@ fn ends_word(s: &[u8]) -> bool
     ensures { IsTrue result → Stops is_ascii_alphanumeric s.now }
 {
     match s {
-        [first, ..] => !first.is_ascii_alphanumeric(),
+        [first, ..] => *first < b'0' || !first.is_ascii_alphanumeric(),
         [] => true,
     }
 }

@@ -1,7 +1,8 @@
-use Rattle.std.proofs.Common.{◌∙◌, ap, sym, rules}
+use Rattle.std.proofs.Common.{refl, ◌∙◌, ap, sym, subst}
 use Rattle.alpha_token.specs.Tokens.{tokens}
-use Rattle.alpha_token.proofs.Reading.{tokens-blanks}
+use Rattle.alpha_text.specs.Quick.{IsApart}
+use Rattle.alpha_text.proofs.Spelling.{tokens-space}
 use Rattle.alpha_text.proofs.quick.apart.Goals as goal
 
-pub returns-in-32 : goal.returns-in-32
-returns-in-32 c = (search rules, tokens-blanks c.args.behind.now ∙ ap tokens (sym c.without_blanks.ensures.value))
+pub returns-in-Some : goal.returns-in-Some
+returns-in-Some c = (subst IsApart (sym c.in-Some.ensures) (refl, refl), ap tokens c.in-Some.ensures ∙ tokens-space c.in-Some.words.now ∙ c.behind_blanks.ensures)
