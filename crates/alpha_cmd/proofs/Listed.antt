@@ -1,6 +1,7 @@
 -- The laws of a stage for each of a list.
-use Rattle.std.proofs.Common.{◌≡◌, ◌<◌, ◌≤◌, ◌+◌, ◌∙◌, ℕ, zero, suc, add-one, arith, List, [], ◌∷◌, ◌++◌, length, drop, map, get_or, refl, sym, ap, subst, inl, inr}
-use Rattle.std.proofs.Math.Seq.{drop-nil, drop-cons}
+use Rattle.std.proofs.Common.{◌≡◌, ◌<◌, ◌+◌, ◌∙◌, ℕ, suc, add-one, append_assoc, List, [], ◌∷◌, ◌++◌, length, drop, map, get_or, sym, ap, subst, inl, inr}
+use Rattle.std.proofs.Math.Seq.{drop-cons}
+use Rattle.std.proofs.lemmas.List.{append-nil}
 use Rattle.std.specs.List.{AllByRecursion}
 use Rattle.alpha_cmd.specs.declared.status.Status.{Status}
 use Rattle.alpha_cmd.specs.Outcome.{Outcome, goes, stops, Each}
@@ -18,21 +19,13 @@ Zip P [] (y ∷ ys) = ⊥
 Zip P (x ∷ xs) [] = ⊥
 Zip P (x ∷ xs) (y ∷ ys) = P x y × Zip P xs ys
 
-append_more : {Y : Type 0} (before : List Y) (y : Y) (ys : List Y) → (before ++ y ∷ []) ++ ys ≡ before ++ y ∷ ys
-append_more [] y ys = refl
-append_more (b ∷ before) y ys = ap (λ l. b ∷ l) (append_more before y ys)
-
-append_none : {Y : Type 0} (before : List Y) → before ≡ before ++ []
-append_none [] = refl
-append_none (b ∷ before) = ap (λ l. b ∷ l) (append_none before)
-
 -- what the stages find, each by its own
 each_found : {X Y : Type 0} (R : List Y → X → Outcome Y → Type 0) (P : X → Y → Type 0) → ((before : List Y) (x : X) (y : Y) → R before x (goes y) → P x y)
     → (before : List Y) (xs : List X) (out : List Y) → Each R before xs (goes out) → (ys : List Y) × (out ≡ before ++ ys) × Zip P xs ys
-each_found R P finds before [] out h = ([], h ∙ append_none before, tt)
+each_found R P finds before [] out h = ([], h ∙ sym (append-nil before), tt)
 each_found R P finds before (x ∷ xs) out (y, found, rest) =
     let (ys, is, all) = each_found R P finds (before ++ y ∷ []) xs out rest in
-    (y ∷ ys, is ∙ append_more before y ys, (finds before x y found, all))
+    (y ∷ ys, is ∙ append_assoc before (y ∷ []) ys, (finds before x y found, all))
 
 pub Each-zip : {X Y : Type 0} (R : List Y → X → Outcome Y → Type 0) (P : X → Y → Type 0) → ((before : List Y) (x : X) (y : Y) → R before x (goes y) → P x y)
     → (xs : List X) (out : List Y) → Each R [] xs (goes out) → Zip P xs out
@@ -50,11 +43,6 @@ Each-next R before x y xs (stops s line) found h = inr (y, found, h)
 pub drop_at : {A : Type 0} (xs : List A) (i : ℕ) (a : A) → i < length xs → a ≡ get_or xs i a → drop i xs ≡ a ∷ drop (suc i) xs
 drop_at xs i a h is = drop-cons xs i a h ∙ ap (λ x. x ∷ drop (suc i) xs) (sym is)
 
-drop_all : {A : Type 0} (xs : List A) (i : ℕ) → length xs ≤ i → drop i xs ≡ []
-drop_all [] i h = drop-nil i
-drop_all (x ∷ xs) zero h = absurd (omega arith)
-drop_all (x ∷ xs) (suc i) h = drop_all xs i (omega arith)
-
 -- a loop over a list by an index: what holds of the rest of the list, behind what was found, holds of all of it
 module _ {A X Y : Type 0} (R : List Y → X → Outcome Y → Type 0) (f : A → X) (xs : List A) (W : Outcome (List Y) → Type 0) where
   abbrev pub Rest : List Y → ℕ → Type 0
@@ -69,7 +57,3 @@ module _ {A X Y : Type 0} (R : List Y → X → Outcome Y → Type 0) (f : A →
   pub rest_stops : (before : List Y) (i : ℕ) (a : A) (s : Status) (line : List ℕ) → drop i xs ≡ a ∷ drop (suc i) xs → R before (f a) (stops s line) → Rest before i → W (stops s line)
   rest_stops before i a s line cut stopped rest =
       rest (stops s line) (subst (λ (l : List A). Each R before (map f l) (stops s line)) (sym cut) (inl stopped))
-
-  pub rest_ends : (before : List Y) (i : ℕ) → length xs ≤ i → Rest before i → W (goes before)
-  rest_ends before i end rest =
-      rest (goes before) (subst (λ (l : List A). Each R before (map f l) (goes before)) (sym (drop_all xs i end)) refl)
