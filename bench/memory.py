@@ -44,6 +44,10 @@ def main():
         image = os.path.join(TOP, "examples/factorial.img")
         calls = [["check", image], ["dis", image], ["asm", os.path.join(TOP, "examples/sum.s"), out], ["run", image],
                  ["run", "--imprecise", image], ["debug", image], ["trial", "1"]]
+        modules = {name: os.path.join(folder, name) for name in ("total", "sum", "put")}
+        for name, kept in modules.items():
+            subprocess.run([program, "module", os.path.join(TOP, f"examples/modules/{name}.s"), kept], check=True)
+        calls += [["module", os.path.join(TOP, "examples/modules/total.s"), out], ["link", out, *modules.values()]]
         for call in calls:
             def ended(number):
                 environment = {**os.environ, "LD_PRELOAD": library, "REFUSED": str(number)}
