@@ -78,8 +78,39 @@ doneN:   stq $12,4096($9)
 """
 
 
-def by_hand(count):
-    return "".join(BY_HAND.replace("N", str(n)) for n in range(count // BY_HAND.count("\n")))
+# One as a compiler writes it.
+COMPILED = """sum_N:
+\tlda $30,-32($30)
+\tstq $9,8($30)
+\tldah $9,%hi(sum_N)($31)
+\tstq $26,0($30)
+\tmov $16,$10
+\tclr $0
+sum_N_L2:
+\tlda $28,%lo(sum_N)($9)
+\tldq $3,0($28)
+\tldbu $1,0($3)
+\tsextb $1,$1
+\tcmpeq $1,32,$2
+\tbeq $2,sum_N_L3
+\taddq $0,$1,$0
+\tlda $10,-1($10)
+\tbr $31,sum_N_L2
+sum_N_L3:
+\tbgt $10,sum_N_L2
+\tldah $27,%hi(sum_N)($31)
+\tlda $27,%lo(sum_N)($27)
+\tjsr $26,($27),0
+\tldq $26,0($30)
+\tldq $9,8($30)
+\tlda $30,32($30)
+\tret $31,($26),1
+"""
+
+
+def repeated(text):
+    """A source of this text over and over, each time with another number."""
+    return lambda count: "".join(text.replace("N", str(n)) for n in range(count // text.count("\n")))
 
 
 def comments(count):
@@ -126,7 +157,7 @@ def measure(program, name, make, count, out, fewer=FEW):
 
 def measure_written(program, out):
     """The host instructions of lines as people write them."""
-    for name, make in {**WRITTEN, "mixed lines by hand": by_hand}.items():
+    for name, make in {**WRITTEN, "mixed lines by hand": repeated(BY_HAND), "lines of a compiler": repeated(COMPILED)}.items():
         contents, few = source(make(5 * FEW)), source(make(FEW))
         with file_of(contents) as file, file_of(few) as small:
             more = instructions([program, "asm", file.name, out]) - instructions([program, "asm", small.name, out])

@@ -12,8 +12,9 @@
 //! `specs/Heads.antt`. `statement.rt` and `specs/Statements.antt` say what a name and its operands
 //! stand for, `instruction.rt`, `pseudo.rt` and `directive.rt` each for one kind of names.
 //! `reader.rt` and `specs/Reading.antt` read a line, `writer.rt` and `specs/Canon.antt` write one.
-//! `quick.rt` reads lines in canonical form, and `specs/Quick.antt` says what its parts give:
-//! `front.rt` cuts the name off, `rows.rt` finds its row, `words.rt` reads the words behind it.
+//! `quick.rt` reads lines as programs write them, in one pass, and `specs/Quick.antt` says what its
+//! parts give: `front.rt` cuts the name off, `rows.rt` finds its row, `words.rt` reads the words behind
+//! it, which `specs/Words.antt` defines, and `forms.rt` has what a name says with them.
 //! `specs/Grammar.antt` has the line grammar and the faults apart from reading.
 #![tactic(auto)]
 
