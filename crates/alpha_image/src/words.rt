@@ -4,6 +4,7 @@ ghost use Rattle.std.specs.Prelude.{◌≡◌, ◌+◌, ◌*◌, ◌≤◌, ◌<
 ghost use Rattle.std.specs.List.{flat_map};
 ghost use Rattle.alpha_table.specs.Decoded.{decoded};
 ghost use Rattle.alpha_table.specs.Encoded.{encoded};
+ghost use Rattle.alpha_image.specs.declared.fault.ImageFault.TheVariants.{BadWord};
 ghost use Rattle.alpha_image.specs.Layout.{longword, words_of};
 ghost use Rattle.alpha_image.specs.ImageFault.{Refuses, Tells, is_there, word_fault};
 
@@ -32,11 +33,20 @@ pub fn read_words(alloc: Global, level: Level, code: &[u8]) -> Result<Vec<Insn>,
     for place in 0..words {
         let word = word_at(code, place);
         let Some(insn) = insn_at(level, word) else {
-            return Err(ImageFault::BadWord(place as u32, word.0));
+            return Err(bad_word(place as u32, word.0));
         };
         insns.push_reserved(insn);
     }
     Ok(insns)
+}
+
+// The fault of the word at a place. It is made apart, so that the loop above keeps its list in registers.
+#[cold]
+#[inline(never)]
+fn bad_word(place: u32, word: u32) -> ImageFault
+    ensures { result ≡ BadWord place word }
+{
+    ImageFault::BadWord(place, word)
 }
 
 // Why there are no instructions, where no list of them could be had: memory ran out only if no word is bad.

@@ -1,4 +1,4 @@
-ghost use Rattle.std.specs.Prelude.{◌≡◌, ◌<◌, ◌≤◌, ◌^◌, length, drop, Some, slice_get};
+ghost use Rattle.std.specs.Prelude.{◌≡◌, ◌+◌, ◌-◌, ◌<◌, ◌≤◌, ◌^◌, min, length, drop, Some, slice_get};
 
 use crate::Fetch;
 use alpha_image::Image;
@@ -74,8 +74,18 @@ impl<'a> Fetch for ImageCode<'a> {
 
     #[inline(always)]
     fn insn(&mut self, place: u32) -> Insn {
-        self.fetches = self.fetches.saturating_add(1);
+        count(&mut self.fetches);
         insn_in(self.insns, place as usize)
+    }
+}
+
+// One more, up to the last value.
+#[inline(always)]
+fn count(fetches: &mut u64)
+    ensures { fetches.new ≡ min (fetches.old + 1) (2 ^ 64 - 1) }
+{
+    if *fetches < u64::MAX {
+        *fetches += 1;
     }
 }
 

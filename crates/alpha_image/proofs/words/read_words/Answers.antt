@@ -13,7 +13,7 @@ returns-in_default-insn_at-clause-fault c =
     let same : c.word_at-word.result.0 ≡ get_or words c.loop-place.place 0 = c.word_at-word.ensures.value in
     let here : is_there c.args.level (decoded (get_or words c.loop-place.place 0)) ≡ false =
     ap (λ (w : ℕ). is_there c.args.level (decoded w)) (sym same) ∙ sym c.in_default-insn_at.ensures.value in
-    rw same (word_fault-first c.args.level words _ (omega (arith, length-words_of c.args.code.now)) c.loop-place.invariant.inside here)
+    rw (c.bad_word.ensures, same) (word_fault-first c.args.level words _ (omega (arith, length-words_of c.args.code.now)) c.loop-place.invariant.inside here)
 
 pub loop-place-preserved : goal.loop-place-preserved
 loop-place-preserved c =
