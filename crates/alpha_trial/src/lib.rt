@@ -25,8 +25,6 @@ mod laws;
 mod program;
 mod report;
 mod runs;
-#[cfg(test)]
-mod tests;
 mod trials;
 
 pub use laws::laws_of_trials;
