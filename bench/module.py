@@ -7,7 +7,7 @@ memory a byte of the source, and how the time grows with the number of lines, of
 import os
 import tempfile
 
-from asm import FEW, byte_lists, canonical, comments, label_lists, labels
+from asm import FEW, byte_lists, canonical, comments, label_lists, labels, paddings
 from measure import WORDS, best, counts_instructions, file_of, instructions, most_memory, print_times, the_program
 
 
@@ -64,6 +64,8 @@ def main():
         measure(program, "16 MiB of comments", comments, 524_288, out)
         measure(program, "1 MiB of lists of bytes", byte_lists, 1_040, out, 10)
         measure(program, "1 MiB of lists of labels", label_lists, 1_040, out, 10)
+        lines = ".byte 0\n.align 13\n"
+        measure(program, "1 MiB of paddings", paddings(lines), (1 << 20) // len(lines), out, 10)
 
 
 if __name__ == "__main__":

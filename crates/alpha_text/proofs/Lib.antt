@@ -12,3 +12,5 @@ pub mod Registers
 pub mod Round
 pub mod Spelling
 pub mod Returns
+pub mod NameTexts
+pub mod References

@@ -5,4 +5,5 @@ pub mod Heads
 pub mod Quick
 pub mod Reading
 pub mod Statements
+pub mod References
 pub mod Words

@@ -1,4 +1,4 @@
-ghost use Rattle.std.specs.Prelude.{◌≡◌, ◌↔◌, ◌++◌, ◌∷◌, [], List, ℕ, None, Ok, Err};
+ghost use Rattle.std.specs.Prelude.{◌≡◌, ◌↔◌, ◌++◌, ◌∷◌, [], length, List, ℕ, None, Ok, Err};
 ghost use Rattle.alpha_table.specs.Row.{IsInsn};
 ghost use Rattle.alpha_token.specs.Quoted.{IsText};
 ghost use Rattle.alpha_token.specs.Tokens.{tokens};
@@ -6,6 +6,7 @@ ghost use Rattle.alpha_operands.specs.Values.{IsWholeList};
 ghost use Rattle.alpha_text.specs.Statements.{code, values, text};
 ghost use Rattle.alpha_text.specs.Canon.{canon};
 ghost use Rattle.alpha_text.specs.Grammar.{IsLine, IsFirstFault, LineHasFault};
+ghost use Rattle.alpha_text.specs.References.{IsWell};
 ghost use Rattle.alpha_text.specs.Reading.{read};
 
 /// The laws of lines. What is read is what the line grammar says, so a line says one thing at most.
@@ -28,4 +29,12 @@ pub fn laws_of_lines()
 pub fn laws_of_items()
     ensures list { (line : List ℕ) (l : _) (n : ℕ) (list : List ℕ) → read line ≡ Ok l → l.statement ≡ values n list → IsWholeList n list }
     ensures text { (line : List ℕ) (l : _) (t : List ℕ) → read line ≡ Ok l → l.statement ≡ text t → IsText t }
+{}
+
+/// The law of a line's labels. The label that a line defines, and each that it names, is a whole one: a
+/// letter or `_`, and then letters, digits, `_` and `.`; it is no longer than the line. What is added
+/// to an address lies from -(2^31 - 1) to 2^31 - 1. An instruction that an address is put into has
+/// displacement 0 until then.
+pub fn laws_of_references()
+    ensures { (line : List ℕ) (l : _) → read line ≡ Ok l → IsWell (length line) l }
 {}

@@ -5,7 +5,9 @@
 //! - [`next_value`] and [`next_byte`] read the values of a list and the bytes of a text.
 //! - [`laws_of_lines`] says that a line is read by its grammar, that the fault that is read is the
 //!   first, that the canonical line of an instruction reads back, and that different instructions
-//!   have different ones; [`laws_of_items`] that an item's list and text are read to their ends.
+//!   have different ones; [`laws_of_items`] that an item's list and text are read to their ends;
+//!   [`laws_of_references`] what a line says of labels: they are whole and no longer than the line,
+//!   offsets are of 32 bits, and a displacement that is put in later is 0 until then.
 //!
 //! The names of instructions are those of the instruction table; those of pseudo-operations and
 //! directives, and the shape of what stands behind each, are the rows of `head.rt` and
@@ -36,7 +38,7 @@ mod writer;
 
 pub use alpha_operands::{Expr, LineFaultKind, ListValue, next_value};
 pub use alpha_token::next_byte;
-pub use laws::{laws_of_items, laws_of_lines};
+pub use laws::{laws_of_items, laws_of_lines, laws_of_references};
 pub use reader::{Item, LineFault, read_line};
 pub use statement::Statement;
 pub use writer::{LineBuf, write_line};
