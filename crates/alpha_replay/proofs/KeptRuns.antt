@@ -162,7 +162,7 @@ lists_more g p q r k Reports h e = lists_item g p q r k items.Report h e
 
 -- ---- so many steps
 
-going_of : (a b c : Bool) → (a || (b || c)) ≡ false → b ≡ false
+pub going_of : (a b c : Bool) → (a || (b || c)) ≡ false → b ≡ false
 going_of false false c e = refl
 going_of false true c e = cc
 going_of true b c e = absurd cc
@@ -189,7 +189,7 @@ module _ (n : ℕ) (g : Program) (from : Keeping) where
   stays_then : (a : ℕ) (k : Keeping) → is_kept n g.how (steps_keeping n g from a) ≡ true → k ≡ steps_keeping n g from a → advance_keeping n g k ≡ steps_keeping n g from a
   stays_then a k e same = ap (advance_keeping n g) same ∙ ap (λ (b : Bool). cond b (steps_keeping n g from a) (kept_more g (steps_keeping n g from a))) e
 
-  stays_kept : (a b : ℕ) → a ≤ b → is_kept n g.how (steps_keeping n g from a) ≡ true → steps_keeping n g from b ≡ steps_keeping n g from a
+  pub stays_kept : (a b : ℕ) → a ≤ b → is_kept n g.how (steps_keeping n g from a) ≡ true → steps_keeping n g from b ≡ steps_keeping n g from a
   stays_kept a zero low e = let same : 0 ≡ a = omega (arith, low) in ap (steps_keeping n g from) same
   stays_kept a (suc b) low e =
       ⊎_elim
@@ -211,7 +211,7 @@ module _ (n : ℕ) (g : Program) (from : Keeping) where
       ∙ two.reached)
 
   -- the steps are those of the run
-  steps_run : (steps : ℕ) → (m : ℕ) × ((steps_keeping n g from steps).making ≡ steps_making g from.making m)
+  pub steps_run : (steps : ℕ) → (m : ℕ) × ((steps_keeping n g from steps).making ≡ steps_making g from.making m)
   steps_run zero = (0, refl)
   steps_run (suc steps) = by (is_kept n g.how (steps_keeping n g from steps)) (steps_run steps)
     where

@@ -1,6 +1,11 @@
 mod Examples
 pub mod Seeing
 pub mod Recording
+pub mod Shortened
+pub mod Untold
+pub mod Stopping
+pub mod Feeding
+pub mod KeptReplays
 pub mod Recorded
 pub mod Turning
 pub mod Putting

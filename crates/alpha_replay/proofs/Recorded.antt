@@ -37,10 +37,11 @@ use Rattle.alpha_replay.specs.Taped.{Taped, taped, has_room}
 use Rattle.alpha_replay.specs.Turned.{taped_by, tape_fits, Keeps, TurnKeeps}
 use Rattle.alpha_replay.specs.JournalEnd.{keeping, is_past, outcome, Stops, Records, IsFull, JournalEffect}
 use Rattle.alpha_replay.proofs.Recording.{Reaches, GoesOn, reaches_more}
+use Rattle.alpha_replay.proofs.Shortened.{input_cut, sink_cut}
 
 -- ---- where the run stands
 
-taken_is : (taken rest : List ℕ) → take (length (taken ++ rest) - length rest) (taken ++ rest) ≡ taken
+pub taken_is : (taken rest : List ℕ) → take (length (taken ++ rest) - length rest) (taken ++ rest) ≡ taken
 taken_is taken rest =
     let size = length-append taken rest in
     let front : length (taken ++ rest) - length rest ≡ length taken = omega arith in
@@ -334,6 +335,9 @@ pub turn_outcome : (xs : List ℕ) (units left unit : ℕ) (answer : WildEnd) (e
 turn_outcome xs units left unit answer end t t' fits old mid new before told after input out notes tells few most is some past stops one k did =
     by answer end past stops k did (turn_stops xs (units - left) units false answer end old mid new before told after input out notes tells few (room units left unit (unit_of (trap_in mid.pending)) is some most) stops one.goes did)
   where
+    still : GoesOn units one.run t mid (program_of old.machine)
+    still = goes_on units left t old mid before told (drawn_before input) (sunk_before out) (sunk_before notes) most (subst (λ (n : ℕ). n ≤ left) is some) one
+
     by : (answer : WildEnd) (end : RunEnd) → is_past answer fits ≡ false → run_ended_by answer ≡ Some end
         → TurnKeeps answer fits t t' mid new told after (drawn_after input) (sunk_after out)
         → WildTurnEffect false answer mid new told after (drawn_after input) (sunk_after out) (sunk_after notes)
@@ -357,8 +361,8 @@ turn_outcome xs units left unit answer end t t' fits old mid new before told aft
     by ends.InputFault end past stops k did run =
         let same : runs.InputFault ≡ end = cc in
         subst (λ (e : RunEnd). WildRunEffect e units false old new before after (drawn_over input) (sunk_over out) (sunk_over notes) → JournalEffect (outcome (Some e) old.machine.how t') units old new before after (drawn_over input) (sunk_over out) (sunk_over notes)) same
-        (λ whole. whole) run
+        (λ whole. (whole, input_cut units one.run t old mid new before told after input out notes one.going still one.comes.reaches one.comes.lines xs tells did)) run
     by ends.SinkFault end past stops k did run =
         let same : runs.SinkFault ≡ end = cc in
         subst (λ (e : RunEnd). WildRunEffect e units false old new before after (drawn_over input) (sunk_over out) (sunk_over notes) → JournalEffect (outcome (Some e) old.machine.how t') units old new before after (drawn_over input) (sunk_over out) (sunk_over notes)) same
-        (λ whole. whole) run
+        (λ whole. (whole, sink_cut units one.run t old mid new before told after input out notes one.going still one.comes.reaches one.comes.lines xs tells did)) run

@@ -130,7 +130,7 @@ read_state s = record s {
   outside = outside s.outside.unique (drop (reg s.regs 18) s.outside.input) s.outside.output;
 }
 
-read_is : (g : Program) (o : Option Class) (s : State) → Asks o s → step g o s ≡ stepped (read_state s) Barriered
+pub read_is : (g : Program) (o : Option Class) (s : State) → Asks o s → step g o s ≡ stepped (read_state s) Barriered
 unfolding call serve
 read_is g o s a = rw (a.class, a.number, a.descriptor, a.range) refl
 

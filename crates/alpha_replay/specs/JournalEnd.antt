@@ -1,5 +1,5 @@
 -- What was made of a run and its journal, by the answer.
-use Rattle.std.specs.Prelude.{◌≡◌, ℕ, Bool, true, false, not, List, [], ◌++◌, length, Option, Some, None}
+use Rattle.std.specs.Prelude.{◌≡◌, ◌⊎◌, ⊤, ℕ, ◌≤◌, Bool, true, false, not, List, [], ◌++◌, length, Option, Some, None}
 use Rattle.alpha_io.specs.Sunk.{Sunk, Puts}
 use Rattle.alpha_words.specs.declared.Completion.{Completion}
 use Rattle.alpha_imprecise.specs.declared.end.WildEnd.{WildEnd}
@@ -8,19 +8,21 @@ use Rattle.alpha_seq.specs.declared.end.RunEnd.{RunEnd}
 use Rattle.alpha_seq.specs.declared.end.RunEnd.TheVariants as runs
 use Rattle.alpha_seq.specs.Run.{notes_of}
 use Rattle.alpha_seq.specs.Machine.{program_of}
-use Rattle.alpha_seq.specs.Devices.{Drawn, Draws}
-use Rattle.alpha_imprecise.specs.Made.{Making}
+use Rattle.alpha_seq.specs.Devices.{Drawn, Draws, Rests, Idles}
+use Rattle.alpha_seq.specs.RunEffect.{HasNoFault, HasInputFault, HasOutputFault, HasNotesFault}
+use Rattle.alpha_imprecise.specs.Made.{Making, shown_making}
 use Rattle.alpha_imprecise.specs.Run.{WildRun}
 use Rattle.alpha_imprecise.specs.Telling.{Telling, Moves}
 use Rattle.alpha_imprecise.specs.Wild.{WildState}
-use Rattle.alpha_imprecise.specs.WildRunEffect.{begun_at, making_at, answer_of, WildRunEffect}
+use Rattle.alpha_imprecise.specs.WildRunEffect.{begun_at, making_at, answer_of, WildRunEffect, ShowsWildPart, IsWhole}
+use Rattle.alpha_imprecise.specs.Free.{ComesFree, FreeEffect, LosesNone}
 use Rattle.alpha_replay.specs.declared.journal_end.JournalEnd.{JournalEnd}
 use Rattle.alpha_replay.specs.declared.journal_end.JournalEnd.TheVariants as made
 use Rattle.alpha_replay.specs.declared.ending.Ending.{Ending}
 use Rattle.alpha_replay.specs.declared.ending.Ending.TheVariants as endings
 use Rattle.alpha_replay.specs.Journal.{Parts, parts}
 use Rattle.alpha_replay.specs.Kept.{Kept, closed}
-use Rattle.alpha_replay.specs.Keeping.{Keeping, unkept, IsKept}
+use Rattle.alpha_replay.specs.Keeping.{Keeping, unkept, steps_keeping, IsKept}
 use Rattle.alpha_replay.specs.Replay.{ending_by, ending_of}
 use Rattle.alpha_replay.specs.Taped.{Taped}
 use Rattle.alpha_replay.specs.Turned.{tape_fits}
@@ -68,6 +70,20 @@ pub record IsFull (n : ℕ) (old new : WildState) (before after : Telling) (inpu
   pub stops : Stops n run tape old new before after input out notes
   pub past : tape_fits tape ≡ false
 
+-- A device's fault cut the run short within a step that a run by these words makes, whatever comes behind them: it has
+-- drawn as many by then. Wherever it would have stopped, fronts of what it shows there were written.
+pub record IsShort (n : ℕ) (old : WildState) (before after : Telling) (input : Drawn) (out notes : Sunk) : Type 0 where
+  pub words : List ℕ
+  pub bytes : List ℕ
+  pub told : input.old ≡ Some bytes
+  pub drew : Moves before after words
+  pub steps : ℕ
+  pub few : (coming : List ℕ)
+      → length words ≤ (steps_keeping n (program_of old.machine) (unkept (begun_at old bytes [] (words ++ coming))) steps).making.count
+  pub fronts : (coming : List ℕ) (k : Keeping)
+      → IsKept n (program_of old.machine) (unkept (begun_at old bytes [] (words ++ coming))) k
+      → ShowsWildPart (shown_making false k.making) out notes
+
 -- whether a step that no device failed is past a limit
 abbrev pub is_past : WildEnd → Bool → Bool
 is_past ends.Went fits = not fits
@@ -98,8 +114,40 @@ abbrev pub JournalEffect : JournalEnd → ℕ → WildState → WildState → Te
 JournalEffect (made.Made end journal) n old new before after input out notes =
     WildRunEffect end n false old new before after input out notes × Records n end journal old new before after input out notes
 JournalEffect made.InputFault n old new before after input out notes =
-    WildRunEffect runs.InputFault n false old new before after input out notes
+    WildRunEffect runs.InputFault n false old new before after input out notes × IsShort n old before after input out notes
 JournalEffect made.SinkFault n old new before after input out notes =
-    WildRunEffect runs.SinkFault n false old new before after input out notes
+    WildRunEffect runs.SinkFault n false old new before after input out notes × IsShort n old before after input out notes
 JournalEffect made.Full n old new before after input out notes = IsFull n old new before after input out notes
-JournalEffect made.NoMemory n old new before after input out notes = (new ≡ old) × (out.new ≡ out.old) × (notes.new ≡ notes.old)
+JournalEffect made.NoMemory n old new before after input out notes = new ≡ old
+
+-- ---- over any source
+
+-- a moment of a run of so many units, over inputs of its own
+pub record IsFreeMoment (n : ℕ) (old new : WildState) (before after : Telling) (input : Drawn) (out notes : Sunk) : Type 0 where
+  pub run : WildRun
+  pub comes : ComesFree false run old new before after input out notes
+  pub most : run.units ≤ n
+
+-- what was made over any source
+abbrev pub FreeJournal : JournalEnd → ℕ → WildState → WildState → Telling → Telling → Drawn → Sunk → Sunk → Type 0
+FreeJournal (made.Made end journal) n old new before after input out notes = FreeEffect end n false old new before after input out notes
+FreeJournal made.InputFault n old new before after input out notes = FreeEffect runs.InputFault n false old new before after input out notes
+FreeJournal made.SinkFault n old new before after input out notes = FreeEffect runs.SinkFault n false old new before after input out notes
+FreeJournal made.Full n old new before after input out notes = IsFreeMoment n old new before after input out notes
+FreeJournal made.NoMemory n old new before after input out notes = ⊤
+
+-- which count of faults rose; without memory no device was touched
+abbrev pub JournalCause : JournalEnd → Drawn → Sunk → Sunk → Type 0
+JournalCause (made.Made end journal) input out notes = IsWhole end × HasNoFault input out notes
+JournalCause made.InputFault input out notes = HasInputFault input out notes
+JournalCause made.SinkFault input out notes = HasOutputFault input out notes ⊎ HasNotesFault input out notes
+JournalCause made.Full input out notes = HasNoFault input out notes
+JournalCause made.NoMemory input out notes = Rests input × (Idles out × Idles notes)
+
+-- the run that was made, if any was, didn't lose a trap
+abbrev pub JournalLosesNone : JournalEnd → Type 0
+JournalLosesNone (made.Made end journal) = LosesNone end
+JournalLosesNone made.InputFault = ⊤
+JournalLosesNone made.SinkFault = ⊤
+JournalLosesNone made.Full = ⊤
+JournalLosesNone made.NoMemory = ⊤

@@ -8,6 +8,7 @@ use Rattle.alpha_imprecise.specs.Moment.{Moment}
 use Rattle.alpha_imprecise.specs.Step.{wild}
 use Rattle.alpha_imprecise.specs.Run.{WildRun, finished, started_wild, extended_wild}
 use Rattle.alpha_imprecise.specs.Chosen.{waited_after}
+use Rattle.alpha_imprecise.specs.Free.{wild_over}
 use Rattle.alpha_replay.specs.declared.item.Item.{Item}
 use Rattle.alpha_replay.specs.declared.item.Item.TheVariants.{Units, Trigger, Wait, Report}
 use Rattle.alpha_replay.specs.declared.moves.Move.{Move}
@@ -51,6 +52,10 @@ listed_then n rest (Some p) = rest p
 abbrev pub listed_from : Program → ℕ → List Item → Played → Result Played ℕ
 listed_from g n [] p = Ok p
 listed_from g n (i ∷ items) p = listed_then n (λ q. listed_from g (n + 1) items q) (item g i p)
+
+-- the same over another input
+abbrev pub played_over : List ℕ → Played → Played
+played_over input p = record p { run = wild_over input p.run }
 
 -- no step was made
 abbrev pub unplayed : State → Played

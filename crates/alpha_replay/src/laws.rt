@@ -1,23 +1,24 @@
 //! What holds of journals and bytes, whatever is read or written. The functions do nothing.
 
-ghost use Rattle.std.specs.Prelude.{◌≡◌, ◌↔◌, ℕ, List, None, Ok, All};
+ghost use Rattle.std.specs.Prelude.{◌≡◌, ◌≤◌, ◌++◌, ◌↔◌, ℕ, List, true, None, Ok, All};
 ghost use Rattle.alpha_image.specs.Parts.{IsByte, Parts as Image};
 ghost use Rattle.alpha_seq.specs.Start.{start};
-ghost use Rattle.alpha_seq.specs.State.{Program};
+ghost use Rattle.alpha_seq.specs.State.{Program, State};
+ghost use Rattle.alpha_words.specs.declared.Completion.{Completion};
 ghost use Rattle.alpha_imprecise.specs.Moment.{Choice};
 ghost use Rattle.alpha_imprecise.specs.Restart.{IsRestartable};
 ghost use Rattle.alpha_imprecise.specs.Run.{run_wild, started_wild};
 ghost use Rattle.alpha_replay.specs.declared.item.Item.{Item};
 ghost use Rattle.alpha_replay.specs.declared.replaying.Replayed.{Replayed};
 ghost use Rattle.alpha_replay.specs.Items.{units_of};
-ghost use Rattle.alpha_replay.specs.Listed.{Played, listed};
-ghost use Rattle.alpha_replay.specs.Replay.{replayed, IsRun, IsSequential};
+ghost use Rattle.alpha_replay.specs.Listed.{Played, played_over, listed, listed_from};
+ghost use Rattle.alpha_replay.specs.Replay.{reports_of, replayed, IsRun, IsSequential};
 ghost use Rattle.alpha_replay.specs.Journal.{Parts, IsJournal, spelling};
 ghost use Rattle.alpha_replay.specs.Reading.{parts_of};
 ghost use Rattle.alpha_replay.specs.JournalFault.{first_fault};
 ghost use Rattle.alpha_replay.specs.Kept.{closed};
-ghost use Rattle.alpha_replay.specs.Keeping.{Keeping, unkept, IsKept};
-ghost use Rattle.alpha_imprecise.specs.Made.{begun, steps_making};
+ghost use Rattle.alpha_replay.specs.Keeping.{Keeping, unkept, journal_at, is_within, IsKept};
+ghost use Rattle.alpha_imprecise.specs.Made.{begun, steps_making, most_words};
 
 /// Bytes have no first fault exactly where they are the spelling of a good journal, and then they are the
 /// spelling of one journal alone.
@@ -47,9 +48,19 @@ pub fn laws_of_replays()
         → IsRestartable image → IsSequential image p r.units }
 {}
 
-/// The laws of runs that words make and that are kept: there is one place where such a run stops, it is reached by
-/// steps of the run that these words make, and the items that are kept of it list these steps over its input.
+/// The laws of runs that words make and that are kept: such a run stops, within its units and with no more words than
+/// they draw, and there is one place where it does. It is reached by steps of the run that these words make, and the
+/// items that are kept of it list these steps over its input.
+///
+/// What items list over an input they list over its front that they took. So the items of a kept run list it over
+/// the input that it has taken, which is that of its journal; and the replay of a journal that is within the limits
+/// is done, with the units and the reports of the run.
 pub fn laws_of_kept_runs()
+    ensures some { (n : ℕ) (g : Program) (s : State) (words : List ℕ)
+        → (k : Keeping) × IsKept n g (unkept (begun s None 0 words)) k }
+    ensures few { (n : ℕ) (g : Program) (s : State) (words : List ℕ) (k : Keeping)
+        → IsKept n g (unkept (begun s None 0 words)) k
+        → (k.making.run.units ≤ n) × (k.making.count ≤ most_words n) }
     ensures one { (n : ℕ) (g : Program) (from k l : Keeping) → IsKept n g from k → IsKept n g from l
         → k ≡ l }
     ensures runs { (n : ℕ) (g : Program) (from k : Keeping) → IsKept n g from k
@@ -57,4 +68,14 @@ pub fn laws_of_kept_runs()
     ensures listed { (n : ℕ) (g : Program) (input words : List ℕ) (k : Keeping)
         → IsKept n g (unkept (begun (start g input) None 0 words)) k
         → listed g input (closed k.kept) ≡ Ok (record { run = k.making.run; waited = k.making.waited }) }
+    ensures taken { (n : ℕ) (g : Program) (items : List Item) (p q : Played) (front rest : List ℕ)
+        → listed_from g n items p ≡ Ok q → q.run.state.outside.input ≡ front ++ rest
+        → (fed : List ℕ) × (p.run.state.outside.input ≡ fed ++ rest)
+        × (listed_from g n items (played_over fed p) ≡ Ok (played_over front q)) }
+    ensures replayed { (n : ℕ) (image : Image) (how : Completion) (input words : List ℕ) (k : Keeping)
+        → let g : Program = record { image = image; how = how } in
+        IsKept n g (unkept (begun (start g input) None 0 words)) k
+        → is_within (journal_at how k) ≡ true
+        → replayed image (journal_at how k)
+        ≡ Ok (record { units = k.making.run.units; reports = reports_of (closed k.kept) }) }
 {}

@@ -1,9 +1,10 @@
 //! A run of the imprecise machine, with its journal.
 
-ghost use Rattle.std.specs.Prelude.{◌≡◌, ◌≤◌, ℕ, List, [], Some, IfSome};
+ghost use Rattle.std.specs.Prelude.{◌≡◌, ◌≤◌, ℕ, List, [], None, Some, IfSome};
 ghost use Rattle.alpha_io.specs.Sunk.{sunk};
 ghost use Rattle.alpha_seq.specs.Devices.{drawn};
 ghost use Rattle.alpha_seq.specs.Machine.{Stays};
+ghost use Rattle.alpha_imprecise.specs.Free.{NeverLoses};
 ghost use Rattle.alpha_imprecise.specs.Run.{unit_of};
 ghost use Rattle.alpha_imprecise.specs.Telling.{telling};
 ghost use Rattle.alpha_imprecise.specs.Wild.{trap_in};
@@ -11,7 +12,7 @@ ghost use Rattle.alpha_imprecise.specs.WildTurn.{run_ended_by};
 ghost use Rattle.alpha_replay.specs.Kept.{no_moves};
 ghost use Rattle.alpha_replay.specs.Taped.{taped};
 ghost use Rattle.alpha_replay.specs.Endings.{FitsEnding};
-ghost use Rattle.alpha_replay.specs.JournalEnd.{JournalEffect, ended_as, is_past, journal_of, outcome};
+ghost use Rattle.alpha_replay.specs.JournalEnd.{FreeJournal, JournalCause, JournalEffect, JournalLosesNone, ended_as, is_past, journal_of, outcome};
 
 use crate::tape::Tape;
 use crate::turn::{Turned, turn};
@@ -28,7 +29,8 @@ use std::alloc::Global;
 /// before it. All memory is taken before the first step.
 ///
 /// From a machine at the start and with nothing pending the items list the run, as [`crate::laws_of_kept_runs`] says.
-/// What a source gives that tells nothing is not said.
+/// Over a source that tells nothing the run is one in which each step finds some input of its own, and what the
+/// journal has of it is not said.
 pub fn make_journal<C: Chooser, S: Source, K: Sink, N: Sink>(
     alloc: Global,
     wild: &mut Wild,
@@ -41,6 +43,17 @@ pub fn make_journal<C: Chooser, S: Source, K: Sink, N: Sink>(
     ensures effect { (bytes : List ℕ) → S.left input.old ≡ Some bytes
         → JournalEffect result units wild.old wild.new
         (telling C.ahead C.drawn chooser.old) (telling C.ahead C.drawn chooser.new)
+        (drawn S.Source input.old input.new)
+        (sunk K.Sink out.old out.new)
+        (sunk N.Sink notes.old notes.new) }
+    ensures free { FreeJournal result units wild.old wild.new
+        (telling C.ahead C.drawn chooser.old) (telling C.ahead C.drawn chooser.new)
+        (drawn S.Source input.old input.new)
+        (sunk K.Sink out.old out.new)
+        (sunk N.Sink notes.old notes.new) }
+    ensures found { wild.old.pending ≡ None → NeverLoses wild.old.machine.image
+        → JournalLosesNone result }
+    ensures cause { JournalCause result
         (drawn S.Source input.old input.new)
         (sunk K.Sink out.old out.new)
         (sunk N.Sink notes.old notes.new) }
@@ -68,6 +81,17 @@ fn make_taped<C: Chooser, S: Source, K: Sink, N: Sink>(
     ensures effect { (bytes : List ℕ) → S.left input.old ≡ Some bytes
         → JournalEffect (outcome result wild.old.machine.how tape.new) units wild.old wild.new
         (telling C.ahead C.drawn chooser.old) (telling C.ahead C.drawn chooser.new)
+        (drawn S.Source input.old input.new)
+        (sunk K.Sink out.old out.new)
+        (sunk N.Sink notes.old notes.new) }
+    ensures free { FreeJournal (outcome result wild.old.machine.how tape.new) units wild.old wild.new
+        (telling C.ahead C.drawn chooser.old) (telling C.ahead C.drawn chooser.new)
+        (drawn S.Source input.old input.new)
+        (sunk K.Sink out.old out.new)
+        (sunk N.Sink notes.old notes.new) }
+    ensures found { wild.old.pending ≡ None → NeverLoses wild.old.machine.image
+        → JournalLosesNone (outcome result wild.old.machine.how tape.new) }
+    ensures cause { JournalCause (outcome result wild.old.machine.how tape.new)
         (drawn S.Source input.old input.new)
         (sunk K.Sink out.old out.new)
         (sunk N.Sink notes.old notes.new) }

@@ -5,6 +5,7 @@ ghost use Rattle.alpha_io.specs.Sunk.{sunk};
 ghost use Rattle.alpha_seq.specs.Devices.{drawn};
 ghost use Rattle.alpha_seq.specs.Machine.{Stays};
 ghost use Rattle.alpha_imprecise.specs.Telling.{telling};
+ghost use Rattle.alpha_imprecise.specs.WildEffect.{Framed};
 ghost use Rattle.alpha_imprecise.specs.WildTurn.{WildTurnEffect};
 ghost use Rattle.alpha_replay.specs.Turned.{LookPut, LookTaken, TurnKeeps};
 
@@ -44,6 +45,7 @@ pub(crate) fn turn<C: Chooser, S: Source, K: Sink, N: Sink>(
         (telling C.ahead C.drawn chooser.old) (telling C.ahead C.drawn chooser.new)
         (drawn S.Source input.old input.new)
         (sunk K.Sink out.old out.new) }
+    ensures frame { Framed wild.old.pending result.end wild.old.machine wild.new.machine }
     ensures same { Stays wild.old.machine wild.new.machine }
 {
     let look = look_ahead(wild);

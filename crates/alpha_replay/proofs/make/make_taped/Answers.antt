@@ -1,10 +1,17 @@
-use Rattle.std.proofs.Common.{◌+◌, ◌-◌, ◌*◌, ◌≤◌, ◌<◌, false, refl, sym, subst, ◌∙◌, arith}
+use Rattle.std.proofs.Common.{◌≡◌, ◌+◌, ◌-◌, ◌*◌, ◌≤◌, ◌<◌, false, refl, sym, subst, ◌∙◌, arith}
 use Rattle.alpha_io.specs.Sunk.{sunk}
 use Rattle.alpha_seq.specs.Devices.{drawn}
-use Rattle.alpha_seq.proofs.RunSteps.{times, drawn_after, sunk_after}
+use Rattle.alpha_seq.specs.declared.end.RunEnd.TheVariants as runs
+use Rattle.alpha_seq.proofs.RunSteps.{times, drawn_over, sunk_over, drawn_after, sunk_after}
+use Rattle.alpha_imprecise.specs.Run.{unit_of}
 use Rattle.alpha_imprecise.specs.Telling.{telling}
+use Rattle.alpha_imprecise.specs.Wild.{trap_in}
+use Rattle.alpha_imprecise.specs.Free.{IsFreeRun}
 use Rattle.alpha_imprecise.proofs.Causes.{stays_then}
-use Rattle.alpha_imprecise.proofs.RunGoes.{turn_shortens, wait_left, fewer_left}
+use Rattle.alpha_imprecise.proofs.FreeRuns.{GoesFree, GoesFree-none, free_goes_on, free_spent, free_stops, loses_none}
+use Rattle.alpha_imprecise.proofs.RunEnds.{counts_go_on, counts_stop}
+use Rattle.alpha_imprecise.proofs.RunGoes.{turn_shortens, wait_left, fewer_left, all_used, none_left, room, room_less}
+use Rattle.alpha_replay.proofs.Untold.{free_outcome, cause_outcome, loses_outcome, free_past, calm_past}
 use Rattle.alpha_replay.proofs.Recorded.{remains_none, remains_spent, turn_remains, turn_full, turn_outcome}
 use Rattle.alpha_replay.proofs.make.make_taped.Goals as goal
 
@@ -13,6 +20,15 @@ steps-init g c = record {
   most = omega arith;
   made = λ bytes told.
       remains_none c.args.units c.args.tape.now c.args.wild.now (telling g.C.Chooser.ahead g.C.Chooser.drawn c.args.chooser.now) (g.S.Source.left c.args.input.now) (g.K.Sink.written c.args.out.now) (g.N.Sink.written c.args.notes.now) bytes (g.S.Source.faults c.args.input.now) (g.K.Sink.faults c.args.out.now) (g.N.Sink.faults c.args.notes.now) c.requires.empty told;
+  free =
+      let none : 0 ≡ c.args.units - c.args.units = omega arith in
+      subst (λ n. GoesFree n false c.args.wild.now c.args.wild.now
+      (telling g.C.Chooser.ahead g.C.Chooser.drawn c.args.chooser.now) (telling g.C.Chooser.ahead g.C.Chooser.drawn c.args.chooser.now)
+      (drawn g.S.Source c.args.input.now c.args.input.now)
+      (sunk g.K.Sink c.args.out.now c.args.out.now)
+      (sunk g.N.Sink c.args.notes.now c.args.notes.now)) none
+      (GoesFree-none false c.args.wild.now (telling g.C.Chooser.ahead g.C.Chooser.drawn c.args.chooser.now) (g.S.Source.left c.args.input.now) (g.K.Sink.written c.args.out.now) (g.N.Sink.written c.args.notes.now) (g.S.Source.faults c.args.input.now) (g.K.Sink.faults c.args.out.now) (g.N.Sink.faults c.args.notes.now));
+  calm = record { source = refl; sink = refl; lines = refl };
   same = record { program = refl; mode = refl };
 }
 
@@ -63,11 +79,16 @@ steps-preserved g c =
     let goes = sym c.run_ended_by.ensures ∙ c.in_default.is in
     let same = c.unit-left.ensures.value ∙ sym c.unit.ensures.value in
     let some = subst (λ n. n ≤ c.steps.left) (sym same) c.steps-test.true in
+    let units = room_less c.args.units c.steps.left c.unit-left.result (unit_of (trap_in c.steps.wild.pending)) c.unit-left.ensures.value some c.steps.invariant.most in
     let invariant = c.steps.invariant in
     record {
       most = fewer_left c.args.units c.steps.left c.unit-left.result invariant.most;
       made = λ bytes told.
           turn_remains bytes c.args.units c.steps.left c.unit-left.result c.turn-end.result.end c.steps.tape c.turn-end.new.tape c.turn-end.result.fits c.args.wild.now c.steps.wild c.turn-end.new.wild before mid after input out notes told c.unit.ensures.bound invariant.most c.unit-left.ensures.value some (sym c.is_past.ensures ∙ c.if-is_past.false) goes (invariant.made bytes told) c.turn-end.ensures.keeps c.turn-end.ensures.effect;
+      free =
+          subst (λ n. GoesFree n false c.args.wild.now c.turn-end.new.wild before after (drawn_over input) (sunk_over out) (sunk_over notes)) units
+          (free_goes_on (c.args.units - c.steps.left) false c.turn-end.result.end c.args.wild.now c.steps.wild c.turn-end.new.wild before mid after input out notes invariant.same.program goes invariant.free c.turn-end.ensures.effect c.turn-end.ensures.frame);
+      calm = counts_go_on false c.turn-end.result.end c.steps.wild c.turn-end.new.wild mid after input out notes goes invariant.calm c.turn-end.ensures.effect;
       same = stays_then invariant.same c.turn-end.ensures.same;
     }
 
@@ -80,3 +101,84 @@ returns-clause-effect g c =
     let notes = sunk g.N.Sink c.args.notes.now c.steps.notes in
     λ bytes told.
     remains_spent c.args.units c.steps.left c.steps.tape c.args.wild.now c.steps.wild before after input out notes (subst (λ n. c.steps.left < n) c.unit.ensures.value c.steps-test.false) (c.steps.invariant.made bytes told)
+
+pub returns-then-is_past-clause-free : goal.returns-then-is_past-clause-free
+returns-then-is_past-clause-free g c =
+    let before = telling g.C.Chooser.ahead g.C.Chooser.drawn c.args.chooser.now in
+    let mid = telling g.C.Chooser.ahead g.C.Chooser.drawn c.steps.chooser in
+    let after = telling g.C.Chooser.ahead g.C.Chooser.drawn c.turn-end.new.chooser in
+    let input = times g.S.Source.left g.S.Source.faults c.args.input.now c.steps.input c.turn-end.new.input in
+    let out = times g.K.Sink.written g.K.Sink.faults c.args.out.now c.steps.out c.turn-end.new.out in
+    let notes = times g.N.Sink.written g.N.Sink.faults c.args.notes.now c.steps.notes c.turn-end.new.notes in
+    let most = room c.args.units c.steps.left c.unit.result (unit_of (trap_in c.steps.wild.pending)) c.unit.ensures.value c.steps-test.true c.steps.invariant.most in
+    free_past (c.args.units - c.steps.left) c.args.units c.turn-end.result.end c.turn-end.result.fits c.args.wild.now c.steps.wild c.turn-end.new.wild before mid after input out notes c.steps.invariant.same.program most (sym c.is_past.ensures ∙ c.if-is_past.true) c.steps.invariant.free c.turn-end.ensures.effect c.turn-end.ensures.frame
+
+pub returns-then-is_past-clause-cause : goal.returns-then-is_past-clause-cause
+returns-then-is_past-clause-cause g c =
+    let mid = telling g.C.Chooser.ahead g.C.Chooser.drawn c.steps.chooser in
+    let after = telling g.C.Chooser.ahead g.C.Chooser.drawn c.turn-end.new.chooser in
+    let input = times g.S.Source.left g.S.Source.faults c.args.input.now c.steps.input c.turn-end.new.input in
+    let out = times g.K.Sink.written g.K.Sink.faults c.args.out.now c.steps.out c.turn-end.new.out in
+    let notes = times g.N.Sink.written g.N.Sink.faults c.args.notes.now c.steps.notes c.turn-end.new.notes in
+    calm_past c.turn-end.result.end c.turn-end.result.fits c.steps.wild c.turn-end.new.wild mid after input out notes (sym c.is_past.ensures ∙ c.if-is_past.true) c.steps.invariant.calm c.turn-end.ensures.effect
+
+pub returns-then-is_past-clause-found : goal.returns-then-is_past-clause-found
+returns-then-is_past-clause-found g c = λ calm never. tt
+
+pub returns-in-Some-clause-free : goal.returns-in-Some-clause-free
+returns-in-Some-clause-free g c =
+    let before = telling g.C.Chooser.ahead g.C.Chooser.drawn c.args.chooser.now in
+    let mid = telling g.C.Chooser.ahead g.C.Chooser.drawn c.steps.chooser in
+    let after = telling g.C.Chooser.ahead g.C.Chooser.drawn c.turn-end.new.chooser in
+    let input = times g.S.Source.left g.S.Source.faults c.args.input.now c.steps.input c.turn-end.new.input in
+    let out = times g.K.Sink.written g.K.Sink.faults c.args.out.now c.steps.out c.turn-end.new.out in
+    let notes = times g.N.Sink.written g.N.Sink.faults c.args.notes.now c.steps.notes c.turn-end.new.notes in
+    let stops = sym c.run_ended_by.ensures ∙ c.in-Some.is in
+    let most = room c.args.units c.steps.left c.unit.result (unit_of (trap_in c.steps.wild.pending)) c.unit.ensures.value c.steps-test.true c.steps.invariant.most in
+    free_outcome c.in-Some.end c.args.wild.now.machine.how c.turn-end.new.tape c.args.units c.args.wild.now c.turn-end.new.wild before after
+    (drawn_over input) (sunk_over out) (sunk_over notes)
+    (free_stops (c.args.units - c.steps.left) c.args.units false c.turn-end.result.end c.in-Some.end c.args.wild.now c.steps.wild c.turn-end.new.wild before mid after input out notes c.steps.invariant.same.program most stops c.steps.invariant.free c.turn-end.ensures.effect c.turn-end.ensures.frame)
+
+pub returns-in-Some-clause-found : goal.returns-in-Some-clause-found
+returns-in-Some-clause-found g c =
+    let before = telling g.C.Chooser.ahead g.C.Chooser.drawn c.args.chooser.now in
+    let mid = telling g.C.Chooser.ahead g.C.Chooser.drawn c.steps.chooser in
+    let after = telling g.C.Chooser.ahead g.C.Chooser.drawn c.turn-end.new.chooser in
+    let input = times g.S.Source.left g.S.Source.faults c.args.input.now c.steps.input c.turn-end.new.input in
+    let out = times g.K.Sink.written g.K.Sink.faults c.args.out.now c.steps.out c.turn-end.new.out in
+    let notes = times g.N.Sink.written g.N.Sink.faults c.args.notes.now c.steps.notes c.turn-end.new.notes in
+    let stops = sym c.run_ended_by.ensures ∙ c.in-Some.is in
+    let most = room c.args.units c.steps.left c.unit.result (unit_of (trap_in c.steps.wild.pending)) c.unit.ensures.value c.steps-test.true c.steps.invariant.most in
+    λ calm never.
+    loses_outcome c.in-Some.end c.args.wild.now.machine.how c.turn-end.new.tape
+    (loses_none c.in-Some.end c.args.units false c.args.wild.now c.turn-end.new.wild before after
+    (drawn_over input) (sunk_over out) (sunk_over notes)
+    calm never (free_stops (c.args.units - c.steps.left) c.args.units false c.turn-end.result.end c.in-Some.end c.args.wild.now c.steps.wild c.turn-end.new.wild before mid after input out notes c.steps.invariant.same.program most stops c.steps.invariant.free c.turn-end.ensures.effect c.turn-end.ensures.frame))
+
+pub returns-in-Some-clause-cause : goal.returns-in-Some-clause-cause
+returns-in-Some-clause-cause g c =
+    let mid = telling g.C.Chooser.ahead g.C.Chooser.drawn c.steps.chooser in
+    let after = telling g.C.Chooser.ahead g.C.Chooser.drawn c.turn-end.new.chooser in
+    let input = times g.S.Source.left g.S.Source.faults c.args.input.now c.steps.input c.turn-end.new.input in
+    let out = times g.K.Sink.written g.K.Sink.faults c.args.out.now c.steps.out c.turn-end.new.out in
+    let notes = times g.N.Sink.written g.N.Sink.faults c.args.notes.now c.steps.notes c.turn-end.new.notes in
+    let stops = sym c.run_ended_by.ensures ∙ c.in-Some.is in
+    cause_outcome c.in-Some.end c.args.wild.now.machine.how c.turn-end.new.tape (drawn_over input) (sunk_over out) (sunk_over notes)
+    (counts_stop false c.turn-end.result.end c.in-Some.end c.steps.wild c.turn-end.new.wild mid after input out notes stops c.steps.invariant.calm c.turn-end.ensures.effect)
+
+pub returns-clause-free : goal.returns-clause-free
+returns-clause-free g c =
+    let before = telling g.C.Chooser.ahead g.C.Chooser.drawn c.args.chooser.now in
+    let after = telling g.C.Chooser.ahead g.C.Chooser.drawn c.steps.chooser in
+    let input = drawn g.S.Source c.args.input.now c.steps.input in
+    let out = sunk g.K.Sink c.args.out.now c.steps.out in
+    let notes = sunk g.N.Sink c.args.notes.now c.steps.notes in
+    let none = all_used c.steps.left c.steps.wild.pending (subst (λ n. c.steps.left < n) c.unit.ensures.value c.steps-test.false) in
+    subst (λ n. IsFreeRun n false runs.Spent c.args.wild.now c.steps.wild before after input out notes) (none_left c.args.units c.steps.left none.1)
+    (free_spent (c.args.units - c.steps.left) false c.args.wild.now c.steps.wild before after input out notes none.0 c.steps.invariant.free)
+
+pub returns-clause-cause : goal.returns-clause-cause
+returns-clause-cause g c = (tt, c.steps.invariant.calm)
+
+pub returns-clause-found : goal.returns-clause-found
+returns-clause-found g c = λ calm never. tt

@@ -1,8 +1,10 @@
-use Rattle.std.proofs.Common.{◌≡◌, ◌≤◌, ◌+◌, ◌*◌, ℕ, List, Some}
+use Rattle.std.proofs.Common.{◌≡◌, ◌-◌, ◌≤◌, false, ◌+◌, ◌*◌, ℕ, List, Some}
 use Rattle.alpha_io.specs.Sunk.{sunk}
 use Rattle.alpha_seq.specs.Devices.{drawn}
 use Rattle.alpha_seq.specs.Machine.{Stays}
+use Rattle.alpha_seq.specs.RunEffect.{HasNoFault}
 use Rattle.alpha_imprecise.specs.Telling.{telling}
+use Rattle.alpha_imprecise.proofs.FreeRuns.{GoesFree}
 use Rattle.alpha_imprecise.proofs.RunGoes.{wait_left}
 use Rattle.alpha_replay.proofs.Recorded.{Remains}
 use Rattle.alpha_replay.proofs.make.make_taped.Given as goal
@@ -14,6 +16,16 @@ invariant-steps g l = record {
       → Remains l.units l.left l.tape l.initial.wild l.wild
       (telling g.C.Chooser.ahead g.C.Chooser.drawn l.initial.chooser)
       (telling g.C.Chooser.ahead g.C.Chooser.drawn l.chooser)
+      (drawn g.S.Source l.initial.input l.input)
+      (sunk g.K.Sink l.initial.out l.out)
+      (sunk g.N.Sink l.initial.notes l.notes);
+  free : GoesFree (l.units - l.left) false l.initial.wild l.wild
+      (telling g.C.Chooser.ahead g.C.Chooser.drawn l.initial.chooser)
+      (telling g.C.Chooser.ahead g.C.Chooser.drawn l.chooser)
+      (drawn g.S.Source l.initial.input l.input)
+      (sunk g.K.Sink l.initial.out l.out)
+      (sunk g.N.Sink l.initial.notes l.notes);
+  calm : HasNoFault
       (drawn g.S.Source l.initial.input l.input)
       (sunk g.K.Sink l.initial.out l.out)
       (sunk g.N.Sink l.initial.notes l.notes);
