@@ -4,6 +4,7 @@ pub mod Recording
 pub mod Shortened
 pub mod Untold
 pub mod Stopping
+pub mod Told
 pub mod Feeding
 pub mod KeptReplays
 pub mod Recorded

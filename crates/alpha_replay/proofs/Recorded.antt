@@ -48,7 +48,7 @@ taken_is taken rest =
     ap (λ (n : ℕ). take n (taken ++ rest)) front ∙ take-append_seam taken rest
 
 -- the tape fits where the journal is within the limits
-fits_at : (how : Completion) (run : WildRun) (new : WildState) (t : Taped) (rest coming : List ℕ) (count : ℕ)
+pub fits_at : (how : Completion) (run : WildRun) (new : WildState) (t : Taped) (rest coming : List ℕ) (count : ℕ)
     → is_within (journal_at how (keeping (making_at run new rest t.put coming count) t.kept (t.taken ++ rest))) ≡ tape_fits t
 fits_at how run new t rest coming count =
     ap (λ (l : List ℕ). nat_le (length l) most_bytes && nat_le (length t.put) most_bytes && has_room t.kept) (taken_is t.taken rest)

@@ -8,9 +8,11 @@ use Rattle.alpha_seq.specs.declared.end.RunEnd.{RunEnd}
 use Rattle.alpha_seq.specs.declared.end.RunEnd.TheVariants as runs
 use Rattle.alpha_seq.specs.Run.{notes_of}
 use Rattle.alpha_seq.specs.Machine.{program_of}
+use Rattle.alpha_seq.specs.State.{Program}
+use Rattle.alpha_seq.specs.Start.{start}
 use Rattle.alpha_seq.specs.Devices.{Drawn, Draws, Rests, Idles}
 use Rattle.alpha_seq.specs.RunEffect.{HasNoFault, HasInputFault, HasOutputFault, HasNotesFault}
-use Rattle.alpha_imprecise.specs.Made.{Making, shown_making}
+use Rattle.alpha_imprecise.specs.Made.{Making, begun, shown_making, first_words, most_words}
 use Rattle.alpha_imprecise.specs.Run.{WildRun}
 use Rattle.alpha_imprecise.specs.Telling.{Telling, Moves}
 use Rattle.alpha_imprecise.specs.Wild.{WildState}
@@ -22,7 +24,7 @@ use Rattle.alpha_replay.specs.declared.ending.Ending.{Ending}
 use Rattle.alpha_replay.specs.declared.ending.Ending.TheVariants as endings
 use Rattle.alpha_replay.specs.Journal.{Parts, parts}
 use Rattle.alpha_replay.specs.Kept.{Kept, closed}
-use Rattle.alpha_replay.specs.Keeping.{Keeping, unkept, steps_keeping, IsKept}
+use Rattle.alpha_replay.specs.Keeping.{Keeping, unkept, journal_at, is_within, steps_keeping, IsKept}
 use Rattle.alpha_replay.specs.Replay.{ending_by, ending_of}
 use Rattle.alpha_replay.specs.Taped.{Taped}
 use Rattle.alpha_replay.specs.Turned.{tape_fits}
@@ -151,3 +153,39 @@ JournalLosesNone made.InputFault = ⊤
 JournalLosesNone made.SinkFault = ⊤
 JournalLosesNone made.Full = ⊤
 JournalLosesNone made.NoMemory = ⊤
+
+-- ---- from a fresh machine, by told words over a told input
+
+-- the place where the run by these words stops
+abbrev pub StopsAt : ℕ → Program → List ℕ → (ℕ → ℕ) → Keeping → Type 0
+StopsAt n g bytes ahead k = IsKept n g (unkept (begun (start g bytes) None 0 (first_words (most_words n) ahead))) k
+
+-- The run stops within the limits of its journal, and this is it.
+pub record IsRecorded (n : ℕ) (g : Program) (bytes : List ℕ) (ahead : ℕ → ℕ) (journal : Parts) : Type 0 where
+  pub place : Keeping
+  pub stops : StopsAt n g bytes ahead place
+  pub within : is_within (journal_at g.how place) ≡ true
+  pub is : journal ≡ journal_at g.how place
+
+-- The run stops past a limit, and there it is.
+pub record IsPast (n : ℕ) (g : Program) (bytes : List ℕ) (ahead : ℕ → ℕ) (making : Making) : Type 0 where
+  pub place : Keeping
+  pub stops : StopsAt n g bytes ahead place
+  pub past : is_within (journal_at g.how place) ≡ false
+  pub is : making ≡ place.making
+
+-- what a run shows was written, and the rest of the input is left
+pub record Shows (k : Making) (input : Drawn) (out notes : Sunk) : Type 0 where
+  pub bytes : Puts out k.run.state.outside.output
+  pub lines : Puts notes (notes_of false k.run.trace)
+  pub left : input.new ≡ Some k.run.state.outside.input
+
+-- by the answer
+abbrev pub JournalTold : JournalEnd → ℕ → List ℕ → (ℕ → ℕ) → Program → Drawn → Sunk → Sunk → Type 0
+JournalTold (made.Made end journal) n bytes ahead g input out notes = IsRecorded n g bytes ahead journal
+JournalTold made.InputFault n bytes ahead g input out notes =
+    (k : Keeping) → StopsAt n g bytes ahead k → ShowsWildPart (shown_making false k.making) out notes
+JournalTold made.SinkFault n bytes ahead g input out notes =
+    (k : Keeping) → StopsAt n g bytes ahead k → ShowsWildPart (shown_making false k.making) out notes
+JournalTold made.Full n bytes ahead g input out notes = (k : Making) × IsPast n g bytes ahead k × Shows k input out notes
+JournalTold made.NoMemory n bytes ahead g input out notes = ⊤

@@ -3,16 +3,16 @@
 ghost use Rattle.std.specs.Prelude.{◌≡◌, ◌≤◌, ℕ, List, [], None, Some, IfSome};
 ghost use Rattle.alpha_io.specs.Sunk.{sunk};
 ghost use Rattle.alpha_seq.specs.Devices.{drawn};
-ghost use Rattle.alpha_seq.specs.Machine.{Stays};
+ghost use Rattle.alpha_seq.specs.Machine.{Stays, program_of};
 ghost use Rattle.alpha_imprecise.specs.Free.{NeverLoses};
 ghost use Rattle.alpha_imprecise.specs.Run.{unit_of};
 ghost use Rattle.alpha_imprecise.specs.Telling.{telling};
-ghost use Rattle.alpha_imprecise.specs.Wild.{trap_in};
+ghost use Rattle.alpha_imprecise.specs.Wild.{trap_in, IsFresh};
 ghost use Rattle.alpha_imprecise.specs.WildTurn.{run_ended_by};
 ghost use Rattle.alpha_replay.specs.Kept.{no_moves};
 ghost use Rattle.alpha_replay.specs.Taped.{taped};
 ghost use Rattle.alpha_replay.specs.Endings.{FitsEnding};
-ghost use Rattle.alpha_replay.specs.JournalEnd.{FreeJournal, JournalCause, JournalEffect, JournalLosesNone, ended_as, is_past, journal_of, outcome};
+ghost use Rattle.alpha_replay.specs.JournalEnd.{FreeJournal, JournalCause, JournalEffect, JournalLosesNone, JournalTold, ended_as, is_past, journal_of, outcome};
 
 use crate::tape::Tape;
 use crate::turn::{Turned, turn};
@@ -43,6 +43,12 @@ pub fn make_journal<C: Chooser, S: Source, K: Sink, N: Sink>(
     ensures effect { (bytes : List ℕ) → S.left input.old ≡ Some bytes
         → JournalEffect result units wild.old wild.new
         (telling C.ahead C.drawn chooser.old) (telling C.ahead C.drawn chooser.new)
+        (drawn S.Source input.old input.new)
+        (sunk K.Sink out.old out.new)
+        (sunk N.Sink notes.old notes.new) }
+    ensures told { (bytes : List ℕ) (ahead : ℕ → ℕ) → S.left input.old ≡ Some bytes
+        → C.ahead chooser.old ≡ Some ahead → IsFresh wild.old
+        → JournalTold result units bytes ahead (program_of wild.old.machine)
         (drawn S.Source input.old input.new)
         (sunk K.Sink out.old out.new)
         (sunk N.Sink notes.old notes.new) }
