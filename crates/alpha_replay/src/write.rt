@@ -3,7 +3,7 @@
 ghost use Rattle.std.specs.Prelude.{◌≡◌, ◌≤◌, ◌+◌, ◌*◌, ◌++◌, [], ◌∷◌, length, OnOk, IfOk};
 ghost use Rattle.std.specs.List.{flat_map};
 ghost use Rattle.alpha_replay.specs.Items.{item_bytes};
-ghost use Rattle.alpha_replay.specs.Journal.{completion_number, numbers, front, spelling, most_items};
+ghost use Rattle.alpha_replay.specs.Journal.{IsJournal, completion_number, numbers, front, spelling, most_items};
 
 use crate::front::{FRONT_BYTES, MAGIC};
 use crate::number::{push_longword, push_quadword};
@@ -84,9 +84,10 @@ fn bytes_of(items: &[Item]) -> usize
     bytes
 }
 
-/// The one spelling of a journal. Memory taken is that of these bytes.
+/// The one spelling of a journal, which is a good one. Memory taken is that of these bytes.
 pub fn journal_bytes(alloc: Global, journal: &Journal) -> Result<Vec<u8>, NoMemory>
     ensures value { IfOk result (λ bytes. bytes.items ≡ spelling journal.now) }
+    ensures good { IsJournal journal.now }
 {
     let (input, output, items) = (journal.input(), journal.output(), journal.items());
     let size = FRONT_BYTES + input.len() + output.len() + bytes_of(items);
