@@ -1,5 +1,5 @@
 -- Each command has the laws of a form.
-use Rattle.alpha_request.specs.Command.{Command, check, dis, asm, fix, make_module, link, replay, run, imprecise, debug, trial}
+use Rattle.alpha_request.specs.Command.{Command, check, dis, asm, fix, make_module, link, replay, record_run, run, imprecise, debug, trial}
 use Rattle.alpha_cmd.specs.Answer.{World}
 use Rattle.alpha_cmd.specs.Commands.{form_of, there_of}
 use Rattle.alpha_cmd.proofs.Forms.{IsLawfulForm}
@@ -11,6 +11,7 @@ use Rattle.alpha_cmd.proofs.Commands.Fix as fixes
 use Rattle.alpha_cmd.proofs.Commands.Imprecise as wilds
 use Rattle.alpha_cmd.proofs.Commands.Link as links
 use Rattle.alpha_cmd.proofs.Commands.Module as modules
+use Rattle.alpha_cmd.proofs.Commands.Record as recordings
 use Rattle.alpha_cmd.proofs.Commands.Replay as replays
 use Rattle.alpha_cmd.proofs.Commands.Run as runs
 use Rattle.alpha_cmd.proofs.Commands.Trial as trials
@@ -22,6 +23,7 @@ pub mod Fix
 pub mod Imprecise
 pub mod Link
 pub mod Module
+pub mod Record
 pub mod Replay
 pub mod Run
 pub mod Trial
@@ -34,6 +36,7 @@ lawful (fix file out) w = fixes.lawful file out w
 lawful (make_module file out) w = modules.lawful file out w
 lawful (link entry out files) w = links.lawful entry out files w
 lawful (replay file journal) w = replays.lawful file journal w
+lawful (record_run options choices force file out) w = recordings.lawful options choices force file out w
 lawful (run options file) w = runs.lawful options file w
 lawful (imprecise options choices force file) w = wilds.lawful options choices force file w
 lawful (debug file) w = sessions.lawful file w

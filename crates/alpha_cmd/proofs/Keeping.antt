@@ -21,14 +21,14 @@ use Rattle.alpha_cmd.specs.Tries.{IsCutBy, TriesBy}
 -- ---- files that were read before
 
 -- what is refused then was refused at first
-Refuses-kept : (a b : Files) (taken : Bool) → KeepsFiles a b → Refuses b taken → Refuses a taken
+pub Refuses-kept : (a b : Files) (taken : Bool) → KeepsFiles a b → Refuses b taken → Refuses a taken
 Refuses-kept None None taken p h = h
 Refuses-kept None (Some g) taken p h = absurd p
 Refuses-kept (Some f) None taken p h = absurd p
 Refuses-kept (Some f) (Some g) taken p h = h
 
 -- and the other way round
-Refuses-told : (a b : Files) (taken : Bool) → KeepsFiles a b → Refuses a taken → Refuses b taken
+pub Refuses-told : (a b : Files) (taken : Bool) → KeepsFiles a b → Refuses a taken → Refuses b taken
 Refuses-told None None taken p h = h
 Refuses-told None (Some g) taken p h = absurd h
 Refuses-told (Some f) None taken p h = absurd p

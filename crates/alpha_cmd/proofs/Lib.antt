@@ -4,6 +4,9 @@ pub mod Commands
 pub mod Endings
 pub mod Fixed
 pub mod Forms
+pub mod JournalKept
+pub mod JournalRan
+pub mod JournalStatus
 pub mod Keeping
 pub mod KeptLinks
 pub mod KeptModules

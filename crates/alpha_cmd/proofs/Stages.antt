@@ -179,7 +179,7 @@ Judges-lawful told whole there image = record {
 
 -- ---- a file that is kept
 
-taken_or_not : (files : Files) (taken : Bool) → Refuses files taken ⊎ ¬ Refuses files taken
+pub taken_or_not : (files : Files) (taken : Bool) → Refuses files taken ⊎ ¬ Refuses files taken
 taken_or_not None taken = inr (λ h. h)
 taken_or_not (Some f) true = inr (λ h. cc)
 taken_or_not (Some f) false = inl refl
@@ -188,7 +188,7 @@ pub Refuses-false : (files : Files) (taken : Bool) → Refuses files taken → t
 Refuses-false None taken h = absurd h
 Refuses-false (Some f) taken h = h
 
-refused_there : (files : Files) (taken : Bool) → Refuses files taken → taken ≡ true → ⊥
+pub refused_there : (files : Files) (taken : Bool) → Refuses files taken → taken ≡ true → ⊥
 refused_there files taken h e = let no = Refuses-false files taken h in cc
 
 kept_some : (w : World) (out bytes : List ℕ) → HasOutcome (KeepsAs w out bytes)

@@ -10,9 +10,7 @@ use Rattle.alpha_request.specs.declared.options.RunOptions.{RunOptions}
 use Rattle.alpha_request.specs.Options as choices
 use Rattle.alpha_seq.specs.declared.end.End.{End}
 use Rattle.alpha_seq.specs.declared.end.RunEnd.{RunEnd}
-use Rattle.alpha_seq.specs.declared.end.RunEnd.TheVariants as runs
 use Rattle.alpha_seq.specs.State.{Program}
-use Rattle.alpha_seq.specs.Notes.{end_line}
 use Rattle.alpha_seq.specs.Start.{start}
 use Rattle.alpha_seq.specs.Run.{Mark, notes_of, shown, sequential}
 use Rattle.alpha_seq.specs.Machine.{program_of}
@@ -27,11 +25,11 @@ use Rattle.alpha_imprecise.proofs.Fresh.{begun_fresh, told_starts}
 use Rattle.alpha_imprecise.proofs.FreeDrawing.{free_draws}
 use Rattle.alpha_imprecise.proofs.FreeFilling.{cut_free}
 use Rattle.alpha_cmd.specs.declared.status.Status.{Status}
-use Rattle.alpha_cmd.specs.declared.status.Status.TheVariants.{StepsSpent, Lost, InputFault, SinkFault}
+use Rattle.alpha_cmd.specs.declared.status.Status.TheVariants.{InputFault}
 use Rattle.alpha_cmd.specs.Status.{status_line}
 use Rattle.alpha_cmd.specs.Outcome.{goes}
 use Rattle.alpha_cmd.specs.Commands.Run.{program_by, run_by_reads}
-use Rattle.alpha_cmd.specs.Commands.Imprecise.{Plan, plan_by, PlanOf, Passes, with_drawn, MadeByReads, MayShowWild, drawn_status, wild_status, wild_line, answer_wild, form}
+use Rattle.alpha_cmd.specs.Commands.Imprecise.{Plan, plan_by, PlanOf, Passes, with_drawn, MadeByReads, MayShowWild, wild_status, wild_line, answer_status, answer_line, answer_wild, form}
 use Rattle.alpha_cmd.specs.Answer.{World, Answer, said}
 use Rattle.alpha_cmd.specs.Kept.{nothing}
 use Rattle.alpha_cmd.specs.Ends.{EndsPart, Leaves}
@@ -41,26 +39,12 @@ use Rattle.alpha_cmd.proofs.Untold.{made_same, same_may}
 
 -- ---- the status and the line of an answer, by a number of words
 
-abbrev pub answer_status : RunEnd → ℕ → Status
-answer_status (runs.Ended end) n = drawn_status n end
-answer_status runs.Spent n = StepsSpent
-answer_status (runs.Lost pc mask) n = Lost (record { trap_pc = pc; mask = mask })
-answer_status runs.InputFault n = InputFault
-answer_status runs.SinkFault n = SinkFault
-
-abbrev pub answer_line : RunEnd → List ℕ
-answer_line (runs.Ended end) = end_line end
-answer_line runs.Spent = status_line StepsSpent
-answer_line (runs.Lost pc mask) = status_line (Lost (record { trap_pc = pc; mask = mask }))
-answer_line runs.InputFault = []
-answer_line runs.SinkFault = []
-
-status_by : (end : Option End) (trap : Option LostTrap) (n : ℕ) → answer_status (run_answer end trap) n ≡ wild_status end trap n
+pub status_by : (end : Option End) (trap : Option LostTrap) (n : ℕ) → answer_status (run_answer end trap) n ≡ wild_status end trap n
 status_by (Some end) trap n = refl
 status_by None (Some t) n = refl
 status_by None None n = refl
 
-line_by : (end : Option End) (trap : Option LostTrap) → wild_line end trap ≡ answer_line (run_answer end trap)
+pub line_by : (end : Option End) (trap : Option LostTrap) → wild_line end trap ≡ answer_line (run_answer end trap)
 line_by (Some end) trap = refl
 line_by None (Some t) = refl
 line_by None None = refl
@@ -80,13 +64,13 @@ planned_image files name drawn image ahead found =
     subst IsImage (sym same) found.1.2.0
 
 module _ (options : RunOptions) (m : WildState) (ahead : ℕ → ℕ) (how : m.machine.how ≡ options.complete) (fresh : IsFresh m) where
-  same_program : program_of m.machine ≡ program_by options m.machine.image
+  pub same_program : program_of m.machine ≡ program_by options m.machine.image
   same_program = λ i. record { image = m.machine.image; how = how i }
 
   -- ---- what a run is over any source
 
   -- by the words that are told, the run of the definition over some inputs
-  reads_as : (reads : List (List ℕ)) (words list : List ℕ) → list ≡ words
+  pub reads_as : (reads : List (List ℕ)) (words list : List ℕ) → list ≡ words
       → run_making_over (program_by options m.machine.image) reads (begun (start (program_by options m.machine.image) []) None 0 list)
       ≡ run_making_over (program_of m.machine) reads (begun_at m [] [] words)
   reads_as reads words list same =
@@ -94,7 +78,7 @@ module _ (options : RunOptions) (m : WildState) (ahead : ℕ → ℕ) (how : m.m
       ∙ (ap (λ l. run_making_over (program_of m.machine) reads (begun (start (program_of m.machine) []) None 0 l)) same
       ∙ sym (ap (run_making_over (program_of m.machine) reads) (begun_fresh m [] words fresh)))
 
-  draws_most : (reads : List (List ℕ)) (words : List ℕ)
+  pub draws_most : (reads : List (List ℕ)) (words : List ℕ)
       → (run_making_over (program_of m.machine) reads (begun_at m [] [] words)).count
       ≤ most_words (run_making_over (program_of m.machine) reads (begun_at m [] [] words)).run.units
   draws_most reads words =

@@ -1,5 +1,5 @@
 -- The commands: the form of each, its kind, and the files that are there where it meets no missing one.
-use Rattle.alpha_request.specs.Command.{Command, check, dis, asm, fix, make_module, link, replay, run, imprecise, debug, trial}
+use Rattle.alpha_request.specs.Command.{Command, check, dis, asm, fix, make_module, link, replay, record_run, run, imprecise, debug, trial}
 use Rattle.std.specs.Prelude.{ℕ, List}
 use Rattle.alpha_io.specs.Files.{Files}
 use Rattle.alpha_cmd.specs.declared.status.Status.{Status}
@@ -13,6 +13,7 @@ use Rattle.alpha_cmd.specs.Commands.Fix as fixes
 use Rattle.alpha_cmd.specs.Commands.Imprecise as wilds
 use Rattle.alpha_cmd.specs.Commands.Link as links
 use Rattle.alpha_cmd.specs.Commands.Module as modules
+use Rattle.alpha_cmd.specs.Commands.Record as recordings
 use Rattle.alpha_cmd.specs.Commands.Replay as replays
 use Rattle.alpha_cmd.specs.Commands.Run as runs
 use Rattle.alpha_cmd.specs.Commands.Trial as trials
@@ -24,6 +25,7 @@ pub mod Fix
 pub mod Imprecise
 pub mod Link
 pub mod Module
+pub mod Record
 pub mod Replay
 pub mod Run
 pub mod Trial
@@ -36,6 +38,7 @@ form_of (fix file out) = fixes.form file out
 form_of (make_module file out) = modules.form file out
 form_of (link entry out files) = links.form entry out files
 form_of (replay file journal) = replays.form file journal
+form_of (record_run options choices force file out) = recordings.form options choices force file out
 form_of (run options file) = runs.form options file
 form_of (imprecise options choices force file) = wilds.form options choices force file
 form_of (debug file) = sessions.form file
@@ -50,6 +53,7 @@ kind_of (fix file out) = fixes.kind out
 kind_of (make_module file out) = modules.kind out
 kind_of (link entry out files) = links.kind out
 kind_of (replay file journal) = replays.kind
+kind_of (record_run options choices force file out) = recordings.kind force out
 kind_of (run options file) = runs.kind
 kind_of (imprecise options choices force file) = wilds.kind force
 kind_of (debug file) = sessions.kind
@@ -64,6 +68,7 @@ there_of (fix file out) = fixes.there file out
 there_of (make_module file out) = modules.there file out
 there_of (link entry out files) = links.there entry out files
 there_of (replay file journal) = replays.there file journal
+there_of (record_run options choices force file out) = recordings.there options choices force file out
 there_of (run options file) = runs.there file
 there_of (imprecise options choices force file) = wilds.there choices file
 there_of (debug file) = sessions.there file

@@ -20,7 +20,7 @@ use Rattle.alpha_shadow.specs.Broken.{condition_number}
 use Rattle.alpha_shadow.specs.Report.{place_address}
 use Rattle.alpha_seq.specs.Notes.{end_line}
 use Rattle.alpha_cmd.specs.declared.status.Status.{Status}
-use Rattle.alpha_cmd.specs.declared.status.Status.TheVariants.{Done, NotRestartable, BadWords, BadSource, BadImage, Stopped, StepsSpent, Lost, ShelfFault, InputFault, SinkFault, TooLarge, NoMemory, Unfixable, FixedLine, Far, BadModule, BadLink, BadJournal, NotARun}
+use Rattle.alpha_cmd.specs.declared.status.Status.TheVariants.{Done, NotRestartable, BadWords, BadSource, BadImage, Stopped, StepsSpent, Lost, ShelfFault, InputFault, SinkFault, TooLarge, NoMemory, Unfixable, FixedLine, Far, BadModule, BadLink, BadJournal, NotARun, JournalFull}
 
 -- `image kind K first F second S`: the kind of the fault and its numbers, 0 where there is none
 unfoldable pub numbered_line : ℕ → ℕ → ℕ → List ℕ
@@ -163,6 +163,7 @@ row_of (BadModule file fault) = row 16 (module_fault_line file fault) refused
 row_of (BadLink fault) = row 17 (link_fault_line fault) refused
 row_of (BadJournal fault) = row 18 (journal_line fault) refused
 row_of (NotARun fault) = row 19 (norun_line fault) refused
+row_of JournalFull = row 20 (codes "journal full" ++ 10 ∷ []) ended
 
 abbrev pub status_number : Status → ℕ
 status_number status = (row_of status).number

@@ -46,11 +46,13 @@ pub(crate) struct Asked<'a> {
     pub(crate) file: &'a str,
 }
 
-// What is run: an image, and the words by which the machine chooses.
+/// What is run: an image, and the words by which the machine chooses.
 #[derive(Drop)]
-struct Plan {
-    image: Image,
-    chooser: Choosing,
+pub(crate) struct Plan {
+    /// The image.
+    pub(crate) image: Image,
+    /// The words.
+    pub(crate) chooser: Choosing,
 }
 
 /// Reads the image of a file and the choices, judges the image unless the verdict is passed over, and
@@ -86,8 +88,8 @@ pub(crate) fn imprecise<H: Shelf, S: Source, K: Sink, N: Sink>(
     }
 }
 
-// Reads the image of a file, and then the choices.
-fn planned<H: Shelf>(
+/// Reads the image of a file, and then the choices.
+pub(crate) fn planned<H: Shelf>(
     alloc: Global,
     file: &str,
     choices: &Choices<'_>,
@@ -112,8 +114,8 @@ fn planned<H: Shelf>(
     }
 }
 
-// Judges an image, unless the verdict is passed over.
-fn judged(image: &Image, force: bool) -> Result<(), Broken>
+/// Judges an image, unless the verdict is passed over.
+pub(crate) fn judged(image: &Image, force: bool) -> Result<(), Broken>
     ensures ok { OnOk result (force ≡ false → IsAccepted image.now.words) }
     ensures refused { IfErr result (λ broken.
         (force ≡ false) × IsLeastBroken image.now.words broken) }

@@ -44,6 +44,7 @@ mod laws;
 mod line;
 mod link;
 mod module;
+mod record;
 mod replay;
 mod run;
 mod status;

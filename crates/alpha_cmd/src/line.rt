@@ -40,6 +40,7 @@ pub(crate) fn line_of(status: &Status) -> Line
         Status::BadLink(fault) => link_fault_line(fault),
         Status::BadJournal(fault) => journal_line(fault),
         Status::NotARun(fault) => norun_line(fault),
+        Status::JournalFull => text(b"journal full\n"),
     }
 }
 

@@ -56,6 +56,8 @@ pub enum Status {
     BadJournal(JournalFault),
     /// The journal is no run of the image: its first fault.
     NotARun(ReplayFault),
+    /// The run was stopped directly behind its first step past what a journal may have.
+    JournalFull,
 }
 
 impl Status {
@@ -86,6 +88,7 @@ impl Status {
             Status::BadLink(_) => 17,
             Status::BadJournal(_) => 18,
             Status::NotARun(_) => 19,
+            Status::JournalFull => 20,
         }
     }
 }

@@ -19,6 +19,7 @@ ghost use Rattle.alpha_cmd.specs.Commands.{form_of, EndsBy, MayTake, Spares};
 ghost use Rattle.alpha_cmd.specs.Commands.Debug.{LeavesTail, script_most};
 ghost use Rattle.alpha_cmd.specs.Commands.Link.{KeepsLink};
 ghost use Rattle.alpha_cmd.specs.Commands.Module.{KeepsModule};
+ghost use Rattle.alpha_cmd.specs.Commands.Record.{KeepsUnder};
 ghost use Rattle.alpha_cmd.specs.Commands.Run as runs;
 ghost use Rattle.alpha_cmd.specs.Ends.{Decides, Ends, EndsPart, status_in};
 ghost use Rattle.alpha_cmd.specs.Fixed.{IsSafe};
@@ -38,6 +39,7 @@ use crate::fix::fix;
 use crate::imprecise::{Asked, imprecise};
 use crate::link::link;
 use crate::module::module;
+use crate::record::record;
 use crate::replay::replay;
 use crate::run::run;
 use crate::trial::trial;
@@ -57,7 +59,8 @@ use std::alloc::Global;
 /// `run FILE` runs an image's
 /// program over the input: what it puts goes to the output, and the lines of the run to the notes.
 /// `run --imprecise FILE` does so by the imprecise machine: an image that `check` refuses is refused,
-/// unless `--force` is given, and an accepted one has what `run FILE` has. `debug FILE` answers the
+/// unless `--force` is given, and an accepted one has what `run FILE` has. `record FILE OUT` does that
+/// too, and keeps the journal of the run as OUT. `debug FILE` answers the
 /// input as a script on the program, and what it answers goes to the output. `trial N` writes a line
 /// for each of its runs there.
 /// Each other status has its line on the notes.
@@ -171,6 +174,11 @@ pub fn alpha_top<H: Shelf, S: Source, K: Sink, N: Sink>(
     ensures replays { (file journal : List ℕ) → Asks words.now (commands.replay file journal)
         → result ≡ Status.Done 0 → ShowsRun file journal (H.files shelf.old) }
 
+    // Under the status of a run's end a journal was kept, and it is a good one. Where the input is told,
+    // it is that of the run that the words make, to its end or to all its units.
+    ensures recorded { KeepsUnder (Asks words.now) result
+        (world H.Shelf S.Source shelf.old input.old) (H.files shelf.new) }
+
     // A run of the imprecise machine of a file that a check accepts has the answer of the sequential
     // run with the same options, whatever words it draws and whether the verdict is passed over: only
     // the number of words, which the status carries where the program has exited, is its own.
@@ -220,6 +228,8 @@ fn decide<H: Shelf, S: Source, K: Sink, N: Sink>(
         (IfOk result (λ decision. decision.status ≢ Status.InputFault)) }
     ensures script { (file : List ℕ) → Asks words.now (commands.debug file)
         → LeavesTail script_most (S.left input.old) (S.left input.new) }
+    ensures recorded { KeepsUnder (Asks words.now) (status_in result)
+        (world H.Shelf S.Source shelf.old input.old) (H.files shelf.new) }
 {
     match request_of(alloc, words) {
         Ok(request) => perform(alloc, request, shelf, input, out, notes),
@@ -254,6 +264,8 @@ fn perform<H: Shelf, S: Source, K: Sink, N: Sink>(
         (IfOk result (λ decision. decision.status ≢ Status.InputFault)) }
     ensures script { (file : List ℕ) → command_of request.entry ≡ commands.debug file
         → LeavesTail script_most (S.left input.old) (S.left input.new) }
+    ensures recorded { KeepsUnder (λ command. command_of request.entry ≡ command) (status_in result)
+        (world H.Shelf S.Source shelf.old input.old) (H.files shelf.new) }
 {
     match request {
         Request::Check { file } => Ok(check(alloc, file, shelf)),
@@ -276,6 +288,21 @@ fn perform<H: Shelf, S: Source, K: Sink, N: Sink>(
                 file,
             };
             imprecise(alloc, asked, shelf, input, out, notes)
+        }
+        Request::Record {
+            options,
+            choices,
+            force,
+            file,
+            out: name,
+        } => {
+            let asked = Asked {
+                options,
+                choices,
+                force,
+                file,
+            };
+            record(alloc, asked, name, shelf, input, out, notes)
         }
         Request::Run { options, file } => run(alloc, options, file, shelf, input, out, notes),
         Request::Debug { file } => debug(alloc, file, shelf, input, out),

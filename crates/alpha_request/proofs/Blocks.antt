@@ -6,9 +6,10 @@ use Rattle.clap.specs.Walk.{Row, Text}
 use Rattle.clap.specs.Words.{first_of}
 use Rattle.alpha_request.specs.declared.name.Name.{Name}
 use Rattle.alpha_request.specs.declared.name.Name.TheVariants as names
-use Rattle.alpha_request.specs.Command.{Command, check, dis, asm, fix, make_module, link, replay, run, imprecise, debug, trial}
-use Rattle.alpha_request.specs.Options.{options_in, choices_in, force_in, number_of}
+use Rattle.alpha_request.specs.Command.{Command, check, dis, asm, fix, make_module, link, replay, record_run, run, imprecise, debug, trial}
+use Rattle.alpha_request.specs.Options.{options_in, choices_in, force_in, number_of, bounds_in}
 use Rattle.alpha_request.specs.Commands.Link.{entry_in, files_in}
+use Rattle.alpha_request.specs.Commands.Record.{record_in}
 use Rattle.alpha_request.specs.Commands.Run.{has_choices, imprecise_in, is_imprecise, plain_in}
 use Rattle.alpha_request.specs.Commands.Trial.{blocks_in, blocks_of, within_blocks}
 use Rattle.alpha_request.specs.Asked.{app_of_name, asked, asked_as, command_in, matches_on, name_of}
@@ -36,6 +37,14 @@ imprecise_not rows n =
     then_not _ n
     (λ options. then_not _ n (λ choices. map_not (imprecise options choices (force_in rows)) n (λ file e. cc) (first_of (codes "file") rows)) (choices_in rows))
     (options_in rows)
+
+record_not : (rows : List Row) (n : ℕ) → record_in rows ≡ Some (trial n) → ⊥
+record_not rows n =
+    then_not _ n
+    (λ options. then_not _ n
+    (λ choices. then_not _ n (λ file. map_not (record_run options choices (force_in rows) file) n (λ out e. cc) (first_of (codes "out") rows)) (first_of (codes "file") rows))
+    (choices_in rows))
+    (bounds_in false rows)
 
 run_not : (late chosen : Bool) (rows : List Row) (n : ℕ) → (if late then imprecise_in rows else if chosen then None else plain_in rows) ≡ Some (trial n) → ⊥
 run_not true chosen rows n e = imprecise_not rows n e
@@ -80,6 +89,7 @@ in_command names.Link rows n e =
     absurd (then_not _ n (λ out. map_not (link (entry_in rows) out) n (λ files e. cc) (files_in rows)) (first_of (codes "out") rows) e)
 in_command names.Replay rows n e =
     absurd (then_not _ n (λ file. map_not (replay file) n (λ journal e. cc) (first_of (codes "journal") rows)) (first_of (codes "file") rows) e)
+in_command names.Record rows n e = absurd (record_not rows n e)
 in_command names.Run rows n e = absurd (run_not (is_imprecise rows) (has_choices rows) rows n e)
 in_command names.Debug rows n e = absurd (map_not debug n (λ file e. cc) (first_of (codes "file") rows) e)
 in_command names.Trial rows n e = of_text (first_of (codes "blocks") rows) n (trial_in (blocks_in rows) n e)

@@ -30,6 +30,7 @@ simple_and_free names.Fix = refl
 simple_and_free names.Module = refl
 simple_and_free names.Link = refl
 simple_and_free names.Replay = refl
+simple_and_free names.Record = refl
 simple_and_free names.Run = refl
 simple_and_free names.Debug = refl
 simple_and_free names.Trial = refl

@@ -22,6 +22,7 @@ name_of word =
     else if bytes_eq word (codes "module") then Some names.Module
     else if bytes_eq word (codes "link") then Some names.Link
     else if bytes_eq word (codes "replay") then Some names.Replay
+    else if bytes_eq word (codes "record") then Some names.Record
     else if bytes_eq word (codes "run") then Some names.Run
     else if bytes_eq word (codes "debug") then Some names.Debug
     else if bytes_eq word (codes "trial") then Some names.Trial else None

@@ -9,6 +9,7 @@ use Rattle.alpha_request.specs.Commands.Fix as fix
 use Rattle.alpha_request.specs.Commands.Module as modules
 use Rattle.alpha_request.specs.Commands.Link as links
 use Rattle.alpha_request.specs.Commands.Replay as replays
+use Rattle.alpha_request.specs.Commands.Record as recordings
 use Rattle.alpha_request.specs.Commands.Run as run
 use Rattle.alpha_request.specs.Commands.Debug as debug
 use Rattle.alpha_request.specs.Commands.Trial as trial
@@ -19,6 +20,7 @@ pub mod Dis
 pub mod Fix
 pub mod Link
 pub mod Module
+pub mod Record
 pub mod Replay
 pub mod Run
 pub mod Trial
@@ -31,6 +33,7 @@ spoken names.Fix = fix.spoken
 spoken names.Module = modules.spoken
 spoken names.Link = links.spoken
 spoken names.Replay = replays.spoken
+spoken names.Record = recordings.spoken
 spoken names.Run = run.spoken
 spoken names.Debug = debug.spoken
 spoken names.Trial = trial.spoken

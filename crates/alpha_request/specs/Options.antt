@@ -57,12 +57,15 @@ steps_in rows = or_default 100000000 number_of (first_of (codes "steps") rows)
 abbrev pub watch_in : List Row → Bool
 watch_in rows = is_given (first_of (codes "watch") rows)
 
--- the options that matches make
-abbrev pub options_in : List Row → Option RunOptions
-options_in rows =
+-- the options that matches make, where barriers are noted or not
+abbrev pub bounds_in : Bool → List Row → Option RunOptions
+bounds_in watch rows =
     option_and_then
-    (λ complete. option_map (λ steps. record { complete = complete; steps = steps; watch = watch_in rows }) (steps_in rows))
+    (λ complete. option_map (λ steps. record { complete = complete; steps = steps; watch = watch }) (steps_in rows))
     (complete_in rows)
+
+abbrev pub options_in : List Row → Option RunOptions
+options_in rows = bounds_in (watch_in rows) rows
 
 -- ---- the choices of the imprecise machine
 

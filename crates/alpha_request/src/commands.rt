@@ -13,6 +13,7 @@ mod dis;
 mod fix;
 mod link;
 mod module;
+mod record;
 mod replay;
 mod run;
 mod trial;
@@ -34,6 +35,7 @@ pub(crate) fn command_for<'a>(alloc: Global, name: Name) -> Result<Command<'a>, 
         Name::Module => module::command(alloc),
         Name::Link => link::command(alloc),
         Name::Replay => replay::command(alloc),
+        Name::Record => record::command(alloc),
         Name::Run => run::command(alloc),
         Name::Debug => debug::command(alloc),
         Name::Trial => trial::command(alloc),
@@ -56,6 +58,7 @@ pub(crate) fn request_in<'a>(
         Name::Module => module::request(matches),
         Name::Link => link::request(alloc, matches),
         Name::Replay => replay::request(matches),
+        Name::Record => record::request(matches),
         Name::Run => run::request(matches),
         Name::Debug => debug::request(matches),
         Name::Trial => trial::request(matches),

@@ -18,6 +18,8 @@ pub(crate) enum Name {
     Link,
     /// `replay`
     Replay,
+    /// `record`
+    Record,
     /// `run`
     Run,
     /// `debug`
@@ -38,6 +40,7 @@ pub(crate) fn name_of(word: &str) -> Option<Name>
         "module" => Some(Name::Module),
         "link" => Some(Name::Link),
         "replay" => Some(Name::Replay),
+        "record" => Some(Name::Record),
         "run" => Some(Name::Run),
         "debug" => Some(Name::Debug),
         "trial" => Some(Name::Trial),

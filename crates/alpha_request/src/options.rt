@@ -4,7 +4,7 @@ ghost use Rattle.std.specs.Prelude.{◌≡◌, option_map, IfOk};
 ghost use Rattle.std.specs.List.{list_all};
 ghost use Rattle.std.specs.Char.{is_ascii_digit};
 ghost use Rattle.clap.specs.Words.{app_of, found_of, rows_of};
-ghost use Rattle.alpha_request.specs.Options.{choices_in, complete_in, completion_of, drawn_from, force_in, is_digits, number_of, options_in, seed, steps_in, watch_in, with_bounds, with_choices};
+ghost use Rattle.alpha_request.specs.Options.{bounds_in, choices_in, complete_in, completion_of, drawn_from, force_in, is_digits, number_of, options_in, seed, steps_in, watch_in, with_bounds, with_choices};
 
 use crate::args::{flag, option, with_arg};
 use crate::matches::{is_given, text};
@@ -67,11 +67,18 @@ pub(crate) fn with_choices<'a>(
 pub(crate) fn options_in(matches: &ArgMatches<'_>) -> Option<RunOptions>
     ensures { result ≡ options_in (rows_of (found_of matches.now)) }
 {
+    bounds_in(matches, watch_in(matches))
+}
+
+/// The options that matches make where barriers are noted, or are not.
+pub(crate) fn bounds_in(matches: &ArgMatches<'_>, watch: bool) -> Option<RunOptions>
+    ensures { result ≡ bounds_in watch (rows_of (found_of matches.now)) }
+{
     match (complete_in(matches), steps_in(matches)) {
         (Some(complete), Some(steps)) => Some(RunOptions {
             complete,
             steps,
-            watch: watch_in(matches),
+            watch,
         }),
         _ => None,
     }

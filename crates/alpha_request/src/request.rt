@@ -58,6 +58,19 @@ pub enum Request<'a> {
         /// The name of the journal.
         journal: &'a str,
     },
+    /// `record FILE OUT`: a run of the image FILE by the imprecise machine, whose journal is kept as OUT.
+    Record {
+        /// How it is run.
+        options: RunOptions,
+        /// Where the machine's choices come from.
+        choices: Choices<'a>,
+        /// `--force`: whether it is run without a verdict.
+        force: bool,
+        /// The name of the image.
+        file: &'a str,
+        /// The name under which the journal is kept.
+        out: &'a str,
+    },
     /// `run FILE`: a run of the image FILE by the sequential machine.
     Run {
         /// How it is run.

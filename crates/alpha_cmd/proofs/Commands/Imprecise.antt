@@ -33,14 +33,14 @@ use Rattle.alpha_cmd.proofs.Commands.Run.{some_shown as some_run}
 
 -- ---- the stages
 
-ChoicesOf-lawful : (told whole : Type 0) (w : World) (choices : Drawn) → (told → IsSome w.files) → (whole → IsSome w.files) → (there : Type 0) → (there → HasChoices choices w)
+pub ChoicesOf-lawful : (told whole : Type 0) (w : World) (choices : Drawn) → (told → IsSome w.files) → (whole → IsSome w.files) → (there : Type 0) → (there → HasChoices choices w)
     → Lawful told whole there (ChoicesOf w.files choices)
 ChoicesOf-lawful told whole w (choices_of.seed n) is_told is_whole there has = Gives-lawful (pcg_word (seeded n))
 ChoicesOf-lawful told whole w (choices_of.file name) is_told is_whole there has =
     Then-lawful {R = Reads w.files name choices_limit} {S = λ bytes. Gives (listed_word bytes)} (Reads-lawful told whole there w.files name choices_limit is_told is_whole has)
     (λ bytes read. Gives-lawful (listed_word bytes))
 
-Passes-lawful : (told whole there : Type 0) (force : Bool) (plan : Plan) → Lawful told whole there (Passes force plan)
+pub Passes-lawful : (told whole there : Type 0) (force : Bool) (plan : Plan) → Lawful told whole there (Passes force plan)
 Passes-lawful told whole there true plan = Gives-lawful plan
 Passes-lawful told whole there false plan =
     Then-lawful {R = Judges plan.image} {S = λ image. Gives plan} (Judges-lawful told whole there plan.image) (λ image judged. Gives-lawful plan)
@@ -57,7 +57,7 @@ some_made options plan =
     let most = run.used.most in
     record { reads = run.inputs; given = most_words n; making = run_making_over g run.inputs k; is = refl; used = run.used; enough = omega arith }
 
-some_shown : (options : RunOptions) (force : Bool) (input : Option (List ℕ)) (plan : Plan) → (s : ShownWild) × MayShowWild options force input plan s
+pub some_shown : (options : RunOptions) (force : Bool) (input : Option (List ℕ)) (plan : Plan) → (s : ShownWild) × MayShowWild options force input plan s
 some_shown options true None plan = let m = some_made options plan in (shown_making options.watch m.making, (m, refl))
 some_shown options false None plan =
     let m = some_made options plan in
@@ -67,12 +67,12 @@ some_shown options force (Some input) plan =
     (run_by force (program_by options plan.image) input plan.ahead options.steps options.watch, refl)
 
 -- a trap is lost only where the verdict is passed over
-may_lose : (options : RunOptions) (force : Bool) (input : Option (List ℕ)) (plan : Plan) (s : ShownWild) → MayShowWild options force input plan s → MayLose force s.lost
+pub may_lose : (options : RunOptions) (force : Bool) (input : Option (List ℕ)) (plan : Plan) (s : ShownWild) → MayShowWild options force input plan s → MayLose force s.lost
 may_lose options true input plan s may = tt
 may_lose options false None plan s may = ap (λ (x : ShownWild). x.lost) may.1.2
 may_lose options false (Some input) plan s is = ap (λ (x : ShownWild). x.lost) is
 
-same_shown : (options : RunOptions) (force : Bool) (input : Option (List ℕ)) (plan : Plan) (s t : ShownWild) → IsSome input → MayShowWild options force input plan s
+pub same_shown : (options : RunOptions) (force : Bool) (input : Option (List ℕ)) (plan : Plan) (s t : ShownWild) → IsSome input → MayShowWild options force input plan s
     → MayShowWild options force input plan t → s ≡ t
 same_shown options force None plan s t told h g = cc
 same_shown options force (Some input) plan s t told h g = h ∙ sym g
@@ -92,7 +92,7 @@ drawn_plain n (ends.Access pc addr) = refl
 drawn_plain n (ends.Align pc addr) = refl
 drawn_plain n (ends.Overflow pc) = refl
 
-wild_plain : (end : Option End) (lost : Option LostTrap) (n : ℕ) → is_fault (wild_status end lost n) ≡ false
+pub wild_plain : (end : Option End) (lost : Option LostTrap) (n : ℕ) → is_fault (wild_status end lost n) ≡ false
 wild_plain (Some end) lost n = drawn_plain n end
 wild_plain None (Some t) n = refl
 wild_plain None None n = refl

@@ -8,6 +8,8 @@ use Rattle.alpha_request.specs.Options.{Drawn}
 use Rattle.alpha_request.specs.Options as choices_of
 use Rattle.alpha_seq.specs.declared.end.End.{End}
 use Rattle.alpha_seq.specs.declared.end.End.TheVariants as ends
+use Rattle.alpha_seq.specs.declared.end.RunEnd.{RunEnd}
+use Rattle.alpha_seq.specs.declared.end.RunEnd.TheVariants as runs
 use Rattle.alpha_seq.specs.Notes.{end_line}
 use Rattle.alpha_seq.specs.State.{Program}
 use Rattle.alpha_seq.specs.Start.{start}
@@ -16,7 +18,7 @@ use Rattle.alpha_imprecise.specs.Run.{HasUsed}
 use Rattle.alpha_imprecise.specs.Made.{Making, begun, first_words, LostTrap, ShownWild, shown_making, imprecise_by}
 use Rattle.alpha_imprecise.specs.Free.{run_making_over}
 use Rattle.alpha_cmd.specs.declared.status.Status.{Status}
-use Rattle.alpha_cmd.specs.declared.status.Status.TheVariants.{Done, Stopped, StepsSpent, Lost}
+use Rattle.alpha_cmd.specs.declared.status.Status.TheVariants.{Done, Stopped, StepsSpent, Lost, InputFault, SinkFault}
 use Rattle.alpha_cmd.specs.Status.{status_line}
 use Rattle.alpha_cmd.specs.Outcome.{Outcome, Either, Never, Then, Gives}
 use Rattle.alpha_cmd.specs.Image.{ImageOf, Judges}
@@ -102,6 +104,21 @@ abbrev pub wild_line : Option End → Option LostTrap → List ℕ
 wild_line (Some end) lost = end_line end
 wild_line None (Some t) = status_line (Lost (record { trap_pc = t.pc; mask = t.mask }))
 wild_line None None = status_line StepsSpent
+
+-- the same by the answer of the run
+abbrev pub answer_status : RunEnd → ℕ → Status
+answer_status (runs.Ended end) n = drawn_status n end
+answer_status runs.Spent n = StepsSpent
+answer_status (runs.Lost pc mask) n = Lost (record { trap_pc = pc; mask = mask })
+answer_status runs.InputFault n = InputFault
+answer_status runs.SinkFault n = SinkFault
+
+abbrev pub answer_line : RunEnd → List ℕ
+answer_line (runs.Ended end) = end_line end
+answer_line runs.Spent = status_line StepsSpent
+answer_line (runs.Lost pc mask) = status_line (Lost (record { trap_pc = pc; mask = mask }))
+answer_line runs.InputFault = status_line InputFault
+answer_line runs.SinkFault = status_line SinkFault
 
 -- ---- the command
 

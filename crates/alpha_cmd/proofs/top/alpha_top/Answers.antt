@@ -12,6 +12,8 @@ use Rattle.alpha_cmd.specs.Answer.{world}
 use Rattle.alpha_cmd.specs.Asks.{Asks}
 use Rattle.alpha_cmd.specs.Commands.{kind_of, EndsBy, MayTake, Spares}
 use Rattle.alpha_cmd.specs.Decision.{answer_in}
+use Rattle.alpha_cmd.proofs.Forms.{is_fault}
+use Rattle.alpha_cmd.proofs.JournalStatus.{no_end}
 use Rattle.alpha_cmd.specs.Tried.{TriedBy}
 use Rattle.alpha_cmd.proofs.Endings.{Leaves-not_sink, whole, part, exact_whole, calm_part}
 use Rattle.alpha_cmd.proofs.Tried.{tried_ended, ended_found}
@@ -221,3 +223,10 @@ returns-in-Ok-clause-replays g c = λ file journal asks e.
 
 pub returns-in-Err-clause-replays : goal.returns-in-Err-clause-replays
 returns-in-Err-clause-replays g c = λ file journal asks e. absurd (let x : SinkFault ≡ Done 0 = e in cc)
+
+pub returns-in-Ok-clause-recorded : goal.returns-in-Ok-clause-recorded
+returns-in-Ok-clause-recorded g c = λ options choices force file out end lost n asks is.
+    ⊎_elim
+    (λ (e : c.deliver.result ≡ SinkFault). absurd (no_end end lost n c.deliver.result is (inr (ap is_fault e))))
+    (λ (e : c.deliver.result ≡ c.in-Ok.decision.status). c.in-Ok.ensures.recorded options choices force file out end lost n asks (sym e ∙ is))
+    c.deliver.ensures.status

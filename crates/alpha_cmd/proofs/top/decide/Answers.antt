@@ -1,9 +1,9 @@
-use Rattle.std.proofs.Common.{◌≡◌, ◌∙◌, Some, refl, ap, inl, inr, ⊎_elim}
+use Rattle.std.proofs.Common.{◌≡◌, ◌∙◌, Some, refl, sym, ap, inl, inr, ⊎_elim}
 use Rattle.alpha_io.specs.Faults.{Rose}
 use Rattle.alpha_io.specs.Shelved.{shelved}
 use Rattle.alpha_io.specs.Sunk.{sunk}
 use Rattle.alpha_io.proofs.Shelved.{KeepsFiles-refl}
-use Rattle.alpha_request.specs.Command.{command_of}
+use Rattle.alpha_request.specs.Command.{command_of, record_run}
 use Rattle.alpha_request.proofs.Blocks.{asked_blocks}
 use Rattle.alpha_cmd.specs.Answer.{world}
 use Rattle.alpha_cmd.specs.Decision.{answer_in}
@@ -67,3 +67,8 @@ returns-in-Err-NoMemory-clause-script g c = λ file asks. tail_same (g.S.Source.
 
 pub perform-requires : goal.perform-requires
 perform-requires g c = record { blocks = λ n is. asked_blocks c.args.words.now n (c.in-Ok.ensures ∙ ap Some is) }
+
+pub returns-in-Ok-clause-recorded : goal.returns-in-Ok-clause-recorded
+returns-in-Ok-clause-recorded g c = λ options choices force file out end lost n asks is.
+    let same : command_of c.in-Ok.request ≡ record_run options choices force file out = (let e = sym c.in-Ok.ensures ∙ asks in cc) in
+    c.perform.ensures.recorded options choices force file out end lost n same is

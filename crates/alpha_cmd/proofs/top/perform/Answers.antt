@@ -103,3 +103,6 @@ returns-in-Trial-clause-tried g c =
     (c.trial.ensures.tried (shelved g.H.Shelf c.args.shelf.now c.args.shelf.now)
     (drawn g.S.Source c.args.input.now c.args.input.now) (g.N.Sink.written c.args.notes.now) (g.N.Sink.faults c.args.notes.now)
     (KeepsFiles-refl (g.H.Shelf.files c.args.shelf.now)))
+
+pub returns-in-Record-clause-files : goal.returns-in-Record-clause-files
+returns-in-Record-clause-files g c = rw c.in-Record.is c.record.ensures.files

@@ -1,0 +1,127 @@
+-- The statuses of `record`, and what becomes of files under them.
+use Rattle.std.proofs.Common.{◌≡◌, ◌≢◌, ◌⊎◌, ◌∙◌, ℕ, ◌%◌, ◌^◌, Bool, true, false, List, Option, None, Some, refl, sym, ap, subst, inl, inr}
+use Rattle.alpha_io.specs.Files.{HasFile}
+use Rattle.alpha_io.specs.Shelved.{Shelved}
+use Rattle.alpha_io.specs.Sunk.{Sunk}
+use Rattle.alpha_request.specs.declared.options.RunOptions.{RunOptions}
+use Rattle.alpha_request.specs.Options as choices
+use Rattle.alpha_seq.specs.declared.end.End.{End}
+use Rattle.alpha_seq.specs.declared.end.End.TheVariants as ended_by
+use Rattle.alpha_imprecise.specs.Made.{LostTrap}
+use Rattle.alpha_replay.specs.Journal.{Parts, spelling}
+use Rattle.alpha_cmd.specs.declared.decision.Decision.{Decision}
+use Rattle.alpha_cmd.specs.declared.status.Status.{Status}
+use Rattle.alpha_cmd.specs.declared.status.Status.TheVariants.{ShelfFault, InputFault, NoMemory, JournalFull}
+use Rattle.alpha_cmd.specs.Answer.{World, Answer}
+use Rattle.alpha_cmd.specs.Form.{MayTakeBy, SparesBy}
+use Rattle.alpha_cmd.specs.Outcome.{stops}
+use Rattle.alpha_cmd.specs.Status.{done, refused, ended, class_of}
+use Rattle.alpha_cmd.specs.Tries.{CutBy}
+use Rattle.alpha_cmd.specs.Commands.Imprecise.{Plan, drawn_status, wild_status}
+use Rattle.alpha_cmd.specs.Commands.Record.{unwatched, Planned, Ends, kind, there, SaysAlone, RunsOn, IsOver, KeptBehind, stands, untaken, lost, spent}
+use Rattle.alpha_cmd.proofs.Commands.Imprecise.{may_lose, wild_plain}
+use Rattle.alpha_cmd.proofs.Commands.Record.{lawful}
+use Rattle.alpha_cmd.proofs.Forms.{is_fault}
+use Rattle.alpha_cmd.proofs.Lawful.{IsRefusal}
+
+-- ---- no other status is that of a run's end
+
+drawn_ends : (n : ℕ) (end : End) → (class_of (drawn_status n end) ≡ done) ⊎ (class_of (drawn_status n end) ≡ ended)
+drawn_ends n (ended_by.Exit v) = inl refl
+drawn_ends n (ended_by.Signal code pc) = inr refl
+drawn_ends n (ended_by.Fetch pc) = inr refl
+drawn_ends n (ended_by.Access pc addr) = inr refl
+drawn_ends n (ended_by.Align pc addr) = inr refl
+drawn_ends n (ended_by.Overflow pc) = inr refl
+
+wild_ends : (end : Option End) (trap : Option LostTrap) (n : ℕ) → (class_of (wild_status end trap n) ≡ done) ⊎ (class_of (wild_status end trap n) ≡ ended)
+wild_ends (Some end) trap n = drawn_ends n end
+wild_ends None (Some t) n = inr refl
+wild_ends None None n = inr refl
+
+-- a refusal, or a shelf's fault
+not_class : (s : Status) → (class_of s ≡ done) ⊎ (class_of s ≡ ended) → (class_of s ≡ refused) ⊎ (is_fault s ≡ true) → is_fault s ≡ false → ⊥
+not_class s (inl h) (inl g) calm = let e : done ≡ refused = sym h ∙ g in cc
+not_class s (inr h) (inl g) calm = let e : ended ≡ refused = sym h ∙ g in cc
+not_class s h (inr g) calm = let e : true ≡ false = sym g ∙ calm in cc
+
+pub no_end : (end : Option End) (trap : Option LostTrap) (n : ℕ) (s : Status) → s ≡ wild_status end trap n → (class_of s ≡ refused) ⊎ (is_fault s ≡ true) → ⊥
+no_end end trap n s e h =
+    not_class s (subst (λ (x : Status). (class_of x ≡ done) ⊎ (class_of x ≡ ended)) (sym e) (wild_ends end trap n)) h (ap is_fault e ∙ wild_plain end trap n)
+
+drawn_not_full : (n : ℕ) (end : End) → drawn_status n end ≢ JournalFull
+drawn_not_full n (ended_by.Exit v) e = cc
+drawn_not_full n (ended_by.Signal code pc) e = cc
+drawn_not_full n (ended_by.Fetch pc) e = cc
+drawn_not_full n (ended_by.Access pc addr) e = cc
+drawn_not_full n (ended_by.Align pc addr) e = cc
+drawn_not_full n (ended_by.Overflow pc) e = cc
+
+not_full : (end : Option End) (trap : Option LostTrap) (n : ℕ) → wild_status end trap n ≢ JournalFull
+not_full (Some end) trap n e = drawn_not_full n end e
+not_full None (Some t) n e = cc
+not_full None None n e = cc
+
+-- a run that wasn't made
+pub over_no_end : (end : Option End) (trap : Option LostTrap) (n : ℕ) (s : Status) → s ≡ wild_status end trap n → IsOver s → ⊥
+over_no_end end trap n s e (inl h) = not_full end trap n (sym e ∙ h)
+over_no_end end trap n s e (inr (inl h)) = no_end end trap n s e (inr (ap is_fault h))
+over_no_end end trap n s e (inr (inr (inl h))) = no_end end trap n s e (inr (ap is_fault h))
+over_no_end end trap n s e (inr (inr (inr h))) = no_end end trap n s e (inr (ap is_fault h))
+
+-- one that wasn't begun
+pub stopped_no_end : (options : RunOptions) (drawn : choices.Drawn) (force : Bool) (file out : List ℕ) (w : World) (shelf : Type 0) (end : Option End) (trap : Option LostTrap) (n : ℕ) (s : Status) (line : List ℕ)
+    → s ≡ wild_status end trap n → Planned drawn force file w.files (stops s line) ⊎ CutBy shelf s → ⊥
+stopped_no_end options drawn force file out w shelf end trap n s line e (inl h) =
+    no_end end trap n s e (refusal ((lawful options drawn force file out w).stages.plain s line (inl h)))
+  where
+    refusal : IsRefusal (there options drawn force file out w) s → (class_of s ≡ refused) ⊎ (is_fault s ≡ true)
+    refusal (inl r) = inl r
+    refusal (inr r) = inr (ap is_fault r.0)
+stopped_no_end options drawn force file out w shelf end trap n s line e (inr (inl h)) = no_end end trap n s e (inr (ap is_fault h))
+stopped_no_end options drawn force file out w shelf end trap n s line e (inr (inr h)) = no_end end trap n s e (inr (ap is_fault h.0))
+
+-- ---- input and files
+
+pub over_takes : (force : Bool) (out : List ℕ) (s : Status) → IsOver s → MayTakeBy (kind force out) s
+over_takes force out s (inl h) = (refl, inl (inr (inl h)))
+over_takes force out s (inr (inl h)) = (refl, inr (inl h))
+over_takes force out s (inr (inr (inl h))) = (refl, inr (inr (inl h)))
+over_takes force out s (inr (inr (inr h))) = (refl, inr (inr (inr (refl, inr h))))
+
+module _ (options : RunOptions) (force : Bool) (out : List ℕ) (input : Option (List ℕ)) (plan : Plan) (p : Parts) (d r : Decision) (left : Option (List ℕ)) (o n : Sunk)
+    (run : RunsOn options force input plan p d left o n) (refuses shelf : Type 0) (s : Shelved) where
+  end_is : d.status ≡ wild_status run.shown.end run.shown.lost (run.shown.drawn % 2 ^ 64)
+  end_is = ap (λ (a : Answer). a.status) run.says
+
+  run_ends : r ≡ d → Ends force r.status
+  run_ends e =
+      inl (run.shown.end, (run.shown.lost, (run.shown.drawn % 2 ^ 64, may_lose (unwatched options) force input plan run.shown run.may, ap (λ (x : Decision). x.status) e ∙ end_is)))
+
+  alone : (status : Status) → SaysAlone status r → r.status ≡ status
+  alone status says = ap (λ (a : Answer). a.status) (says None)
+
+  pub kept_takes : KeptBehind refuses shelf out (spelling p) s d r → MayTakeBy (kind force out) r.status
+  kept_takes (stands fits e files) = (refl, inl (run_ends e))
+  kept_takes (untaken u says files) = (refl, inr (inr (inr (refl, inl (alone ShelfFault says)))))
+  kept_takes (lost c says files) = (refl, inr (inr (inr (refl, inl (alone ShelfFault says)))))
+  kept_takes (spent says files) = (refl, inr (inr (inr (refl, inr (alone NoMemory says)))))
+
+  pub kept_spares : KeptBehind refuses shelf out (spelling p) s d r → SparesBy (kind force out) r.status s.old s.new
+  kept_spares (stands fits e files) = inr (out, (refl, inl (run_ends e)), files.1)
+  kept_spares (untaken u says files) = inl files
+  kept_spares (lost c says files) = inr (out, (refl, inr (inl (alone ShelfFault says))), files)
+  kept_spares (spent says files) = inl files
+
+  pub kept_keeps : (end : Option End) (trap : Option LostTrap) (k : ℕ) → r.status ≡ wild_status end trap k → KeptBehind refuses shelf out (spelling p) s d r → HasFile s.new out (spelling p)
+  kept_keeps end trap k is (stands fits e files) = files.0
+  kept_keeps end trap k is (untaken u says files) = absurd (no_end end trap k r.status is (inr (ap is_fault (alone ShelfFault says))))
+  kept_keeps end trap k is (lost c says files) = absurd (no_end end trap k r.status is (inr (ap is_fault (alone ShelfFault says))))
+  kept_keeps end trap k is (spent says files) = absurd (no_end end trap k r.status is (inr (ap is_fault (alone NoMemory says))))
+
+  -- the decision of a run is no shelf's fault
+  pub decision_not_shelf : d.status ≢ ShelfFault
+  decision_not_shelf e = no_end run.shown.end run.shown.lost (run.shown.drawn % 2 ^ 64) d.status end_is (inr (ap is_fault e))
+
+  pub decision_not_input : d.status ≢ InputFault
+  decision_not_input e = no_end run.shown.end run.shown.lost (run.shown.drawn % 2 ^ 64) d.status end_is (inr (ap is_fault e))

@@ -1,0 +1,176 @@
+-- `record FILE OUT`: the run of `run --imprecise FILE`, whose journal is kept as OUT.
+use Rattle.std.specs.Prelude.{◌≡◌, ◌⊎◌, ⊤, ℕ, ◌≤◌, ◌%◌, ◌^◌, Bool, false, true, List, [], length, Option, Some, None, option_map, IfSome, Result}
+use Rattle.alpha_io.specs.declared.Failed.{Failed}
+use Rattle.alpha_io.specs.Files.{Files, HasFile}
+use Rattle.alpha_io.specs.Shelved.{Shelved}
+use Rattle.alpha_io.specs.Sunk.{Sunk, Puts}
+use Rattle.alpha_request.specs.declared.options.RunOptions.{RunOptions}
+use Rattle.alpha_request.specs.Command.{Command, record_run}
+use Rattle.alpha_request.specs.Options.{Drawn}
+use Rattle.alpha_seq.specs.declared.end.End.{End}
+use Rattle.alpha_seq.specs.Run.{notes_of}
+use Rattle.alpha_seq.specs.Start.{start}
+use Rattle.alpha_imprecise.specs.Made.{Making, begun, first_words, LostTrap, ShownWild}
+use Rattle.alpha_imprecise.specs.Free.{run_making_over}
+use Rattle.alpha_replay.specs.Journal.{Parts, IsJournal, spelling}
+use Rattle.alpha_replay.specs.JournalEnd.{IsRecorded, IsPast}
+use Rattle.alpha_cmd.specs.declared.decision.Decision.{Decision}
+use Rattle.alpha_cmd.specs.declared.record.Recorded.{Recorded}
+use Rattle.alpha_cmd.specs.declared.record.Recorded.TheVariants as ends
+use Rattle.alpha_cmd.specs.declared.status.Status.{Status}
+use Rattle.alpha_cmd.specs.declared.status.Status.TheVariants.{ShelfFault, InputFault, SinkFault, NoMemory, JournalFull}
+use Rattle.alpha_cmd.specs.Answer.{World, Answer, said}
+use Rattle.alpha_cmd.specs.Commands.Imprecise.{Plan, PlanOf, Passes, MayShowWild, wild_status, wild_line, answer_wild, HasChoices}
+use Rattle.alpha_cmd.specs.Commands.Imprecise as wilds
+use Rattle.alpha_cmd.specs.Commands.Run.{program_by}
+use Rattle.alpha_cmd.specs.Decision.{answer_in}
+use Rattle.alpha_cmd.specs.Form.{Form, Kind, IsThere, needs_files_and_input, records}
+use Rattle.alpha_cmd.specs.Keeping.{Untaken}
+use Rattle.alpha_cmd.specs.Kept.{nothing, spoilt, HasKept}
+use Rattle.alpha_cmd.specs.Kept as kinds
+use Rattle.alpha_cmd.specs.Outcome.{Outcome, goes, Either, Never, Then}
+use Rattle.alpha_cmd.specs.Status.{status_line}
+
+-- barriers are not noted
+abbrev pub unwatched : RunOptions → RunOptions
+unwatched options = record options { watch = false }
+
+-- ---- the run
+
+-- The journal that a plan's run has: over an input that is told, that of the place where the run by the plan's words stops.
+-- Over another nothing is said of it.
+abbrev pub HasJournal : RunOptions → Option (List ℕ) → Plan → Parts → Type 0
+HasJournal options None plan p = ⊤
+HasJournal options (Some input) plan p = IsRecorded options.steps (program_by options plan.image) input plan.ahead p
+
+-- A moment of a run from the start over some inputs, one a step, by the words of a plan, that has used no more units than were
+-- asked for.
+pub record MomentByReads (options : RunOptions) (plan : Plan) (making : Making) : Type 0 where
+  pub reads : List (List ℕ)
+  pub given : ℕ
+  pub is : run_making_over (program_by options plan.image) reads
+      (begun (start (program_by options plan.image) []) None 0 (first_words given plan.ahead)) ≡ making
+  pub most : making.run.units ≤ options.steps
+  pub enough : making.count ≤ given
+
+-- The run was stopped there: over an input that is told, directly behind its first step past a limit of a journal.
+abbrev pub IsStopped : RunOptions → Option (List ℕ) → Plan → Making → Type 0
+IsStopped options None plan k = MomentByReads options plan k
+IsStopped options (Some input) plan k = IsPast options.steps (program_by options plan.image) input plan.ahead k
+
+-- ---- the keep
+
+-- the answer of a run, and what is answered by the keep of these bytes behind it
+abbrev pub KeepsBehind : World → List ℕ → List ℕ → Answer → Answer → Type 0
+KeepsBehind w out bytes a b =
+    (¬ Untaken w out bytes × (b ≡ record a { kept = kinds.file out bytes }))
+    ⊎ (Untaken w out bytes × (b ≡ record a { status = ShelfFault; line = status_line ShelfFault }))
+
+-- ---- the stage
+
+-- the run has a journal, which is kept
+pub record IsKeptRun (options : RunOptions) (force : Bool) (out : List ℕ) (w : World) (plan : Plan) (a : Answer) : Type 0 where
+  pub shown : ShownWild
+  pub may : MayShowWild (unwatched options) force w.input plan shown
+  pub journal : Parts
+  pub has : HasJournal options w.input plan journal
+  pub keeps : KeepsBehind w out (spelling journal) (answer_wild w.input shown) a
+
+-- what a run that was stopped has put and noted
+abbrev pub full_answer : Option (List ℕ) → Making → Answer
+full_answer input k = record {
+  status = JournalFull;
+  output = k.run.state.outside.output;
+  trace = notes_of false k.run.trace;
+  line = status_line JournalFull;
+  left = option_map (λ bytes. k.run.state.outside.input) input;
+  kept = nothing;
+}
+
+-- or it is stopped
+pub record IsFullRun (options : RunOptions) (w : World) (plan : Plan) (a : Answer) : Type 0 where
+  pub making : Making
+  pub stopped : IsStopped options w.input plan making
+  pub is : a ≡ full_answer w.input making
+
+abbrev pub Records : RunOptions → Bool → List ℕ → World → Plan → Outcome Answer → Type 0
+Records options force out w plan = Either (λ a. IsKeptRun options force out w plan a ⊎ IsFullRun options w plan a) Never
+
+-- ---- the command
+
+-- an image, and the words by which it is run, where the verdict lets it through or is passed over
+abbrev pub Planned : Drawn → Bool → List ℕ → Files → Outcome Plan → Type 0
+Planned choices force file files = Then (PlanOf files file choices) (Passes force)
+
+abbrev pub steps : RunOptions → Drawn → Bool → List ℕ → List ℕ → World → Outcome Answer → Type 0
+steps options choices force file out w = Then (Planned choices force file w.files) (Records options force out w)
+
+-- the statuses of a run's end, of one that was stopped, and of a shelf that doesn't take the journal
+abbrev pub Ends : Bool → Status → Type 0
+Ends force status = wilds.Ends force status ⊎ ((status ≡ JournalFull) ⊎ (status ≡ ShelfFault))
+
+abbrev pub kind : Bool → List ℕ → Kind
+kind force out = records (Ends force) out
+
+abbrev pub form : RunOptions → Drawn → Bool → List ℕ → List ℕ → Form
+form options choices force file out =
+    record { steps = steps options choices force file out; needs = needs_files_and_input; kind = kind force out }
+
+-- the files that are read are there, and the journal is taken
+abbrev pub there : RunOptions → Drawn → Bool → List ℕ → List ℕ → World → Type 0
+there options choices force file out w =
+    IsThere file w × HasChoices choices w
+    × ((plan : Plan) (p : Parts) → Planned choices force file w.files (goes plan) → HasJournal options w.input plan p
+    → w.takes out (length (spelling p)) ≡ true)
+
+-- what is kept of a call: the spelling of a good journal, which is that of the run
+abbrev pub KeepsRun : RunOptions → Drawn → Bool → List ℕ → List ℕ → World → Files → Type 0
+KeepsRun options choices force file out w new =
+    (plan : Plan) × Planned choices force file w.files (goes plan)
+    × ((p : Parts) × IsJournal p × HasJournal options w.input plan p × HasFile new out (spelling p))
+
+-- That is so of each call that asks for it, under the status of a run's end.
+abbrev pub KeepsUnder : (Command → Type 0) → Status → World → Files → Type 0
+KeepsUnder IsAsked status w new = (options : RunOptions) (choices : Drawn) (force : Bool) (file out : List ℕ)
+    (end : Option End) (lost : Option LostTrap) (n : ℕ)
+    → IsAsked (record_run options choices force file out) → status ≡ wild_status end lost n
+    → KeepsRun options choices force file out w new
+
+-- ---- what the code does
+
+-- a decision that says a status by its line alone
+abbrev pub SaysAlone : Status → Decision → Type 0
+SaysAlone status d = (left : Option (List ℕ)) → answer_in left d ≡ said left status (status_line status)
+
+-- What a run did that was made: what it shows was written, but for the line of its end, which the decision has; and this is its
+-- journal.
+pub record RunsOn (options : RunOptions) (force : Bool) (input : Option (List ℕ)) (plan : Plan) (p : Parts) (d : Decision)
+    (left : Option (List ℕ)) (out notes : Sunk) : Type 0 where
+  pub shown : ShownWild
+  pub may : MayShowWild (unwatched options) force input plan shown
+  pub has : HasJournal options input plan p
+  pub says : answer_in left d ≡ said left (wild_status shown.end shown.lost (shown.drawn % 2 ^ 64)) (wild_line shown.end shown.lost)
+  pub put : Puts out shown.output
+  pub noted : Puts notes shown.notes
+  pub left_is : IfSome (option_map (λ bytes. shown.left) input) (λ rest. left ≡ Some rest)
+
+-- by whether a run was made
+abbrev pub WhenMade : Recorded → (Decision → Parts → Type 0) → Type 0
+WhenMade (ends.Made d journal) P = P d journal
+WhenMade (ends.Over r) P = ⊤
+
+abbrev pub WhenOver : Recorded → (Result Decision Failed → Type 0) → Type 0
+WhenOver (ends.Made d journal) P = ⊤
+WhenOver (ends.Over r) P = P r
+
+-- the status of a run that wasn't
+abbrev pub IsOver : Status → Type 0
+IsOver status = (status ≡ JournalFull) ⊎ ((status ≡ InputFault) ⊎ ((status ≡ SinkFault) ⊎ (status ≡ NoMemory)))
+
+-- What becomes of a decision by the keep of these bytes behind it: it stands; the shelf refuses them; the shelf failed; or
+-- memory ran out before. The first two facts are that told files refuse them, and that the shelf failed.
+pub data KeptBehind (refuses shelf : Type 0) (out bytes : List ℕ) (s : Shelved) (d r : Decision) : Type 0 where
+  stands : (refuses → ⊥) → r ≡ d → HasKept (kinds.file out bytes) s → KeptBehind refuses shelf out bytes s d r
+  untaken : refuses → SaysAlone ShelfFault r → HasKept nothing s → KeptBehind refuses shelf out bytes s d r
+  lost : shelf → SaysAlone ShelfFault r → HasKept (spoilt out) s → KeptBehind refuses shelf out bytes s d r
+  spent : SaysAlone NoMemory r → HasKept nothing s → KeptBehind refuses shelf out bytes s d r
