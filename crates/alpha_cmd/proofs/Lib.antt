@@ -10,6 +10,7 @@ pub mod JournalStatus
 pub mod Keeping
 pub mod KeptLinks
 pub mod KeptModules
+pub mod KeptReplay
 pub mod Lawful
 pub mod Listed
 pub mod ModuleWords

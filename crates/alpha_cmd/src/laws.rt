@@ -17,6 +17,8 @@ ghost use Rattle.alpha_cmd.specs.Commands.Dis as listings;
 ghost use Rattle.alpha_cmd.specs.Commands.Imprecise as wilds;
 ghost use Rattle.alpha_cmd.specs.Commands.Link.{HasAccepted};
 ghost use Rattle.alpha_cmd.specs.Commands.Module.{KeepsModule};
+ghost use Rattle.alpha_cmd.specs.Commands.Record.{KeepsRun};
+ghost use Rattle.alpha_cmd.specs.Commands.Replay as replays;
 ghost use Rattle.alpha_cmd.specs.Commands.Run as runs;
 ghost use Rattle.alpha_cmd.specs.Tried.{AreTold, IsAnswer};
 
@@ -74,4 +76,14 @@ pub fn laws_of_accepted_files()
 /// `KeepsLink` says it of the files that the clause `links` of [`alpha_top`](crate::alpha_top) speaks of.
 pub fn laws_of_kept_modules()
     ensures { (file out : List ℕ) (old new : Files) → KeepsModule file out old new → HasAccepted new out }
+{}
+
+/// The law of records: where a call of `record` has kept the journal of a run over a told input, and the
+/// image's file still spells that image, a replay of the journal on it is done. It is never refused.
+pub fn laws_of_records()
+    ensures { (options : RunOptions) (choices : Drawn) (force : Bool) (file out : List ℕ)
+        (w v : World) (a : Answer) → IsSome w.input → IsSome v.files
+        → KeepsRun options choices force file out w v.files
+        → ((image : Parts) → ImageOf w.files file (goes image) → ImageOf v.files file (goes image))
+        → AnswerBy (replays.steps file out) v a → a.status ≡ Done 0 }
 {}

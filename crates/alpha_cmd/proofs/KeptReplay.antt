@@ -1,0 +1,104 @@
+-- A journal that was kept is replayed.
+use Rattle.std.proofs.Common.{◌≡◌, ◌≤◌, ◌*◌, ◌∙◌, ◌++◌, ℕ, Bool, true, false, List, [], ◌∷◌, length, Option, Some, None, Ok, IsSome, refl, sym, ap, subst, arith}
+use Rattle.std.proofs.lemmas.List.{length-append}
+use Rattle.std.specs.List.{flat_map}
+use Rattle.alpha_image.specs.Parts.{Parts as Image}
+use Rattle.alpha_request.specs.declared.options.RunOptions.{RunOptions}
+use Rattle.alpha_request.specs.Options.{Drawn}
+use Rattle.alpha_seq.specs.State.{Program}
+use Rattle.alpha_seq.specs.Start.{start}
+use Rattle.alpha_imprecise.specs.Made.{begun, first_words, most_words}
+use Rattle.alpha_replay.specs.declared.item.Item.{Item}
+use Rattle.alpha_replay.specs.declared.item.Item.TheVariants.{Units, Trigger, Wait, Report}
+use Rattle.alpha_replay.specs.declared.replaying.Replayed.{Replayed}
+use Rattle.alpha_replay.specs.Items.{item_bytes}
+use Rattle.alpha_replay.specs.Journal.{Parts, IsJournal, numbers, front, spelling}
+use Rattle.alpha_replay.specs.JournalEnd.{IsRecorded}
+use Rattle.alpha_replay.specs.Kept.{closed}
+use Rattle.alpha_replay.specs.Keeping.{Keeping, unkept, IsKept}
+use Rattle.alpha_replay.specs.Listed.{listed}
+use Rattle.alpha_replay.specs.Replay.{reports_of, replayed}
+use Rattle.alpha_replay.proofs.FrontBytes.{length-front}
+use Rattle.alpha_replay.proofs.ItemBytes.{length-item_bytes}
+use Rattle.alpha_replay.proofs.KeptRuns.{played_in, Lists, lists_closed, steps_list}
+use Rattle.alpha_replay.proofs.KeptReplays.{kept_replays}
+use Rattle.alpha_cmd.specs.declared.status.Status.TheVariants.{Done}
+use Rattle.alpha_cmd.specs.Outcome.{goes}
+use Rattle.alpha_cmd.specs.Answer.{World, Answer, AnswerBy}
+use Rattle.alpha_cmd.specs.Image.{ImageOf}
+use Rattle.alpha_cmd.specs.Commands.Imprecise.{Plan, Passes}
+use Rattle.alpha_cmd.specs.Commands.Record.{HasJournal, KeepsRun}
+use Rattle.alpha_cmd.specs.Commands.Replay as replays
+use Rattle.alpha_cmd.specs.Commands.Run.{program_by}
+use Rattle.alpha_cmd.proofs.Commands.Replay.{lawful}
+use Rattle.alpha_cmd.proofs.Forms.{one_answer}
+
+-- ---- a good journal is short enough for a file of a call
+
+item_most : (i : Item) → length (item_bytes i) ≤ 10
+item_most (Units n) = let size = length-item_bytes (Units n) in omega (arith, size)
+item_most (Trigger value) = let size = length-item_bytes (Trigger value) in omega (arith, size)
+item_most (Wait adds value) = let size = length-item_bytes (Wait adds value) in omega (arith, size)
+item_most Report = let size = length-item_bytes Report in omega (arith, size)
+
+items_most : (is : List Item) → length (flat_map item_bytes is) ≤ 10 * length is
+items_most [] = omega arith
+items_most (i ∷ is) =
+    let both = length-append (item_bytes i) (flat_map item_bytes is) in
+    let one = item_most i in
+    let more = items_most is in
+    omega (arith, both, one, more)
+
+short_enough : (p : Parts) → IsJournal p → length (spelling p) ≤ replays.journal_limit
+unfolding spelling
+short_enough p good =
+    let items = flat_map item_bytes p.items in
+    let one = length-append (front (numbers p)) (p.input ++ (p.output ++ items)) in
+    let two = length-append p.input (p.output ++ items) in
+    let three = length-append p.output items in
+    let head = length-front (numbers p) in
+    let most = items_most p.items in
+    let few = good.few_items in
+    let input = good.few_input in
+    let output = good.few_output in
+    omega (arith, one, two, three, head, most, few, input, output)
+
+-- ---- the journal of a run
+
+kept_lists : (n : ℕ) (g : Program) (input words : List ℕ) (k : Keeping) → IsKept n g (unkept (begun (start g input) None 0 words)) k
+    → listed g input (closed k.kept) ≡ Ok (played_in k.making)
+kept_lists n g input words k is =
+    let from = unkept (begun (start g input) None 0 words) in
+    let none : Lists g (played_in from.making) from.kept (played_in from.making) = record { mid = played_in from.making; listed = λ m. refl; ones = refl } in
+    let h = lists_closed g (played_in from.making) _ _ (steps_list n g from is.steps none) 0 in
+    subst (λ (x : Keeping). listed g input (closed x.kept) ≡ Ok (played_in x.making)) is.reached h
+
+recorded_replays : (options : RunOptions) (image : Image) (input : List ℕ) (ahead : ℕ → ℕ) (p : Parts) → IsRecorded options.steps (program_by options image) input ahead p
+    → (r : Replayed) × (replayed image p ≡ Ok r)
+recorded_replays options image input ahead p h =
+    let words = first_words (most_words options.steps) ahead in
+    let g = program_by options image in
+    let r : Replayed = record { units = h.place.making.run.units; reports = reports_of (closed h.place.kept) } in (
+      r,
+      ap (replayed image) h.is ∙ kept_replays options.steps image options.complete input words h.place h.stops h.within (kept_lists options.steps g input words h.place h.stops),
+    )
+
+passed_same : (force : Bool) (q plan : Plan) → Passes force q (goes plan) → plan ≡ q
+passed_same true q plan h = h
+passed_same false q plan h = h.2
+
+told_journal : (options : RunOptions) (input : Option (List ℕ)) (plan : Plan) (p : Parts) → IsSome input → HasJournal options input plan p → (r : Replayed) × (replayed plan.image p ≡ Ok r)
+told_journal options None plan p told has = cc
+told_journal options (Some input) plan p told has = recorded_replays options plan.image input plan.ahead p has
+
+pub kept_replay : (options : RunOptions) (choices : Drawn) (force : Bool) (file out : List ℕ) (w v : World) (a : Answer) → IsSome w.input → IsSome v.files
+    → KeepsRun options choices force file out w v.files → ((image : Image) → ImageOf w.files file (goes image) → ImageOf v.files file (goes image))
+    → AnswerBy (replays.steps file out) v a → a.status ≡ Done 0
+kept_replay options choices force file out w v a told files (plan, (q, found, passes), (p, good, has, there)) stays is =
+    let same : plan.image ≡ found.0 = ap (λ (x : Plan). x.image) (passed_same force q plan passes ∙ found.2.2) in
+    let image : ImageOf v.files file (goes plan.image) = subst (λ (x : Image). ImageOf v.files file (goes x)) (sym same) (stays found.0 found.1) in
+    let run = told_journal options w.input plan p told has in
+    let b : Answer = replays.shown v.input run.0 in
+    let answers : AnswerBy (replays.steps file out) v b =
+    (goes b, (run.0, (plan.image, image, (p, (spelling p, (there, short_enough p good), (good, refl)), run.1)), refl), refl) in
+    ap (λ (x : Answer). x.status) (one_answer (replays.form file out) (replays.there file out) v (lawful file out v) a b files is answers)
