@@ -126,7 +126,7 @@ fn put_quadword(bytes: &mut Vec<u8>, at: usize, n: u64)
 }
 
 /// Writes the quadword of an address, the lowest byte first, behind so many bytes, where eight bytes
-/// stand there. Whether the address has one.
+/// stand there. It answers whether the address fits into one.
 pub fn put_quad(address: i128, at: usize, bytes: &mut Vec<u8>) -> bool
     ensures fits { result ≡ is_some (quadword_of address) }
     ensures bytes { bytes.new.items ≡ option_map_or (λ n. overlaid at n bytes.old.items) (quadword_of address) bytes.old.items }

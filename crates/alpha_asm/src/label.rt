@@ -120,7 +120,7 @@ impl<'a> Labels<'a> {
         Ok(names)
     }
 
-    /// Defines a label that isn't defined. Whether it was.
+    /// Defines a label, unless it was defined before, and answers whether it was.
     pub(crate) fn define(&mut self, name: &'a [u8], spot: Spot) -> Result<bool, AllocError>
         ensures value { IfOk result (λ again. again ≡ is_some (spot_named self.old name.entry.now)) }
         ensures defined { IfOk result (λ again. again ≡ false → (other : List ℕ) → spot_named self.new other

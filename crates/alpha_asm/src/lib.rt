@@ -17,10 +17,10 @@
 //!
 //! `lines.rt` cuts a source into lines; `statement.rt` says what a statement asks, apart from where it
 //! stands; `place.rt` is the place that a line stands at, `fields.rt` the field statements, `label.rt`
-//! the labels, `output.rt` the instructions and data bytes, which `data.rt` keeps without their paddings,
-//! `patch.rt` the addresses that are put in
-//! later, and `pass.rt` the state with the steps that each line takes. The image takes the instructions
-//! and the data bytes as they are: nothing is encoded or decoded.
+//! the labels, `output.rt` the instructions and data bytes, which `data.rt` keeps without their
+//! paddings, `patch.rt` the addresses that are put in later, and `pass.rt` the state with the steps that
+//! each line takes. The image takes the instructions and the data bytes as they are: nothing is encoded
+//! or decoded.
 //!
 //! [`Section`], [`Spot`], [`Use`] and [`Displacement`] are what its definitions speak of, for crates that
 //! cite them, and [`Labels`], [`Patch`] and [`Need`] what [`Unlinked`] has. [`Use::displacement`],

@@ -11,7 +11,7 @@
 //!   devices. [`alpha_sure`] is the same call over devices that never fail.
 //! - [`image_of`] makes the image of a file's bytes.
 //! - [`laws_of_answers`] says that words have one answer where what their command reads is told, and
-//!   some where files are told. [`laws_of_listed_files`] says that what `dis` writes is a source of
+//!   some where files are told and are of bytes. [`laws_of_listed_files`] says that what `dis` writes is a source of
 //!   the image of its file.
 //! - [`laws_of_restarts`] says that accepted images can be restarted, and so that a run of the
 //!   imprecise machine of a file that `check` accepts has the answer of the sequential run, but for

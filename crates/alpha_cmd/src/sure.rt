@@ -29,7 +29,7 @@ pub fn alpha_sure(
     ensures shelf { (command : Command) → Asks words.now command
         → there_of command (sure_world shelf.old input.old) → result ≢ Status.ShelfFault }
 
-    // Files stay, but for the one that an assembly keeps, and so does input but for a run.
+    // Files stay, but for the one that a command keeps, and so does input but for a run or a session.
     ensures files { KeepsFiles (Some (sure_file shelf.old)) (Some (sure_file shelf.new))
         ⊎ ((command : Command) × Asks words.now command
         × Spares command result (Some (sure_file shelf.old)) (Some (sure_file shelf.new))) }

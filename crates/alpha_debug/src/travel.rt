@@ -13,7 +13,7 @@ use alpha_seq::{End, Machine, StepEnd};
 /// Which step is the last one that is wanted.
 #[derive(Clone, Copy, Debug, PartialEq, Eq)]
 pub(crate) enum Until {
-    /// No step is: all are made.
+    /// The last of all that were asked for: none ends the travel before.
     Spent,
     /// One behind which the PC is a breakpoint.
     Breakpoint,

@@ -124,7 +124,7 @@ impl Output {
         }
     }
 
-    // Puts a quadword into the data bytes. Whether the address has one.
+    // Puts the quadword of an address into the data bytes, and answers whether the address fits into one.
     fn put_quad(
         &mut self,
         addresses: &[Option<u64>],

@@ -10,11 +10,11 @@
 //!   could be said of a stop.
 //!
 //! What can be restarted is defined in `alpha_imprecise` (`specs/Restart.antt`), and what its runs show
-//! (`specs/Shown.antt`, and `specs/Free.antt` where each step finds an input of its own); what is accepted in `alpha_shadow` (`specs/Broken.antt`). `docs/restart.md`
-//! explains why the law holds.
+//! (`specs/Shown.antt`, and `specs/Free.antt` where each step finds an input of its own); what is
+//! accepted in `alpha_shadow` (`specs/Broken.antt`). `docs/restart.md` explains why the law holds.
 //!
-//! `specs/Table.antt` has the table, `specs/Needed.antt` what it means that a condition is needed. The others have the invariant of the proof: `Safe.antt` what
-//! acceptance gives, `Match.antt` where registers and bytes of the two machines may differ,
+//! `specs/Table.antt` has the table, `specs/Needed.antt` what it means that a condition is needed. The
+//! others have the invariant of the proof: `Safe.antt` what acceptance gives, `Match.antt` where registers and bytes of the two machines may differ,
 //! `Trigger.antt` and `Shadow.antt` the registers while a trap is pending, `Invariant.antt` how two runs
 //! stand to each other after each step.
 //!
