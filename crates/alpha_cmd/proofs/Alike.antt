@@ -8,7 +8,7 @@ use Rattle.alpha_image.specs.Parts.{Parts, IsImage, spelling}
 use Rattle.alpha_shadow.specs.Broken.{IsAccepted}
 use Rattle.alpha_request.specs.Command.{Command, check, run, imprecise}
 use Rattle.alpha_request.specs.declared.options.RunOptions.{RunOptions}
-use Rattle.alpha_request.specs.Options.{Drawn}
+use Rattle.alpha_request.specs.Options.{Origin}
 use Rattle.alpha_restart.proofs.Agreeing.{accepted_restarts}
 use Rattle.alpha_seq.specs.declared.end.End.{End}
 use Rattle.alpha_seq.specs.declared.end.End.TheVariants as ends
@@ -95,12 +95,12 @@ abbrev IsRead : World → Type 0
 IsRead w = IsSome w.files × IsSome w.input
 
 -- an answer of the imprecise run, which is the sequential one's but for the number
-record Same (options : RunOptions) (choices : Drawn) (force : Bool) (file : List ℕ) (w : World) (a : Answer) : Type 0 where
+record Same (options : RunOptions) (choices : Origin) (force : Bool) (file : List ℕ) (w : World) (a : Answer) : Type 0 where
   answer : Answer
   is : AnswerBy (wilds.steps options choices force file) w answer
   same : undrawn answer ≡ a
 
-same_at : (options : RunOptions) (choices : Drawn) (force : Bool) (file : List ℕ) (w : World) (a : Answer) (input : List ℕ) → w.input ≡ Some input → IsRead w
+same_at : (options : RunOptions) (choices : Origin) (force : Bool) (file : List ℕ) (w : World) (a : Answer) (input : List ℕ) → w.input ≡ Some input → IsRead w
     → HasWords w.files choices → IsGood file w.files → AnswerBy (runs.steps options file) w a → Same options choices force file w a
 same_at options choices force file w a input e told words good is =
     let g : Program = record { image = good.image; how = options.complete } in
@@ -123,14 +123,14 @@ told_input : (o : Option (List ℕ)) → IsSome o → (input : List ℕ) × (o �
 told_input None told = cc
 told_input (Some input) told = (input, refl)
 
-same_answer : (options : RunOptions) (choices : Drawn) (force : Bool) (file : List ℕ) (w : World) (a : Answer) → IsRead w
+same_answer : (options : RunOptions) (choices : Origin) (force : Bool) (file : List ℕ) (w : World) (a : Answer) → IsRead w
     → HasWords w.files choices → IsChecked file w → AnswerBy (runs.steps options file) w a → Same options choices force file w a
 same_answer options choices force file w a told words checked is =
     let input = told_input w.input told.1 in
     same_at options choices force file w a input.0 input.1 told words (checked_good file w checked) is
 
 -- the answers are the same but for the number
-pub alike : (options : RunOptions) (choices : Drawn) (force : Bool) (file : List ℕ) (w : World) (a b : Answer) → IsSome w.files → IsSome w.input
+pub alike : (options : RunOptions) (choices : Origin) (force : Bool) (file : List ℕ) (w : World) (a b : Answer) → IsSome w.files → IsSome w.input
     → HasWords w.files choices → IsChecked file w → AnswerBy (runs.steps options file) w a → AnswerBy (wilds.steps options choices force file) w b → undrawn b ≡ a
 alike options choices force file w a b files input words checked is other =
     let same = same_answer options choices force file w a (files, input) words checked is in
@@ -138,7 +138,7 @@ alike options choices force file w a b files input words checked is other =
 
 -- ---- a call
 
-told_alike : (words : List (List ℕ)) (options : RunOptions) (choices : Drawn) (force : Bool) (file : List ℕ) (w : World)
+told_alike : (words : List (List ℕ)) (options : RunOptions) (choices : Origin) (force : Bool) (file : List ℕ) (w : World)
     → Asks words (imprecise options choices force file) → IsRead w → AreTold words w
 told_alike words options choices force file w asks told = λ command asked.
     let same : imprecise options choices force file ≡ command = (let x = sym asks ∙ asked in cc) in
@@ -156,7 +156,7 @@ answered_undrawn b status left s out notes h = record {
 }
 
 -- the call gives the sequential run's answer, but for the number, if it gives an answer of its words
-pub alike_call : (words : List (List ℕ)) (options : RunOptions) (choices : Drawn) (force : Bool) (file : List ℕ) (w : World) (a : Answer) (status : Status) (left : Option (List ℕ))
+pub alike_call : (words : List (List ℕ)) (options : RunOptions) (choices : Origin) (force : Bool) (file : List ℕ) (w : World) (a : Answer) (status : Status) (left : Option (List ℕ))
     (s : Shelved) (out notes : Sunk) → Asks words (imprecise options choices force file) → IsSome w.files → IsSome w.input
     → HasWords w.files choices → IsChecked file w → AnswerBy (runs.steps options file) w a
     → ((b : Answer) → AreTold words w → IsAnswer words w b → IsAnswered b status left s out notes ⊎ (status ≡ NoMemory))

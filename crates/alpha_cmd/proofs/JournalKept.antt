@@ -30,7 +30,7 @@ overwritten : (w : World) (out bytes : List ℕ) (a b : Answer) (status : Status
 overwritten w out bytes a b status line kept (inl h) = sym (ap (λ (x : Answer). record x { status = status; line = line; kept = kept }) h.1)
 overwritten w out bytes a b status line kept (inr h) = sym (ap (λ (x : Answer). record x { status = status; line = line; kept = kept }) h.1)
 
-module _ (options : RunOptions) (drawn : choices.Drawn) (force : Bool) (file out : List ℕ) (input : Option (List ℕ)) (all : Shelved)
+module _ (options : RunOptions) (drawn : choices.Origin) (force : Bool) (file out : List ℕ) (input : Option (List ℕ)) (all : Shelved)
     (middle : Files) (took : List ℕ → ℕ → Bool) (before : ℕ) (first : KeepsFiles all.old middle) (same : took ≡ all.took) where
   abbrev world_at : World
   world_at = record { files = all.old; takes = all.took; input = input }

@@ -229,7 +229,7 @@ module _ (options : RunOptions) (m : WildState) (ahead : ℕ → ℕ) (how : m.m
 
   -- ---- what the command tries
 
-  module _ (file name : List ℕ) (drawn : choices.Drawn) (force : Bool) (w : World) (shelf input : Type 0) (found : PlanOf w.files file drawn (goes (plan_by m.machine.image ahead)))
+  module _ (file name : List ℕ) (drawn : choices.Origin) (force : Bool) (w : World) (shelf input : Type 0) (found : PlanOf w.files file drawn (goes (plan_by m.machine.image ahead)))
       (passes : Passes force (plan_by m.machine.image ahead) (goes (plan_by m.machine.image ahead))) (s : Shelved) (same : KeepsFiles s.old s.new) where
     -- a run that was stopped, with its line still to be written
     pub stopped_tried : (d : Drawn) (out notes : Sunk) → d.old ≡ w.input → Stopped d.old d.new out notes

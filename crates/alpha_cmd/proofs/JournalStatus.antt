@@ -70,7 +70,7 @@ over_no_end end trap n s e (inr (inr (inl h))) = no_end end trap n s e (inr (ap 
 over_no_end end trap n s e (inr (inr (inr h))) = no_end end trap n s e (inr (ap is_fault h))
 
 -- one that wasn't begun
-pub stopped_no_end : (options : RunOptions) (drawn : choices.Drawn) (force : Bool) (file out : List ℕ) (w : World) (shelf : Type 0) (end : Option End) (trap : Option LostTrap) (n : ℕ) (s : Status) (line : List ℕ)
+pub stopped_no_end : (options : RunOptions) (drawn : choices.Origin) (force : Bool) (file out : List ℕ) (w : World) (shelf : Type 0) (end : Option End) (trap : Option LostTrap) (n : ℕ) (s : Status) (line : List ℕ)
     → s ≡ wild_status end trap n → Planned drawn force file w.files (stops s line) ⊎ CutBy shelf s → ⊥
 stopped_no_end options drawn force file out w shelf end trap n s line e (inl h) =
     no_end end trap n s e (refusal ((lawful options drawn force file out w).stages.plain s line (inl h)))

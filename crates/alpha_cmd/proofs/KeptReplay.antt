@@ -4,7 +4,7 @@ use Rattle.std.proofs.lemmas.List.{length-append}
 use Rattle.std.specs.List.{flat_map}
 use Rattle.alpha_image.specs.Parts.{Parts as Image}
 use Rattle.alpha_request.specs.declared.options.RunOptions.{RunOptions}
-use Rattle.alpha_request.specs.Options.{Drawn}
+use Rattle.alpha_request.specs.Options.{Origin}
 use Rattle.alpha_seq.specs.State.{Program}
 use Rattle.alpha_seq.specs.Start.{start}
 use Rattle.alpha_imprecise.specs.Made.{begun, first_words, most_words}
@@ -91,7 +91,7 @@ told_journal : (options : RunOptions) (input : Option (List ℕ)) (plan : Plan) 
 told_journal options None plan p told has = cc
 told_journal options (Some input) plan p told has = recorded_replays options plan.image input plan.ahead p has
 
-pub kept_replay : (options : RunOptions) (choices : Drawn) (force : Bool) (file out : List ℕ) (w v : World) (a : Answer) → IsSome w.input → IsSome v.files
+pub kept_replay : (options : RunOptions) (choices : Origin) (force : Bool) (file out : List ℕ) (w v : World) (a : Answer) → IsSome w.input → IsSome v.files
     → KeepsRun options choices force file out w v.files → ((image : Image) → ImageOf w.files file (goes image) → ImageOf v.files file (goes image))
     → AnswerBy (replays.steps file out) v a → a.status ≡ Done 0
 kept_replay options choices force file out w v a told files (plan, (q, found, passes), (p, good, has, there)) stays is =

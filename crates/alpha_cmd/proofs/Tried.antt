@@ -5,7 +5,7 @@ use Rattle.alpha_io.specs.Shelved.{Shelved}
 use Rattle.alpha_io.specs.Sunk.{Sunk, Puts}
 use Rattle.alpha_trap.specs.declared.handler.Lost.{Lost}
 use Rattle.alpha_request.specs.Command.{Command, imprecise}
-use Rattle.alpha_request.specs.Options.{Drawn}
+use Rattle.alpha_request.specs.Options.{Origin}
 use Rattle.alpha_request.specs.declared.options.RunOptions.{RunOptions}
 use Rattle.alpha_request.specs.Asked.{asked}
 use Rattle.alpha_cmd.specs.declared.status.Status.{Status}
@@ -145,7 +145,7 @@ tried_ended shelf input words w t (inr (inr h)) is =
     let no = sym is ∙ cut in absurd cc
 
 -- an unforced run of the imprecise machine ends with no lost trap
-pub ended_found : (words : List (List ℕ)) (options : RunOptions) (choices : Drawn) (file : List ℕ) (lost : Lost) → Asks words (imprecise options choices false file)
+pub ended_found : (words : List (List ℕ)) (options : RunOptions) (choices : Origin) (file : List ℕ) (lost : Lost) → Asks words (imprecise options choices false file)
     → (command : Command) × Asks words command × EndsBy command (statuses.Lost lost) → ⊥
 ended_found words options choices file lost asks (command, also, ends) =
     let x = sym asks ∙ also in

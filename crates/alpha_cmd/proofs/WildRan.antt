@@ -58,7 +58,7 @@ pub counted : (before now n d : ℕ) → before ≡ 0 → n ≡ now → n < 2 ^ 
 counted before now n d start is low count = omega (arith, count)
 
 -- the image of a plan is a good one
-pub planned_image : (files : Files) (name : List ℕ) (drawn : choices.Drawn) (image : Parts) (ahead : ℕ → ℕ) → PlanOf files name drawn (goes (plan_by image ahead)) → IsImage image
+pub planned_image : (files : Files) (name : List ℕ) (drawn : choices.Origin) (image : Parts) (ahead : ℕ → ℕ) → PlanOf files name drawn (goes (plan_by image ahead)) → IsImage image
 planned_image files name drawn image ahead found =
     let same : image ≡ found.0 = ap (λ (p : Plan). p.image) found.2.2 in
     subst IsImage (sym same) found.1.2.0
@@ -294,7 +294,7 @@ module _ (options : RunOptions) (m : WildState) (ahead : ℕ → ℕ) (how : m.m
 
   -- ---- what the command tries
 
-  module _ (name : List ℕ) (drawn : choices.Drawn) (force : Bool) (w : World) (shelf input : Type 0) (found : PlanOf w.files name drawn (goes (plan_by m.machine.image ahead)))
+  module _ (name : List ℕ) (drawn : choices.Origin) (force : Bool) (w : World) (shelf input : Type 0) (found : PlanOf w.files name drawn (goes (plan_by m.machine.image ahead)))
       (passes : Passes force (plan_by m.machine.image ahead) (goes (plan_by m.machine.image ahead))) (s : Shelved) (same : KeepsFiles s.old s.new) where
     -- a run that was made, with the status and the line of its end still to be written
     pub made_tried : (answer : RunEnd) (status : Status) (d : Drawn) (out notes : Sunk) → d.old ≡ w.input → Shows force answer status d.old d.new out notes

@@ -1,7 +1,7 @@
 -- What it means that a run of the imprecise machine has the answer of the sequential run.
 use Rattle.std.specs.Prelude.{◌≡◌, ℕ, List}
 use Rattle.alpha_io.specs.Files.{Files}
-use Rattle.alpha_request.specs.Options.{Drawn}
+use Rattle.alpha_request.specs.Options.{Origin}
 use Rattle.alpha_cmd.specs.declared.status.Status.{Status}
 use Rattle.alpha_cmd.specs.declared.status.Status.TheVariants.{Done}
 use Rattle.alpha_cmd.specs.Outcome.{goes}
@@ -25,5 +25,5 @@ pub record IsChecked (file : List ℕ) (w : World) : Type 0 where
   pub done : answer.status ≡ Done 0
 
 -- the choices have words: a file that they name is there, and within its limit
-abbrev pub HasWords : Files → Drawn → Type 0
+abbrev pub HasWords : Files → Origin → Type 0
 HasWords files choices = (ahead : ℕ → ℕ) × ChoicesOf files choices (goes ahead)

@@ -2,7 +2,7 @@
 use Rattle.std.specs.Prelude.{ℕ, ◌*◌, List}
 use Rattle.alpha_words.specs.Digits.{little_at}
 use Rattle.alpha_io.specs.Files.{Files}
-use Rattle.alpha_request.specs.Options.{Drawn, seed, file}
+use Rattle.alpha_request.specs.Options.{Origin, seed, file}
 use Rattle.alpha_imprecise.specs.Pcg.{pcg_word, seeded}
 use Rattle.alpha_cmd.specs.Outcome.{Outcome, Then, Gives}
 use Rattle.alpha_cmd.specs.Image.{Reads}
@@ -16,6 +16,6 @@ abbrev pub choices_limit : ℕ
 choices_limit = 1048576
 
 -- the words of the choices: those of a seed, or those that a named file writes
-abbrev pub ChoicesOf : Files → Drawn → Outcome (ℕ → ℕ) → Type 0
+abbrev pub ChoicesOf : Files → Origin → Outcome (ℕ → ℕ) → Type 0
 ChoicesOf files (seed n) = Gives (pcg_word (seeded n))
 ChoicesOf files (file name) = Then (Reads files name choices_limit) (λ bytes. Gives (listed_word bytes))

@@ -4,7 +4,7 @@ ghost use Rattle.std.specs.Prelude.{◌≢◌, ◌⊎◌, IfOk, IfErr, Some, Non
 ghost use Rattle.alpha_io.specs.Faults.{Rose};
 ghost use Rattle.alpha_io.specs.Shelved.{shelved, OnlyReads};
 ghost use Rattle.alpha_request.specs.Options as choices;
-ghost use Rattle.alpha_request.specs.Options.{drawn_from};
+ghost use Rattle.alpha_request.specs.Options.{origin_of};
 ghost use Rattle.alpha_cmd.specs.Outcome.{goes, stops};
 ghost use Rattle.alpha_cmd.specs.Status.{status_line};
 ghost use Rattle.alpha_cmd.specs.Chooser.{ahead_in};
@@ -50,9 +50,9 @@ pub(crate) fn chooser_of<H: Shelf>(
     shelf: &mut H,
 ) -> Result<Choosing, Status>
     ensures ok { IfOk result (λ c.
-        ChoicesOf (H.files shelf.old) (drawn_from choices.now) (goes (ahead_in c))) }
+        ChoicesOf (H.files shelf.old) (origin_of choices.now) (goes (ahead_in c))) }
     ensures refused { IfErr result (λ status.
-        ChoicesOf (H.files shelf.old) (drawn_from choices.now) (stops status (status_line status))
+        ChoicesOf (H.files shelf.old) (origin_of choices.now) (stops status (status_line status))
         ⊎ CutBy (Rose (H.faults shelf.old) (H.faults shelf.new)) status) }
     ensures shelf { OnlyReads (shelved H.Shelf shelf.old shelf.new)
         (result ≢ Err Status.ShelfFault) }

@@ -7,7 +7,7 @@ ghost use Rattle.alpha_io.specs.Shelved.{Shelved, shelved, OnlyReads};
 ghost use Rattle.alpha_io.specs.Sunk.{sunk};
 ghost use Rattle.alpha_image.specs.Parts.{IsImage};
 ghost use Rattle.alpha_shadow.specs.Broken.{IsAccepted, IsLeastBroken};
-ghost use Rattle.alpha_request.specs.Options.{Drawn, drawn_from};
+ghost use Rattle.alpha_request.specs.Options.{Origin, origin_of};
 ghost use Rattle.alpha_seq.specs.Devices.{drawn};
 ghost use Rattle.alpha_imprecise.specs.Wild.{IsFresh};
 ghost use Rattle.alpha_cmd.specs.Outcome.{goes, stops};
@@ -67,7 +67,7 @@ pub(crate) fn imprecise<H: Shelf, S: Source, K: Sink, N: Sink>(
 ) -> Result<Decision, Failed>
     ensures tried { Decides (TriesBy (Rose (H.faults shelf.old) (H.faults shelf.new))
         (Rose (S.faults input.old) (S.faults input.new))
-        (wilds.form asked.entry.options (drawn_from asked.entry.choices) asked.entry.force
+        (wilds.form asked.entry.options (origin_of asked.entry.choices) asked.entry.force
         asked.entry.file.now)
         (world H.Shelf S.Source shelf.old input.old)) result (S.left input.new)
         (shelved H.Shelf shelf.old shelf.new)
@@ -96,10 +96,10 @@ pub(crate) fn planned<H: Shelf>(
     shelf: &mut H,
 ) -> Result<Plan, Status>
     ensures ok { IfOk result (λ plan.
-        PlanOf (H.files shelf.old) file.now (drawn_from choices.now)
+        PlanOf (H.files shelf.old) file.now (origin_of choices.now)
         (goes (plan_by plan.image (ahead_in plan.chooser)))) }
     ensures refused { IfErr result (λ status.
-        PlanOf (H.files shelf.old) file.now (drawn_from choices.now)
+        PlanOf (H.files shelf.old) file.now (origin_of choices.now)
         (stops status (status_line status))
         ⊎ CutBy (Rose (H.faults shelf.old) (H.faults shelf.new)) status) }
     ensures shelf { OnlyReads (shelved H.Shelf shelf.old shelf.new)
@@ -136,7 +136,7 @@ fn run_plan<S: Source, K: Sink, N: Sink>(
     out: &mut K,
     notes: &mut N,
 ) -> Result<Decision, Failed>
-    ensures tried { (shelf : Shelved) (file : List ℕ) (choices : Drawn) (force : Bool)
+    ensures tried { (shelf : Shelved) (file : List ℕ) (choices : Origin) (force : Bool)
         → PlanOf shelf.old file choices (goes (plan_by plan.image (ahead_in plan.chooser)))
         → (force ≡ false → IsAccepted plan.image.words) → KeepsFiles shelf.old shelf.new
         → Decides (TriesBy (Rose shelf.before shelf.now)
@@ -174,7 +174,7 @@ fn run_wild<S: Source, K: Sink, N: Sink>(
     requires fresh { IsFresh wild.old }
     requires how { wild.old.machine.how ≡ options.complete }
     requires none { chooser.old.drawn ≡ 0 }
-    ensures tried { (shelf : Shelved) (file : List ℕ) (choices : Drawn) (force : Bool)
+    ensures tried { (shelf : Shelved) (file : List ℕ) (choices : Origin) (force : Bool)
         → PlanOf shelf.old file choices
         (goes (plan_by wild.old.machine.image (ahead_in chooser.old.chooser)))
         → (force ≡ false → IsAccepted wild.old.machine.image.words)

@@ -4,7 +4,7 @@ ghost use Rattle.alpha_image.specs.Parts.{Parts, IsImage, spelling};
 ghost use Rattle.alpha_shadow.specs.Broken.{IsAccepted};
 ghost use Rattle.alpha_round.specs.Source.{IsSourceOf};
 ghost use Rattle.alpha_request.specs.Options as choices;
-ghost use Rattle.alpha_request.specs.Options.{Drawn};
+ghost use Rattle.alpha_request.specs.Options.{Origin};
 ghost use Rattle.alpha_request.specs.declared.options.RunOptions.{RunOptions};
 ghost use Rattle.alpha_imprecise.specs.Restart.{IsRestartable};
 ghost use Rattle.alpha_cmd.specs.declared.status.Status.TheVariants.{Done};
@@ -46,7 +46,7 @@ pub fn laws_of_listed_files()
 pub fn laws_of_restarts()
     ensures accepted { (image : Parts) → IsImage image → IsAccepted image.words
         → IsRestartable image }
-    ensures alike { (options : RunOptions) (choices : Drawn) (force : Bool) (file : List ℕ)
+    ensures alike { (options : RunOptions) (choices : Origin) (force : Bool) (file : List ℕ)
         (w : World) (a b : Answer) → IsSome w.files → IsSome w.input
         → HasWords w.files choices → IsChecked file w
         → AnswerBy (runs.steps options file) w a
@@ -81,7 +81,7 @@ pub fn laws_of_kept_modules()
 /// The law of records: where a call of `record` has kept the journal of a run over a told input, and the
 /// image's file still spells that image, a replay of the journal on it is done. It is never refused.
 pub fn laws_of_records()
-    ensures { (options : RunOptions) (choices : Drawn) (force : Bool) (file out : List ℕ)
+    ensures { (options : RunOptions) (choices : Origin) (force : Bool) (file out : List ℕ)
         (w v : World) (a : Answer) → IsSome w.input → IsSome v.files
         → KeepsRun options choices force file out w v.files
         → ((image : Parts) → ImageOf w.files file (goes image) → ImageOf v.files file (goes image))

@@ -8,7 +8,7 @@ ghost use Rattle.alpha_io.specs.Shelved.{Shelved, shelved};
 ghost use Rattle.alpha_io.specs.Sunk.{sunk};
 ghost use Rattle.alpha_image.specs.Parts.{IsImage};
 ghost use Rattle.alpha_shadow.specs.Broken.{IsAccepted};
-ghost use Rattle.alpha_request.specs.Options.{Drawn, drawn_from};
+ghost use Rattle.alpha_request.specs.Options.{Origin, origin_of};
 ghost use Rattle.alpha_seq.specs.Devices.{drawn};
 ghost use Rattle.alpha_seq.specs.declared.end.End.{End};
 ghost use Rattle.alpha_imprecise.specs.Made.{LostTrap};
@@ -61,14 +61,14 @@ pub(crate) fn record<H: Shelf, S: Source, K: Sink, N: Sink>(
 ) -> Result<Decision, Failed>
     ensures tried { Decides (TriesBy (Rose (H.faults shelf.old) (H.faults shelf.new))
         (Rose (S.faults input.old) (S.faults input.new))
-        (recordings.form asked.entry.options (drawn_from asked.entry.choices) asked.entry.force
+        (recordings.form asked.entry.options (origin_of asked.entry.choices) asked.entry.force
         asked.entry.file.now name.now)
         (world H.Shelf S.Source shelf.old input.old)) result (S.left input.new)
         (shelved H.Shelf shelf.old shelf.new)
         (sunk K.Sink out.old out.new) (sunk N.Sink notes.old notes.new) }
     ensures keeps { (end : Option End) (lost : Option LostTrap) (n : ℕ)
         → status_in result ≡ wild_status end lost n
-        → KeepsRun asked.entry.options (drawn_from asked.entry.choices) asked.entry.force
+        → KeepsRun asked.entry.options (origin_of asked.entry.choices) asked.entry.force
         asked.entry.file.now name.now (world H.Shelf S.Source shelf.old input.old)
         (H.files shelf.new) }
     ensures shelf { Serves (shelved H.Shelf shelf.old shelf.new)
@@ -133,7 +133,7 @@ fn run_plan<S: Source, K: Sink, N: Sink>(
         → RunsOn options force (S.left input.old) (plan_by plan.image (ahead_in plan.chooser))
         journal decision (S.left input.new)
         (sunk K.Sink out.old out.new) (sunk N.Sink notes.old notes.new)) }
-    ensures over { WhenOver result (λ r. (shelf : Shelved) (file name : List ℕ) (choices : Drawn)
+    ensures over { WhenOver result (λ r. (shelf : Shelved) (file name : List ℕ) (choices : Origin)
         (force : Bool)
         → PlanOf shelf.old file choices (goes (plan_by plan.image (ahead_in plan.chooser)))
         → (force ≡ false → IsAccepted plan.image.words) → KeepsFiles shelf.old shelf.new
@@ -176,7 +176,7 @@ fn run_wild<S: Source, K: Sink, N: Sink>(
         (plan_by wild.old.machine.image (ahead_in chooser.old.chooser))
         journal decision (S.left input.new)
         (sunk K.Sink out.old out.new) (sunk N.Sink notes.old notes.new)) }
-    ensures over { WhenOver result (λ r. (shelf : Shelved) (file name : List ℕ) (choices : Drawn)
+    ensures over { WhenOver result (λ r. (shelf : Shelved) (file name : List ℕ) (choices : Origin)
         (force : Bool)
         → PlanOf shelf.old file choices
         (goes (plan_by wild.old.machine.image (ahead_in chooser.old.chooser)))

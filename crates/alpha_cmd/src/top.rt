@@ -6,7 +6,7 @@ ghost use Rattle.alpha_io.specs.Sunk.{sunk, IsCalm};
 ghost use Rattle.alpha_image.specs.Parts.{Parts, IsImage, spelling};
 ghost use Rattle.alpha_request.specs.Command as commands;
 ghost use Rattle.alpha_request.specs.Command.{Command, command_of};
-ghost use Rattle.alpha_request.specs.Options.{Drawn};
+ghost use Rattle.alpha_request.specs.Options.{Origin};
 ghost use Rattle.alpha_request.specs.declared.options.RunOptions.{RunOptions};
 ghost use Rattle.alpha_seq.specs.Devices.{drawn};
 ghost use Rattle.alpha_imprecise.specs.Restart.{IsRestartable};
@@ -49,20 +49,23 @@ use std::alloc::Global;
 
 /// Does what the words ask, and answers the status.
 ///
-/// `check FILE` judges the image of the file: `accepted` goes to the output, or the line of the
-/// least broken place to the notes. `dis FILE` writes its listing to the output. `asm FILE OUT`
-/// assembles the source of the file, and keeps its image as OUT. `module FILE OUT` does so with a
-/// module, whose code it judges. `link OUT FILE...` links modules, and keeps their image as OUT.
-/// `fix FILE OUT` keeps the source with
-/// the barriers that it needs as OUT. `replay FILE JOURNAL` replays the journal on the image of FILE: the
-/// numbers of units and of reports go to the output, or why it is no run of it to the notes.
-/// `run FILE` runs an image's
-/// program over the input: what it puts goes to the output, and the lines of the run to the notes.
-/// `run --imprecise FILE` does so by the imprecise machine: an image that `check` refuses is refused,
-/// unless `--force` is given, and an accepted one has what `run FILE` has. `record FILE OUT` does that
-/// too, and keeps the journal of the run as OUT. `debug FILE` answers the
-/// input as a script on the program, and what it answers goes to the output. `trial N` writes a line
-/// for each of its runs there.
+/// - `check FILE` judges the image of the file: `accepted` goes to the output, or the line of the
+///   least broken place to the notes.
+/// - `dis FILE` writes its listing to the output.
+/// - `asm FILE OUT` assembles the source of the file, and keeps its image as OUT.
+/// - `fix FILE OUT` keeps the source with the barriers that it needs as OUT.
+/// - `module FILE OUT` keeps the module of the source as OUT, if its code is accepted.
+/// - `link OUT FILE...` links modules, and keeps their image as OUT.
+/// - `run FILE` runs an image's program over the input: what it puts goes to the output, and the lines
+///   of the run to the notes.
+/// - `run --imprecise FILE` does so by the imprecise machine: an image that `check` refuses is refused,
+///   unless `--force` is given, and an accepted one has what `run FILE` has.
+/// - `record FILE OUT` does that too, and keeps the journal of the run as OUT.
+/// - `replay FILE JOURNAL` replays the journal on the image of FILE: the numbers of units and of reports
+///   go to the output, or why it is no run of it to the notes.
+/// - `debug FILE` answers the input as a script on the program, and what it answers goes to the output.
+/// - `trial N` writes a line for each of its runs there.
+///
 /// Each other status has its line on the notes.
 pub fn alpha_top<H: Shelf, S: Source, K: Sink, N: Sink>(
     alloc: Global,
@@ -90,7 +93,7 @@ pub fn alpha_top<H: Shelf, S: Source, K: Sink, N: Sink>(
         (sunk K.Sink out.old out.new) (sunk N.Sink notes.old notes.new) }
 
     // The shelf fails only under its status, or under that of a sink. Told files stay, but for the
-    // one that an assembly keeps.
+    // one that a command keeps.
     ensures shelf { Serves (shelved H.Shelf shelf.old shelf.new)
         ((result ≢ Status.ShelfFault) × (result ≢ Status.SinkFault)) }
     ensures files { KeepsFiles (H.files shelf.old) (H.files shelf.new)
@@ -109,7 +112,7 @@ pub fn alpha_top<H: Shelf, S: Source, K: Sink, N: Sink>(
     // input tells, unless the verdict is passed over.
     ensures ended { class_of result ≡ ended
         → (command : Command) × Asks words.now command × EndsBy command result }
-    ensures found { (options : RunOptions) (choices : Drawn) (file : List ℕ) (lost : Lost)
+    ensures found { (options : RunOptions) (choices : Origin) (file : List ℕ) (lost : Lost)
         → Asks words.now (commands.imprecise options choices false file)
         → result ≢ Status.Lost lost }
 
@@ -182,7 +185,7 @@ pub fn alpha_top<H: Shelf, S: Source, K: Sink, N: Sink>(
     // A run of the imprecise machine of a file that a check accepts has the answer of the sequential
     // run with the same options, whatever words it draws and whether the verdict is passed over: only
     // the number of words, which the status carries where the program has exited, is its own.
-    ensures alike { (options : RunOptions) (choices : Drawn) (force : Bool) (file : List ℕ)
+    ensures alike { (options : RunOptions) (choices : Origin) (force : Bool) (file : List ℕ)
         (a : Answer) → Asks words.now (commands.imprecise options choices force file)
         → let w = world H.Shelf S.Source shelf.old input.old in
         IsSome w.files → IsSome w.input → HasWords w.files choices → IsChecked file w

@@ -4,7 +4,7 @@ use Rattle.alpha_request.specs.declared.request.Request.{Request}
 use Rattle.alpha_request.specs.declared.request.Request.TheVariants.{Check, Dis, Asm, Fix, Module, Link, Replay, Record, Run, RunImprecise, Debug, Trial}
 use Rattle.alpha_request.specs.declared.files.FileNames.{FileNames}
 use Rattle.alpha_request.specs.declared.options.RunOptions.{RunOptions}
-use Rattle.alpha_request.specs.Options.{Drawn, drawn_from}
+use Rattle.alpha_request.specs.Options.{Origin, origin_of}
 
 pub data Command : Type 0 where
   check : List ℕ → Command
@@ -16,10 +16,10 @@ pub data Command : Type 0 where
   link : List ℕ → List ℕ → List (List ℕ) → Command
   replay : List ℕ → List ℕ → Command
   -- the choices, whether the verdict is passed over, and the name of the journal
-  record_run : RunOptions → Drawn → Bool → List ℕ → List ℕ → Command
+  record_run : RunOptions → Origin → Bool → List ℕ → List ℕ → Command
   run : RunOptions → List ℕ → Command
   -- the choices, and whether the verdict is passed over
-  imprecise : RunOptions → Drawn → Bool → List ℕ → Command
+  imprecise : RunOptions → Origin → Bool → List ℕ → Command
   debug : List ℕ → Command
   trial : ℕ → Command
 
@@ -35,8 +35,8 @@ command_of (Fix file out) = fix file.now out.now
 command_of (Module file out) = make_module file.now out.now
 command_of (Link entry out files) = link entry.now out.now (names_of files)
 command_of (Replay file journal) = replay file.now journal.now
-command_of (Record options choices force file out) = record_run options (drawn_from choices) force file.now out.now
+command_of (Record options choices force file out) = record_run options (origin_of choices) force file.now out.now
 command_of (Run options file) = run options file.now
-command_of (RunImprecise options choices force file) = imprecise options (drawn_from choices) force file.now
+command_of (RunImprecise options choices force file) = imprecise options (origin_of choices) force file.now
 command_of (Debug file) = debug file.now
 command_of (Trial blocks) = trial blocks

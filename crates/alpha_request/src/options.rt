@@ -4,7 +4,7 @@ ghost use Rattle.std.specs.Prelude.{◌≡◌, option_map, IfOk};
 ghost use Rattle.std.specs.List.{list_all};
 ghost use Rattle.std.specs.Char.{is_ascii_digit};
 ghost use Rattle.clap.specs.Words.{app_of, found_of, rows_of};
-ghost use Rattle.alpha_request.specs.Options.{bounds_in, choices_in, complete_in, completion_of, drawn_from, force_in, is_digits, number_of, options_in, seed, steps_in, watch_in, with_bounds, with_choices};
+ghost use Rattle.alpha_request.specs.Options.{bounds_in, choices_in, complete_in, completion_of, origin_of, force_in, is_digits, number_of, options_in, seed, steps_in, watch_in, with_bounds, with_choices};
 
 use crate::args::{flag, option, with_arg};
 use crate::matches::{is_given, text};
@@ -117,7 +117,7 @@ pub(crate) fn force_in(matches: &ArgMatches<'_>) -> bool
 
 /// The choices that matches make: a seed and a file exclude each other.
 pub(crate) fn choices_in<'a>(matches: &ArgMatches<'a>) -> Option<Choices<'a>>
-    ensures { option_map drawn_from result ≡ choices_in (rows_of (found_of matches.now)) }
+    ensures { option_map origin_of result ≡ choices_in (rows_of (found_of matches.now)) }
 {
     match (text(matches, "seed"), text(matches, "choices")) {
         (None, None) => Some(Choices::Seed(0)),
@@ -129,7 +129,7 @@ pub(crate) fn choices_in<'a>(matches: &ArgMatches<'a>) -> Option<Choices<'a>>
 
 // The choices by the seed that a text stands for.
 fn seed_of<'a>(number: &str) -> Option<Choices<'a>>
-    ensures { option_map drawn_from result ≡ option_map seed (number_of number.now) }
+    ensures { option_map origin_of result ≡ option_map seed (number_of number.now) }
 {
     match number_of(number) {
         Some(seed) => Some(Choices::Seed(seed)),

@@ -4,7 +4,7 @@ use Rattle.alpha_io.specs.Files.{Files, KeepsFiles}
 use Rattle.alpha_image.specs.Parts.{Parts}
 use Rattle.alpha_shadow.specs.Broken.{IsAccepted}
 use Rattle.alpha_request.specs.declared.options.RunOptions.{RunOptions}
-use Rattle.alpha_request.specs.Options.{Drawn}
+use Rattle.alpha_request.specs.Options.{Origin}
 use Rattle.alpha_request.specs.Options as choices_of
 use Rattle.alpha_seq.specs.declared.end.End.{End}
 use Rattle.alpha_seq.specs.declared.end.End.TheVariants as ends
@@ -33,7 +33,7 @@ use Rattle.alpha_cmd.proofs.Commands.Run.{some_shown as some_run}
 
 -- ---- the stages
 
-pub ChoicesOf-lawful : (told whole : Type 0) (w : World) (choices : Drawn) → (told → IsSome w.files) → (whole → IsSome w.files) → (there : Type 0) → (there → HasChoices choices w)
+pub ChoicesOf-lawful : (told whole : Type 0) (w : World) (choices : Origin) → (told → IsSome w.files) → (whole → IsSome w.files) → (there : Type 0) → (there → HasChoices choices w)
     → Lawful told whole there (ChoicesOf w.files choices)
 ChoicesOf-lawful told whole w (choices_of.seed n) is_told is_whole there has = Gives-lawful (pcg_word (seeded n))
 ChoicesOf-lawful told whole w (choices_of.file name) is_told is_whole there has =
@@ -97,7 +97,7 @@ wild_plain (Some end) lost n = drawn_plain n end
 wild_plain None (Some t) n = refl
 wild_plain None None n = refl
 
-pub lawful : (options : RunOptions) (choices : Drawn) (force : Bool) (file : List ℕ) (w : World) → IsLawfulForm (form options choices force file) (there choices file) w
+pub lawful : (options : RunOptions) (choices : Origin) (force : Bool) (file : List ℕ) (w : World) → IsLawfulForm (form options choices force file) (there choices file) w
 lawful options choices force file w = record {
   stages =
       Then-lawful {R = Then (PlanOf w.files file choices) (Passes force)} {S = RunsWild options force w.input}
@@ -115,12 +115,12 @@ lawful options choices force file w = record {
 
 -- ---- its answers
 
-pub wild_answer : (w : World) (options : RunOptions) (choices : Drawn) (force : Bool) (name : List ℕ) (plan : Plan) (s : ShownWild) → PlanOf w.files name choices (goes plan)
+pub wild_answer : (w : World) (options : RunOptions) (choices : Origin) (force : Bool) (name : List ℕ) (plan : Plan) (s : ShownWild) → PlanOf w.files name choices (goes plan)
     → Passes force plan (goes plan) → MayShowWild options force w.input plan s → AnswerBy (steps options choices force name) w (answer_wild w.input s)
 wild_answer w options choices force name plan s found passes may = (goes (answer_wild w.input s), (plan, (plan, found, passes), (s, may, refl)), refl)
 
 -- the verdict, unless it is passed over
-pub broken_answer : (w : World) (options : RunOptions) (choices : Drawn) (force : Bool) (name : List ℕ) (plan : Plan) (s : Status) (line : List ℕ) (t : Answer)
+pub broken_answer : (w : World) (options : RunOptions) (choices : Origin) (force : Bool) (name : List ℕ) (plan : Plan) (s : Status) (line : List ℕ) (t : Answer)
     → PlanOf w.files name choices (goes plan) → force ≡ false → IsRefused plan.image s line → t ≡ said w.input s line
     → AnswerBy (steps options choices force name) w t
 broken_answer w options choices force name plan s line t found judges refused is =
@@ -131,7 +131,7 @@ passed true plan good = refl
 passed false plan good = (plan.image, (good refl, refl), refl)
 
 -- choices that aren't read after the image was
-pub unchosen : (a b : Files) (name : List ℕ) (choices : Drawn) (image : Parts) (s : Status) → KeepsFiles a b → ImageOf a name (goes image)
+pub unchosen : (a b : Files) (name : List ℕ) (choices : Origin) (image : Parts) (s : Status) → KeepsFiles a b → ImageOf a name (goes image)
     → ChoicesOf b choices (stops s (status_line s)) → PlanOf a name choices (stops s (status_line s))
 unchosen a b name choices image s kept found h = inr (image, found, inl (subst (λ f. ChoicesOf f choices (stops s (status_line s))) (kept_same a b kept) h))
 

@@ -2,7 +2,7 @@
 use Rattle.std.proofs.Common.{◌≡◌, ◌⊎◌, ◌∙◌, ℕ, ◌%◌, ◌^◌, Bool, true, false, List, [], length, Option, None, Some, IsSome, refl, sym, ap, subst, inl, inr}
 use Rattle.alpha_words.specs.declared.Completion.TheVariants.{Wrap}
 use Rattle.alpha_request.specs.declared.options.RunOptions.{RunOptions}
-use Rattle.alpha_request.specs.Options.{Drawn}
+use Rattle.alpha_request.specs.Options.{Origin}
 use Rattle.alpha_seq.specs.State.{Program}
 use Rattle.alpha_seq.specs.Start.{start}
 use Rattle.alpha_imprecise.specs.Made.{Making, begun, first_words, most_words, ShownWild}
@@ -152,7 +152,7 @@ module _ (options : RunOptions) (force : Bool) (out : List ℕ) (w : World) (pla
   ends a (inl h) = kept_ends a h h.keeps
   ends a (inr h) = inr (inl (ap (λ (x : Answer). x.status) h.is))
 
-pub lawful : (options : RunOptions) (choices : Drawn) (force : Bool) (file out : List ℕ) (w : World)
+pub lawful : (options : RunOptions) (choices : Origin) (force : Bool) (file out : List ℕ) (w : World)
     → IsLawfulForm (form options choices force file out) (there options choices force file out) w
 lawful options choices force file out w = record {
   stages =
@@ -171,13 +171,13 @@ lawful options choices force file out w = record {
 
 -- ---- its answers
 
-pub recorded_answer : (w : World) (options : RunOptions) (choices : Drawn) (force : Bool) (file out : List ℕ) (plan : Plan) (a : Answer)
+pub recorded_answer : (w : World) (options : RunOptions) (choices : Origin) (force : Bool) (file out : List ℕ) (plan : Plan) (a : Answer)
     → PlanOf w.files file choices (goes plan) → Passes force plan (goes plan) → IsKeptRun options force out w plan a ⊎ IsFullRun options w plan a
     → AnswerBy (form options choices force file out).steps w a
 recorded_answer w options choices force file out plan a found passes run = (goes a, (plan, (plan, found, passes), run), refl)
 
 -- the verdict, unless it is passed over
-pub broken_answer : (w : World) (options : RunOptions) (choices : Drawn) (force : Bool) (file out : List ℕ) (plan : Plan) (s : Status) (line : List ℕ) (t : Answer)
+pub broken_answer : (w : World) (options : RunOptions) (choices : Origin) (force : Bool) (file out : List ℕ) (plan : Plan) (s : Status) (line : List ℕ) (t : Answer)
     → PlanOf w.files file choices (goes plan) → force ≡ false → IsRefused plan.image s line → t ≡ said w.input s line
     → AnswerBy (form options choices force file out).steps w t
 broken_answer w options choices force file out plan s line t found judges refused is =

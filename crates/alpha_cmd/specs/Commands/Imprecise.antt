@@ -4,7 +4,7 @@ use Rattle.std.specs.Prelude.{◌≡◌, ◌≤◌, ℕ, ◌%◌, ◌^◌, Bool,
 use Rattle.alpha_io.specs.Files.{Files}
 use Rattle.alpha_image.specs.Parts.{Parts}
 use Rattle.alpha_request.specs.declared.options.RunOptions.{RunOptions}
-use Rattle.alpha_request.specs.Options.{Drawn}
+use Rattle.alpha_request.specs.Options.{Origin}
 use Rattle.alpha_request.specs.Options as choices_of
 use Rattle.alpha_seq.specs.declared.end.End.{End}
 use Rattle.alpha_seq.specs.declared.end.End.TheVariants as ends
@@ -39,7 +39,7 @@ abbrev pub plan_by : Parts → (ℕ → ℕ) → Plan
 plan_by image ahead = record { image = image; ahead = ahead }
 
 -- the image of a named file, and then the choices
-abbrev pub PlanOf : Files → List ℕ → Drawn → Outcome Plan → Type 0
+abbrev pub PlanOf : Files → List ℕ → Origin → Outcome Plan → Type 0
 PlanOf files name choices =
     Then (ImageOf files name)
     (λ image. Then (ChoicesOf files choices) (λ ahead. Gives (plan_by image ahead)))
@@ -138,7 +138,7 @@ abbrev pub RunsWild : RunOptions → Bool → Option (List ℕ) → Plan → Out
 RunsWild options force input plan =
     Either (λ a. (s : ShownWild) × MayShowWild options force input plan s × (a ≡ answer_wild input s)) Never
 
-abbrev pub steps : RunOptions → Drawn → Bool → List ℕ → World → Outcome Answer → Type 0
+abbrev pub steps : RunOptions → Origin → Bool → List ℕ → World → Outcome Answer → Type 0
 steps options choices force file w =
     Then (Then (PlanOf w.files file choices) (Passes force)) (RunsWild options force w.input)
 
@@ -155,14 +155,14 @@ Ends force status =
 abbrev pub kind : Bool → Kind
 kind force = streams (Ends force)
 
-abbrev pub form : RunOptions → Drawn → Bool → List ℕ → Form
+abbrev pub form : RunOptions → Origin → Bool → List ℕ → Form
 form options choices force file =
     record { steps = steps options choices force file; needs = needs_files_and_input; kind = kind force }
 
 -- a choices file is there, where files are told
-abbrev pub HasChoices : Drawn → World → Type 0
+abbrev pub HasChoices : Origin → World → Type 0
 HasChoices (choices_of.seed n) w = Unit {0}
 HasChoices (choices_of.file name) w = IsThere name w
 
-abbrev pub there : Drawn → List ℕ → World → Type 0
+abbrev pub there : Origin → List ℕ → World → Type 0
 there choices file w = IsThere file w × HasChoices choices w

@@ -6,7 +6,7 @@ use Rattle.alpha_io.specs.Shelved.{Shelved}
 use Rattle.alpha_io.specs.Sunk.{Sunk, Puts}
 use Rattle.alpha_request.specs.declared.options.RunOptions.{RunOptions}
 use Rattle.alpha_request.specs.Command.{Command, record_run}
-use Rattle.alpha_request.specs.Options.{Drawn}
+use Rattle.alpha_request.specs.Options.{Origin}
 use Rattle.alpha_seq.specs.declared.end.End.{End}
 use Rattle.alpha_seq.specs.Run.{notes_of}
 use Rattle.alpha_seq.specs.Start.{start}
@@ -99,10 +99,10 @@ Records options force out w plan = Either (λ a. IsKeptRun options force out w p
 -- ---- the command
 
 -- an image, and the words by which it is run, where the verdict lets it through or is passed over
-abbrev pub Planned : Drawn → Bool → List ℕ → Files → Outcome Plan → Type 0
+abbrev pub Planned : Origin → Bool → List ℕ → Files → Outcome Plan → Type 0
 Planned choices force file files = Then (PlanOf files file choices) (Passes force)
 
-abbrev pub steps : RunOptions → Drawn → Bool → List ℕ → List ℕ → World → Outcome Answer → Type 0
+abbrev pub steps : RunOptions → Origin → Bool → List ℕ → List ℕ → World → Outcome Answer → Type 0
 steps options choices force file out w = Then (Planned choices force file w.files) (Records options force out w)
 
 -- the statuses of a run's end, of one that was stopped, and of a shelf that doesn't take the journal
@@ -112,26 +112,26 @@ Ends force status = wilds.Ends force status ⊎ ((status ≡ JournalFull) ⊎ (s
 abbrev pub kind : Bool → List ℕ → Kind
 kind force out = records (Ends force) out
 
-abbrev pub form : RunOptions → Drawn → Bool → List ℕ → List ℕ → Form
+abbrev pub form : RunOptions → Origin → Bool → List ℕ → List ℕ → Form
 form options choices force file out =
     record { steps = steps options choices force file out; needs = needs_files_and_input; kind = kind force out }
 
 -- the files that are read are there, and the journal is taken
-abbrev pub there : RunOptions → Drawn → Bool → List ℕ → List ℕ → World → Type 0
+abbrev pub there : RunOptions → Origin → Bool → List ℕ → List ℕ → World → Type 0
 there options choices force file out w =
     IsThere file w × HasChoices choices w
     × ((plan : Plan) (p : Parts) → Planned choices force file w.files (goes plan) → HasJournal options w.input plan p
     → w.takes out (length (spelling p)) ≡ true)
 
 -- what is kept of a call: the spelling of a good journal, which is that of the run
-abbrev pub KeepsRun : RunOptions → Drawn → Bool → List ℕ → List ℕ → World → Files → Type 0
+abbrev pub KeepsRun : RunOptions → Origin → Bool → List ℕ → List ℕ → World → Files → Type 0
 KeepsRun options choices force file out w new =
     (plan : Plan) × Planned choices force file w.files (goes plan)
     × ((p : Parts) × IsJournal p × HasJournal options w.input plan p × HasFile new out (spelling p))
 
 -- That is so of each call that asks for it, under the status of a run's end.
 abbrev pub KeepsUnder : (Command → Type 0) → Status → World → Files → Type 0
-KeepsUnder IsAsked status w new = (options : RunOptions) (choices : Drawn) (force : Bool) (file out : List ℕ)
+KeepsUnder IsAsked status w new = (options : RunOptions) (choices : Origin) (force : Bool) (file out : List ℕ)
     (end : Option End) (lost : Option LostTrap) (n : ℕ)
     → IsAsked (record_run options choices force file out) → status ≡ wild_status end lost n
     → KeepsRun options choices force file out w new

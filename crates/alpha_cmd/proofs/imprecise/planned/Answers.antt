@@ -1,7 +1,7 @@
 use Rattle.std.proofs.Common.{inl, inr, ⊎_elim}
 use Rattle.alpha_io.specs.Faults.{Rose}
 use Rattle.alpha_io.proofs.Counts.{Rose-earlier}
-use Rattle.alpha_request.specs.Options.{drawn_from}
+use Rattle.alpha_request.specs.Options.{origin_of}
 use Rattle.alpha_cmd.specs.Outcome.{stops}
 use Rattle.alpha_cmd.specs.Status.{status_line}
 use Rattle.alpha_cmd.specs.Choosing.{ChoicesOf}
@@ -12,7 +12,7 @@ use Rattle.alpha_cmd.proofs.imprecise.planned.Goals as goal
 
 pub returns-in-Err-chooser_of-clause-refused : goal.returns-in-Err-chooser_of-clause-refused
 returns-in-Err-chooser_of-clause-refused g c =
-    let drawn = drawn_from c.args.choices.now in
+    let drawn = origin_of c.args.choices.now in
     let s = c.in-Err-chooser_of.status in
     let before = g.H.Shelf.faults c.args.shelf.now in
     let mid = g.H.Shelf.faults c.load.new.shelf in

@@ -6,7 +6,7 @@ use Rattle.alpha_io.specs.Sunk.{sunk}
 use Rattle.alpha_io.proofs.Counts.{Rose-earlier}
 use Rattle.alpha_image.specs.Parts.{IsImage}
 use Rattle.alpha_shadow.specs.Report.{broken_line}
-use Rattle.alpha_request.specs.Options.{drawn_from}
+use Rattle.alpha_request.specs.Options.{origin_of}
 use Rattle.alpha_replay.specs.Journal.{spelling}
 use Rattle.alpha_cmd.specs.declared.status.Status.TheVariants.{NotRestartable}
 use Rattle.alpha_cmd.specs.Answer.{Answer, world}
@@ -30,7 +30,7 @@ use Rattle.alpha_cmd.proofs.record.record.Goals as goal
 pub returns-in-Made-clause-tried : goal.returns-in-Made-clause-tried
 returns-in-Made-clause-tried g c =
     let a = c.args.asked in
-    let drawn = drawn_from a.choices in
+    let drawn = origin_of a.choices in
     let name = c.args.name.now in
     let input = g.S.Source.left c.args.input.now in
     let plan = plan_by c.in-Ok.plan.image (ahead_in c.in-Ok.plan.chooser) in
@@ -55,7 +55,7 @@ returns-in-Made-clause-tried g c =
 pub returns-in-Made-clause-keeps : goal.returns-in-Made-clause-keeps
 returns-in-Made-clause-keeps g c = λ end lost n is.
     let a = c.args.asked in
-    let drawn = drawn_from a.choices in
+    let drawn = origin_of a.choices in
     let name = c.args.name.now in
     let input = g.S.Source.left c.args.input.now in
     let plan = plan_by c.in-Ok.plan.image (ahead_in c.in-Ok.plan.chooser) in
@@ -79,7 +79,7 @@ returns-in-Made-clause-keeps g c = λ end lost n is.
 pub returns-in-Made-clause-shelf : goal.returns-in-Made-clause-shelf
 returns-in-Made-clause-shelf g c =
     let a = c.args.asked in
-    let drawn = drawn_from a.choices in
+    let drawn = origin_of a.choices in
     let name = c.args.name.now in
     let input = g.S.Source.left c.args.input.now in
     let plan = plan_by c.in-Ok.plan.image (ahead_in c.in-Ok.plan.chooser) in
@@ -105,7 +105,7 @@ returns-in-Made-clause-shelf g c =
 pub returns-in-Made-clause-files : goal.returns-in-Made-clause-files
 returns-in-Made-clause-files g c =
     let a = c.args.asked in
-    let drawn = drawn_from a.choices in
+    let drawn = origin_of a.choices in
     let name = c.args.name.now in
     let input = g.S.Source.left c.args.input.now in
     let plan = plan_by c.in-Ok.plan.image (ahead_in c.in-Ok.plan.chooser) in
@@ -127,7 +127,7 @@ returns-in-Made-clause-files g c =
 pub returns-in-Made-clause-input : goal.returns-in-Made-clause-input
 returns-in-Made-clause-input g c =
     let a = c.args.asked in
-    let drawn = drawn_from a.choices in
+    let drawn = origin_of a.choices in
     let name = c.args.name.now in
     let input = g.S.Source.left c.args.input.now in
     let plan = plan_by c.in-Ok.plan.image (ahead_in c.in-Ok.plan.chooser) in
@@ -148,7 +148,7 @@ returns-in-Made-clause-input g c =
 pub returns-in-Over-clause-tried : goal.returns-in-Over-clause-tried
 returns-in-Over-clause-tried g c =
     let a = c.args.asked in
-    c.in-Over.ensures.over (shelved g.H.Shelf c.args.shelf.now c.planned.new.shelf) a.file.now c.args.name.now (drawn_from a.choices) a.force c.in-Ok.ensures.ok c.in-Ok-judged.ensures.ok c.in-Ok.ensures.shelf.files
+    c.in-Over.ensures.over (shelved g.H.Shelf c.args.shelf.now c.planned.new.shelf) a.file.now c.args.name.now (origin_of a.choices) a.force c.in-Ok.ensures.ok c.in-Ok-judged.ensures.ok c.in-Ok.ensures.shelf.files
 
 pub returns-in-Err-judged-clause-tried : goal.returns-in-Err-judged-clause-tried
 returns-in-Err-judged-clause-tried g c =
@@ -157,10 +157,10 @@ returns-in-Err-judged-clause-tried g c =
     let failed = Rose (g.H.Shelf.faults c.args.shelf.now) (g.H.Shelf.faults c.planned.new.shelf) in
     let input = Rose (g.S.Source.faults c.args.input.now) (g.S.Source.faults c.args.input.now) in
     let place = c.in-Err-judged.broken in
-    Leaves-all (TriesBy failed input (form a.options (drawn_from a.choices) a.force a.file.now c.args.name.now) w) (answer_in w.input c.broken.result)
+    Leaves-all (TriesBy failed input (form a.options (origin_of a.choices) a.force a.file.now c.args.name.now) w) (answer_in w.input c.broken.result)
     (shelved g.H.Shelf c.args.shelf.now c.planned.new.shelf)
     (g.K.Sink.written c.args.out.now) (g.N.Sink.written c.args.notes.now) (g.K.Sink.faults c.args.out.now) (g.N.Sink.faults c.args.notes.now)
-    (inl (broken_answer w a.options (drawn_from a.choices) a.force a.file.now c.args.name.now (plan_by c.in-Ok.plan.image (ahead_in c.in-Ok.plan.chooser)) (NotRestartable place)
+    (inl (broken_answer w a.options (origin_of a.choices) a.force a.file.now c.args.name.now (plan_by c.in-Ok.plan.image (ahead_in c.in-Ok.plan.chooser)) (NotRestartable place)
     (broken_line place c.code_base.result) (answer_in w.input c.broken.result) c.in-Ok.ensures.ok c.in-Err-judged.ensures.refused.0
     (place, refl, (c.in-Err-judged.ensures.refused.1, ap (broken_line place) c.code_base.ensures.value)) (c.broken.ensures w.input)))
     c.in-Ok.ensures.shelf.files
@@ -172,7 +172,7 @@ returns-in-Err-judged-clause-keeps g c = λ end lost n is.
 pub returns-in-Err-clause-tried : goal.returns-in-Err-clause-tried
 returns-in-Err-clause-tried g c =
     let a = c.args.asked in
-    let drawn = drawn_from a.choices in
+    let drawn = origin_of a.choices in
     let name = c.args.name.now in
     let w = world g.H.Shelf g.S.Source c.args.shelf.now c.args.input.now in
     let failed = Rose (g.H.Shelf.faults c.args.shelf.now) (g.H.Shelf.faults c.planned.new.shelf) in
