@@ -10,13 +10,13 @@ ghost use Rattle.alpha_text.specs.Quick.{Says, StandsFor, IsAlone, operation_of}
 ghost use Rattle.alpha_text.specs.Words.{HasFirst};
 
 use crate::Statement;
+use crate::groups::{
+    address, binary, distance, first, jump, last, last_base, pair, tail, target, unary,
+};
 use crate::head::Own;
 use crate::instruction::{halved, insn, link, numbered};
 use crate::pseudo::{move_number, of_zero};
-use crate::words::{
-    address, binary, comma, distance, first, is_end, jump, last, last_base, number, pair, signed,
-    tail, target, unary,
-};
+use crate::words::{comma, is_end, number, signed};
 use alpha_operands::{Number, Piece, Sign, number_at};
 use alpha_table::{BranchOp, Form, Insn, JumpKind, MemOp, Mnemonic, Op, OperandRule, Src};
 use alpha_words::Reg;

@@ -15,14 +15,15 @@
 //! stand for, `instruction.rt`, `pseudo.rt` and `directive.rt` each for one kind of names.
 //! `reader.rt` and `specs/Reading.antt` read a line, `writer.rt` and `specs/Canon.antt` write one.
 //! `quick.rt` reads lines as programs write them, in one pass, and `specs/Quick.antt` says what its
-//! parts give: `front.rt` cuts the name off, `rows.rt` finds its row, `words.rt` reads the words behind
-//! it, which `specs/Words.antt` defines, and `forms.rt` has what a name says with them.
+//! parts give: `front.rt` cuts the name off, `rows.rt` finds its row, `words.rt` and `groups.rt` read
+//! the words behind it, which `specs/Words.antt` defines, and `forms.rt` has what a name says with them.
 //! `specs/Grammar.antt` has the line grammar and the faults apart from reading.
 #![tactic(auto)]
 
 mod directive;
 mod forms;
 mod front;
+mod groups;
 mod head;
 mod instruction;
 mod laws;

@@ -3,7 +3,7 @@ use Rattle.std.proofs.lemmas.Int.{to_z-of_z}
 use Rattle.alpha_token.specs.Tokens.{tokens}
 use Rattle.alpha_operands.specs.declared.number.Sign.TheVariants as signs
 use Rattle.alpha_text.proofs.Spelling.{token-plus, token-minus}
-use Rattle.alpha_text.proofs.words.expr.Goals as goal
+use Rattle.alpha_text.proofs.groups.expr.Goals as goal
 
 pub returns-in-Some : goal.returns-in-Some
 returns-in-Some c =

@@ -6,7 +6,7 @@ use Rattle.alpha_operands.specs.declared.number.Sign.TheVariants as signs
 use Rattle.alpha_text.specs.Words.{HasMark, HasWords, HasDistance}
 use Rattle.alpha_text.proofs.Spelling.{token-dot, token-plus, token-minus}
 use Rattle.alpha_text.proofs.Meanings.{if-some}
-use Rattle.alpha_text.proofs.words.distance.Goals as goal
+use Rattle.alpha_text.proofs.groups.distance.Goals as goal
 
 -- `.` before a sign
 dot_mark : (line behind digits : List ℕ) (b : ℕ) → line ≡ 46 ∷ behind → behind ≡ b ∷ digits → goes_on_name b ≡ false → HasMark line kinds.Dot behind
