@@ -31,7 +31,7 @@ EDIT = re.compile(r"^\| `(alpha_\w+)` \| `(\w+)` \|", re.M)
 COUNTED = re.compile(r"^\| `(crates/\S+\.(?:antt|rt))` \| ([\d,]+) \|", re.M)
 PART = re.compile(r"^\*\*\d\. ", re.M)
 # What the kit defines: the page says in its table of notation what each means.
-OF_THE_KIT = set("Bool Global IfErr IfSome IsSome List None Ok OnOk Option Result Some Type".split())
+OF_THE_KIT = set("All Bool Global IfErr IfSome IsSome List None Ok OnOk Option Result Some Type".split())
 FACT = re.compile(r"(?<![\w.])[A-Z]\w+")
 DEFINED = re.compile(r"pub (?:record )?(\w+) ")
 NAMED = re.compile(r"^\| `(crates/\S+\.(?:antt|rt))` \| (`[^|]*) \|$", re.M)
