@@ -1,16 +1,16 @@
 -- What a line says of the labels that it defines and names.
-use Rattle.std.specs.Prelude.{⊤, ◌≡◌, ◌≤◌, ◌<◌, ◌^◌, ◌+◌, ℕ, ℤ, pos, negsuc, List, length, true, IfSome}
-use Rattle.std.specs.List.{AllByRecursion}
+use Rattle.std.specs.Prelude.{⊤, ◌≡◌, ◌≤◌, ◌<◌, ◌^◌, ◌+◌, ◌&&◌, ℕ, ℤ, pos, negsuc, List, length, true, IfSome}
+use Rattle.std.specs.List.{list_all, AllByRecursion}
 use Rattle.alpha_table.specs.declared.form.Form.{Form}
 use Rattle.alpha_table.specs.declared.form.Form.TheVariants.{Mem, Branch}
 use Rattle.alpha_operands.specs.Values.{Listed, number, label as listed_label, AreValuesOf}
 use Rattle.alpha_text.specs.Statements.{Said, target, high, low, entry_label, values}
 use Rattle.alpha_text.specs.Reading.{LineSaid}
-use Rattle.alpha_text.specs.Quick.{is_all_label}
+use Rattle.alpha_text.specs.Quick.{begins_label, goes_on_label}
 
 -- a letter or `_`, and then letters, digits, `_` and `.`
 abbrev pub IsWholeLabel : List ℕ → Type 0
-IsWholeLabel name = is_all_label name ≡ true
+IsWholeLabel name = (begins_label name && list_all goes_on_label name) ≡ true
 
 -- from -(2 ^ 31 - 1) to 2 ^ 31 - 1
 abbrev pub IsOffset : ℤ → Type 0
