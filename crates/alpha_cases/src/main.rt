@@ -34,13 +34,14 @@ mod lines;
 use std::fs;
 
 // The files of cases.
-const FILES: [&str; 13] = [
+const FILES: [&str; 14] = [
     "check.cases",
     "asm.cases",
     "fix.cases",
     "module.cases",
     "link.cases",
     "replay.cases",
+    "record.cases",
     "run.cases",
     "edges.cases",
     "imprecise.cases",
