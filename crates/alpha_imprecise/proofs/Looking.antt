@@ -18,7 +18,7 @@ use Rattle.alpha_seq.specs.declared.end.Next.{Next}
 use Rattle.alpha_seq.specs.declared.end.Next.TheVariants.{Outside, Barrier, Faults, Overflows, Plain}
 use Rattle.alpha_seq.specs.declared.machine.Machine.{Machine}
 use Rattle.alpha_seq.specs.State.{Program, State, Stepped}
-use Rattle.alpha_seq.specs.Step.{step, unless, overflowed, place}
+use Rattle.alpha_seq.specs.Step.{step, unless, overflowed, accessed}
 use Rattle.alpha_seq.specs.Next.{next_insn, next_by, next_of, by_class, by_event}
 use Rattle.alpha_seq.specs.Machine.{program_of, class_here}
 use Rattle.alpha_seq.proofs.Executing.{class_here-insn}
@@ -56,10 +56,10 @@ waiting-class g (operate op ra src rc) i s = refl
 waiting-class g (trigger op ra src rc) i s =
     waiting-trap (overflow_of op (reg s.regs ra) (source_value s.regs src)) _ _ i (waiting-overflowed g.how s rc _ i) refl
 waiting-class g (address op ra rb disp) i s = refl
-waiting-class g (load extension at ra) i s = waiting-unless (fault_of (shapes s.mem) Load (place at s) at.bytes) _ s _ i
-waiting-class g (store at ra) i s = waiting-unless (fault_of (shapes s.mem) Store (place at s) at.bytes) _ s _ i
-waiting-class g (load_locked extension at ra) i s = waiting-unless (fault_of (shapes s.mem) Load (place at s) at.bytes) _ s _ i
-waiting-class g (store_conditional at ra) i s = waiting-unless (fault_of (shapes s.mem) Store (place at s) at.bytes) _ s _ i
+waiting-class g (load extension at ra) i s = waiting-unless (fault_of (shapes s.mem) Load (accessed at s) at.bytes) _ s _ i
+waiting-class g (store at ra) i s = waiting-unless (fault_of (shapes s.mem) Store (accessed at s) at.bytes) _ s _ i
+waiting-class g (load_locked extension at ra) i s = waiting-unless (fault_of (shapes s.mem) Load (accessed at s) at.bytes) _ s _ i
+waiting-class g (store_conditional at ra) i s = waiting-unless (fault_of (shapes s.mem) Store (accessed at s) at.bytes) _ s _ i
 waiting-class g (branch condition ra disp) i s = refl
 waiting-class g (jump ra rb) i s = refl
 waiting-class g (barrier call) i s = refl

@@ -15,7 +15,7 @@ use Rattle.alpha_mem.specs.Memory.{write_bytes}
 use Rattle.alpha_image.specs.Parts.{Parts, place_of}
 use Rattle.alpha_seq.specs.declared.end.End.TheVariants as ends
 use Rattle.alpha_seq.specs.State.{Program, State, Ends, Stepped}
-use Rattle.alpha_seq.specs.Step.{onward, setting, place, lock_block, matches, branch_target, branched, next_class, step}
+use Rattle.alpha_seq.specs.Step.{onward, setting, accessed, lock_block, matches, branch_target, branched, next_class, step}
 use Rattle.alpha_trap.specs.Scan.{scan}
 use Rattle.alpha_trap.specs.Handler.{completed_regs}
 use Rattle.alpha_imprecise.specs.Moment.{Trap, with_register, Choice, Precisely, Triggered, Waited, Reported, Lost, Moment, moment}
@@ -82,7 +82,7 @@ report g s t = report_at g s t (scan g.image s.pc t.mask)
 
 -- whether an access at its actual address goes well
 abbrev pub goes_well : Intent → MemAccess → State → Bool
-goes_well intent at s = is_none (fault_of (shapes s.mem) intent (place at s) at.bytes)
+goes_well intent at s = is_none (fault_of (shapes s.mem) intent (accessed at s) at.bytes)
 
 -- whether the word can be executed while a trap waits: it is no barrier, and an access doesn't fault
 abbrev pub can_wait : Option Class → State → Bool
@@ -101,7 +101,7 @@ can_wait (Some idle) s = true
 
 -- the memory after a store of any bytes
 abbrev pub spoilt_memory : MemAccess → State → Choice → List Block
-spoilt_memory at s c = write_bytes s.mem (place at s) (low_bytes at.bytes c.bytes)
+spoilt_memory at s c = write_bytes s.mem (accessed at s) (low_bytes at.bytes c.bytes)
 
 -- a conditional store, by whether the lock flag has its number: its register gets any value, and the flag is clear
 abbrev pub spoilt_conditional : Bool → MemAccess → ℕ → State → Choice → State

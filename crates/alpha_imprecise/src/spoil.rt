@@ -50,7 +50,7 @@ fn store(machine: &mut Machine, at: &MemAccess, ra: Reg, value: u64)
     requires good { can_wait (Some (store at.now ra)) (bare machine.old) ≡ true }
     ensures { Spoils (store at.now ra) value machine.old machine.new }
 {
-    let addr = machine.place(at);
+    let addr = machine.accessed(at);
     let _ = machine.memory.store(addr, size(at.bytes), value);
     machine.advance();
 }
@@ -58,7 +58,7 @@ fn store(machine: &mut Machine, at: &MemAccess, ra: Reg, value: u64)
 fn load_locked(machine: &mut Machine, extension: Extension, at: &MemAccess, ra: Reg, value: u64)
     ensures { Spoils (load_locked extension at.now ra) value machine.old machine.new }
 {
-    machine.lock = Some(machine.place(at) / 16);
+    machine.lock = Some(machine.accessed(at) / 16);
     machine.set(ra, value);
 }
 
@@ -67,7 +67,7 @@ fn store_conditional(machine: &mut Machine, at: &MemAccess, ra: Reg, value: u64)
     requires good { can_wait (Some (store_conditional at.now ra)) (bare machine.old) ≡ true }
     ensures { Spoils (store_conditional at.now ra) value machine.old machine.new }
 {
-    let addr = machine.place(at);
+    let addr = machine.accessed(at);
     if machine.lock == Some(addr / 16) {
         let _ = machine.memory.store(addr, size(at.bytes), value);
     }

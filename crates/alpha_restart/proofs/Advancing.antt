@@ -26,7 +26,7 @@ use Rattle.alpha_mem.specs.Fault.{fault_of}
 use Rattle.alpha_mem.specs.Memory.{bytes_at, write_bytes}
 use Rattle.alpha_mem.proofs.LawLemmas as mem
 use Rattle.alpha_seq.specs.State.{Program, State, Went, Stepped}
-use Rattle.alpha_seq.specs.Step.{next_pc, onward, setting, went, overflowed, computed, place, unless, extended, loaded, written_memory, step}
+use Rattle.alpha_seq.specs.Step.{next_pc, onward, setting, went, overflowed, computed, accessed, unless, extended, loaded, written_memory, step}
 use Rattle.alpha_imprecise.specs.Step.{triggers}
 use Rattle.alpha_restart.specs.Safe.{is_steady}
 use Rattle.alpha_restart.specs.Match.{Alike, SameBytes, Match}
@@ -136,24 +136,24 @@ module _ (code : List ℕ) (q e : ℕ) (s a : State) (h : Match code q e s a) wh
     granted None addr z after f = refl
     granted (Some fault) addr z after f = cc
 
-    same_place : (o : Option Class) (c : MemAccess) → class_at code q ≡ o → (c.base < 31 → uses o c.base ≡ true) → place c a ≡ place c s
-    same_place o c is u = ap (λ v. access_address c v) (read_at o c.base is u)
+    same_accessed : (o : Option Class) (c : MemAccess) → class_at code q ≡ o → (c.base < 31 → uses o c.base ≡ true) → accessed c a ≡ accessed c s
+    same_accessed o c is u = ap (λ v. access_address c v) (read_at o c.base is u)
 
     load_on : (extension : Extension) (c : MemAccess) (ra : ℕ) → class_at code q ≡ Some (load extension c ra)
         → BothWent code (q + 1) e s a (step g (Some (load extension c ra)) s) (step g (Some (load extension c ra)) a)
     load_on extension c ra is =
         let accesses : access (class_at code q) ≡ Some c = ap access is in
         let kind_is : kind (class_at code q) ≡ Some kinds.Load = ap kind is in
-        let where_too = same_place (Some (load extension c ra)) c is (λ low. counts_first c.base [] low) in
+        let where_too = same_accessed (Some (load extension c ra)) c is (λ low. counts_first c.base [] low) in
         let fine = granted_here code q e s.regs s.mem a.mem c h.memory less accesses kinds.Load kind_is in
         let fine_too = ap (λ n. fault_of (shapes a.mem) Load n c.bytes) where_too
         ∙ granted_there code q e s.regs s.mem a.mem c h.memory less accesses kinds.Load kind_is in
         let value : loaded extension c a ≡ loaded extension c s =
         ap (λ n. extended extension (bytes_at a.mem n c.bytes)) where_too
         ∙ ap (extended extension) (same_loaded code q e s.regs s.mem a.mem c h.memory less accesses kind_is) in
-        subst (λ x. BothWent code (q + 1) e s a x (step g (Some (load extension c ra)) a)) (granted _ (place c s) s (setting s ra (loaded extension c s)) fine)
+        subst (λ x. BothWent code (q + 1) e s a x (step g (Some (load extension c ra)) a)) (granted _ (accessed c s) s (setting s ra (loaded extension c s)) fine)
         (subst (λ y. BothWent code (q + 1) e s a (went (setting s ra (loaded extension c s))) y)
-        (granted _ (place c a) a (setting a ra (loaded extension c a)) fine_too)
+        (granted _ (accessed c a) a (setting a ra (loaded extension c a)) fine_too)
         (set_on (Some (load extension c ra)) ra (loaded extension c s) (loaded extension c a) is (λ f. cc) refl value))
 
     -- the registers behind a word that sets none
@@ -171,14 +171,14 @@ module _ (code : List ℕ) (q e : ℕ) (s a : State) (h : Match code q e s a) wh
     store_on c ra is =
         let accesses : access (class_at code q) ≡ Some c = ap access is in
         let kind_is : kind (class_at code q) ≡ Some kinds.Store = ap kind is in
-        let where_too = same_place (Some (store c ra)) c is (λ low. counts_second ra c.base [] low) in
+        let where_too = same_accessed (Some (store c ra)) c is (λ low. counts_second ra c.base [] low) in
         let same_value = read_at (Some (store c ra)) ra is (λ low. counts_first ra (c.base ∷ []) low) in
         let fine = granted_here code q e s.regs s.mem a.mem c h.memory less accesses kinds.Store kind_is in
         let fine_too = ap (λ n. fault_of (shapes a.mem) Store n c.bytes) where_too
         ∙ granted_there code q e s.regs s.mem a.mem c h.memory less accesses kinds.Store kind_is in
-        let bytes : written_memory c ra a ≡ write_bytes a.mem (place c s) (low_bytes c.bytes (reg s.regs ra)) =
+        let bytes : written_memory c ra a ≡ write_bytes a.mem (accessed c s) (low_bytes c.bytes (reg s.regs ra)) =
         ap (λ n. write_bytes a.mem n (low_bytes c.bytes (reg a.regs ra))) where_too
-        ∙ ap (λ v. write_bytes a.mem (place c s) (low_bytes c.bytes v)) same_value in
+        ∙ ap (λ v. write_bytes a.mem (accessed c s) (low_bytes c.bytes v)) same_value in
         let plain : BothWent code (q + 1) e s a (went (storing s c ra)) (went (storing a c ra)) = record {
           precise = refl;
           actual = refl;
@@ -195,8 +195,8 @@ module _ (code : List ℕ) (q e : ℕ) (s a : State) (h : Match code q e s a) wh
             outside = h.outside;
           };
         } in
-        subst (λ x. BothWent code (q + 1) e s a x (step g (Some (store c ra)) a)) (granted _ (place c s) s (storing s c ra) fine)
-        (subst (λ y. BothWent code (q + 1) e s a (went (storing s c ra)) y) (granted _ (place c a) a (storing a c ra) fine_too) plain)
+        subst (λ x. BothWent code (q + 1) e s a x (step g (Some (store c ra)) a)) (granted _ (accessed c s) s (storing s c ra) fine)
+        (subst (λ y. BothWent code (q + 1) e s a (went (storing s c ra)) y) (granted _ (accessed c a) a (storing a c ra) fine_too) plain)
 
     idle_on : class_at code q ≡ Some idle → BothWent code (q + 1) e s a (step g (Some idle) s) (step g (Some idle) a)
     idle_on is = record {

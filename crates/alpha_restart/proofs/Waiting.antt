@@ -16,7 +16,7 @@ use Rattle.alpha_mem.specs.Memory.{write_bytes}
 use Rattle.alpha_mem.proofs.LawLemmas as mem
 use Rattle.alpha_image.specs.Parts.{IsImage}
 use Rattle.alpha_seq.specs.State.{Program, State}
-use Rattle.alpha_seq.specs.Step.{place}
+use Rattle.alpha_seq.specs.Step.{accessed}
 use Rattle.alpha_seq.specs.Run.{Run, Mark, Over}
 use Rattle.alpha_imprecise.specs.Moment.{Choice}
 use Rattle.alpha_imprecise.specs.Step.{can_wait, spoilt, waited, address_at}
@@ -104,7 +104,7 @@ module _ (code : List ℕ) (safe : IsSafe code) (how : _) (p i e : ℕ) (t : Tri
 
   -- an access that goes well at the actual address is reached
   reached_by : (o : Option Class) (d : MemAccess) (intent : _) → class_at code i ≡ o → access o ≡ Some d → (d.base < 31 → uses o d.base ≡ true)
-      → intent_of (kind o) ≡ intent → is_none (fault_of (shapes a.mem) intent (place d a) d.bytes) ≡ true → Reached code (p + 1) i d s.regs (shapes s.mem)
+      → intent_of (kind o) ≡ intent → is_none (fault_of (shapes a.mem) intent (accessed d a) d.bytes) ≡ true → Reached code (p + 1) i d s.regs (shapes s.mem)
   reached_by o d intent is accesses used meant well = record {
     base = λ k low high. safe.base p i k d reach h.above (ap access is ∙ accesses) (omega arith) high;
     granted =
@@ -125,7 +125,7 @@ module _ (code : List ℕ) (safe : IsSafe code) (how : _) (p i e : ℕ) (t : Tri
   same_access d f P e x = subst P (let g : d ≡ f = cc in g) x
 
   store_bytes : (at : MemAccess) (ra : ℕ) → class_at code i ≡ Some (store at ra) → can_wait (Some (store at ra)) a ≡ true
-      → SameBytes code (p + 1) (max e (i + 1)) s.regs s.mem (write_bytes a.mem (place at a) (low_bytes at.bytes c.bytes))
+      → SameBytes code (p + 1) (max e (i + 1)) s.regs s.mem (write_bytes a.mem (accessed at a) (low_bytes at.bytes c.bytes))
   store_bytes at ra is can =
       let wider = more (Some (store at ra)) is (λ d f. same_access at d (λ x. Reached code (p + 1) i x s.regs (shapes s.mem)) f
       (reached_by (Some (store at ra)) at Store is refl (λ low. counts_second ra at.base [] low) refl can)) in

@@ -10,7 +10,7 @@ use Rattle.alpha_mem.specs.Memory.{write_bytes}
 use Rattle.alpha_image.specs.Parts.{Parts, IsByte}
 use Rattle.alpha_seq.specs.State.{Program, State}
 use Rattle.alpha_seq.specs.Start.{start}
-use Rattle.alpha_seq.specs.Step.{onward, setting, place, lock_block, matches, branch_target, branched, next_class, step}
+use Rattle.alpha_seq.specs.Step.{onward, setting, accessed, lock_block, matches, branch_target, branched, next_class, step}
 use Rattle.alpha_imprecise.specs.Moment.{Trap, with_register, Triggered, Waited, Moment, moment}
 use Rattle.alpha_imprecise.specs.Step.{triggers, destination, new_trap, precisely, report, goes_well}
 use Rattle.alpha_imprecise.specs.Run.{WildRun, finished, extended_wild, started_wild}
@@ -32,7 +32,7 @@ StoresAny at s after b = (bytes : List ℕ) × AreBytes at.bytes bytes × (b ≡
 
 -- the state after bytes were stored at the actual address
 abbrev pub storing : MemAccess → State → State → List ℕ → State
-storing at s t bytes = record t { mem = write_bytes s.mem (place at s) bytes }
+storing at s t bytes = record t { mem = write_bytes s.mem (accessed at s) bytes }
 
 -- A conditional store whose flag has its number puts any bytes. In both cases its register gets any value, and the flag is
 -- clear.

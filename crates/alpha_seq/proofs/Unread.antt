@@ -16,7 +16,7 @@ use Rattle.alpha_mem.specs.Block.{shapes, within}
 use Rattle.alpha_mem.specs.Fault.{fault_of}
 use Rattle.alpha_pal.specs.Call.{Served, read, write, serve, request_of, callsys, call}
 use Rattle.alpha_seq.specs.State.{Program, State, Event, Went, Barriered, Overflowed, Ends, Stepped, stepped}
-use Rattle.alpha_seq.specs.Step.{next_class, setting, place, went, trap, step, step_from, unless, overflowed, conditional, matches, lock_block, returned}
+use Rattle.alpha_seq.specs.Step.{next_class, setting, accessed, went, trap, step, step_from, unless, overflowed, conditional, matches, lock_block, returned}
 use Rattle.alpha_seq.specs.Run.{Run, Mark, started, is_over, extended_by, advance, after, marks_of}
 use Rattle.alpha_seq.specs.Inputs.{over_input, advance_over, run_over, takes_input, IsUnread, SameButInput}
 
@@ -112,7 +112,7 @@ step_over g (Some (load extension at ra)) s i quiet = unless-over i _ _ s _
 step_over g (Some (store at ra)) s i quiet = unless-over i _ _ s _
 step_over g (Some (load_locked extension at ra)) s i quiet = unless-over i _ _ s _
 step_over g (Some (store_conditional at ra)) s i quiet =
-    ap (unless (fault_of (shapes s.mem) Store (place at s) at.bytes) (place at s) (over_input i s)) (conditional-over i (matches s.lock (lock_block at s)) at ra s)
+    ap (unless (fault_of (shapes s.mem) Store (accessed at s) at.bytes) (accessed at s) (over_input i s)) (conditional-over i (matches s.lock (lock_block at s)) at ra s)
     ∙ unless-over i _ _ s _
 step_over g (Some (branch None ra disp)) s i quiet = refl
 step_over g (Some (branch (Some c) ra disp)) s i quiet = refl

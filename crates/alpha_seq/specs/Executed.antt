@@ -18,7 +18,7 @@ use Rattle.alpha_seq.specs.declared.execute.Executed.{Executed}
 use Rattle.alpha_seq.specs.declared.execute.Executed.TheVariants as answers
 use Rattle.alpha_seq.specs.declared.machine.Machine.{Machine}
 use Rattle.alpha_seq.specs.State.{Event, Went, Overflowed, Ends, stepped}
-use Rattle.alpha_seq.specs.Step.{next_pc, fault_end, place, step}
+use Rattle.alpha_seq.specs.Step.{next_pc, fault_end, accessed, step}
 use Rattle.alpha_seq.specs.Machine.{program_of, state_of, class_here, kernel_left}
 
 -- The step of the definition at a word of this class, at each input and output, which it leaves.
@@ -38,7 +38,7 @@ ExecuteEffect (answers.Barrier call) class old new = (class ≡ barrier call) ×
 -- an access of a word that faults ends the program, and all is as before
 abbrev pub FaultEffect : MemFault → Class → MemAccess → Machine → Machine → Type 0
 FaultEffect fault class at old new =
-    (new ≡ old) × Does (Ends (fault_end fault old.pc (place at (state_of old [] [])))) class old new
+    (new ≡ old) × Does (Ends (fault_end fault old.pc (accessed at (state_of old [] [])))) class old new
 
 -- The step of the definition only went on, at each input and output, which it leaves.
 pub record GoesOn (old new : Machine) : Type 0 where

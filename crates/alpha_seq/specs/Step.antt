@@ -85,8 +85,8 @@ computed Ldah base disp = high_address_of base disp
 computed _ base disp = address_of base disp
 
 -- the address of an access
-abbrev pub place : MemAccess → State → ℕ
-place at s = access_address at (reg s.regs at.base)
+abbrev pub accessed : MemAccess → State → ℕ
+accessed at s = access_address at (reg s.regs at.base)
 
 abbrev pub fault_end : MemFault → ℕ → ℕ → End
 fault_end faults.Align pc addr = ends.Align pc addr
@@ -104,15 +104,15 @@ extended Sign bytes = register_of (signed w32 (little bytes))
 
 -- what a load puts into its register
 abbrev pub loaded : Extension → MemAccess → State → ℕ
-loaded extension at s = extended extension (bytes_at s.mem (place at s) at.bytes)
+loaded extension at s = extended extension (bytes_at s.mem (accessed at s) at.bytes)
 
 -- the memory after a store of a register's low bytes
 abbrev pub written_memory : MemAccess → ℕ → State → List Block
-written_memory at ra s = write_bytes s.mem (place at s) (low_bytes at.bytes (reg s.regs ra))
+written_memory at ra s = write_bytes s.mem (accessed at s) (low_bytes at.bytes (reg s.regs ra))
 
 -- the number that the lock flag gets: that of the sixteen bytes in which the address lies
 abbrev pub lock_block : MemAccess → State → ℕ
-lock_block at s = place at s / 16
+lock_block at s = accessed at s / 16
 
 -- whether a conditional store succeeds: the flag has the number
 abbrev pub matches : Option ℕ → ℕ → Bool
@@ -175,14 +175,14 @@ step g (Some (operate op ra src rc)) s =
 step g (Some (trigger op ra src rc)) s = trap g.how op (reg s.regs ra) (source_value s.regs src) rc s
 step g (Some (address op ra rb disp)) s = went (setting s ra (computed op (reg s.regs rb) disp))
 step g (Some (load extension at ra)) s =
-    unless (fault_of (shapes s.mem) Load (place at s) at.bytes) (place at s) s (setting s ra (loaded extension at s))
+    unless (fault_of (shapes s.mem) Load (accessed at s) at.bytes) (accessed at s) s (setting s ra (loaded extension at s))
 step g (Some (store at ra)) s =
-    unless (fault_of (shapes s.mem) Store (place at s) at.bytes) (place at s) s (record (onward s) { mem = written_memory at ra s })
+    unless (fault_of (shapes s.mem) Store (accessed at s) at.bytes) (accessed at s) s (record (onward s) { mem = written_memory at ra s })
 step g (Some (load_locked extension at ra)) s =
-    unless (fault_of (shapes s.mem) Load (place at s) at.bytes) (place at s) s
+    unless (fault_of (shapes s.mem) Load (accessed at s) at.bytes) (accessed at s) s
     (record (setting s ra (loaded extension at s)) { lock = Some (lock_block at s) })
 step g (Some (store_conditional at ra)) s =
-    unless (fault_of (shapes s.mem) Store (place at s) at.bytes) (place at s) s
+    unless (fault_of (shapes s.mem) Store (accessed at s) at.bytes) (accessed at s) s
     (conditional (matches s.lock (lock_block at s)) at ra s)
 step g (Some (branch condition ra disp)) s = went (branched condition ra disp s)
 step g (Some (jump ra rb)) s = went (jumped ra rb s)

@@ -8,7 +8,7 @@ ghost use Rattle.alpha_mem.specs.Intent.{Load};
 ghost use Rattle.alpha_table.specs.Class.{class_of, load, store, load_locked, store_conditional, idle};
 ghost use Rattle.alpha_table.specs.declared.form.Form.TheVariants.{Mem};
 ghost use Rattle.alpha_values.specs.Numbers.{signed, register_of};
-ghost use Rattle.alpha_seq.specs.Step.{fault_end, place, loaded};
+ghost use Rattle.alpha_seq.specs.Step.{fault_end, accessed, loaded};
 ghost use Rattle.alpha_seq.specs.State.{Went};
 ghost use Rattle.alpha_seq.specs.Machine.{state_of};
 ghost use Rattle.alpha_seq.specs.Executed.{Does, FaultEffect, IsSized, filled, row_access};
@@ -77,7 +77,7 @@ impl Machine {
             self.idle();
             return Ok(());
         }
-        let addr = self.place(at);
+        let addr = self.accessed(at);
         match self.read(extension, at, addr) {
             Ok(value) => {
                 self.set(ra, value);
@@ -94,7 +94,7 @@ impl Machine {
         ensures fault { IfErr result (λ fault. FaultEffect fault (load_locked extension at.now ra)
             at.now self.old self.new) }
     {
-        let addr = self.place(at);
+        let addr = self.accessed(at);
         match self.read(extension, at, addr) {
             Ok(value) => {
                 self.set(ra, value);
@@ -112,7 +112,7 @@ impl Machine {
         ensures fault { IfErr result (λ fault. FaultEffect fault (store at.now ra) at.now
             self.old self.new) }
     {
-        let addr = self.place(at);
+        let addr = self.accessed(at);
         let value = self.regs.get(ra);
         match self.memory.store(addr, size(at.bytes), value) {
             Ok(()) => {
@@ -131,7 +131,7 @@ impl Machine {
         ensures fault { IfErr result (λ fault. FaultEffect fault (store_conditional at.now ra) at.now
             self.old self.new) }
     {
-        let addr = self.place(at);
+        let addr = self.accessed(at);
         let value = self.regs.get(ra);
         let succeeds = self.lock == Some(addr / 16);
         let stored = if succeeds {
@@ -151,8 +151,8 @@ impl Machine {
 
     /// The address of an access (Architecture Handbook, section 4.2).
     #[inline(always)]
-    pub fn place(&self, at: &MemAccess) -> u64
-        ensures { result ≡ place at.now (state_of self.now [] []) }
+    pub fn accessed(&self, at: &MemAccess) -> u64
+        ensures { result ≡ accessed at.now (state_of self.now [] []) }
     {
         access_address(at, self.regs.get(at.base))
     }
@@ -161,7 +161,7 @@ impl Machine {
     #[inline(always)]
     fn read(&self, extension: Extension, at: &MemAccess, addr: u64) -> Result<u64, MemFault>
         requires size { IsSized at.now.bytes }
-        requires addr { addr ≡ place at.now (state_of self.now [] []) }
+        requires addr { addr ≡ accessed at.now (state_of self.now [] []) }
         ensures fault { result_err result ≡ fault_of (shapes self.now.memory) Load addr at.now.bytes }
         ensures ok { IfOk result (λ v. v ≡ loaded extension at.now (state_of self.now [] [])) }
     {

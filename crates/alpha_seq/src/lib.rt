@@ -5,7 +5,7 @@
 //!   and [`Machine::next`] says what that step would do, as a [`Next`]. [`run`] makes
 //!   steps until the program ends or a number of them is used up.
 //! - [`StepEnd`] is how a step went, [`RunEnd`] how a run went, [`End`] how a program ends.
-//! - [`Machine::insn`], [`Machine::source`], [`Machine::place`], [`Machine::set`] and [`Machine::advance`] are the parts of a step that other
+//! - [`Machine::insn`], [`Machine::source`], [`Machine::accessed`], [`Machine::set`] and [`Machine::advance`] are the parts of a step that other
 //!   machines share, with [`memory_access`], [`size`] and [`branch_target`].
 //! - [`write_overflow`], [`write_barrier`], [`write_registers`] and [`write_end`] write the lines of an overflow, of a
 //!   barrier, of the registers alone and of an end.

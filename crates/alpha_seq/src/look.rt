@@ -10,7 +10,7 @@ ghost use Rattle.alpha_table.specs.Class.{class_of};
 ghost use Rattle.alpha_table.specs.declared.form.Form.{Form};
 ghost use Rattle.alpha_table.specs.declared.form.Form.TheVariants.{Mem};
 ghost use Rattle.alpha_values.specs.Source.{source_value};
-ghost use Rattle.alpha_seq.specs.Step.{step, place, fault_end};
+ghost use Rattle.alpha_seq.specs.Step.{step, accessed, fault_end};
 ghost use Rattle.alpha_seq.specs.Next.{next_of, next_by, by_event};
 ghost use Rattle.alpha_seq.specs.Machine.{program_of, state_of};
 ghost use Rattle.alpha_seq.specs.Executed.{IsSized, fault_answer};
@@ -90,11 +90,11 @@ impl Machine {
     // How a load would end the program, if it would fault.
     fn load_end(&self, at: &MemAccess) -> Option<End>
         requires { IsSized at.now.bytes }
-        ensures { let addr = place at.now (state_of self.now [] []) in
+        ensures { let addr = accessed at.now (state_of self.now [] []) in
             result ≡ option_map (λ fault. fault_end fault self.now.pc addr)
             (fault_of (shapes self.now.memory) Load addr at.now.bytes) }
     {
-        let addr = self.place(at);
+        let addr = self.accessed(at);
         match self.memory.load(addr, size(at.bytes)) {
             Ok(_) => None,
             Err(fault) => Some(fault_end(fault, self.pc, addr)),
@@ -104,11 +104,11 @@ impl Machine {
     // How a store would end the program, if it would fault.
     fn store_end(&self, at: &MemAccess) -> Option<End>
         requires { IsSized at.now.bytes }
-        ensures { let addr = place at.now (state_of self.now [] []) in
+        ensures { let addr = accessed at.now (state_of self.now [] []) in
             result ≡ option_map (λ fault. fault_end fault self.now.pc addr)
             (fault_of (shapes self.now.memory) Store addr at.now.bytes) }
     {
-        let addr = self.place(at);
+        let addr = self.accessed(at);
         match self.memory.writable(addr, size(at.bytes)) {
             Ok(()) => None,
             Err(fault) => Some(fault_end(fault, self.pc, addr)),
