@@ -3,7 +3,7 @@ use Rattle.std.proofs.Common.{◌++◌, ◌∷◌, [], List, zero, suc, Option, 
 use Rattle.std.proofs.lemmas.Int.{ints}
 use Rattle.std.proofs.lemmas.List.Elements.{All-append}
 use Rattle.alpha_shadow.specs.declared.loads.Reach.{Reach}
-use Rattle.alpha_shadow.specs.Kept.{IsAround, IsCover}
+use Rattle.alpha_shadow.specs.Held.{IsAround, IsCover}
 
 around_both : (both cover load : Reach) → IsAround both cover → IsAround cover load → IsAround both load
 around_both both cover load outer inner =

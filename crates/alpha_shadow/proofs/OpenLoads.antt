@@ -21,7 +21,7 @@ pub open_loads_next : (code : List ℕ) (at : ℕ) (kind : InsnKind) (access : O
 unfolding open_loads
 open_loads_next code at kind access e f = rw (add-one, e, f) refl
 
--- where no trigger is open no load is kept
+-- where no trigger is open no load is held
 pub no_loads : (code : List ℕ) (at : ℕ) → open_triggers code at ≡ [] → open_loads code at ≡ []
 unfolding open_triggers open_loads
 no_loads code zero e = refl
@@ -62,7 +62,7 @@ any_snoc {X = X} P xs x = (
       (λ (h : P x). Any-push P xs x h),
 )
 
--- the kept loads are those after an open trigger
+-- the open loads are those after an open trigger
 pub any_open_load : (code : List ℕ) (store : Reach) (at : ℕ) → Any (λ load. MayTouch load store) (open_loads code at) ↔ LoadTouches code at store
 unfolding open_loads
 any_open_load code store zero = (λ h. absurd (any_nil _ h), λ l. let b = l.below in absurd (omega arith))
@@ -155,7 +155,7 @@ any_open_load code store (suc n) = by_kind (any_open_load code store n) (kind_at
     by_kind before (Some kinds.Locked) e = still before (λ b. cc, λ t. cc) (λ t. cc)
     by_kind before None e = still before (λ b. cc, λ t. cc) (λ t. cc)
 
--- the kept loads stand after the first trigger, at different places
+-- the open loads stand after the first trigger, at different places
 pub loads_room : (code : List ℕ) (at : ℕ) (f : Trigger) → slice_get (open_triggers code at) 0 ≡ Some f
     → f.place + 1 + length (open_loads code at) ≤ at
 unfolding open_triggers open_loads

@@ -26,9 +26,9 @@ none_next code at n c (Some found) e before next = record {
   least = λ p d within b. ⊎_elim (λ q. before.least p d q b) (λ q. absurd (next p q.1)) (split code at n p c d e within b);
 }
 
-pub kept_next : (code : List ℕ) (at n : ℕ) (c : Condition) (found : Broken) (trigger : ℕ) → condition_number c ≡ n + 1 → IsLeastThere code at n found
+pub same_next : (code : List ℕ) (at n : ℕ) (c : Condition) (found : Broken) (trigger : ℕ) → condition_number c ≡ n + 1 → IsLeastThere code at n found
     → IsFirstBroken code at c (Some trigger) → found.trigger ≤ trigger → IsLeastThere code at (n + 1) found
-kept_next code at n c found trigger e before next less = record {
+same_next code at n c found trigger e before next less = record {
   place = before.place;
   broken = before.broken;
   number = let q = before.number in omega arith;

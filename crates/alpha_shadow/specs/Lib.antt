@@ -2,7 +2,7 @@ pub mod Code
 pub mod Broken
 pub mod Columns
 pub mod Reach
-pub mod Kept
+pub mod Held
 pub mod Window
 pub mod Place
 pub mod Fetched

@@ -115,7 +115,7 @@ pub record LoadTouches (code : List ℕ) (at : ℕ) (store : Reach) : Type 0 whe
   pub accesses : access_at code place ≡ Some access
   pub touches : MayTouch (reach_of access) store
 
--- there is room to keep a word of this kind
+-- there is room for a word of this kind
 abbrev pub HasRoom : Window → InsnKind → Type 0
 HasRoom w kinds.Trigger = length w.triggers.items < 1025
 HasRoom w kinds.Load = length w.loads.items < 1025

@@ -18,7 +18,7 @@
 //! `triggers.rt` and `loads.rt` (the open triggers, and the loads after the first of them), `last.rt`
 //! (the last place of each register) and `columns.rt` (what is read of one word).
 //!
-//! `proofs/Shadows.antt`, `OpenLoads.antt` and `Ends.antt` follow the open triggers, the kept loads and the
+//! `proofs/Shadows.antt`, `OpenLoads.antt` and `Ends.antt` follow the open triggers, the open loads and the
 //! registers' places word by word; `Places.antt` ties each condition to them, `Steps.antt` joins the
 //! conditions, `Passing.antt` and `Judging.antt` make the walk, and `Decided.antt` has the laws.
 //! `Covers.antt` has what a cover of loads covers. `Tables.antt` alone looks into the instruction table,

@@ -1,7 +1,7 @@
 ghost use Rattle.std.specs.Prelude.{◌≡◌, ◌<◌, ◌↔◌, ◌++◌, ◌∷◌, [], IsTrue, IfSome, length};
 ghost use Rattle.std.specs.List.{Any};
 ghost use Rattle.alpha_table.specs.Columns.{SpansMeet};
-ghost use Rattle.alpha_shadow.specs.Kept.{IsAround, IsCover};
+ghost use Rattle.alpha_shadow.specs.Held.{IsAround, IsCover};
 ghost use Rattle.alpha_shadow.specs.Reach.{reach_of, MayTouch};
 
 use crate::triggers::MOST;
@@ -54,7 +54,7 @@ impl Reach {
 /// The loads after the first open trigger, in order. A clause sees the list of them.
 #[derive(Drop)]
 pub(crate) struct Loads {
-    kept: [Reach; MOST],
+    held: [Reach; MOST],
     len: usize,
     // A reach around all of them, if they have one base. A store outside it meets none of them.
     cover: Option<Reach>,
@@ -63,13 +63,13 @@ pub(crate) struct Loads {
 impl Model for Loads {
     ghost use Rattle.std.specs.Prelude.{◌≡◌, ◌≤◌, length, take};
     ghost use Rattle.alpha_shadow.specs.declared.triggers.TheConstants.{MOST};
-    ghost use Rattle.alpha_shadow.specs.Kept.{KeptLoads, IsCover};
+    ghost use Rattle.alpha_shadow.specs.Held.{OpenLoads, IsCover};
 
-    ghost Value = { KeptLoads };
+    ghost Value = { OpenLoads };
 
-    ghost view = { λ l. record { items = take l.len l.kept } };
+    ghost view = { λ l. record { items = take l.len l.held } };
 
-    ghost invariant = { λ l. (l.len ≤ MOST) × (length l.kept ≡ MOST) × IsCover l.cover (take l.len l.kept) };
+    ghost invariant = { λ l. (l.len ≤ MOST) × (length l.held ≡ MOST) × IsCover l.cover (take l.len l.held) };
 }
 
 impl Loads {
@@ -82,7 +82,7 @@ impl Loads {
             span: ByteSpan { low: 0, high: 0 },
         };
         Loads {
-            kept: [blank; MOST],
+            held: [blank; MOST],
             len: 0,
             cover: None,
         }
@@ -95,7 +95,7 @@ impl Loads {
     {
         let cover = self.cover_with(&load);
         self.cover = cover;
-        self.kept[self.len] = load;
+        self.held[self.len] = load;
         self.len += 1;
     }
 
@@ -125,7 +125,7 @@ impl Loads {
         ensures { IsTrue result ↔ Any (λ load. SpansMeet load.span span.now) self.now.items }
     {
         let span = *span;
-        self.kept[..self.len]
+        self.held[..self.len]
             .iter()
             .any(|load| load.span.meets(&span))
     }
@@ -136,7 +136,7 @@ impl Loads {
         ensures { IsTrue result ↔ Any (λ load. MayTouch load store.now) self.now.items }
     {
         let store = *store;
-        self.kept[..self.len]
+        self.held[..self.len]
             .iter()
             .any(|load| load.may_meet(&store))
     }

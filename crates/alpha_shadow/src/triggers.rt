@@ -17,20 +17,20 @@ pub(crate) struct Trigger {
 /// The triggers whose shadows reach a place, in order. A clause sees the list of them.
 #[derive(Drop)]
 pub(crate) struct Triggers {
-    kept: [Trigger; MOST],
+    held: [Trigger; MOST],
     len: usize,
 }
 
 impl Model for Triggers {
     ghost use Rattle.std.specs.Prelude.{◌≡◌, ◌≤◌, length, take};
     ghost use Rattle.alpha_shadow.specs.declared.triggers.TheConstants.{MOST};
-    ghost use Rattle.alpha_shadow.specs.Kept.{OpenTriggers};
+    ghost use Rattle.alpha_shadow.specs.Held.{OpenTriggers};
 
     ghost Value = { OpenTriggers };
 
-    ghost view = { λ t. record { items = take t.len t.kept } };
+    ghost view = { λ t. record { items = take t.len t.held } };
 
-    ghost invariant = { λ t. (t.len ≤ MOST) × (length t.kept ≡ MOST) };
+    ghost invariant = { λ t. (t.len ≤ MOST) × (length t.held ≡ MOST) };
 }
 
 impl Triggers {
@@ -43,7 +43,7 @@ impl Triggers {
             destination: Reg::ZERO,
         };
         Triggers {
-            kept: [blank; MOST],
+            held: [blank; MOST],
             len: 0,
         }
     }
@@ -52,7 +52,7 @@ impl Triggers {
     pub(crate) fn as_slice(&self) -> &[Trigger]
         ensures { result.now ≡ self.now.items }
     {
-        &self.kept[..self.len]
+        &self.held[..self.len]
     }
 
     /// Whether there is none.
@@ -67,7 +67,7 @@ impl Triggers {
         requires { length self.old.items < MOST }
         ensures { self.new.items ≡ self.old.items ++ trigger ∷ [] }
     {
-        self.kept[self.len] = trigger;
+        self.held[self.len] = trigger;
         self.len += 1;
     }
 

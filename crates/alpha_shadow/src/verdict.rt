@@ -22,7 +22,7 @@ pub fn judge<F: Fetch>(code: &mut F) -> Result<(), Broken>
     judge_by(&mut Window::empty(), code)
 }
 
-/// A checker that judges one code after another. It has room for what it keeps of the words before a
+/// A checker that judges one code after another. It has room for what it knows of the words before a
 /// place, so that a verdict on few words costs no more than these.
 #[derive(Drop)]
 pub struct Checker {

@@ -1,4 +1,4 @@
--- What a clause sees of the triggers and the loads that a window keeps.
+-- What a clause sees of the triggers and the loads that a window holds.
 use Rattle.std.specs.Prelude.{◌≡◌, ◌≤ℤ◌, List, Option, Some, None, All}
 use Rattle.alpha_shadow.specs.declared.triggers.Trigger.{Trigger}
 use Rattle.alpha_shadow.specs.declared.loads.Reach.{Reach}
@@ -6,7 +6,7 @@ use Rattle.alpha_shadow.specs.declared.loads.Reach.{Reach}
 pub record OpenTriggers : Type 0 where
   pub items : List Trigger
 
-pub record KeptLoads : Type 0 where
+pub record OpenLoads : Type 0 where
   pub items : List Reach
 
 -- one reach has the other's base and each byte of it
