@@ -10,7 +10,7 @@ use Rattle.alpha_mem.specs.Memory.{bytes_at, write_bytes}
 use Rattle.alpha_pal.specs.declared.serve.Request.{Request}
 use Rattle.alpha_pal.specs.declared.serve.Answer.{Answer}
 use Rattle.alpha_pal.specs.declared.serve.Answer.TheVariants.{Value, Error, Exit}
-use Rattle.alpha_pal.specs.Taken.{HasTaken, TakesLess, Ends}
+use Rattle.alpha_pal.specs.Taken.{HasTaken, TakesLess, NothingLeft}
 use Rattle.alpha_pal.specs.Call.{Outside, outside, served, read, write, serve}
 use Rattle.alpha_pal.specs.CallEffect.{Takes, Serves, TakesPart}
 
@@ -33,7 +33,7 @@ unfolding rest_of
 Takes-nothing None = tt
 Takes-nothing (Some xs) = (refl, refl)
 
-rest_of-ended : (left now : Option (List ℕ)) → Ends left now → rest_of left now ≡ []
+rest_of-ended : (left now : Option (List ℕ)) → NothingLeft left now → rest_of left now ≡ []
 unfolding rest_of
 rest_of-ended None now h = refl
 rest_of-ended (Some xs) None h = refl
@@ -106,7 +106,7 @@ drop-taken : (taken rest : List ℕ) (n : ℕ) → length taken ≤ n → (lengt
 drop-taken taken rest n fits ended =
     ⊎_elim (λ (p : length taken < n). let whole : taken ++ rest ≡ taken = ap (λ l. taken ++ l) (ended p) ∙ append-nil taken in ap (drop n) whole ∙ (drop_all n taken fits ∙ sym (ended p))) (λ (p : n ≤ length taken). drop_at taken rest n (omega arith)) (cases_lt (length taken) n)
 
-pub read_done : (r : Request) (mem mem' : List Block) (left left' written : Option (List ℕ)) (n : ℕ) → r.number ≡ 3 → r.a0 ≡ 0 → IsTrue (within (shapes mem) Store r.a1 r.a2) → HasTaken mem mem' r.a1 n left left' → n ≤ r.a2 → (n < r.a2 → Ends left left') → Serves r (Value n) mem mem' left left' written written
+pub read_done : (r : Request) (mem mem' : List Block) (left left' written : Option (List ℕ)) (n : ℕ) → r.number ≡ 3 → r.a0 ≡ 0 → IsTrue (within (shapes mem) Store r.a1 r.a2) → HasTaken mem mem' r.a1 n left left' → n ≤ r.a2 → (n < r.a2 → NothingLeft left left') → Serves r (Value n) mem mem' left left' written written
 read_done r mem mem' left left' written n number good range h fits ended =
     let rest = rest_of left left' in
     let ends : length h.taken < r.a2 → rest ≡ [] = λ p. rest_of-ended left left' (ended (omega (arith, h.count))) in

@@ -18,6 +18,6 @@ pub record TakesLess (mem mem' : List Block) (a size : ℕ) (left left' : Option
   pub first : HasTaken mem mem' a done left left'
 
 -- where the input was told, nothing is left of it
-abbrev pub Ends : Option (List ℕ) → Option (List ℕ) → Type 0
-Ends None now = ⊤
-Ends (Some xs) now = IsAtEnd now
+abbrev pub NothingLeft : Option (List ℕ) → Option (List ℕ) → Type 0
+NothingLeft None now = ⊤
+NothingLeft (Some xs) now = IsAtEnd now

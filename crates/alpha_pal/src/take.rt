@@ -4,7 +4,7 @@ ghost use Rattle.alpha_io.specs.Faults.{HasCause};
 ghost use Rattle.alpha_mem.specs.Intent.{Store};
 ghost use Rattle.alpha_mem.specs.Block.{shapes, within};
 ghost use Rattle.alpha_mem.specs.Memory.{IsMemory};
-ghost use Rattle.alpha_pal.specs.Taken.{HasTaken, TakesLess, Ends};
+ghost use Rattle.alpha_pal.specs.Taken.{HasTaken, TakesLess, NothingLeft};
 
 use alpha_io::{Failed, Source};
 use alpha_mem::Memory;
@@ -24,7 +24,7 @@ pub(crate) fn take_into<S: Source>(
     requires good { IsMemory mem.old }
     ensures ok { IfOk result (λ n. HasTaken mem.old mem.new addr n (S.left input.old) (S.left input.new)) }
     ensures bound { IfOk result (λ n. n ≤ size) }
-    ensures ends { IfOk result (λ n. n < size → Ends (S.left input.old) (S.left input.new)) }
+    ensures ends { IfOk result (λ n. n < size → NothingLeft (S.left input.old) (S.left input.new)) }
     ensures refused { OnErr result (TakesLess mem.old mem.new addr size (S.left input.old) (S.left input.new)) }
     ensures shapes { shapes mem.new ≡ shapes mem.old }
     ensures cause { HasCause (S.faults input.old) (S.faults input.new) result }
