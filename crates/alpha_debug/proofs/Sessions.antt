@@ -19,8 +19,8 @@ use Rattle.alpha_debug.specs.declared.travel.Until.TheVariants as until
 use Rattle.alpha_debug.specs.declared.debugger.Debugger.{Debugger}
 use Rattle.alpha_debug.specs.declared.debugger.Talk.TheVariants.{GoesOn}
 use Rattle.alpha_debug.specs.Command.{most_steps}
-use Rattle.alpha_debug.specs.Lines.{ended, place_line}
-use Rattle.alpha_debug.specs.Session.{Setting, Session, IsVerdict, text_of, saying, walk, if_going, going, placing, travel, has_point, most_points, ok, is_shown, shown, answer}
+use Rattle.alpha_debug.specs.Lines.{ended, where_line}
+use Rattle.alpha_debug.specs.Session.{Setting, Session, IsVerdict, text_of, saying, walk, if_going, going, saying_where, travel, has_point, most_points, ok, is_shown, shown, answer}
 use Rattle.alpha_debug.specs.Effects.{Grows, Stops, session_of, setting_of, IsOpened, Makes, Fails, Answers, AnswerFails}
 use Rattle.alpha_debug.proofs.Sinks.{Grows-same, Grows-by, Grows-trans, Breaks-more, Breaks-after, Puts-both}
 use Rattle.alpha_debug.proofs.Steps.{walk-grows}
@@ -44,13 +44,13 @@ going-grows : (g : Setting) (wanted : Until) (most : ℕ) (s : Session) (end : O
 going-grows g wanted most s None = walk-grows g.program wanted s.points most s.state
 going-grows g wanted most s (Some end) = Grows-same (text_of s)
 
-placing-grows : (s : Session) → Grows (text_of s) (text_of (placing s))
-placing-grows s = Grows-by (text_of s) (place_line s.end s.state.pc)
+saying_where-grows : (s : Session) → Grows (text_of s) (text_of (saying_where s))
+saying_where-grows s = Grows-by (text_of s) (where_line s.end s.state.pc)
 
 travel-grows : (g : Setting) (wanted : Until) (most : ℕ) (s : Session) → Grows (text_of s) (text_of (travel g wanted most s))
 travel-grows g wanted most s =
     let t : Session = going g wanted most s in
-    Grows-trans (text_of s) (text_of t) (text_of (placing t)) (going-grows g wanted most s s.end) (placing-grows t)
+    Grows-trans (text_of s) (text_of t) (text_of (saying_where t)) (going-grows g wanted most s s.end) (saying_where-grows t)
 
 adding-by : (b c : Bool) (s x y z : Session) → Grows (text_of s) (text_of x) → Grows (text_of s) (text_of y) → Grows (text_of s) (text_of z) → Grows (text_of s) (text_of (cond b x (cond c y z)))
 adding-by true c s x y z p q r = p
@@ -77,25 +77,25 @@ answer-grows g Unknown s = Grows-by (text_of s) _
 -- ---- steps, and the place
 
 module _ {K : Type 0} (written : K → Option (List ℕ)) (faults : K → ℕ) (o p q : K) (becomes : Session → Session) (old new : Debugger) where
-  pub placed : Makes becomes old new (sunk_by written faults o p) → Puts (sunk_by written faults p q) (place_line new.end new.machine.pc)
-      → Makes (λ s. placing (becomes s)) old new (sunk_by written faults o q)
-  placed makes wrote = record {
-    bytes = makes.bytes ++ place_line new.end new.machine.pc;
-    wrote = Puts-both written faults o p q makes.bytes (place_line new.end new.machine.pc) makes.wrote wrote;
+  pub where_said : Makes becomes old new (sunk_by written faults o p) → Puts (sunk_by written faults p q) (where_line new.end new.machine.pc)
+      → Makes (λ s. saying_where (becomes s)) old new (sunk_by written faults o q)
+  where_said makes wrote = record {
+    bytes = makes.bytes ++ where_line new.end new.machine.pc;
+    wrote = Puts-both written faults o p q makes.bytes (where_line new.end new.machine.pc) makes.wrote wrote;
     is = λ text.
-        ap placing (makes.is text)
-        ∙ ap (λ (l : List ℕ). session_of new l) (append_assoc text makes.bytes (place_line new.end new.machine.pc));
+        ap saying_where (makes.is text)
+        ∙ ap (λ (l : List ℕ). session_of new l) (append_assoc text makes.bytes (where_line new.end new.machine.pc));
   }
 
-  pub place_fails : Makes becomes old new (sunk_by written faults o p) → Stops (sunk_by written faults p q) (place_line new.end new.machine.pc)
-      → Fails (λ s. placing (becomes s)) old (sunk_by written faults o q)
-  place_fails makes stops text =
-      Breaks-after written faults o p q makes.bytes text (text_of (placing (becomes (session_of old text)))) makes.wrote
-      (record { bytes = place_line new.end new.machine.pc; is = ap (λ (s : Session). text_of (placing s)) (makes.is text); stops = stops })
+  pub where_fails : Makes becomes old new (sunk_by written faults o p) → Stops (sunk_by written faults p q) (where_line new.end new.machine.pc)
+      → Fails (λ s. saying_where (becomes s)) old (sunk_by written faults o q)
+  where_fails makes stops text =
+      Breaks-after written faults o p q makes.bytes text (text_of (saying_where (becomes (session_of old text)))) makes.wrote
+      (record { bytes = where_line new.end new.machine.pc; is = ap (λ (s : Session). text_of (saying_where s)) (makes.is text); stops = stops })
 
-pub placed_fails : (becomes : Session → Session) (old : Debugger) (out : Sunk) → Fails becomes old out → Fails (λ s. placing (becomes s)) old out
-placed_fails becomes old out fails text =
-    Breaks-more out text (text_of (becomes (session_of old text))) (text_of (placing (becomes (session_of old text)))) (fails text) (placing-grows (becomes (session_of old text)))
+pub saying_where_fails : (becomes : Session → Session) (old : Debugger) (out : Sunk) → Fails becomes old out → Fails (λ s. saying_where (becomes s)) old out
+saying_where_fails becomes old out fails text =
+    Breaks-more out text (text_of (becomes (session_of old text))) (text_of (saying_where (becomes (session_of old text)))) (fails text) (saying_where-grows (becomes (session_of old text)))
 
 -- ---- commands
 

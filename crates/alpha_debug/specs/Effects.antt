@@ -123,7 +123,7 @@ AnswerFails command old out = Fails (answer (setting_of old) command) old out
 
 -- ---- a script
 
--- the line in hand, of which so many bytes are kept at most
+-- the line in hand, of which so many bytes are held at most
 pub record IsHeld (begun held : List ℕ) : Type 0 where
   pub front : held ≡ take 1026 begun
   pub line : All (λ b. (b == 10) ≡ false) begun

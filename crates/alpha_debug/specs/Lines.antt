@@ -25,9 +25,9 @@ rows row zero = []
 rows row (suc n) = rows row n ++ row n
 
 -- `pc A`, or the line of the end
-unfoldable pub place_line : Option End → ℕ → List ℕ
-place_line None pc = codes "pc " ++ hex_digits pc ++ line_feed
-place_line (Some end) pc = end_line end
+unfoldable pub where_line : Option End → ℕ → List ℕ
+where_line None pc = codes "pc " ++ hex_digits pc ++ line_feed
+where_line (Some end) pc = end_line end
 
 -- the most bytes of a line of `mem`
 abbrev pub row_bytes : ℕ

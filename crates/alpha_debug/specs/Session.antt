@@ -17,7 +17,7 @@ use Rattle.alpha_debug.specs.declared.command.Command.TheVariants.{Nothing, Step
 use Rattle.alpha_debug.specs.declared.travel.Until.{Until}
 use Rattle.alpha_debug.specs.declared.travel.Until.TheVariants as until
 use Rattle.alpha_debug.specs.Command.{most_steps}
-use Rattle.alpha_debug.specs.Lines.{ended, place_line, memory_lines, code_lines, verdict_line, log_line}
+use Rattle.alpha_debug.specs.Lines.{ended, where_line, memory_lines, code_lines, verdict_line, log_line}
 
 -- what a session doesn't change: the program, and the least broken place of its code, if there is one
 pub record Setting : Type 0 where
@@ -103,14 +103,14 @@ if_going None s w = walking s w
 if_going (Some end) s w = s
 
 -- where the program stands is said
-abbrev pub placing : Session → Session
-placing s = saying s (place_line s.end s.state.pc)
+abbrev pub saying_where : Session → Session
+saying_where s = saying s (where_line s.end s.state.pc)
 
 abbrev pub going : Setting → Until → ℕ → Session → Session
 going g wanted most s = if_going s.end s (walk g.program wanted s.points most s.state)
 
 abbrev pub travel : Setting → Until → ℕ → Session → Session
-travel g wanted most s = placing (going g wanted most s)
+travel g wanted most s = saying_where (going g wanted most s)
 
 -- ---- breakpoints
 

@@ -6,7 +6,7 @@ ghost use Rattle.alpha_debug.specs.Effects.{setting_of, IsOpened, Stops, Remains
 
 use crate::breakpoints::{MOST_POINTS, Points, has_point, remove_point};
 use crate::command::{Command, MOST_STEPS};
-use crate::print::{log_line, place_line, print_code, print_memory, say, verdict_line};
+use crate::print::{log_line, print_code, print_memory, say, verdict_line, where_line};
 use crate::travel::{Until, walk};
 use alpha_image::Image;
 use alpha_io::{Failed, Sink};
@@ -85,7 +85,7 @@ impl Debugger {
         ensures same { Remains self.old self.new }
     {
         self.make_steps(until, most, out)?;
-        say(place_line(self.end, self.machine.pc).as_bytes(), out)
+        say(where_line(self.end, self.machine.pc).as_bytes(), out)
     }
 
     // Makes steps, unless the program has ended.

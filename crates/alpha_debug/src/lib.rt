@@ -13,7 +13,7 @@
 //! `specs/Effects.antt` says what the code did against these, where devices may tell nothing.
 //!
 //! `src/command.rt` reads a line, `src/word.rt` its words and numbers. `src/debugger.rt` has the session and answers a
-//! command; `src/travel.rt` makes the steps, `src/breakpoints.rt` keeps the breakpoints, `src/print.rt` writes the lines.
+//! command; `src/travel.rt` makes the steps, `src/breakpoints.rt` has the breakpoints, `src/print.rt` writes the lines.
 //! `src/script.rt` cuts the script into lines, in pieces of a fixed size, and `src/transcript.rt` is the whole.
 #![tactic(auto)]
 

@@ -5,7 +5,7 @@ ghost use Rattle.alpha_io.specs.Sunk.{sunk, Puts};
 ghost use Rattle.alpha_mem.specs.Block.{Block};
 ghost use Rattle.alpha_image.specs.Parts.{place_of};
 ghost use Rattle.alpha_debug.specs.Effects.{Stops};
-ghost use Rattle.alpha_debug.specs.Lines.{rows, place_line, memory_line, memory_row, bytes_lines, memory_lines, bad_range, code_line, code_row, code_lines, verdict_line, log_line};
+ghost use Rattle.alpha_debug.specs.Lines.{rows, where_line, memory_line, memory_row, bytes_lines, memory_lines, bad_range, code_line, code_row, code_lines, verdict_line, log_line};
 
 use alpha_image::Image;
 use alpha_io::{Failed, Line, Sink, write_whole};
@@ -26,9 +26,9 @@ pub(crate) fn say<K: Sink>(bytes: &[u8], out: &mut K) -> Result<(), Failed>
 }
 
 /// `pc A`, or the line of the end.
-#[tactic(auto, unfolding(crate::specs::Lines::place_line))]
-pub(crate) fn place_line(end: Option<End>, pc: u64) -> Line
-    ensures { result ≡ place_line end pc }
+#[tactic(auto, unfolding(crate::specs::Lines::where_line))]
+pub(crate) fn where_line(end: Option<End>, pc: u64) -> Line
+    ensures { result ≡ where_line end pc }
 {
     match end {
         Some(end) => line_of_end(&end),

@@ -9,7 +9,7 @@ use crate::debugger::{Debugger, Talk};
 use alpha_io::{Failed, Sink};
 use arrayvec::ArrayVec;
 
-// How many bytes of a line are kept: one that has so many is too long, whether or not its last is a carriage return.
+// How many bytes of a line are held: one that has so many is too long, whether or not its last is a carriage return.
 const HELD: usize = 1_026;
 
 /// The front of the line in hand, without a line feed.
