@@ -51,8 +51,6 @@ mod place;
 mod program;
 mod statement;
 mod symbols;
-#[cfg(test)]
-mod tests;
 mod unlinked;
 
 pub use assembler::assemble;

@@ -50,8 +50,6 @@ mod replay;
 mod run;
 mod status;
 mod sure;
-#[cfg(test)]
-mod tests;
 mod top;
 mod trial;
 

@@ -25,8 +25,6 @@ mod input;
 mod laws;
 mod print;
 mod script;
-#[cfg(test)]
-mod tests;
 mod transcript;
 mod travel;
 mod word;

@@ -17,7 +17,5 @@ mod block;
 mod digits;
 mod lines;
 mod listing;
-#[cfg(test)]
-mod tests;
 
 pub use listing::{ListFault, list};

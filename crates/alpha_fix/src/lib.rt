@@ -35,8 +35,6 @@ mod fixed_line;
 mod inserter;
 mod laws;
 mod line;
-#[cfg(test)]
-mod tests;
 
 pub use cuts::cuts_of;
 pub use fault::{CutFault, FixFault};

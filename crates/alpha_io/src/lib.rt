@@ -35,8 +35,6 @@ mod shelf;
 mod sink;
 mod source;
 mod stream;
-#[cfg(test)]
-mod tests;
 
 pub use disk::DiskShelf;
 pub use laws::{laws_of_counts, laws_of_files, laws_of_prefixes, laws_of_reading, laws_of_sinks};

@@ -80,8 +80,6 @@ mod relocation;
 mod relocations;
 mod symbol;
 mod symbols;
-#[cfg(test)]
-mod tests;
 mod write;
 
 pub use fault::{LinkFault, ModuleFault};

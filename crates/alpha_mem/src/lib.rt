@@ -36,5 +36,3 @@ pub use laws::{
 pub use memory::Memory;
 pub use number::number_of;
 
-#[cfg(test)]
-mod tests;

@@ -21,8 +21,6 @@ mod number;
 mod operands;
 mod piece;
 mod shape;
-#[cfg(test)]
-mod tests;
 mod values;
 mod walk;
 

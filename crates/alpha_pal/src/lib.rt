@@ -39,5 +39,3 @@ pub use laws::laws_of_calls;
 pub use pal_end::PalEnd;
 pub use summary::Summary;
 
-#[cfg(test)]
-mod tests;

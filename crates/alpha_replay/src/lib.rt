@@ -73,8 +73,6 @@ mod read;
 mod replay_fault;
 mod replaying;
 mod tape;
-#[cfg(test)]
-mod tests;
 mod turn;
 mod words;
 mod write;

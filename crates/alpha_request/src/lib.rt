@@ -26,8 +26,6 @@ mod matches;
 mod name;
 mod options;
 mod request;
-#[cfg(test)]
-mod tests;
 mod words;
 
 pub use files::FileNames;

@@ -34,8 +34,6 @@ mod names;
 mod op;
 mod operate;
 mod rows;
-#[cfg(test)]
-mod tests;
 
 pub use columns::{
     ByteSpan, InsnKind, MemAccess, access, kind, level_of, sets, span, trap_op, uses,

@@ -1,4 +1,4 @@
-use crate::{AsmFault, assemble};
+use alpha_asm::{AsmFault, assemble};
 use AsmFault::{Duplicate, ImageField, Line, LongLine, NoEntry, Reach, Section, Undefined};
 use alpha_image::{Image, code_word, image_bytes};
 use alpha_text::{LineFault, LineFaultKind};

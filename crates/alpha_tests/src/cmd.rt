@@ -1,7 +1,7 @@
 //! Calls that files of cases can't make: over devices that never fail or take so much and no more, and of the
 //! functions beside the top call.
 
-use crate::{Status, Words, alpha_sure, alpha_top, image_of};
+use alpha_cmd::{Status, Words, alpha_sure, alpha_top, image_of};
 use alpha_image::ImageFault;
 use alpha_io::{MemorySink, SureShelf, SureSource};
 use alpha_words::NoMemory;

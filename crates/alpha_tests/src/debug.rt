@@ -1,4 +1,4 @@
-use crate::{DebugEnd, debug};
+use alpha_debug::{DebugEnd, debug};
 use alpha_io::{MemorySink, MemorySource, SureSource};
 use alpha_samples::sample;
 use std::alloc::Global;

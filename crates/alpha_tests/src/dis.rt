@@ -1,4 +1,4 @@
-use crate::{ListFault, list};
+use alpha_dis::{ListFault, list};
 use alpha_image::{Fields, Image, LevelFields, Segment, read_image};
 use alpha_io::MemorySink;
 use std::alloc::Global;

@@ -1,4 +1,4 @@
-use crate::{FixFault, cuts_of, fix};
+use alpha_fix::{FixFault, cuts_of, fix};
 use FixFault::{Far, Fixed, Source, Unfixable};
 use alpha_asm::{AsmFault, assemble};
 use alpha_shadow::{Broken, Condition};

@@ -1,4 +1,4 @@
-use crate::*;
+use alpha_io::*;
 use std::alloc::Global;
 use std::io::Read;
 use std::test::Fail;

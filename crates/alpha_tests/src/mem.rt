@@ -1,4 +1,4 @@
-use crate::{MemFault, Memory, Size};
+use alpha_mem::{MemFault, Memory, Size};
 use alpha_words::NoMemory;
 use std::alloc::Global;
 use std::test::Fail;

@@ -1,4 +1,4 @@
-use crate::{Half, ListValue, Number, Shape, next_value, operator, register};
+use alpha_operands::{Half, ListValue, Number, Shape, next_value, operator, register};
 
 #[test]
 fn registers_by_number_and_by_use(rt: HostRuntime) {

@@ -1,4 +1,4 @@
-use crate::*;
+use alpha_replay::*;
 use alpha_imprecise::{ListChooser, Wild};
 use alpha_io::{ReadSource, WriteSink};
 use alpha_samples::sample;

@@ -1,7 +1,7 @@
 mod links;
 mod records;
 
-use crate::{Choices, Refusal, Request, RunOptions, Words, request_of};
+use alpha_request::{Choices, Refusal, Request, RunOptions, Words, request_of};
 use alpha_words::Completion;
 use std::alloc::Global;
 use std::test::Fail;

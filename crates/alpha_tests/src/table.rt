@@ -1,4 +1,4 @@
-use crate::{
+use alpha_table::{
     BranchOp, ByteSpan, Cond, Extension, Form, Insn, InsnKind, JumpKind, MemOp, MemRole, Mnemonic,
     Op, OperandRule, Src, TrapOp, access, decode, encode, kind, level_of, sets, span, trap_op,
     uses,

@@ -1,4 +1,4 @@
-use crate::{Step, TokenKind, next, next_byte, number};
+use alpha_token::{Step, TokenKind, next, next_byte, number};
 use TokenKind::{
     Close, Colon, Comma, Dot, Minus, Name, Number, Open, Operator, Plus, Register, Text,
 };

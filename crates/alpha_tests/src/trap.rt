@@ -1,6 +1,6 @@
 ghost use Rattle.std.specs.Prelude.{◌≡◌, false, IfOk};
 
-use crate::{Lost, handle, scan_back};
+use alpha_trap::{Lost, handle, scan_back};
 use alpha_pal::Kernel;
 use alpha_samples::sample;
 use alpha_words::{Completion, NoMemory, Reg, RegFile, RegSet};

@@ -1,4 +1,4 @@
-use crate::*;
+use alpha_values::*;
 use alpha_table::{Cond, MemAccess, Op, TrapOp};
 use alpha_words::{Completion, Level, Reg};
 

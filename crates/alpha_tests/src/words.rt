@@ -1,4 +1,4 @@
-use crate::{Level, Reg, RegFile, RegSet, Word};
+use alpha_words::{Level, Reg, RegFile, RegSet, Word};
 use std::test::Fail;
 
 #[test]

@@ -14,8 +14,6 @@ mod bytes;
 mod laws;
 mod numeral;
 mod quoted;
-#[cfg(test)]
-mod tests;
 mod token;
 
 pub use laws::laws_of_strings;

@@ -22,8 +22,6 @@
 mod handler;
 mod laws;
 mod scan;
-#[cfg(test)]
-mod tests;
 mod trigger;
 
 pub use handler::{Lost, handle};

@@ -40,5 +40,3 @@ pub use laws::{laws_of_addresses, laws_of_completion, laws_of_results};
 pub use results::{operate, operate_at};
 pub use trap::{completed, overflows};
 
-#[cfg(test)]
-mod tests;

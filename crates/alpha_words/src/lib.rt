@@ -18,8 +18,6 @@ ghost use Rattle.alpha_words.specs.Levels.{level_number};
 mod file;
 mod reg;
 mod set;
-#[cfg(test)]
-mod tests;
 mod word;
 
 pub use file::RegFile;

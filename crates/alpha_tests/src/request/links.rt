@@ -1,4 +1,4 @@
-use crate::{Refusal, Request, Words, request_of};
+use alpha_request::{Refusal, Request, Words, request_of};
 use std::alloc::Global;
 use std::test::Fail;
 

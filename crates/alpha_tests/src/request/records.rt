@@ -1,5 +1,5 @@
 use super::asked;
-use crate::{Choices, Request, Words, request_of};
+use alpha_request::{Choices, Request, Words, request_of};
 use alpha_words::Completion;
 use std::test::Fail;
 

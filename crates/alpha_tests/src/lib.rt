@@ -1,0 +1,40 @@
+//! Tests of what no clause says, a module for each crate: values from outside, printed text, and that each call succeeds where
+//! memory is there. They use the crates as whoever stands on them does, and are proved without proving these again.
+//!
+//! Tests of commands are cases of `alpha_cases`, those of images lines of `alpha_vectors/data/images.tsv`.
+#![tactic(auto)]
+
+#[cfg(test)]
+mod asm;
+#[cfg(test)]
+mod cmd;
+#[cfg(test)]
+mod debug;
+#[cfg(test)]
+mod dis;
+#[cfg(test)]
+mod fix;
+#[cfg(test)]
+mod io;
+#[cfg(test)]
+mod link;
+#[cfg(test)]
+mod mem;
+#[cfg(test)]
+mod operands;
+#[cfg(test)]
+mod pal;
+#[cfg(test)]
+mod replay;
+#[cfg(test)]
+mod request;
+#[cfg(test)]
+mod table;
+#[cfg(test)]
+mod token;
+#[cfg(test)]
+mod trap;
+#[cfg(test)]
+mod values;
+#[cfg(test)]
+mod words;
