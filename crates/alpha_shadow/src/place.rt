@@ -60,12 +60,7 @@ fn broken_by_register(window: &Window, at: u32, word: &Columns) -> Option<Broken
     ensures { (code : List ℕ) → Summarizes code window.now at → IsUnbroken code at
         → HasColumns code at word.now → IsLeastUpTo code at 8 result }
 {
-    lesser(
-        None,
-        at,
-        Condition::SourceLost,
-        source_lost(window, at, word),
-    )
+    broken_by_set(window, at, word)
 }
 
 // The least broken place at a branch or a jump.
@@ -74,12 +69,7 @@ fn broken_by_turn(window: &Window, at: u32, word: &Columns) -> Option<Broken>
     ensures { (code : List ℕ) → Summarizes code window.now at → IsUnbroken code at
         → HasColumns code at word.now → IsLeastUpTo code at 8 result }
 {
-    let found = lesser(
-        None,
-        at,
-        Condition::SourceLost,
-        source_lost(window, at, word),
-    );
+    let found = broken_by_set(window, at, word);
     lesser(found, at, Condition::Turn, window.first())
 }
 
@@ -90,12 +80,7 @@ fn broken_by_access(window: &Window, at: u32, word: &Columns) -> Option<Broken>
     ensures { (code : List ℕ) → Summarizes code window.now at → IsUnbroken code at
         → HasColumns code at word.now → IsLeastUpTo code at 8 result }
 {
-    let found = lesser(
-        None,
-        at,
-        Condition::SourceLost,
-        source_lost(window, at, word),
-    );
+    let found = broken_by_set(window, at, word);
     let found = lesser(found, at, Condition::WildBase, wild_base(window, word));
     let found = lesser(
         found,
@@ -104,6 +89,20 @@ fn broken_by_access(window: &Window, at: u32, word: &Columns) -> Option<Broken>
         load_then_store(window, word),
     );
     lesser(found, at, Condition::Locked, locked(window, word))
+}
+
+// The least broken place under the first three conditions, at a word that is no trigger.
+fn broken_by_set(window: &Window, at: u32, word: &Columns) -> Option<Broken>
+    requires { word.now.kind ≢ kinds.Trigger }
+    ensures { (code : List ℕ) → Summarizes code window.now at → IsUnbroken code at
+        → HasColumns code at word.now → IsLeastUpTo code at 3 result }
+{
+    lesser(
+        None,
+        at,
+        Condition::SourceLost,
+        source_lost(window, at, word),
+    )
 }
 
 // The lesser of what was found and of the first trigger under the next condition.

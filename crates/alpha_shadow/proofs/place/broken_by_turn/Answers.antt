@@ -1,22 +1,18 @@
-use Rattle.std.proofs.Common.{◌∙◌, ap, Some, None, inl, inr, refl}
-use Rattle.alpha_shadow.specs.declared.broken.Condition.TheVariants.{ZeroDestination, SameDestination, WildBase, LoadThenStore, Locked}
+use Rattle.std.proofs.Common.{◌∙◌, ap, Some, inl, inr, refl}
+use Rattle.alpha_shadow.specs.declared.broken.Condition.TheVariants.{WildBase, LoadThenStore, Locked}
 use Rattle.alpha_shadow.proofs.Tables.{no_access}
-use Rattle.alpha_shadow.proofs.Places.{zero_missing, same_missing, wild_missing, no_store, locked_missing, window_first, turn_first}
-use Rattle.alpha_shadow.proofs.Steps.{nothing_yet, skip, open_next}
+use Rattle.alpha_shadow.proofs.Places.{wild_missing, no_store, locked_missing, window_first, turn_first}
+use Rattle.alpha_shadow.proofs.Steps.{skip, open_next}
 use Rattle.alpha_shadow.proofs.place.broken_by_turn.Goals as goal
 
 pub returns : goal.returns
 returns c = λ code s u h.
     let at = c.args.at in
-    let word = c.args.word.now in
     let k = h.kind in
     let turn = c.requires in
-    let access = no_access code at word.kind h.kind (inr (inr (inl turn))) in
-    let found = c.lesser-found.result in
-    let c1 = skip code at 0 ZeroDestination None refl (zero_missing code at (λ q. let t = q.0 in cc)) (nothing_yet code at) in
-    let c2 = c.lesser-found.ensures code 1 refl c1 (c.source_lost.ensures code s u h) in
-    let c3 = skip code at 2 SameDestination found refl (same_missing code at (λ t. cc)) c2 in
-    let c4 = skip code at 3 WildBase found refl (wild_missing code at access) c3 in
+    let access = no_access code at c.args.word.now.kind h.kind (inr (inr (inl turn))) in
+    let found = c.broken_by_set-found.result in
+    let c4 = skip code at 3 WildBase found refl (wild_missing code at access) (c.broken_by_set-found.ensures code s u h) in
     let c5 = skip code at 4 LoadThenStore found refl (no_store code at (λ q. q.1 access)) c4 in
     let c6 = skip code at 5 Locked found refl (locked_missing code at (λ t. cc)) c5 in
     let first = turn_first code at (h.kind ∙ ap Some turn) c.first.result (window_first code c.args.window.now at s c.first.result c.first.ensures) in
