@@ -92,9 +92,10 @@ after-more g s mid n run m event input output made goes stepped_is =
 
 -- ---- the input
 
-record Joined (input : Times) (taken rest taken' rest' : List ℕ) : Type 0 where
-  same : rest ≡ taken' ++ rest'
-  took : Draws (drawn_over input) (taken ++ taken') rest'
+-- what was taken before and after stands behind one another
+pub record Joined (input : Times) (taken rest taken' rest' : List ℕ) : Type 0 where
+  pub same : rest ≡ taken' ++ rest'
+  pub took : Draws (drawn_over input) (taken ++ taken') rest'
 
 joined_at : (xs : List ℕ) (mid last : Option (List ℕ)) (a b c : ℕ) (taken rest taken' rest' : List ℕ)
     → Draws (record { old = Some xs; new = mid; before = a; now = b }) taken rest
@@ -112,7 +113,7 @@ joined_at xs (Some ys) last a b c taken rest taken' rest' one two =
       };
     }
 
-joined : (xs : List ℕ) (input : Times) (taken rest taken' rest' : List ℕ) → input.first ≡ Some xs
+pub joined : (xs : List ℕ) (input : Times) (taken rest taken' rest' : List ℕ) → input.first ≡ Some xs
     → Draws (drawn_before input) taken rest → Draws (drawn_after input) taken' rest' → Joined input taken rest taken' rest'
 joined xs input taken rest taken' rest' told one two =
     let P : Option (List ℕ) → Type 0 = λ first.
