@@ -19,6 +19,7 @@ use Rattle.alpha_seq.specs.Machine.{program_of, state_of, class_here}
 use Rattle.alpha_seq.specs.Devices.{Drawn}
 use Rattle.alpha_seq.specs.StepEffect.{Steps}
 use Rattle.alpha_seq.specs.Executed.{GoesOn}
+use Rattle.alpha_seq.proofs.Executing.{GoesOn-kernel}
 use Rattle.alpha_imprecise.specs.declared.pending.Pending.{Pending}
 use Rattle.alpha_imprecise.specs.Moment.{Trap, with_register, Happening, Precisely, Triggered, Waited, moment}
 use Rattle.alpha_imprecise.specs.Step.{triggers, triggered, precisely, with_none, can_wait, report, mask_after, waited, with_trap}
@@ -26,7 +27,7 @@ use Rattle.alpha_imprecise.specs.Chosen.{Draw, first_word, reporting, triggering
 use Rattle.alpha_imprecise.specs.Telling.{Telling, Goes, Counts, Moves}
 use Rattle.alpha_imprecise.specs.Wild.{wild_state, trap_of, trap_in, waited_in, bare, OverflowsAt, triggered_machine, WaitsAt, Spoils}
 use Rattle.alpha_imprecise.specs.Report.{Reports}
-use Rattle.alpha_imprecise.specs.WildEffect.{WildSteps, Chooses, ChoosesReport}
+use Rattle.alpha_imprecise.specs.WildEffect.{WildSteps, Chooses, ChoosesReport, WildGoesOn}
 
 -- ---- no test of a step looks at the devices
 
@@ -176,6 +177,32 @@ precise-steps event old new chooser input out exact same steps =
           };
       waited = refl;
       program = same;
+    }
+
+-- a step that only goes on, with nothing pending
+pub goes-chooses : (old new : Machine) → GoesOn old new → WildGoesOn (wild_state old None) (wild_state new None)
+goes-chooses old new h =
+    let g = program_of old in
+    let o = class_here old in
+    let exact = goes_exact old new h in
+    record {
+      calm = refl;
+      exact = exact;
+      step = record {
+        is = λ coming input output.
+            let s = state_of old input output in
+            let e = exact_here old input output exact in
+            let c = (draw_at o s None 0 coming).choice in
+            record {
+              count = ap (λ (b : Bool). (cond b (triggering (first_word coming)) (reporting 0)).count) e;
+              step =
+                  ap (λ (b : Bool). cond b (triggered g o s c) (precisely (step g o s))) e
+                  ∙ ap precisely (ap (λ (p : Option Class). step g p s) h.here ∙ h.does.is input output);
+            };
+        waited = refl;
+        program = h.does.program;
+      };
+      frame = GoesOn-kernel old new h;
     }
 
 -- ---- a trigger

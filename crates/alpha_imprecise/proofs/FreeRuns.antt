@@ -185,7 +185,7 @@ amid units watch g k run mid left put next ws zs count marks out notes is going 
     })
 
 -- the step of a system call, with nothing pending: a precise one, which draws no word
-called : (g : Program) (s : State) (n : ℕ) (words : List ℕ) → next_class g s.pc ≡ Some (barrier (Some Callsys)) → chosen g s None n words ≡ precisely (step_from g s)
+pub called : (g : Program) (s : State) (n : ℕ) (words : List ℕ) → next_class g s.pc ≡ Some (barrier (Some Callsys)) → chosen g s None n words ≡ precisely (step_from g s)
 called g s n words class =
     ap (λ (o : Option Class). wild_at g o s None (draw_at o s None n words).choice) class
     ∙ ap (λ (o : Option Class). precisely (step g o s)) (sym class)

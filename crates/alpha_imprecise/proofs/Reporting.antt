@@ -19,7 +19,7 @@ use Rattle.alpha_imprecise.specs.declared.report.Landing.TheVariants as landings
 use Rattle.alpha_imprecise.specs.Moment.{Trap, Moment, Precisely, Reported, moment}
 use Rattle.alpha_imprecise.specs.Step.{address_at, completed, report_at}
 use Rattle.alpha_imprecise.specs.Wild.{returned_kernel}
-use Rattle.alpha_imprecise.specs.Report.{ReportEffect, landing_at, machine_at}
+use Rattle.alpha_imprecise.specs.Report.{ReportEffect, handler_trap, landing_at, machine_at}
 
 -- the report of the definition
 pub handled-reported : (image : Parts) (how : Completion) (pc mask : ℕ) (regs live : List ℕ) (kernel : KernelState) (h : Handled)
@@ -38,6 +38,16 @@ scan-lost image pc mask regs live kernel lost sized small is_kernel is_live is_l
     ∙ (sym (ap (λ (k : KernelState). scan image k.frame.pc (mask_in (arith_regs regs mask))) is_kernel)
     ∙ (sym (ap (λ l. scan image kernel.frame.pc (mask_in l)) is_live)
     ∙ (sym (ap (place_of_trap image) is_lost) ∙ e)))
+
+-- and the handler has its PC and its mask
+pub lost-entry : (pc mask : ℕ) (regs live : List ℕ) (kernel : KernelState) (lost : Lost)
+    → length regs ≡ 32 → mask < 2 ^ 31 → kernel ≡ entered (arith_frame pc regs) regs → live ≡ arith_regs regs mask
+    → lost ≡ trap_in kernel live → lost ≡ handler_trap pc mask
+lost-entry pc mask regs live kernel lost sized small is_kernel is_live is_lost =
+    is_lost
+    ∙ (ap (λ (k : KernelState). trap_in k live) is_kernel
+    ∙ (ap (λ (l : List ℕ). trap_in (entered (arith_frame pc regs) regs) l) is_live
+    ∙ ap (λ (m : ℕ). handler_trap pc m) (mask_in-entry regs mask sized small)))
 
 -- ---- the state that a report leaves
 
@@ -117,13 +127,14 @@ landed-handled m mid new t pc answer found is_mid is_answer is_new =
     subst (λ (a : Landing). ReportEffect a t m new) (sym answers) (subst (λ (x : Machine). ReportEffect (landing_at (stops m.how) pc) t m x) (sym ends_at) by)
 
 -- a trap that is lost
-pub lost-handled : (m new : Machine) (t : Trap) → scan m.image m.pc t.mask ≡ None
-    → new ≡ record m { kernel = returned_kernel m.pc m.regs } → ReportEffect landings.Lost t m new
-lost-handled m new t none is_new =
-    let by : ReportEffect landings.Lost t m (record m { kernel = returned_kernel m.pc m.regs }) = record {
+pub lost-handled : (m new : Machine) (t : Trap) (lost : Lost) → scan m.image m.pc t.mask ≡ None → lost ≡ handler_trap m.pc t.mask
+    → new ≡ record m { kernel = returned_kernel m.pc m.regs } → ReportEffect (landings.Lost lost) t m new
+lost-handled m new t lost none is_lost is_new =
+    let by : ReportEffect (landings.Lost (handler_trap m.pc t.mask)) t m (record m { kernel = returned_kernel m.pc m.regs }) = record {
       is = λ input output. ap (report_at (program_of m) (state_of m input output) t) none;
       program = refl;
       memory = refl;
       kernel = refl;
     } in
-    subst (λ (x : Machine). ReportEffect landings.Lost t m x) (sym is_new) by
+    subst (λ (l : Lost). ReportEffect (landings.Lost l) t m new) (sym is_lost)
+    (subst (λ (x : Machine). ReportEffect (landings.Lost (handler_trap m.pc t.mask)) t m x) (sym is_new) by)

@@ -4,6 +4,7 @@ use Rattle.alpha_seq.specs.declared.end.End.TheVariants as ends
 use Rattle.alpha_seq.specs.declared.machine.Machine.{Machine}
 use Rattle.alpha_seq.specs.State.{Ends}
 use Rattle.alpha_seq.specs.Machine.{program_of, state_of}
+use Rattle.alpha_trap.specs.declared.handler.Lost as handler
 use Rattle.alpha_imprecise.specs.declared.report.Landing.{Landing}
 use Rattle.alpha_imprecise.specs.declared.report.Landing.TheVariants as landings
 use Rattle.alpha_imprecise.specs.Moment.{Trap, Happening, Precisely, Reported, Lost, moment}
@@ -28,8 +29,12 @@ pub record Reports (happened : Happening) (left : Option Trap) (trap : Trap) (ol
   pub memory : new.memory ≡ old.memory
   pub kernel : new.kernel ≡ returned_kernel new.pc new.regs
 
+-- the trap of a report at an address, with a mask, as the handler has it
+abbrev pub handler_trap : ℕ → ℕ → handler.Lost
+handler_trap pc mask = record { trap_pc = pc; mask = mask }
+
 -- what a report did, by how it went
 abbrev pub ReportEffect : Landing → Trap → Machine → Machine → Type 0
 ReportEffect (landings.Completed at) trap old new = Reports (Reported at) None trap old new
 ReportEffect (landings.Stopped pc) trap old new = Reports (Precisely (Ends (ends.Overflow pc))) None trap old new
-ReportEffect landings.Lost trap old new = Reports (Lost old.pc trap.mask) (Some trap) trap old new
+ReportEffect (landings.Lost lost) trap old new = Reports (Lost lost.trap_pc lost.mask) (Some trap) trap old new

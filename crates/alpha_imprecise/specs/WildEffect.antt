@@ -1,5 +1,5 @@
 -- What the machine's step did, by its answer.
-use Rattle.std.specs.Prelude.{◌≡◌, ◌⊎◌, ℕ, List, [], ◌++◌, length, Option, None, Some}
+use Rattle.std.specs.Prelude.{◌≡◌, ◌⊎◌, ℕ, false, List, [], ◌++◌, length, Option, None, Some}
 use Rattle.alpha_io.specs.Sunk.{Sunk, Puts, Partly, HasFailed}
 use Rattle.alpha_seq.specs.declared.machine.Machine.{Machine}
 use Rattle.alpha_seq.specs.State.{State, Went, Barriered, Ends}
@@ -13,6 +13,7 @@ use Rattle.alpha_seq.specs.RunEffect.{HasNoFault, HasInputFault, HasOutputFault,
 use Rattle.alpha_imprecise.specs.declared.end.WildEnd.{WildEnd}
 use Rattle.alpha_imprecise.specs.declared.end.WildEnd.TheVariants as ends
 use Rattle.alpha_imprecise.specs.Moment.{Happening, Precisely, Triggered, Waited, Reported, Lost, moment}
+use Rattle.alpha_imprecise.specs.Step.{triggers}
 use Rattle.alpha_imprecise.specs.Chosen.{draw, reporting, chosen, waited_after}
 use Rattle.alpha_imprecise.specs.Telling.{Telling, Moves}
 use Rattle.alpha_imprecise.specs.declared.pending.Pending.{Pending}
@@ -140,3 +141,13 @@ kernel_stepped (Some trap) _ old new = returned_kernel new.pc new.regs
 
 abbrev pub Framed : Option Pending → WildEnd → Machine → Machine → Type 0
 Framed pending end old new = new.kernel ≡ kernel_stepped pending end old new
+
+-- ---- a step that only goes on
+
+-- With nothing pending, at a word that doesn't overflow, the chosen step only went on: by no word, and at each input and
+-- output, which it leaves.
+pub record WildGoesOn (old new : WildState) : Type 0 where
+  pub calm : old.pending ≡ None
+  pub exact : triggers (class_here old.machine) (bare old.machine) ≡ false
+  pub step : Chooses (Precisely Went) old new []
+  pub frame : Framed old.pending ends.Went old.machine new.machine

@@ -1,11 +1,11 @@
 //! The report of a trap, through the kernel's frame and the handler.
 
-ghost use Rattle.std.specs.Prelude.{◌≡◌, ◌≤◌, ℕ, IfOk, OnErr, Some, None, IsTrue, false};
+ghost use Rattle.std.specs.Prelude.{◌≡◌, ◌≤◌, ℕ, IfOk, IfErr, OnErr, Some, None, IsTrue, false};
 ghost use Rattle.alpha_values.specs.TrapOp.{stops};
 ghost use Rattle.alpha_trap.specs.Handler.{going_on, reported};
 ghost use Rattle.alpha_trap.specs.Scan.{scan};
 ghost use Rattle.alpha_imprecise.specs.Wild.{returned_kernel};
-ghost use Rattle.alpha_imprecise.specs.Report.{ReportEffect, landing_at, machine_at};
+ghost use Rattle.alpha_imprecise.specs.Report.{ReportEffect, handler_trap, landing_at, machine_at};
 
 use alpha_seq::Machine;
 use alpha_trap::{Lost, handle};
@@ -18,8 +18,8 @@ pub(crate) enum Landing {
     Completed(u64),
     /// The program stops at the word at this address.
     Stopped(u64),
-    /// The handler found no word.
-    Lost,
+    /// The handler found no word for this trap.
+    Lost(Lost),
 }
 
 /// Reports a trap with this mask, in user mode.
@@ -31,7 +31,7 @@ pub(crate) fn report(machine: &mut Machine, mask: RegSet) -> Landing
 {
     match handled(machine, mask) {
         Ok(pc) => land(machine, pc),
-        Err(_) => Landing::Lost,
+        Err(lost) => Landing::Lost(lost),
     }
 }
 
@@ -64,6 +64,7 @@ fn handled(machine: &mut Machine, mask: RegSet) -> Result<u64, Lost>
           kernel = returned_kernel pc machine.new.regs;
         }) }
     ensures refused { OnErr result (scan machine.old.image machine.old.pc mask ≡ None) }
+    ensures lost { IfErr result (λ lost. lost ≡ handler_trap machine.old.pc mask) }
     ensures same { OnErr result (machine.new ≡ record machine.old {
       kernel = returned_kernel machine.old.pc machine.old.regs;
     }) }

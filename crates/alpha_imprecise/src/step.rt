@@ -299,7 +299,6 @@ fn report_pending<N: Sink>(
     ensures user { IsTrue machine.new.kernel.user }
     ensures bound { IfSome pending.new (λ p. p.waited ≤ 1024) }
 {
-    let pc = machine.pc;
     match report(machine, trap.mask) {
         Landing::Completed(at) => {
             *pending = None;
@@ -312,6 +311,6 @@ fn report_pending<N: Sink>(
             *pending = None;
             WildEnd::Ended(End::Overflow { pc })
         }
-        Landing::Lost => WildEnd::Lost(pc, trap.mask),
+        Landing::Lost(lost) => WildEnd::Lost(lost.trap_pc, lost.mask),
     }
 }

@@ -1,4 +1,4 @@
-ghost use Rattle.std.specs.Prelude.{◌≡◌, ◌≤◌, None, IfSome, IsTrue};
+ghost use Rattle.std.specs.Prelude.{◌≡◌, ◌≤◌, false, None, IfSome, IsTrue};
 
 use crate::step::step;
 use crate::{Chooser, Pending, WildEnd};
@@ -29,7 +29,7 @@ impl Wild {
     ghost use Rattle.alpha_seq.specs.Devices.{drawn};
     ghost use Rattle.alpha_seq.specs.Machine.{Stays};
     ghost use Rattle.alpha_imprecise.specs.Telling.{telling};
-    ghost use Rattle.alpha_imprecise.specs.WildEffect.{Framed, WildCause, WildEffect};
+    ghost use Rattle.alpha_imprecise.specs.WildEffect.{Framed, WildCause, WildEffect, WildGoesOn};
 
     /// The imprecise machine with nothing pending, over a machine in user mode.
     pub fn new(machine: Machine) -> Wild
@@ -58,6 +58,21 @@ impl Wild {
         ensures bound { IfSome result (λ p. p.waited ≤ 1024) }
     {
         self.pending
+    }
+
+    /// Makes one step where nothing is pending and the word at the PC only goes on: it draws no word, puts and takes
+    /// nothing, doesn't overflow, is no barrier and doesn't end the program. All else stays to be done by
+    /// [`Wild::step`], and leaves all as it was.
+    #[inline(always)]
+    pub fn goes_on(&mut self) -> bool
+        ensures went { IsTrue result → WildGoesOn self.old self.new }
+        ensures stays { result ≡ false → self.new ≡ self.old }
+        ensures same { Stays self.old.machine self.new.machine }
+    {
+        match self.pending {
+            None => self.machine.goes_on(),
+            Some(_) => false,
+        }
     }
 
     /// Makes one step by the chooser's words. With nothing pending it is a precise step, or draws a

@@ -19,4 +19,4 @@ returns-in-Ok c = λ place.
 
 pub returns-in-Err : goal.returns-in-Err
 returns-in-Err c = λ place.
-    lost-handled c.args.machine.now c.handled.new.machine (record { place = place; mask = c.args.mask }) c.in-Err.ensures.refused c.in-Err.ensures.same
+    lost-handled c.args.machine.now c.handled.new.machine (record { place = place; mask = c.args.mask }) c.in-Err.lost c.in-Err.ensures.refused c.in-Err.ensures.lost c.in-Err.ensures.same

@@ -63,7 +63,7 @@ returns-in-Lost-clause-effect g c = λ words chooses.
     let m = c.args.machine.now in
     let trap = c.args.trap.now in
     let by = subst (λ (p : Option Pending). ChoosesReport (wild_state m p) words) c.requires.trap chooses in
-    let lost = Lost m.pc trap.mask in
+    let lost = Lost c.in-Lost.lost.trap_pc c.in-Lost.lost.mask in
     let made = report-chooses lost m c.report.new.machine trap (Some trap) words by (c.in-Lost.ensures trap.trigger) refl in (
       subst (λ (p : Option Pending). Chooses lost (wild_state m p) (wild_state c.report.new.machine p) words) (sym c.requires.trap) made,
       record { written = refl; same = refl },
