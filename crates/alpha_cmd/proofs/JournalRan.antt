@@ -26,7 +26,7 @@ use Rattle.alpha_imprecise.proofs.Fresh.{told_starts}
 use Rattle.alpha_words.specs.declared.Completion.TheVariants.{Wrap}
 use Rattle.alpha_replay.specs.declared.ending.Ending.TheVariants.{Spent}
 use Rattle.alpha_replay.specs.Journal.{Parts, parts, spelling}
-use Rattle.alpha_replay.specs.Keeping.{Keeping}
+use Rattle.alpha_replay.specs.Journaled.{Journaled}
 use Rattle.alpha_replay.specs.JournalEnd.{IsFreeMoment, StopsAt, IsRecorded, IsPast, Shows}
 use Rattle.alpha_cmd.specs.declared.decision.Decision.{Decision}
 use Rattle.alpha_cmd.specs.declared.record.Recorded.{Recorded}
@@ -186,7 +186,7 @@ module _ (options : RunOptions) (m : WildState) (ahead : ℕ → ℕ) (how : m.m
     pub lines : WritesPrefix notes.old notes.new answer.trace
 
   pub fronts_by : (force : Bool) (name : List ℕ) (w : World) (out notes : Sunk)
-      → ((bytes : List ℕ) → w.input ≡ Some bytes → (k : Keeping) → StopsAt options.steps (program_of m.machine) bytes ahead k → ShowsWildPart (shown_making false k.making) out notes)
+      → ((bytes : List ℕ) → w.input ≡ Some bytes → (k : Journaled) → StopsAt options.steps (program_of m.machine) bytes ahead k → ShowsWildPart (shown_making false k.making) out notes)
       → Begins (unwatched options) m ahead how fresh force w.input out notes → Fronts force name w out notes
   fronts_by force name w out notes told b = by w.input refl (some_journal options w.input plan)
     where

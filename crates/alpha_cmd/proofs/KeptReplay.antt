@@ -5,23 +5,18 @@ use Rattle.std.specs.List.{flat_map}
 use Rattle.alpha_image.specs.Parts.{Parts as Image}
 use Rattle.alpha_request.specs.declared.options.RunOptions.{RunOptions}
 use Rattle.alpha_request.specs.Options.{Origin}
-use Rattle.alpha_seq.specs.State.{Program}
-use Rattle.alpha_seq.specs.Start.{start}
-use Rattle.alpha_imprecise.specs.Made.{begun, first_words, most_words}
+use Rattle.alpha_imprecise.specs.Made.{first_words, most_words}
 use Rattle.alpha_replay.specs.declared.item.Item.{Item}
 use Rattle.alpha_replay.specs.declared.item.Item.TheVariants.{Units, Trigger, Wait, Report}
 use Rattle.alpha_replay.specs.declared.replaying.Replayed.{Replayed}
 use Rattle.alpha_replay.specs.Items.{item_bytes}
 use Rattle.alpha_replay.specs.Journal.{Parts, IsJournal, numbers, front, spelling}
 use Rattle.alpha_replay.specs.JournalEnd.{IsRecorded}
-use Rattle.alpha_replay.specs.Kept.{closed}
-use Rattle.alpha_replay.specs.Keeping.{Keeping, unkept, IsKept}
-use Rattle.alpha_replay.specs.Listed.{listed}
+use Rattle.alpha_replay.specs.Gathered.{closed}
 use Rattle.alpha_replay.specs.Replay.{reports_of, replayed}
 use Rattle.alpha_replay.proofs.FrontBytes.{length-front}
 use Rattle.alpha_replay.proofs.ItemBytes.{length-item_bytes}
-use Rattle.alpha_replay.proofs.KeptRuns.{played_in, Lists, lists_closed, steps_list}
-use Rattle.alpha_replay.proofs.KeptReplays.{kept_replays}
+use Rattle.alpha_replay.proofs.JournaledReplays.{journaled_lists, journaled_replays}
 use Rattle.alpha_cmd.specs.declared.status.Status.TheVariants.{Done}
 use Rattle.alpha_cmd.specs.Outcome.{goes}
 use Rattle.alpha_cmd.specs.Answer.{World, Answer, AnswerBy}
@@ -65,22 +60,14 @@ short_enough p good =
 
 -- ---- the journal of a run
 
-kept_lists : (n : ℕ) (g : Program) (input words : List ℕ) (k : Keeping) → IsKept n g (unkept (begun (start g input) None 0 words)) k
-    → listed g input (closed k.kept) ≡ Ok (played_in k.making)
-kept_lists n g input words k is =
-    let from = unkept (begun (start g input) None 0 words) in
-    let none : Lists g (played_in from.making) from.kept (played_in from.making) = record { mid = played_in from.making; listed = λ m. refl; ones = refl } in
-    let h = lists_closed g (played_in from.making) _ _ (steps_list n g from is.steps none) 0 in
-    subst (λ (x : Keeping). listed g input (closed x.kept) ≡ Ok (played_in x.making)) is.reached h
-
 recorded_replays : (options : RunOptions) (image : Image) (input : List ℕ) (ahead : ℕ → ℕ) (p : Parts) → IsRecorded options.steps (program_by options image) input ahead p
     → (r : Replayed) × (replayed image p ≡ Ok r)
 recorded_replays options image input ahead p h =
     let words = first_words (most_words options.steps) ahead in
     let g = program_by options image in
-    let r : Replayed = record { units = h.place.making.run.units; reports = reports_of (closed h.place.kept) } in (
+    let r : Replayed = record { units = h.place.making.run.units; reports = reports_of (closed h.place.gathered) } in (
       r,
-      ap (replayed image) h.is ∙ kept_replays options.steps image options.complete input words h.place h.stops h.within (kept_lists options.steps g input words h.place h.stops),
+      ap (replayed image) h.is ∙ journaled_replays options.steps image options.complete input words h.place h.stops h.within (journaled_lists options.steps g input words h.place h.stops),
     )
 
 passed_same : (force : Bool) (q plan : Plan) → Passes force q (goes plan) → plan ≡ q

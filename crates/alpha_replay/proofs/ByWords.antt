@@ -23,7 +23,7 @@ use Rattle.alpha_replay.specs.declared.look.Look.TheVariants as looks
 use Rattle.alpha_replay.specs.declared.moves.Move.{Move}
 use Rattle.alpha_replay.specs.declared.moves.Move.TheVariants.{One, Trips, Waits, Reports}
 use Rattle.alpha_replay.specs.Moves.{adds_here}
-use Rattle.alpha_replay.specs.Kept.{noted_at}
+use Rattle.alpha_replay.specs.Gathered.{noted_at}
 use Rattle.alpha_replay.specs.Looks.{look_draw, look_noted, Looks, DrawsFor}
 
 -- ---- what the code draws

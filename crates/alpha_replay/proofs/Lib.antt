@@ -6,12 +6,12 @@ pub mod Untold
 pub mod Stopping
 pub mod Told
 pub mod Feeding
-pub mod KeptReplays
+pub mod JournaledReplays
 pub mod Recorded
 pub mod Turning
 pub mod Putting
 pub mod Taking
-pub mod KeptRuns
+pub mod JournaledRuns
 pub mod Taping
 pub mod ByWords
 pub mod ItemBytes

@@ -30,12 +30,12 @@ use Rattle.alpha_imprecise.proofs.RunStops.{spent, goes_calm, turn_stops}
 use Rattle.alpha_replay.specs.declared.ending.Ending.{Ending}
 use Rattle.alpha_replay.specs.declared.ending.Ending.TheVariants as endings
 use Rattle.alpha_replay.specs.Journal.{parts, most_bytes}
-use Rattle.alpha_replay.specs.Kept.{no_moves, closed}
+use Rattle.alpha_replay.specs.Gathered.{no_moves, closed}
 use Rattle.alpha_replay.specs.Replay.{ending_of}
-use Rattle.alpha_replay.specs.Keeping.{journal_at, is_within, is_kept}
+use Rattle.alpha_replay.specs.Journaled.{journal_at, is_within, has_stopped}
 use Rattle.alpha_replay.specs.Taped.{Taped, taped, has_room}
-use Rattle.alpha_replay.specs.Turned.{taped_by, tape_fits, Keeps, TurnKeeps}
-use Rattle.alpha_replay.specs.JournalEnd.{keeping, is_past, outcome, Stops, Records, IsFull, JournalEffect}
+use Rattle.alpha_replay.specs.Turned.{taped_by, tape_fits, Tapes, TurnTapes}
+use Rattle.alpha_replay.specs.JournalEnd.{journaled, is_past, outcome, Stops, Records, IsFull, JournalEffect}
 use Rattle.alpha_replay.proofs.Recording.{Reaches, GoesOn, reaches_more}
 use Rattle.alpha_replay.proofs.Shortened.{input_cut, sink_cut}
 
@@ -49,14 +49,14 @@ taken_is taken rest =
 
 -- the tape fits where the journal is within the limits
 pub fits_at : (how : Completion) (run : WildRun) (new : WildState) (t : Taped) (rest coming : List ℕ) (count : ℕ)
-    → is_within (journal_at how (keeping (making_at run new rest t.put coming count) t.kept (t.taken ++ rest))) ≡ tape_fits t
+    → is_within (journal_at how (journaled (making_at run new rest t.put coming count) t.gathered (t.taken ++ rest))) ≡ tape_fits t
 fits_at how run new t rest coming count =
-    ap (λ (l : List ℕ). nat_le (length l) most_bytes && nat_le (length t.put) most_bytes && has_room t.kept) (taken_is t.taken rest)
+    ap (λ (l : List ℕ). nat_le (length l) most_bytes && nat_le (length t.put) most_bytes && has_room t.gathered) (taken_is t.taken rest)
 
 -- a run stops where the tape doesn't fit, or where it is over or has used its units with nothing pending
 stops_by : (n : ℕ) (how : Completion) (run : WildRun) (new : WildState) (t : Taped) (fits over : Bool) (rest coming : List ℕ) (count : ℕ)
     → tape_fits t ≡ fits → (finished run.last || (is_none (trap_in new.pending) && (run.units == n))) ≡ over
-    → is_kept n how (keeping (making_at run new rest t.put coming count) t.kept (t.taken ++ rest)) ≡ (not fits || over)
+    → has_stopped n how (journaled (making_at run new rest t.put coming count) t.gathered (t.taken ++ rest)) ≡ (not fits || over)
 stops_by n how run new t fits over rest coming count e f =
     ap (λ (b : Bool). not b || (finished run.last || (is_none (trap_in new.pending) && (run.units == n)))) (fits_at how run new t rest coming count ∙ e)
     ∙ ap (λ (b : Bool). not fits || b) f
@@ -92,7 +92,7 @@ goes_on units left t old mid before told input out notes most some one = λ rest
 come_more : (xs : List ℕ) (n : ℕ) (run : WildRun) (h : Happening) (t t' : Taped) (fits : Bool) (old mid new : WildState) (before told after : Telling) (input out notes : Times)
     → input.first ≡ Some xs → finished run.last ≡ false → GoesOn n run t mid (program_of old.machine)
     → Comes n run t old mid before told (drawn_before input) (sunk_before out) (sunk_before notes)
-    → (k : Keeps h fits t t' mid new told after (drawn_after input) (sunk_after out))
+    → (k : Tapes h fits t t' mid new told after (drawn_after input) (sunk_after out))
     → WildTurns false h mid new told after (drawn_after input) (sunk_after out) (sunk_after notes)
     → Comes n (onto run h mid new) (taped_by t k.steps.taken k.steps.bytes k.move) old new before after (drawn_over input) (sunk_over out) (sunk_over notes)
 come_more xs n run h t t' fits old mid new before told after input out notes tells going open_still one k turned = record {
@@ -102,7 +102,7 @@ come_more xs n run h t t' fits old mid new before told after input out notes tel
 
 stop_here : (n : ℕ) (run : WildRun) (t : Taped) (old new : WildState) (before after : Telling) (input : Drawn) (out notes : Sunk)
     → Comes n run t old new before after input out notes
-    → ((rest coming : List ℕ) (count : ℕ) → is_kept n (program_of old.machine).how (keeping (making_at run new rest t.put coming count) t.kept (t.taken ++ rest)) ≡ true)
+    → ((rest coming : List ℕ) (count : ℕ) → has_stopped n (program_of old.machine).how (journaled (making_at run new rest t.put coming count) t.gathered (t.taken ++ rest)) ≡ true)
     → Stops n run t old new before after input out notes
 stop_here n run t old new before after input out notes one stopped = record {
   words = one.reaches.words;
@@ -126,7 +126,7 @@ or_true false = refl
 full_by : (xs : List ℕ) (units left : ℕ) (h : Happening) (t t' : Taped) (fits : Bool) (old mid new : WildState) (before told after : Telling) (input out notes : Times)
     → input.first ≡ Some xs → left ≤ units → unit_of (trap_in mid.pending) ≤ left → fits ≡ false
     → Remains units left t old mid before told (drawn_before input) (sunk_before out) (sunk_before notes)
-    → Keeps h fits t t' mid new told after (drawn_after input) (sunk_after out)
+    → Tapes h fits t t' mid new told after (drawn_after input) (sunk_after out)
     → WildTurns false h mid new told after (drawn_after input) (sunk_after out) (sunk_after notes)
     → IsFull units old new before after (drawn_over input) (sunk_over out) (sunk_over notes)
 full_by xs units left h t t' fits old mid new before told after input out notes tells most some past one k turned =
@@ -147,9 +147,9 @@ full_by xs units left h t t' fits old mid new before told after input out notes 
 records_by : (xs : List ℕ) (units left : ℕ) (h : Happening) (t t' : Taped) (fits : Bool) (old mid new : WildState) (before told after : Telling) (input out notes : Times)
     → input.first ≡ Some xs → left ≤ units → unit_of (trap_in mid.pending) ≤ left → fits ≡ true → finished h ≡ true
     → Remains units left t old mid before told (drawn_before input) (sunk_before out) (sunk_before notes)
-    → Keeps h fits t t' mid new told after (drawn_after input) (sunk_after out)
+    → Tapes h fits t t' mid new told after (drawn_after input) (sunk_after out)
     → WildTurns false h mid new told after (drawn_after input) (sunk_after out) (sunk_after notes)
-    → Records units (answer_of h) (parts old.machine.how (ending_of h) t'.taken t'.put (closed t'.kept)) old new before after (drawn_over input) (sunk_over out) (sunk_over notes)
+    → Records units (answer_of h) (parts old.machine.how (ending_of h) t'.taken t'.put (closed t'.gathered)) old new before after (drawn_over input) (sunk_over out) (sunk_over notes)
 records_by xs units left h t t' fits old mid new before told after input out notes tells most some within over one k turned =
     let still = goes_on units left t old mid before told (drawn_before input) (sunk_before out) (sunk_before notes) most some one in
     let comes = come_more xs units one.run h t t' fits old mid new before told after input out notes tells one.going still one.comes k turned in
@@ -164,7 +164,7 @@ records_by xs units left h t t' fits old mid new before told after input out not
           (ap (λ (b : Bool). b || (is_none (trap_in new.pending) && ((onto one.run h mid new).units == units))) over));
       end_is = refl;
       fits = room;
-      is = ap (λ (l : Taped). parts old.machine.how (ending_of h) l.taken l.put (closed l.kept)) (k.tape within);
+      is = ap (λ (l : Taped). parts old.machine.how (ending_of h) l.taken l.put (closed l.gathered)) (k.tape within);
     }
 
 -- a step behind which the run goes on
@@ -172,7 +172,7 @@ remains_by : (xs : List ℕ) (units left unit : ℕ) (answer : WildEnd) (h : Hap
     → input.first ≡ Some xs → IfSome mid.pending (λ p. p.waited ≤ most_waited) → left ≤ units → unit ≡ unit_of (trap_in mid.pending) → unit ≤ left
     → fits ≡ true → finished h ≡ false → run_ended_by answer ≡ None
     → Remains units left t old mid before told (drawn_before input) (sunk_before out) (sunk_before notes)
-    → Keeps h fits t t' mid new told after (drawn_after input) (sunk_after out)
+    → Tapes h fits t t' mid new told after (drawn_after input) (sunk_after out)
     → WildTurns false h mid new told after (drawn_after input) (sunk_after out) (sunk_after notes)
     → WildTurnEffect false answer mid new told after (drawn_after input) (sunk_after out) (sunk_after notes)
     → Remains units (left - unit) t' old new before after (drawn_over input) (sunk_over out) (sunk_over notes)
@@ -266,7 +266,7 @@ remains_spent units left t old new before after input out notes none one =
             (λ rest coming count. stops_by units (program_of old.machine).how one.run new t true true rest coming count one.fits (spent_by one.run units new.pending all.0 (one.used ∙ same)));
         end_is = spent one.run.last one.going;
         fits = one.fits;
-        is = ap (λ (e : Ending). parts old.machine.how e t.taken t.put (closed t.kept)) (sym (ending-spent one.run.last one.going));
+        is = ap (λ (e : Ending). parts old.machine.how e t.taken t.put (closed t.gathered)) (sym (ending-spent one.run.last one.going));
       },
     )
 
@@ -284,7 +284,7 @@ pub turn_remains : (xs : List ℕ) (units left unit : ℕ) (answer : WildEnd) (t
     → input.first ≡ Some xs → IfSome mid.pending (λ p. p.waited ≤ most_waited) → left ≤ units → unit ≡ unit_of (trap_in mid.pending) → unit ≤ left
     → is_past answer fits ≡ false → run_ended_by answer ≡ None
     → Remains units left t old mid before told (drawn_before input) (sunk_before out) (sunk_before notes)
-    → TurnKeeps answer fits t t' mid new told after (drawn_after input) (sunk_after out)
+    → TurnTapes answer fits t t' mid new told after (drawn_after input) (sunk_after out)
     → WildTurnEffect false answer mid new told after (drawn_after input) (sunk_after out) (sunk_after notes)
     → Remains units (left - unit) t' old new before after (drawn_over input) (sunk_over out) (sunk_over notes)
 turn_remains xs units left unit ends.Went t t' fits old mid new before told after input out notes tells few most is some past goes one k did =
@@ -305,7 +305,7 @@ turn_remains xs units left unit ends.SinkFault t t' fits old mid new before told
 pub turn_full : (xs : List ℕ) (units left : ℕ) (answer : WildEnd) (t t' : Taped) (fits : Bool) (old mid new : WildState) (before told after : Telling) (input out notes : Times)
     → input.first ≡ Some xs → left ≤ units → unit_of (trap_in mid.pending) ≤ left → is_past answer fits ≡ true
     → Remains units left t old mid before told (drawn_before input) (sunk_before out) (sunk_before notes)
-    → TurnKeeps answer fits t t' mid new told after (drawn_after input) (sunk_after out)
+    → TurnTapes answer fits t t' mid new told after (drawn_after input) (sunk_after out)
     → WildTurnEffect false answer mid new told after (drawn_after input) (sunk_after out) (sunk_after notes)
     → IsFull units old new before after (drawn_over input) (sunk_over out) (sunk_over notes)
 turn_full xs units left ends.Went t t' fits old mid new before told after input out notes tells most some past one k did =
@@ -329,7 +329,7 @@ pub turn_outcome : (xs : List ℕ) (units left unit : ℕ) (answer : WildEnd) (e
     → input.first ≡ Some xs → IfSome mid.pending (λ p. p.waited ≤ most_waited) → left ≤ units → unit ≡ unit_of (trap_in mid.pending) → unit ≤ left
     → is_past answer fits ≡ false → run_ended_by answer ≡ Some end
     → Remains units left t old mid before told (drawn_before input) (sunk_before out) (sunk_before notes)
-    → TurnKeeps answer fits t t' mid new told after (drawn_after input) (sunk_after out)
+    → TurnTapes answer fits t t' mid new told after (drawn_after input) (sunk_after out)
     → WildTurnEffect false answer mid new told after (drawn_after input) (sunk_after out) (sunk_after notes)
     → JournalEffect (outcome (Some end) old.machine.how t') units old new before after (drawn_over input) (sunk_over out) (sunk_over notes)
 turn_outcome xs units left unit answer end t t' fits old mid new before told after input out notes tells few most is some past stops one k did =
@@ -339,7 +339,7 @@ turn_outcome xs units left unit answer end t t' fits old mid new before told aft
     still = goes_on units left t old mid before told (drawn_before input) (sunk_before out) (sunk_before notes) most (subst (λ (n : ℕ). n ≤ left) is some) one
 
     by : (answer : WildEnd) (end : RunEnd) → is_past answer fits ≡ false → run_ended_by answer ≡ Some end
-        → TurnKeeps answer fits t t' mid new told after (drawn_after input) (sunk_after out)
+        → TurnTapes answer fits t t' mid new told after (drawn_after input) (sunk_after out)
         → WildTurnEffect false answer mid new told after (drawn_after input) (sunk_after out) (sunk_after notes)
         → WildRunEffect end units false old new before after (drawn_over input) (sunk_over out) (sunk_over notes)
         → JournalEffect (outcome (Some end) old.machine.how t') units old new before after (drawn_over input) (sunk_over out) (sunk_over notes)

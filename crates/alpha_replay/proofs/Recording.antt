@@ -1,4 +1,4 @@
--- A kept run between two steps, and one step more.
+-- A run with its journal between two steps, and one step more.
 use Rattle.std.proofs.Common.{◌≡◌, ℕ, suc, Bool, false, cond, List, [], ◌++◌, length, Option, Some, None, sym, ap, subst, ◌∙◌, append_assoc}
 use Rattle.std.proofs.lemmas.List.{length-append}
 use Rattle.alpha_io.specs.Sunk.{Sunk, Puts}
@@ -17,9 +17,9 @@ use Rattle.alpha_imprecise.specs.WildEffect.{WildSteps}
 use Rattle.alpha_imprecise.specs.WildRunEffect.{begun_at, making_at}
 use Rattle.alpha_imprecise.proofs.RunSteps.{onto, advanced_at, Moves-then}
 use Rattle.alpha_replay.specs.declared.moves.Move.{Move}
-use Rattle.alpha_replay.specs.JournalEnd.{keeping}
-use Rattle.alpha_replay.specs.Kept.{kept_by, noted_at, noted}
-use Rattle.alpha_replay.specs.Keeping.{Keeping, unkept, is_kept, kept_more, advance_keeping, steps_keeping}
+use Rattle.alpha_replay.specs.JournalEnd.{journaled}
+use Rattle.alpha_replay.specs.Gathered.{gathered_by, noted_at, noted}
+use Rattle.alpha_replay.specs.Journaled.{Journaled, unjournaled, has_stopped, journaled_more, advance_journaled, steps_journaled}
 use Rattle.alpha_replay.specs.Taped.{Taped}
 use Rattle.alpha_replay.specs.Turned.{taped_by}
 
@@ -51,7 +51,7 @@ joined xs input taken rest taken' rest' told one two =
     → Joined (record input { first = first }) taken rest taken' rest' in
     subst P (sym told) (λ first. joined_at xs input.mid input.last input.faults_first input.faults_mid input.faults_last taken rest taken' rest' first two) one
 
--- so many kept steps lead here
+-- so many steps of such a run lead here
 pub record Reaches (n : ℕ) (run : WildRun) (t : Taped) (old new : WildState) (before after : Telling) (input : Drawn) (out : Sunk) : Type 0 where
   pub words : List ℕ
   pub rest : List ℕ
@@ -60,13 +60,13 @@ pub record Reaches (n : ℕ) (run : WildRun) (t : Taped) (old new : WildState) (
   pub took : Draws input t.taken rest
   pub wrote : Puts out t.put
   pub is : (coming : List ℕ)
-      → steps_keeping n (program_of old.machine) (unkept (begun_at old (t.taken ++ rest) [] (words ++ coming))) steps
-      ≡ keeping (making_at run new rest t.put coming (length words)) t.kept (t.taken ++ rest)
+      → steps_journaled n (program_of old.machine) (unjournaled (begun_at old (t.taken ++ rest) [] (words ++ coming))) steps
+      ≡ journaled (making_at run new rest t.put coming (length words)) t.gathered (t.taken ++ rest)
   pub program : program_of new.machine ≡ program_of old.machine
 
 -- the run that has come here hasn't stopped
 abbrev pub GoesOn : ℕ → WildRun → Taped → WildState → Program → Type 0
-GoesOn n run t mid g = (rest coming : List ℕ) (count : ℕ) → is_kept n g.how (keeping (making_at run mid rest t.put coming count) t.kept (t.taken ++ rest)) ≡ false
+GoesOn n run t mid g = (rest coming : List ℕ) (count : ℕ) → has_stopped n g.how (journaled (making_at run mid rest t.put coming count) t.gathered (t.taken ++ rest)) ≡ false
 
 pub reaches_more : (xs : List ℕ) (n : ℕ) (run : WildRun) (h : Happening) (t : Taped) (move : Move) (old mid new : WildState) (before told after : Telling) (input out : Times)
     → input.first ≡ Some xs → finished run.last ≡ false → GoesOn n run t mid (program_of old.machine)
@@ -97,13 +97,13 @@ reaches_more xs n run h t move old mid new before told after input out tells goi
           let moved : noted g k ≡ move =
           ap (λ (p : Program). noted_at (next_class p mid.machine.pc) (state_of mid.machine one.rest t.put) (trap_in mid.pending) (waited_in mid.pending) (s.words ++ coming)) (sym one.program)
           ∙ notes one.rest t.put coming in
-          let at : Keeping = keeping k t.kept (t.taken ++ one.rest) in
-          let more : advance_keeping n g at ≡ kept_more g at = ap (λ (b : Bool). cond b at (kept_more g at)) (open_still one.rest (s.words ++ coming) (length one.words)) in
-          ap (λ (from : Making). steps_keeping n g (unkept from) (suc one.steps)) (sym begin)
-          ∙ (ap (λ (x : Keeping). advance_keeping n g x) (one.is (s.words ++ coming))
+          let at : Journaled = journaled k t.gathered (t.taken ++ one.rest) in
+          let more : advance_journaled n g at ≡ journaled_more g at = ap (λ (b : Bool). cond b at (journaled_more g at)) (open_still one.rest (s.words ++ coming) (length one.words)) in
+          ap (λ (from : Making). steps_journaled n g (unjournaled from) (suc one.steps)) (sym begin)
+          ∙ (ap (λ (x : Journaled). advance_journaled n g x) (one.is (s.words ++ coming))
           ∙ (more
-          ∙ (ap (λ (m : Making). keeping m (kept_by t.kept (noted g k)) (t.taken ++ one.rest)) next
-          ∙ (ap (λ (m : Move). keeping (making_at (onto run h mid new) new s.rest (t.put ++ s.bytes) coming (length (one.words ++ s.words))) (kept_by t.kept m) (t.taken ++ one.rest)) moved
-          ∙ ap (λ (l : List ℕ). keeping (making_at (onto run h mid new) new s.rest (t.put ++ s.bytes) coming (length (one.words ++ s.words))) (kept_by t.kept move) l) whole))));
+          ∙ (ap (λ (m : Making). journaled m (gathered_by t.gathered (noted g k)) (t.taken ++ one.rest)) next
+          ∙ (ap (λ (m : Move). journaled (making_at (onto run h mid new) new s.rest (t.put ++ s.bytes) coming (length (one.words ++ s.words))) (gathered_by t.gathered m) (t.taken ++ one.rest)) moved
+          ∙ ap (λ (l : List ℕ). journaled (making_at (onto run h mid new) new s.rest (t.put ++ s.bytes) coming (length (one.words ++ s.words))) (gathered_by t.gathered move) l) whole))));
       program = s.program ∙ one.program;
     }

@@ -1,5 +1,5 @@
--- A kept run that a device's fault cuts short.
-use Rattle.std.proofs.Common.{◌≡◌, ◌<◌, ◌≤◌, ◌+◌, ℕ, zero, suc, Bool, true, false, cond, List, [], ◌++◌, length, Option, Some, None, sym, ap, subst, ◌∙◌, ⊎_elim, append_assoc, arith}
+-- A run with its journal that a device's fault cuts short.
+use Rattle.std.proofs.Common.{◌≡◌, ◌<◌, ◌≤◌, ◌+◌, ℕ, zero, suc, Bool, true, false, cond, List, [], ◌++◌, length, Option, Some, sym, ap, subst, ◌∙◌, ⊎_elim, append_assoc, arith}
 use Rattle.std.proofs.lemmas.Bool.{cases_lt}
 use Rattle.std.proofs.lemmas.List.{length-append}
 use Rattle.std.proofs.Math.Nat.{eq-or-lt_of_le}
@@ -8,7 +8,7 @@ use Rattle.alpha_words.specs.Regs.{reg}
 use Rattle.alpha_io.specs.Sunk.{Sunk, Puts}
 use Rattle.alpha_io.specs.Written.{WritesPrefix}
 use Rattle.alpha_io.proofs.Writes.{WritesPrefix-all, WritesPrefix-after, WritesPrefix-more}
-use Rattle.alpha_table.specs.Class.{Class, barrier}
+use Rattle.alpha_table.specs.Class.{barrier}
 use Rattle.alpha_mem.specs.Memory.{bytes_at}
 use Rattle.alpha_pal.specs.CallEffect.{Takes}
 use Rattle.alpha_seq.specs.State.{Program, State}
@@ -24,62 +24,63 @@ use Rattle.alpha_seq.proofs.RunSteps.{Times, drawn_before, drawn_after, drawn_ov
 use Rattle.alpha_imprecise.specs.declared.pending.Pending.{Pending}
 use Rattle.alpha_imprecise.specs.declared.end.WildEnd.TheVariants as ends
 use Rattle.alpha_imprecise.specs.Moment.{Reported, Moment}
-use Rattle.alpha_imprecise.specs.Step.{precisely, wild_at}
+use Rattle.alpha_imprecise.specs.Step.{precisely}
 use Rattle.alpha_imprecise.specs.Run.{WildRun, finished, wild_marks}
-use Rattle.alpha_imprecise.specs.Chosen.{chosen, draw_at}
+use Rattle.alpha_imprecise.specs.Chosen.{chosen}
 use Rattle.alpha_imprecise.specs.Made.{Making, advance_making, shown_making}
 use Rattle.alpha_imprecise.specs.Telling.{Telling, Moves}
 use Rattle.alpha_imprecise.specs.Wild.{WildState, bare, trap_in, waited_in}
 use Rattle.alpha_imprecise.specs.WildEffect.{CallFails, ReportFails, WildEffect}
 use Rattle.alpha_imprecise.specs.WildTurn.{WatchFails, WildTurnEffect}
 use Rattle.alpha_imprecise.specs.WildRunEffect.{begun_at, making_at, ShowsWildPart}
+use Rattle.alpha_imprecise.proofs.FreeRuns.{called}
 use Rattle.alpha_imprecise.proofs.Growing.{Begins, begins_same, begins_then, advance_begins}
 use Rattle.alpha_imprecise.proofs.RunGoes.{notes-more}
 use Rattle.alpha_imprecise.proofs.RunSteps.{onto, Moves-then, advanced_at}
 use Rattle.alpha_imprecise.proofs.Settling.{advance-going}
-use Rattle.alpha_replay.specs.JournalEnd.{keeping, IsShort}
-use Rattle.alpha_replay.specs.Keeping.{Keeping, unkept, is_kept, kept_more, advance_keeping, steps_keeping, IsKept}
+use Rattle.alpha_replay.specs.JournalEnd.{journaled, IsShort}
+use Rattle.alpha_replay.specs.Journaled.{Journaled, unjournaled, has_stopped, journaled_more, advance_journaled, steps_journaled, IsJournaled}
 use Rattle.alpha_replay.specs.Taped.{Taped}
-use Rattle.alpha_replay.proofs.KeptRuns.{stays_kept}
+use Rattle.alpha_replay.proofs.JournaledRuns.{stays_stopped}
 use Rattle.alpha_replay.proofs.Recording.{Reaches, GoesOn, joined}
 
 -- ---- a run that hasn't stopped goes on to where it stops
 
-module _ (n : ℕ) (g : Program) (from : Keeping) where
-  one_more : (k : Keeping) → Begins k.making (advance_keeping n g k).making
-  one_more k = by (is_kept n g.how k)
+module _ (n : ℕ) (g : Program) (from : Journaled) where
+  one_more : (k : Journaled) → Begins k.making (advance_journaled n g k).making
+  one_more k = by (has_stopped n g.how k)
     where
-      by : (b : Bool) → Begins k.making (cond b k (kept_more g k)).making
+      by : (b : Bool) → Begins k.making (cond b k (journaled_more g k)).making
       by true = begins_same k.making
       by false = advance_begins g k.making
 
-  steps_begin : (a b : ℕ) → a ≤ b → Begins (steps_keeping n g from a).making (steps_keeping n g from b).making
+  steps_begin : (a b : ℕ) → a ≤ b → Begins (steps_journaled n g from a).making (steps_journaled n g from b).making
   steps_begin a zero low =
       let same : a ≡ 0 = omega (arith, low) in
-      subst (λ (j : ℕ). Begins (steps_keeping n g from j).making from.making) (sym same) (begins_same from.making)
+      subst (λ (j : ℕ). Begins (steps_journaled n g from j).making from.making) (sym same) (begins_same from.making)
   steps_begin a (suc b) low =
       ⊎_elim
-      (λ (same : a ≡ suc b). subst (λ (j : ℕ). Begins (steps_keeping n g from j).making (steps_keeping n g from (suc b)).making) (sym same) (begins_same (steps_keeping n g from (suc b)).making))
+      (λ (same : a ≡ suc b). subst (λ (j : ℕ). Begins (steps_journaled n g from j).making (steps_journaled n g from (suc b)).making) (sym same) (begins_same (steps_journaled n g from (suc b)).making))
       (λ (below : a < suc b).
-      begins_then (steps_keeping n g from a).making (steps_keeping n g from b).making (steps_keeping n g from (suc b)).making
-      (steps_begin a b (omega (arith, below))) (one_more (steps_keeping n g from b)))
+      begins_then (steps_journaled n g from a).making (steps_journaled n g from b).making (steps_journaled n g from (suc b)).making
+      (steps_begin a b (omega (arith, below))) (one_more (steps_journaled n g from b)))
       (eq-or-lt_of_le low)
 
-  pub next_keeping : (m : ℕ) → is_kept n g.how (steps_keeping n g from m) ≡ false
-      → (steps_keeping n g from (suc m)).making ≡ advance_making g (steps_keeping n g from m).making
-  next_keeping m going =
-      ap (λ (b : Bool). (cond b (steps_keeping n g from m) (kept_more g (steps_keeping n g from m))).making) going
+  pub next_journaled : (m : ℕ) → has_stopped n g.how (steps_journaled n g from m) ≡ false
+      → (steps_journaled n g from (suc m)).making ≡ advance_making g (steps_journaled n g from m).making
+  next_journaled m going =
+      ap (λ (b : Bool). (cond b (steps_journaled n g from m) (journaled_more g (steps_journaled n g from m))).making) going
 
-  pub goes_past : (m : ℕ) (k : Keeping) → is_kept n g.how (steps_keeping n g from m) ≡ false → IsKept n g from k
-      → Begins (advance_making g (steps_keeping n g from m).making) k.making
+  pub goes_past : (m : ℕ) (k : Journaled) → has_stopped n g.how (steps_journaled n g from m) ≡ false → IsJournaled n g from k
+      → Begins (advance_making g (steps_journaled n g from m).making) k.making
   goes_past m k going is =
       ⊎_elim
       (λ (below : m < is.steps).
-      subst (λ (j : Making). Begins j k.making) (next_keeping m going)
-      (subst (λ (l : Keeping). Begins (steps_keeping n g from (suc m)).making l.making) is.reached (steps_begin (suc m) is.steps (omega (arith, below)))))
+      subst (λ (j : Making). Begins j k.making) (next_journaled m going)
+      (subst (λ (l : Journaled). Begins (steps_journaled n g from (suc m)).making l.making) is.reached (steps_begin (suc m) is.steps (omega (arith, below)))))
       (λ (low : is.steps ≤ m).
-      let stopped : is_kept n g.how (steps_keeping n g from is.steps) ≡ true = ap (is_kept n g.how) is.reached ∙ is.stopped in
-      absurd (let no : false ≡ true = sym going ∙ (ap (is_kept n g.how) (stays_kept n g from is.steps m low stopped) ∙ stopped) in cc))
+      let stopped : has_stopped n g.how (steps_journaled n g from is.steps) ≡ true = ap (has_stopped n g.how) is.reached ∙ is.stopped in
+      absurd (let no : false ≡ true = sym going ∙ (ap (has_stopped n g.how) (stays_stopped n g from is.steps m low stopped) ∙ stopped) in cc))
       (cases_lt m is.steps)
 
 -- fronts of what one run shows are fronts of what a longer one shows
@@ -94,12 +95,6 @@ longer_front k l out notes more part = record {
 }
 
 -- ---- a step that fails
-
--- the step of a system call, with nothing pending: a precise one, which draws no word
-called : (g : Program) (s : State) (n : ℕ) (words : List ℕ) → next_class g s.pc ≡ Some (barrier (Some Callsys)) → chosen g s None n words ≡ precisely (step_from g s)
-called g s n words class =
-    ap (λ (o : Option Class). wild_at g o s None (draw_at o s None n words).choice) class
-    ∙ ap (λ (o : Option Class). precisely (step g o s)) (sym class)
 
 module _ (n : ℕ) (run : WildRun) (t : Taped) (old mid new : WildState) (before told after : Telling) (input out notes : Times)
     (going : finished run.last ≡ false) (open_still : GoesOn n run t mid (program_of old.machine))
@@ -129,11 +124,11 @@ module _ (n : ℕ) (run : WildRun) (t : Taped) (old mid new : WildState) (before
       let g = program_of old.machine in
       let bytes = t.taken ++ one.rest in
       let took : (xs ≡ bytes) × (input.mid ≡ Some one.rest) = subst (λ (l : Option (List ℕ)). Takes l input.mid t.taken one.rest) tells one.took.took in
-      let from : List ℕ → Keeping = λ coming. unkept (begun_at old bytes [] ((one.words ++ words) ++ coming)) in
-      let there : (coming : List ℕ) → steps_keeping n g (from coming) one.steps ≡ keeping (here (words ++ coming)) t.kept bytes = λ coming.
-      ap (λ (l : List ℕ). steps_keeping n g (unkept (begun_at old bytes [] l)) one.steps) (append_assoc one.words words coming) ∙ one.is (words ++ coming) in
-      let still : (coming : List ℕ) → is_kept n g.how (steps_keeping n g (from coming) one.steps) ≡ false = λ coming.
-      ap (is_kept n g.how) (there coming) ∙ open_still one.rest (words ++ coming) (length one.words) in
+      let from : List ℕ → Journaled = λ coming. unjournaled (begun_at old bytes [] ((one.words ++ words) ++ coming)) in
+      let there : (coming : List ℕ) → steps_journaled n g (from coming) one.steps ≡ journaled (here (words ++ coming)) t.gathered bytes = λ coming.
+      ap (λ (l : List ℕ). steps_journaled n g (unjournaled (begun_at old bytes [] l)) one.steps) (append_assoc one.words words coming) ∙ one.is (words ++ coming) in
+      let still : (coming : List ℕ) → has_stopped n g.how (steps_journaled n g (from coming) one.steps) ≡ false = λ coming.
+      ap (has_stopped n g.how) (there coming) ∙ open_still one.rest (words ++ coming) (length one.words) in
       record {
         words = one.words ++ words;
         bytes = bytes;
@@ -141,13 +136,13 @@ module _ (n : ℕ) (run : WildRun) (t : Taped) (old mid new : WildState) (before
         drew = Moves-then before told after one.words words one.drew drew;
         steps = suc one.steps;
         few = λ coming.
-            let more : (steps_keeping n g (from coming) (suc one.steps)).making ≡ next (words ++ coming) =
-            next_keeping n g (from coming) one.steps (still coming) ∙ ap (λ (k : Keeping). advance_making g k.making) (there coming) in
-            let count : (steps_keeping n g (from coming) (suc one.steps)).making.count ≡ (next (words ++ coming)).count = ap (λ (k : Making). k.count) more in
+            let more : (steps_journaled n g (from coming) (suc one.steps)).making ≡ next (words ++ coming) =
+            next_journaled n g (from coming) one.steps (still coming) ∙ ap (λ (k : Journaled). advance_making g k.making) (there coming) in
+            let count : (steps_journaled n g (from coming) (suc one.steps)).making.count ≡ (next (words ++ coming)).count = ap (λ (k : Making). k.count) more in
             omega (arith, count, few coming, length-append one.words words);
         fronts = λ coming k is.
             longer_front (next (words ++ coming)) k.making (sunk_over out) (sunk_over notes)
-            (subst (λ (j : Keeping). Begins (advance_making g j.making) k.making) (there coming) (goes_past n g (from coming) one.steps k (still coming) is))
+            (subst (λ (j : Journaled). Begins (advance_making g j.making) k.making) (there coming) (goes_past n g (from coming) one.steps k (still coming) is))
             (shows coming);
       }
 

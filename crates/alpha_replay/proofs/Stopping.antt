@@ -1,4 +1,4 @@
--- A run that is kept stops, within its units, and has drawn no more words than these.
+-- A run that has a journal stops, within its units, and has drawn no more words than these.
 use Rattle.std.proofs.Common.{◌≡◌, ◌<◌, ◌≤◌, ◌+◌, ◌==◌, ◌&&◌, ◌||◌, not, ℕ, zero, suc, Bool, true, false, cond, List, Option, Some, None, is_none, refl, sym, ap, subst, ◌∙◌, ⊎_elim, arith}
 use Rattle.std.proofs.lemmas.Bool.{eq-eqb}
 use Rattle.std.proofs.Math.Nat.{eq-or-lt_of_le}
@@ -11,11 +11,11 @@ use Rattle.alpha_imprecise.proofs.FreeDrawing.{free_draws}
 use Rattle.alpha_imprecise.proofs.Freely.{told_making}
 use Rattle.alpha_imprecise.proofs.Nearing.{calm_takes}
 use Rattle.alpha_imprecise.proofs.Settling.{advance-going, made_is}
-use Rattle.alpha_replay.specs.Keeping.{Keeping, unkept, journal_at, is_within, is_kept, kept_more, steps_keeping, IsKept}
-use Rattle.alpha_replay.proofs.KeptRuns.{going_of, steps_run}
-use Rattle.alpha_replay.proofs.Shortened.{next_keeping}
+use Rattle.alpha_replay.specs.Journaled.{Journaled, unjournaled, journal_at, is_within, has_stopped, journaled_more, steps_journaled, IsJournaled}
+use Rattle.alpha_replay.proofs.JournaledRuns.{going_of, steps_run}
+use Rattle.alpha_replay.proofs.Shortened.{next_journaled}
 
--- ---- where the run of all units is, the kept run has stopped
+-- ---- where the run of all units is, the run with its journal has stopped
 
 stop_by : (w f c e : Bool) → (f || c) ≡ true → (f ≡ false → e ≡ true) → (not w || (f || (c && e))) ≡ true
 stop_by false f c e h k = refl
@@ -23,33 +23,33 @@ stop_by true true c e h k = refl
 stop_by true false true e h k = k refl
 stop_by true false false e h k = cc
 
-used_stops : (n : ℕ) (g : Program) (k : Keeping) → HasUsed n k.making.run → is_kept n g.how k ≡ true
+used_stops : (n : ℕ) (g : Program) (k : Journaled) → HasUsed n k.making.run → has_stopped n g.how k ≡ true
 used_stops n g k used =
     stop_by (is_within (journal_at g.how k)) (finished k.making.run.last) (is_none k.making.run.pending) (k.making.run.units == n) used.settled
     (λ going. eq-eqb k.making.run.units n (used.full going))
 
-module _ (n : ℕ) (g : Program) (from : Keeping) where
+module _ (n : ℕ) (g : Program) (from : Journaled) where
   -- until it stops it makes the steps of the run
-  open_steps : (m : ℕ) → is_kept n g.how (steps_keeping n g from m) ≡ false → (steps_keeping n g from m).making ≡ steps_making g from.making m
+  open_steps : (m : ℕ) → has_stopped n g.how (steps_journaled n g from m) ≡ false → (steps_journaled n g from m).making ≡ steps_making g from.making m
   open_steps zero e = refl
-  open_steps (suc m) e = by (λ h. open_steps m h) (is_kept n g.how (steps_keeping n g from m)) refl
+  open_steps (suc m) e = by (λ h. open_steps m h) (has_stopped n g.how (steps_journaled n g from m)) refl
     where
-      by : (is_kept n g.how (steps_keeping n g from m) ≡ false → (steps_keeping n g from m).making ≡ steps_making g from.making m)
-          → (b : Bool) → is_kept n g.how (steps_keeping n g from m) ≡ b → (steps_keeping n g from (suc m)).making ≡ steps_making g from.making (suc m)
+      by : (has_stopped n g.how (steps_journaled n g from m) ≡ false → (steps_journaled n g from m).making ≡ steps_making g from.making m)
+          → (b : Bool) → has_stopped n g.how (steps_journaled n g from m) ≡ b → (steps_journaled n g from (suc m)).making ≡ steps_making g from.making (suc m)
       by before true stopped =
-          let stays : steps_keeping n g from (suc m) ≡ steps_keeping n g from m =
-          ap (λ (b : Bool). cond b (steps_keeping n g from m) (kept_more g (steps_keeping n g from m))) stopped in
-          absurd (let no : true ≡ false = sym stopped ∙ (ap (is_kept n g.how) (sym stays) ∙ e) in cc)
-      by before false going = next_keeping n g from m going ∙ ap (advance_making g) (before going)
+          let stays : steps_journaled n g from (suc m) ≡ steps_journaled n g from m =
+          ap (λ (b : Bool). cond b (steps_journaled n g from m) (journaled_more g (steps_journaled n g from m))) stopped in
+          absurd (let no : true ≡ false = sym stopped ∙ (ap (has_stopped n g.how) (sym stays) ∙ e) in cc)
+      by before false going = next_journaled n g from m going ∙ ap (advance_making g) (before going)
 
-  stops_by : (m : ℕ) → HasUsed n (steps_making g from.making m).run → (k : Keeping) × IsKept n g from k
-  stops_by m used = by (is_kept n g.how (steps_keeping n g from m)) refl
+  stops_by : (m : ℕ) → HasUsed n (steps_making g from.making m).run → (k : Journaled) × IsJournaled n g from k
+  stops_by m used = by (has_stopped n g.how (steps_journaled n g from m)) refl
     where
-      by : (b : Bool) → is_kept n g.how (steps_keeping n g from m) ≡ b → (k : Keeping) × IsKept n g from k
-      by true stopped = (steps_keeping n g from m, record { steps = m; reached = refl; stopped = stopped })
+      by : (b : Bool) → has_stopped n g.how (steps_journaled n g from m) ≡ b → (k : Journaled) × IsJournaled n g from k
+      by true stopped = (steps_journaled n g from m, record { steps = m; reached = refl; stopped = stopped })
       by false going =
-          let there : HasUsed n (steps_keeping n g from m).making.run = subst (λ (k : Making). HasUsed n k.run) (sym (open_steps m going)) used in
-          absurd (let no : true ≡ false = sym (used_stops n g (steps_keeping n g from m) there) ∙ going in cc)
+          let there : HasUsed n (steps_journaled n g from m).making.run = subst (λ (k : Making). HasUsed n k.run) (sym (open_steps m going)) used in
+          absurd (let no : true ≡ false = sym (used_stops n g (steps_journaled n g from m) there) ∙ going in cc)
 
   -- ---- it uses no more than its units
 
@@ -66,41 +66,41 @@ module _ (n : ℕ) (g : Program) (from : Keeping) where
       (eq-or-lt_of_le low)
   room (Some t) units e low = omega (arith, low)
 
-  units_most : (m : ℕ) → from.making.run.units ≤ n → (steps_keeping n g from m).making.run.units ≤ n
+  units_most : (m : ℕ) → from.making.run.units ≤ n → (steps_journaled n g from m).making.run.units ≤ n
   units_most zero low = low
-  units_most (suc m) low = by (units_most m low) (is_kept n g.how (steps_keeping n g from m)) refl
+  units_most (suc m) low = by (units_most m low) (has_stopped n g.how (steps_journaled n g from m)) refl
     where
-      by : (steps_keeping n g from m).making.run.units ≤ n → (b : Bool) → is_kept n g.how (steps_keeping n g from m) ≡ b → (steps_keeping n g from (suc m)).making.run.units ≤ n
+      by : (steps_journaled n g from m).making.run.units ≤ n → (b : Bool) → has_stopped n g.how (steps_journaled n g from m) ≡ b → (steps_journaled n g from (suc m)).making.run.units ≤ n
       by before true stopped =
-          subst (λ (k : Keeping). k.making.run.units ≤ n) (sym (ap (λ (b : Bool). cond b (steps_keeping n g from m) (kept_more g (steps_keeping n g from m))) stopped)) before
+          subst (λ (k : Journaled). k.making.run.units ≤ n) (sym (ap (λ (b : Bool). cond b (steps_journaled n g from m) (journaled_more g (steps_journaled n g from m))) stopped)) before
       by before false going =
-          let k = (steps_keeping n g from m).making in
+          let k = (steps_journaled n g from m).making in
           let goes : finished k.run.last ≡ false = going_of _ _ _ going in
-          let more : (steps_keeping n g from (suc m)).making.run.units ≡ k.run.units + unit_of k.run.pending =
-          ap (λ (j : Making). j.run.units) (next_keeping n g from m going ∙ advance-going g k goes) in
+          let more : (steps_journaled n g from (suc m)).making.run.units ≡ k.run.units + unit_of k.run.pending =
+          ap (λ (j : Making). j.run.units) (next_journaled n g from m going ∙ advance-going g k goes) in
           subst (λ (u : ℕ). u ≤ n) (sym more) (room k.run.pending k.run.units (last_of _ _ _ going) before)
 
 -- ---- from a state with nothing pending
 
 -- there is a place where the run stops
-pub some_place : (n : ℕ) (g : Program) (s : State) (words : List ℕ) → (k : Keeping) × IsKept n g (unkept (begun s None 0 words)) k
+pub some_place : (n : ℕ) (g : Program) (s : State) (words : List ℕ) → (k : Journaled) × IsJournaled n g (unjournaled (begun s None 0 words)) k
 some_place n g s words =
     let from = begun s None 0 words in
     let within = calm_takes g from n refl in
-    stops_by n g (unkept from) within.steps (subst (λ (k : Making). HasUsed n k.run) (sym within.reached) (made_is g from n refl refl))
+    stops_by n g (unjournaled from) within.steps (subst (λ (k : Making). HasUsed n k.run) (sym within.reached) (made_is g from n refl refl))
 
 -- on its way there it has used no more than its units, and has drawn no more words than these
 pub few_steps : (n : ℕ) (g : Program) (s : State) (words : List ℕ) (m : ℕ)
-    → ((steps_keeping n g (unkept (begun s None 0 words)) m).making.run.units ≤ n) × ((steps_keeping n g (unkept (begun s None 0 words)) m).making.count ≤ most_words n)
+    → ((steps_journaled n g (unjournaled (begun s None 0 words)) m).making.run.units ≤ n) × ((steps_journaled n g (unjournaled (begun s None 0 words)) m).making.count ≤ most_words n)
 few_steps n g s words m =
     let from = begun s None 0 words in
-    let k = (steps_keeping n g (unkept from) m).making in
-    let units : k.run.units ≤ n = units_most n g (unkept from) m (omega arith) in
-    let run = steps_run n g (unkept from) m in
+    let k = (steps_journaled n g (unjournaled from) m).making in
+    let units : k.run.units ≤ n = units_most n g (unjournaled from) m (omega arith) in
+    let run = steps_run n g (unjournaled from) m in
     let draws : k.count ≤ most_words k.run.units =
     subst (λ (j : Making). j.count ≤ most_words j.run.units) (told_making g from run.0 ∙ sym run.1) (free_draws g s words (lefts_making g from run.0)) in
     (units, omega (arith, draws, units))
 
-pub few_words : (n : ℕ) (g : Program) (s : State) (words : List ℕ) (k : Keeping) → IsKept n g (unkept (begun s None 0 words)) k → (k.making.run.units ≤ n) × (k.making.count ≤ most_words n)
+pub few_words : (n : ℕ) (g : Program) (s : State) (words : List ℕ) (k : Journaled) → IsJournaled n g (unjournaled (begun s None 0 words)) k → (k.making.run.units ≤ n) × (k.making.count ≤ most_words n)
 few_words n g s words k is =
-    subst (λ (j : Keeping). (j.making.run.units ≤ n) × (j.making.count ≤ most_words n)) is.reached (few_steps n g s words is.steps)
+    subst (λ (j : Journaled). (j.making.run.units ≤ n) × (j.making.count ≤ most_words n)) is.reached (few_steps n g s words is.steps)

@@ -1,4 +1,4 @@
--- What is kept of a run, counted.
+-- What is gathered of a run, counted.
 use Rattle.std.proofs.Common.{◌≡◌, ◌<◌, ◌+◌, ℕ, zero, suc, Bool, false, ◌^◌, List, [], ◌∷◌, ◌++◌, length, All, sym, ◌∙◌, arith}
 use Rattle.std.proofs.lemmas.List.{length-append}
 use Rattle.std.proofs.lemmas.List.Sums.{sum_by-append}
@@ -6,7 +6,7 @@ use Rattle.std.proofs.lemmas.List.Elements.{All-append}
 use Rattle.alpha_replay.specs.declared.item.Item.{Item}
 use Rattle.alpha_replay.specs.declared.item.Item.TheVariants.{Units}
 use Rattle.alpha_replay.specs.Items.{item_units, units_of, is_units, FitsItem, AreMerged}
-use Rattle.alpha_replay.specs.Kept.{closed_by}
+use Rattle.alpha_replay.specs.Gathered.{closed_by}
 
 -- the units of items in a row
 pub units_of-append : (xs ys : List Item) → units_of (xs ++ ys) ≡ units_of xs + units_of ys

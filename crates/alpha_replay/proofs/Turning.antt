@@ -1,34 +1,41 @@
--- A step by two words that is kept.
-use Rattle.std.proofs.Common.{◌≡◌, ◌&&◌, ◌++◌, ℕ, Bool, true, false, List, [], ◌∷◌, length, IsTrue, refl, sym, ap, subst, ◌∙◌, inl, inr, ⊎_elim, arith, append-nil}
+-- A step by two words that is noted.
+use Rattle.std.proofs.Common.{◌≡◌, ◌≤◌, ◌&&◌, ◌++◌, ℕ, Bool, true, false, cond, Option, List, [], ◌∷◌, length, IsTrue, refl, sym, ap, subst, ◌∙◌, inl, inr, ⊎_elim, arith, append-nil, le-leb}
 use Rattle.std.specs.Prelude.{nat_le}
 use Rattle.std.proofs.KnownBytes.{Appends-nil}
 use Rattle.std.specs.Io.KnownBytes.{Appends}
 use Rattle.alpha_io.specs.Sunk.{Sunk, Puts}
+use Rattle.alpha_io.proofs.Sinks.{Puts-none}
+use Rattle.alpha_pal.proofs.Serving.{rest_of, Takes-nothing}
 use Rattle.alpha_mem.specs.Block.{shapes, within}
 use Rattle.alpha_mem.specs.Intent.{Load}
 use Rattle.alpha_mem.specs.Memory.{bytes_at}
 use Rattle.alpha_words.specs.Regs.{reg}
 use Rattle.alpha_seq.specs.Notes.{overflow_line}
+use Rattle.alpha_seq.specs.State.{Went}
 use Rattle.alpha_seq.specs.Machine.{program_of, state_of, class_here}
 use Rattle.alpha_seq.specs.Devices.{Drawn, Idles}
 use Rattle.alpha_seq.specs.StepEffect.{OutputFails}
 use Rattle.alpha_imprecise.specs.declared.end.WildEnd.{WildEnd}
 use Rattle.alpha_imprecise.specs.declared.end.WildEnd.TheVariants as ends
-use Rattle.alpha_imprecise.specs.Moment.{Happening, Moment}
-use Rattle.alpha_imprecise.specs.Chosen.{draw_at}
+use Rattle.alpha_imprecise.specs.declared.pending.Pending.{Pending}
+use Rattle.alpha_imprecise.specs.Moment.{Happening, Precisely, Moment}
+use Rattle.alpha_imprecise.specs.Chosen.{first_word, draw_at}
 use Rattle.alpha_imprecise.specs.Telling.{Telling}
 use Rattle.alpha_imprecise.specs.Wild.{WildState, bare, trap_in, waited_in}
-use Rattle.alpha_imprecise.specs.WildEffect.{WildSteps, CallFails, ReportFails, WildEffect}
+use Rattle.alpha_imprecise.specs.WildEffect.{IsChosen, WildSteps, CallFails, ReportFails, WildEffect, WildGoesOn}
 use Rattle.alpha_imprecise.specs.WildTurn.{WildTurnEffect}
+use Rattle.alpha_imprecise.proofs.Choosing.{Moves-none, triggers-told}
+use Rattle.alpha_imprecise.proofs.Joining.{resting, idle_sink}
 use Rattle.alpha_replay.specs.declared.look.Look.{Look}
 use Rattle.alpha_replay.specs.declared.look.Look.TheVariants as looks
 use Rattle.alpha_replay.specs.declared.moves.Move.{Move}
+use Rattle.alpha_replay.specs.declared.moves.Move.TheVariants.{One, Trips}
 use Rattle.alpha_replay.specs.Looks.{Looks, DrawsFor, takes_at, LookPuts, LookTakes}
 use Rattle.alpha_replay.specs.Puts.{puts_at}
 use Rattle.alpha_replay.specs.Journal.{most_bytes}
-use Rattle.alpha_replay.specs.Kept.{kept_by}
-use Rattle.alpha_replay.specs.Taped.{Taped, has_room}
-use Rattle.alpha_replay.specs.Turned.{LookPut, LookTaken, taped_by, tape_fits, Keeps, TurnKeeps}
+use Rattle.alpha_replay.specs.Gathered.{gathered_by, noted_at}
+use Rattle.alpha_replay.specs.Taped.{Taped, taped, has_room}
+use Rattle.alpha_replay.specs.Turned.{LookPut, LookTaken, taped_by, tape_fits, Tapes, TurnTapes}
 use Rattle.alpha_replay.proofs.ByWords.{by_two, chosen_by, none_by, moves_by}
 use Rattle.alpha_replay.proofs.Putting.{wild_puts, puts_told}
 use Rattle.alpha_replay.proofs.Taking.{TakesSo, takes_so}
@@ -124,14 +131,14 @@ module _ (look : Look) (first second : ℕ) (move : Move) (old : WildState) (bef
         by looks.Reports takes h = none taken h ∙ sym (so.none takes)
         by (looks.MayWait adds) takes h = none taken h ∙ sym (so.none takes)
 
-    -- a step that was kept
-    keeps : (fits inputs outputs room : Bool) (put taken : List ℕ) (t t' : Taped) → LookPut look old.machine put → LookTaken look new.machine taken
+    -- a step that was noted
+    tapes : (fits inputs outputs room : Bool) (put taken : List ℕ) (t t' : Taped) → LookPut look old.machine put → LookTaken look new.machine taken
         → fits ≡ (inputs && outputs && room)
         → (inputs && outputs && room) ≡ tape_fits (taped_by t taken put move)
         → ((inputs && outputs && room) ≡ true → t' ≡ taped_by t taken put move)
-        → Keeps h fits t t' old new before after input out
+        → Tapes h fits t t' old new before after input out
     unfolding chosen_by
-    keeps fits inputs outputs room put taken t t' puts takes is same tape =
+    tapes fits inputs outputs room put taken t t' puts takes is same tape =
         let p = put_is did.bytes put puts bytes_are in
         let k = taken_is taken takes in
         let both : taped_by t taken put move ≡ taped_by t did.taken did.bytes move = ap (λ (l : List ℕ). taped_by t l put move) k ∙ ap (λ (l : List ℕ). taped_by t did.taken l move) p in
@@ -147,19 +154,69 @@ module _ (look : Look) (first second : ℕ) (move : Move) (old : WildState) (bef
       (fits inputs outputs room : Bool) (put taken : List ℕ) (t t' : Taped) (puts : LookPut look old.machine put) (takes : LookTaken look new.machine taken)
       (is : fits ≡ (inputs && outputs && room)) (same : (inputs && outputs && room) ≡ tape_fits (taped_by t taken put move))
       (tape : (inputs && outputs && room) ≡ true → t' ≡ taped_by t taken put move) where
-    of_step : (h : Happening) → WildSteps h old new (by_two first second) went input out → Keeps h fits t t' old new before after input out
-    of_step h did = keeps h new went input out did fits inputs outputs room put taken t t' puts takes is same tape
+    of_step : (h : Happening) → WildSteps h old new (by_two first second) went input out → Tapes h fits t t' old new before after input out
+    of_step h did = tapes h new went input out did fits inputs outputs room put taken t t' puts takes is same tape
 
-    pub turn_keeps : (end : WildEnd) → WildEffect end old new (by_two first second) went input out notes → TurnKeeps end fits t t' old new before after input out
-    turn_keeps ends.Went did = of_step _ did.0
-    turn_keeps ends.Barrier did = of_step _ did.0
-    turn_keeps ends.Triggered did = of_step _ did.0
-    turn_keeps ends.Waited did = of_step _ did.0
-    turn_keeps (ends.Reported at) did = of_step _ did.0
-    turn_keeps (ends.Ended end) did = of_step _ did.0
-    turn_keeps (ends.Lost pc mask) did = of_step _ did.0
-    turn_keeps ends.InputFault did = tt
-    turn_keeps ends.SinkFault did = tt
+    pub turn_tapes : (end : WildEnd) → WildEffect end old new (by_two first second) went input out notes → TurnTapes end fits t t' old new before after input out
+    turn_tapes ends.Went did = of_step _ did.0
+    turn_tapes ends.Barrier did = of_step _ did.0
+    turn_tapes ends.Triggered did = of_step _ did.0
+    turn_tapes ends.Waited did = of_step _ did.0
+    turn_tapes (ends.Reported at) did = of_step _ did.0
+    turn_tapes (ends.Ended end) did = of_step _ did.0
+    turn_tapes (ends.Lost pc mask) did = of_step _ did.0
+    turn_tapes ends.InputFault did = tt
+    turn_tapes ends.SinkFault did = tt
+
+-- ---- a step that only goes on
+
+module _ (old new : WildState) (t : Telling) (left written : Option (List ℕ)) (faults count : ℕ) (h : WildGoesOn old new) where
+  -- the step by no word that takes nothing and puts nothing
+  abbrev goes_steps : WildSteps (Precisely Went) old new t t (resting left faults) (idle_sink written count)
+  goes_steps = record {
+    words = [];
+    taken = [];
+    rest = rest_of left left;
+    bytes = [];
+    drew = Moves-none t;
+    took = record { took = Takes-nothing left; same = refl };
+    wrote = Puts-none written count;
+    is = λ coming output.
+        subst (λ (l : List ℕ). IsChosen (Precisely Went) old new (state_of old.machine (rest_of left left) output) (state_of new.machine (rest_of left left) l) [] coming)
+        (sym (append-nil output)) (h.step.is coming (rest_of left left) output);
+    waited = h.step.waited;
+    program = h.step.program;
+  }
+
+  -- what is drawn, put and taken is nothing, and the move is One
+  goes_noted : (input output coming : List ℕ) → noted_at (class_here old.machine) (state_of old.machine input output) (trap_in old.pending) (waited_in old.pending) coming ≡ One
+  goes_noted input output coming =
+      let o = class_here old.machine in
+      let s = state_of old.machine input output in
+      ap (λ (p : Option Pending). noted_at o s (trap_in p) (waited_in p) coming) h.calm
+      ∙ ap (λ (b : Bool). cond b (Trips (first_word coming)) One) (triggers-told o old.machine input output ∙ h.exact)
+
+  pub turn_on : (lines : Option (List ℕ)) (failed : ℕ)
+      → WildTurnEffect false ends.Went old new t t (resting left faults) (idle_sink written count) (idle_sink lines failed)
+  turn_on lines failed = record { made = goes_steps; lines = Puts-none lines failed }
+
+  pub tapes_on : (fits : Bool) (tape tape' : Taped) → length tape.taken ≤ most_bytes → length tape.put ≤ most_bytes
+      → fits ≡ has_room (gathered_by tape.gathered One) → (fits ≡ true → tape' ≡ record tape { gathered = gathered_by tape.gathered One })
+      → TurnTapes ends.Went fits tape tape' old new t t (resting left faults) (idle_sink written count)
+  tapes_on fits tape tape' taken put room is =
+      let same : record tape { gathered = gathered_by tape.gathered One } ≡ taped_by tape [] [] One =
+      ap (λ (l : List ℕ). taped l tape.put (gathered_by tape.gathered One)) (sym (append-nil tape.taken))
+      ∙ ap (λ (l : List ℕ). taped (tape.taken ++ []) l (gathered_by tape.gathered One)) (sym (append-nil tape.put)) in
+      let full : has_room (gathered_by tape.gathered One) ≡ tape_fits (record tape { gathered = gathered_by tape.gathered One }) =
+      sym (ap (λ (b : Bool). b && nat_le (length tape.put) most_bytes && has_room (gathered_by tape.gathered One)) (le-leb _ _ taken)
+      ∙ ap (λ (b : Bool). true && b && has_room (gathered_by tape.gathered One)) (le-leb _ _ put)) in
+      record {
+        steps = goes_steps;
+        move = One;
+        notes = goes_noted;
+        fits_is = room ∙ (full ∙ ap tape_fits same);
+        tape = λ e. is e ∙ same;
+      }
 
 -- ---- the tape over a step
 
@@ -175,18 +232,18 @@ module _ (t0 t1 t2 t3 : Taped) (put taken : List ℕ) (move : Move) where
   pub tape_flows : (inputs outputs room : Bool)
       → outputs ≡ nat_le (length (t0.put ++ put)) most_bytes → (outputs ≡ true → t1 ≡ record t0 { put = t0.put ++ put })
       → inputs ≡ nat_le (length (t1.taken ++ taken)) most_bytes → (inputs ≡ true → t2 ≡ record t1 { taken = t1.taken ++ taken })
-      → room ≡ has_room (kept_by t2.kept move) → (room ≡ true → t3 ≡ record t2 { kept = kept_by t2.kept move })
+      → room ≡ has_room (gathered_by t2.gathered move) → (room ≡ true → t3 ≡ record t2 { gathered = gathered_by t2.gathered move })
       → Flows (inputs && outputs && room) t0 t3 taken put move
   tape_flows inputs false room o one i two r three = record {
     same =
         falls_mid inputs room
-        ∙ (sym (falls_mid (nat_le (length (t0.taken ++ taken)) most_bytes) (has_room (kept_by t0.kept move)))
-        ∙ ap (λ (b : Bool). nat_le (length (t0.taken ++ taken)) most_bytes && b && has_room (kept_by t0.kept move)) o);
+        ∙ (sym (falls_mid (nat_le (length (t0.taken ++ taken)) most_bytes) (has_room (gathered_by t0.gathered move)))
+        ∙ ap (λ (b : Bool). nat_le (length (t0.taken ++ taken)) most_bytes && b && has_room (gathered_by t0.gathered move)) o);
     tape = λ e. absurd (let f = sym (falls_mid inputs room) ∙ e in cc);
   }
   tape_flows false true room o one i two r three = record {
     same =
-        ap (λ (b : Bool). b && nat_le (length (t0.put ++ put)) most_bytes && has_room (kept_by t0.kept move))
+        ap (λ (b : Bool). b && nat_le (length (t0.put ++ put)) most_bytes && has_room (gathered_by t0.gathered move))
         (i ∙ ap (λ (t : Taped). nat_le (length (t.taken ++ taken)) most_bytes) (one refl));
     tape = λ e. absurd cc;
   }
@@ -194,9 +251,9 @@ module _ (t0 t1 t2 t3 : Taped) (put taken : List ℕ) (move : Move) where
       let second : t2 ≡ record t0 { put = t0.put ++ put; taken = t0.taken ++ taken } = two refl ∙ ap (λ (t : Taped). record t { taken = t.taken ++ taken }) (one refl) in
       record {
         same =
-            r ∙ (ap (λ (t : Taped). has_room (kept_by t.kept move)) second
-            ∙ (ap (λ (b : Bool). true && b && has_room (kept_by t0.kept move)) o
-            ∙ ap (λ (b : Bool). b && nat_le (length (t0.put ++ put)) most_bytes && has_room (kept_by t0.kept move))
+            r ∙ (ap (λ (t : Taped). has_room (gathered_by t.gathered move)) second
+            ∙ (ap (λ (b : Bool). true && b && has_room (gathered_by t0.gathered move)) o
+            ∙ ap (λ (b : Bool). b && nat_le (length (t0.put ++ put)) most_bytes && has_room (gathered_by t0.gathered move))
             (i ∙ ap (λ (t : Taped). nat_le (length (t.taken ++ taken)) most_bytes) (one refl))));
-        tape = λ e. three e ∙ ap (λ (t : Taped). record t { kept = kept_by t.kept move }) second;
+        tape = λ e. three e ∙ ap (λ (t : Taped). record t { gathered = gathered_by t.gathered move }) second;
       }

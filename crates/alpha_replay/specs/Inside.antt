@@ -1,4 +1,4 @@
--- The parts that a `Journal` keeps.
+-- The parts of a `Journal`.
 use Rattle.alpha_replay.specs.declared.journal.Journal.TheInside.{Inside}
 use Rattle.alpha_replay.specs.Journal.{Parts, IsJournal}
 

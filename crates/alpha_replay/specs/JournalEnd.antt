@@ -23,8 +23,8 @@ use Rattle.alpha_replay.specs.declared.journal_end.JournalEnd.TheVariants as mad
 use Rattle.alpha_replay.specs.declared.ending.Ending.{Ending}
 use Rattle.alpha_replay.specs.declared.ending.Ending.TheVariants as endings
 use Rattle.alpha_replay.specs.Journal.{Parts, parts}
-use Rattle.alpha_replay.specs.Kept.{Kept, closed}
-use Rattle.alpha_replay.specs.Keeping.{Keeping, unkept, journal_at, is_within, steps_keeping, IsKept}
+use Rattle.alpha_replay.specs.Gathered.{Gathered, closed}
+use Rattle.alpha_replay.specs.Journaled.{Journaled, unjournaled, journal_at, is_within, steps_journaled, IsJournaled}
 use Rattle.alpha_replay.specs.Replay.{ending_by, ending_of}
 use Rattle.alpha_replay.specs.Taped.{Taped}
 use Rattle.alpha_replay.specs.Turned.{tape_fits}
@@ -37,9 +37,9 @@ ended_as (runs.Lost pc mask) = endings.Lost pc mask
 ended_as runs.InputFault = endings.Spent
 ended_as runs.SinkFault = endings.Spent
 
--- a run with what is kept of it
-abbrev pub keeping : Making → Kept → List ℕ → Keeping
-keeping making kept input = record { making = making; kept = kept; input = input }
+-- a run with what is gathered of it
+abbrev pub journaled : Making → Gathered → List ℕ → Journaled
+journaled making gathered input = record { making = making; gathered = gathered; input = input }
 
 -- The run of so many units stopped here, by the words that the chooser went on by, whatever comes behind them, and at an
 -- input of what was taken and the rest; what it puts is the output's growth, and its lines are that of the notes.
@@ -52,8 +52,8 @@ pub record Stops (n : ℕ) (run : WildRun) (t : Taped) (old new : WildState) (be
   pub wrote : Puts out t.put
   pub lines : Puts notes (notes_of false run.trace)
   pub is : (coming : List ℕ)
-      → IsKept n (program_of old.machine) (unkept (begun_at old (t.taken ++ rest) [] (words ++ coming)))
-      (keeping (making_at run new rest t.put coming (length words)) t.kept (t.taken ++ rest))
+      → IsJournaled n (program_of old.machine) (unjournaled (begun_at old (t.taken ++ rest) [] (words ++ coming)))
+      (journaled (making_at run new rest t.put coming (length words)) t.gathered (t.taken ++ rest))
 
 -- within the limits, and this is its journal
 pub record Records (n : ℕ) (end : RunEnd) (journal : Parts) (old new : WildState) (before after : Telling)
@@ -63,7 +63,7 @@ pub record Records (n : ℕ) (end : RunEnd) (journal : Parts) (old new : WildSta
   pub stops : Stops n run tape old new before after input out notes
   pub end_is : answer_of run.last ≡ end
   pub fits : tape_fits tape ≡ true
-  pub is : journal ≡ parts old.machine.how (ending_of run.last) tape.taken tape.put (closed tape.kept)
+  pub is : journal ≡ parts old.machine.how (ending_of run.last) tape.taken tape.put (closed tape.gathered)
 
 -- past a limit, at the first step that brings it there
 pub record IsFull (n : ℕ) (old new : WildState) (before after : Telling) (input : Drawn) (out notes : Sunk) : Type 0 where
@@ -81,9 +81,9 @@ pub record IsShort (n : ℕ) (old : WildState) (before after : Telling) (input :
   pub drew : Moves before after words
   pub steps : ℕ
   pub few : (coming : List ℕ)
-      → length words ≤ (steps_keeping n (program_of old.machine) (unkept (begun_at old bytes [] (words ++ coming))) steps).making.count
-  pub fronts : (coming : List ℕ) (k : Keeping)
-      → IsKept n (program_of old.machine) (unkept (begun_at old bytes [] (words ++ coming))) k
+      → length words ≤ (steps_journaled n (program_of old.machine) (unjournaled (begun_at old bytes [] (words ++ coming))) steps).making.count
+  pub fronts : (coming : List ℕ) (k : Journaled)
+      → IsJournaled n (program_of old.machine) (unjournaled (begun_at old bytes [] (words ++ coming))) k
       → ShowsWildPart (shown_making false k.making) out notes
 
 -- whether a step that no device failed is past a limit
@@ -100,7 +100,7 @@ is_past ends.SinkFault fits = false
 
 -- a run with its journal
 abbrev pub journal_of : RunEnd → Completion → Taped → JournalEnd
-journal_of end how t = made.Made end (parts how (ended_as end) t.taken t.put (closed t.kept))
+journal_of end how t = made.Made end (parts how (ended_as end) t.taken t.put (closed t.gathered))
 
 -- what was made, by where the run stopped: nowhere where the tape is full
 abbrev pub outcome : Option RunEnd → Completion → Taped → JournalEnd
@@ -157,19 +157,19 @@ JournalLosesNone made.NoMemory = ⊤
 -- ---- from a fresh machine, by told words over a told input
 
 -- the place where the run by these words stops
-abbrev pub StopsAt : ℕ → Program → List ℕ → (ℕ → ℕ) → Keeping → Type 0
-StopsAt n g bytes ahead k = IsKept n g (unkept (begun (start g bytes) None 0 (first_words (most_words n) ahead))) k
+abbrev pub StopsAt : ℕ → Program → List ℕ → (ℕ → ℕ) → Journaled → Type 0
+StopsAt n g bytes ahead k = IsJournaled n g (unjournaled (begun (start g bytes) None 0 (first_words (most_words n) ahead))) k
 
 -- The run stops within the limits of its journal, and this is it.
 pub record IsRecorded (n : ℕ) (g : Program) (bytes : List ℕ) (ahead : ℕ → ℕ) (journal : Parts) : Type 0 where
-  pub place : Keeping
+  pub place : Journaled
   pub stops : StopsAt n g bytes ahead place
   pub within : is_within (journal_at g.how place) ≡ true
   pub is : journal ≡ journal_at g.how place
 
 -- The run stops past a limit, and there it is.
 pub record IsPast (n : ℕ) (g : Program) (bytes : List ℕ) (ahead : ℕ → ℕ) (making : Making) : Type 0 where
-  pub place : Keeping
+  pub place : Journaled
   pub stops : StopsAt n g bytes ahead place
   pub past : is_within (journal_at g.how place) ≡ false
   pub is : making ≡ place.making
@@ -184,8 +184,8 @@ pub record Shows (k : Making) (input : Drawn) (out notes : Sunk) : Type 0 where
 abbrev pub JournalTold : JournalEnd → ℕ → List ℕ → (ℕ → ℕ) → Program → Drawn → Sunk → Sunk → Type 0
 JournalTold (made.Made end journal) n bytes ahead g input out notes = IsRecorded n g bytes ahead journal
 JournalTold made.InputFault n bytes ahead g input out notes =
-    (k : Keeping) → StopsAt n g bytes ahead k → ShowsWildPart (shown_making false k.making) out notes
+    (k : Journaled) → StopsAt n g bytes ahead k → ShowsWildPart (shown_making false k.making) out notes
 JournalTold made.SinkFault n bytes ahead g input out notes =
-    (k : Keeping) → StopsAt n g bytes ahead k → ShowsWildPart (shown_making false k.making) out notes
+    (k : Journaled) → StopsAt n g bytes ahead k → ShowsWildPart (shown_making false k.making) out notes
 JournalTold made.Full n bytes ahead g input out notes = (k : Making) × IsPast n g bytes ahead k × Shows k input out notes
 JournalTold made.NoMemory n bytes ahead g input out notes = ⊤

@@ -12,8 +12,8 @@ pub mod Puts
 pub mod Compared
 pub mod Replay
 pub mod Playing
-pub mod Kept
-pub mod Keeping
+pub mod Gathered
+pub mod Journaled
 pub mod Looks
 pub mod Taped
 pub mod Turned

@@ -16,7 +16,7 @@ use Rattle.alpha_replay.specs.declared.look.Look.{Look}
 use Rattle.alpha_replay.specs.declared.look.Look.TheVariants as looks
 use Rattle.alpha_replay.specs.declared.moves.Move.{Move}
 use Rattle.alpha_replay.specs.declared.moves.Move.TheVariants.{One, Trips, Waits, Reports}
-use Rattle.alpha_replay.specs.Kept.{noted_at}
+use Rattle.alpha_replay.specs.Gathered.{noted_at}
 use Rattle.alpha_replay.specs.Puts.{puts_at}
 
 -- while a trap is pending no input is taken

@@ -16,8 +16,8 @@ ghost use Rattle.alpha_replay.specs.Replay.{reports_of, replayed, IsRun, IsSeque
 ghost use Rattle.alpha_replay.specs.Journal.{Parts, IsJournal, spelling};
 ghost use Rattle.alpha_replay.specs.Reading.{parts_of};
 ghost use Rattle.alpha_replay.specs.JournalFault.{first_fault};
-ghost use Rattle.alpha_replay.specs.Kept.{closed};
-ghost use Rattle.alpha_replay.specs.Keeping.{Keeping, unkept, journal_at, is_within, IsKept};
+ghost use Rattle.alpha_replay.specs.Gathered.{closed};
+ghost use Rattle.alpha_replay.specs.Journaled.{Journaled, unjournaled, journal_at, is_within, IsJournaled};
 ghost use Rattle.alpha_imprecise.specs.Made.{begun, steps_making, most_words};
 
 /// Bytes have no first fault exactly where they are the spelling of a good journal, and then they are the
@@ -48,34 +48,34 @@ pub fn laws_of_replays()
         → IsRestartable image → IsSequential image p r.units }
 {}
 
-/// The laws of runs that words make and that are kept: such a run stops, within its units and with no more words than
-/// they draw, and there is one place where it does. It is reached by steps of the run that these words make, and the
-/// items that are kept of it list these steps over its input.
+/// The laws of runs that words make and that have a journal: such a run stops, within its units and with no more words
+/// than they draw, and there is one place where it does. It is reached by steps of the run that these words make, and
+/// the items that are gathered of it list these steps over its input.
 ///
-/// What items list over an input they list over its front that they took. So the items of a kept run list it over
+/// What items list over an input they list over its front that they took. So the items of such a run list it over
 /// the input that it has taken, which is that of its journal; and the replay of a journal that is within the limits
 /// is done, with the units and the reports of the run.
-pub fn laws_of_kept_runs()
+pub fn laws_of_journaled_runs()
     ensures some { (n : ℕ) (g : Program) (s : State) (words : List ℕ)
-        → (k : Keeping) × IsKept n g (unkept (begun s None 0 words)) k }
-    ensures few { (n : ℕ) (g : Program) (s : State) (words : List ℕ) (k : Keeping)
-        → IsKept n g (unkept (begun s None 0 words)) k
+        → (k : Journaled) × IsJournaled n g (unjournaled (begun s None 0 words)) k }
+    ensures few { (n : ℕ) (g : Program) (s : State) (words : List ℕ) (k : Journaled)
+        → IsJournaled n g (unjournaled (begun s None 0 words)) k
         → (k.making.run.units ≤ n) × (k.making.count ≤ most_words n) }
-    ensures one { (n : ℕ) (g : Program) (from k l : Keeping) → IsKept n g from k → IsKept n g from l
-        → k ≡ l }
-    ensures runs { (n : ℕ) (g : Program) (from k : Keeping) → IsKept n g from k
+    ensures one { (n : ℕ) (g : Program) (from k l : Journaled)
+        → IsJournaled n g from k → IsJournaled n g from l → k ≡ l }
+    ensures runs { (n : ℕ) (g : Program) (from k : Journaled) → IsJournaled n g from k
         → (steps : ℕ) × (k.making ≡ steps_making g from.making steps) }
-    ensures listed { (n : ℕ) (g : Program) (input words : List ℕ) (k : Keeping)
-        → IsKept n g (unkept (begun (start g input) None 0 words)) k
-        → listed g input (closed k.kept) ≡ Ok (record { run = k.making.run; waited = k.making.waited }) }
+    ensures listed { (n : ℕ) (g : Program) (input words : List ℕ) (k : Journaled)
+        → IsJournaled n g (unjournaled (begun (start g input) None 0 words)) k
+        → listed g input (closed k.gathered) ≡ Ok (record { run = k.making.run; waited = k.making.waited }) }
     ensures taken { (n : ℕ) (g : Program) (items : List Item) (p q : Played) (front rest : List ℕ)
         → listed_from g n items p ≡ Ok q → q.run.state.outside.input ≡ front ++ rest
         → (fed : List ℕ) × (p.run.state.outside.input ≡ fed ++ rest)
         × (listed_from g n items (played_over fed p) ≡ Ok (played_over front q)) }
-    ensures replayed { (n : ℕ) (image : Image) (how : Completion) (input words : List ℕ) (k : Keeping)
+    ensures replayed { (n : ℕ) (image : Image) (how : Completion) (input words : List ℕ) (k : Journaled)
         → let g : Program = record { image = image; how = how } in
-        IsKept n g (unkept (begun (start g input) None 0 words)) k
+        IsJournaled n g (unjournaled (begun (start g input) None 0 words)) k
         → is_within (journal_at how k) ≡ true
         → replayed image (journal_at how k)
-        ≡ Ok (record { units = k.making.run.units; reports = reports_of (closed k.kept) }) }
+        ≡ Ok (record { units = k.making.run.units; reports = reports_of (closed k.gathered) }) }
 {}

@@ -31,7 +31,7 @@
 //!   says what that shows.
 //! - [`laws_of_journals`]: bytes have no fault exactly where they are the spelling of a good journal, and
 //!   that is one journal.
-//! - [`laws_of_kept_runs`]: where a run that words make stops that is kept, and that its items list it.
+//! - [`laws_of_journaled_runs`]: where a run that words make stops that has a journal, and that its items list it.
 //!
 //! `src/front.rt` reads what stands before the input, `src/items.rt` the items; `src/read.rt` and
 //! `src/write.rt` are the ways in and out. All tests of bytes come before the first memory is taken.
@@ -42,16 +42,17 @@
 //! `specs/Journal.antt` has what a journal is and its spelling, over the `specs/Items.antt` and the
 //! `specs/Endings.antt`; `specs/Reading.antt` what bytes say of a journal, and `specs/JournalFault.antt`
 //! their first fault. `specs/Inside.antt`, `specs/Front.antt` and `specs/Scanned.antt` say what the code
-//! keeps of them. `specs/Moves.antt` has what a move chooses and where it is possible, `specs/Listed.antt` the
+//! has of them. `specs/Moves.antt` has what a move chooses and where it is possible, `specs/Listed.antt` the
 //! steps that items list, or the first item that is impossible, and `specs/Replay.antt` what a replay answers, over the
 //! outputs of `specs/Compared.antt`. `specs/Puts.antt` says what a step puts, and `specs/Playing.antt` what the code did
-//! that plays items. `specs/Kept.antt` has the items of the moves that words
-//! make, `specs/Keeping.antt` the journal of a run by them, which stops where it passes a limit.
+//! that plays items. `specs/Gathered.antt` has the items of the moves that words
+//! make, `specs/Journaled.antt` the journal of a run by them, which stops where it passes a limit.
 //!
-//! `src/turn.rt` makes a step of the machine and keeps it on the `src/tape.rt`: `src/look.rt` says before it what it
-//! draws, puts and takes, and `src/words.rt` draws its words. `specs/Looks.antt`, `specs/Puts.antt`, `specs/Taped.antt`
-//! and `specs/Turned.antt` are what they say. `src/make.rt` has the loop over such steps, and `specs/JournalEnd.antt` what
-//! is answered of a run.
+//! `src/turn.rt` makes a step of the machine and notes it on the `src/tape.rt`. Most words only go on: the machine makes
+//! their step, and a unit is counted. Of all others `src/look.rt` says before the step what it draws, puts and takes,
+//! and `src/words.rt` draws its words. `specs/Looks.antt`, `specs/Puts.antt`, `specs/Taped.antt` and
+//! `specs/Turned.antt` are what they say. `src/make.rt` has the loop over such steps, and `specs/JournalEnd.antt` what is
+//! answered of a run.
 #![tactic(auto)]
 
 mod compare;
@@ -82,7 +83,7 @@ pub use fault::JournalFault;
 pub use item::Item;
 pub use journal::Journal;
 pub use journal_end::JournalEnd;
-pub use laws::{laws_of_journals, laws_of_kept_runs, laws_of_replays};
+pub use laws::{laws_of_journaled_runs, laws_of_journals, laws_of_replays};
 pub use make::make_journal;
 pub use moves::Move;
 pub use read::read_journal;

@@ -9,7 +9,7 @@ ghost use Rattle.alpha_imprecise.specs.Run.{unit_of};
 ghost use Rattle.alpha_imprecise.specs.Telling.{telling};
 ghost use Rattle.alpha_imprecise.specs.Wild.{trap_in, IsFresh};
 ghost use Rattle.alpha_imprecise.specs.WildTurn.{run_ended_by};
-ghost use Rattle.alpha_replay.specs.Kept.{no_moves};
+ghost use Rattle.alpha_replay.specs.Gathered.{no_moves};
 ghost use Rattle.alpha_replay.specs.Taped.{taped};
 ghost use Rattle.alpha_replay.specs.Endings.{FitsEnding};
 ghost use Rattle.alpha_replay.specs.JournalEnd.{FreeJournal, JournalCause, JournalEffect, JournalLosesNone, JournalTold, ended_as, is_past, journal_of, outcome};
@@ -23,12 +23,12 @@ use alpha_seq::RunEnd;
 use alpha_words::{Completion, RegSet};
 use std::alloc::Global;
 
-/// Makes the run that [`alpha_imprecise::run`] makes of so many units without `watch`, and keeps its journal,
+/// Makes the run that [`alpha_imprecise::run`] makes of so many units without `watch`, together with its journal,
 /// whose input is the bytes that the run has taken. `Full` comes directly after the first step that brings the run
 /// past one of the four limits of a journal, before its end is looked at; a device's fault in the same step comes
 /// before it. All memory is taken before the first step.
 ///
-/// From a machine at the start and with nothing pending the items list the run, as [`crate::laws_of_kept_runs`] says.
+/// From a machine at the start and with nothing pending the items list the run, as [`crate::laws_of_journaled_runs`] says.
 /// Over a source that tells nothing the run is one in which each step finds some input of its own, and what the
 /// journal has of it is not said.
 pub fn make_journal<C: Chooser, S: Source, K: Sink, N: Sink>(
@@ -73,7 +73,9 @@ pub fn make_journal<C: Chooser, S: Source, K: Sink, N: Sink>(
     outcome(tape, completion, stop)
 }
 
-// Makes the run, and keeps it on the tape, until it is over, a device fails, or the tape is full, which is `None`.
+// Makes the run, and notes it on the tape, until it is over, a device fails, or the tape is full, which is `None`. It
+// stands apart, as the loop of a run does.
+#[inline(never)]
 fn make_taped<C: Chooser, S: Source, K: Sink, N: Sink>(
     tape: &mut Tape,
     wild: &mut Wild,

@@ -1,10 +1,10 @@
-//! What is kept of a run while it is made.
+//! What is gathered of a run while it is made.
 
 ghost use Rattle.std.specs.Prelude.{◌≡◌, ◌≤◌, ◌++◌, [], length, vec_capacity, nat_le, true, false, IfOk};
 ghost use Rattle.alpha_replay.specs.Journal.{most_bytes, parts};
 ghost use Rattle.alpha_replay.specs.Endings.{FitsEnding};
 ghost use Rattle.alpha_replay.specs.Items.{FitsItem, is_units};
-ghost use Rattle.alpha_replay.specs.Kept.{no_moves, closed, closed_by, with_item, kept_by};
+ghost use Rattle.alpha_replay.specs.Gathered.{no_moves, closed, closed_by, with_item, gathered_by};
 ghost use Rattle.alpha_replay.specs.Taped.{Taped, taped, has_room};
 
 use crate::front::{MOST_BYTES, MOST_ITEMS};
@@ -54,7 +54,7 @@ impl Tape {
         })
     }
 
-    /// Keeps bytes that were taken. Where that would be too many it keeps none of them.
+    /// Notes bytes that were taken. Where that would be too many it notes none of them.
     #[inline(always)]
     pub fn take(&mut self, bytes: &[u8]) -> bool
         ensures value { result ≡ nat_le (length (self.old.taken ++ bytes.now)) most_bytes }
@@ -67,7 +67,7 @@ impl Tape {
         self.input.extend_from_slice(bytes).is_ok()
     }
 
-    /// Keeps bytes that are put. Where that would be too many it keeps none of them.
+    /// Notes bytes that are put. Where that would be too many it notes none of them.
     #[inline(always)]
     pub fn put(&mut self, bytes: &[u8]) -> bool
         ensures value { result ≡ nat_le (length (self.old.put ++ bytes.now)) most_bytes }
@@ -80,12 +80,12 @@ impl Tape {
         self.output.extend_from_slice(bytes).is_ok()
     }
 
-    /// Keeps a move. Where that would be too many items or units it keeps nothing of it.
+    /// Notes a move. Where that would be too many items or units it notes nothing of it.
     #[inline(always)]
     pub fn note(&mut self, step: Move) -> bool
-        ensures value { result ≡ has_room (kept_by self.old.kept step) }
+        ensures value { result ≡ has_room (gathered_by self.old.gathered step) }
         ensures state { result ≡ true
-            → self.new ≡ record self.old { kept = kept_by self.old.kept step } }
+            → self.new ≡ record self.old { gathered = gathered_by self.old.gathered step } }
     {
         match step {
             Move::One => self.note_one(),
@@ -94,15 +94,15 @@ impl Tape {
             Move::Reports => self.note_item(Item::Report),
         }
     }
-}
 
-impl Tape {
-    // Keeps a step with nothing pending that doesn't overflow.
+    /// Notes a step with nothing pending that doesn't overflow.
     #[inline(always)]
-    fn note_one(&mut self) -> bool
-        ensures value { result ≡ has_room (kept_by self.old.kept Move.One) }
+    pub fn note_one(&mut self) -> bool
+        ensures taken { length self.old.taken ≤ most_bytes }
+        ensures put { length self.old.put ≤ most_bytes }
+        ensures value { result ≡ has_room (gathered_by self.old.gathered Move.One) }
         ensures state { result ≡ true
-            → self.new ≡ record self.old { kept = kept_by self.old.kept Move.One } }
+            → self.new ≡ record self.old { gathered = gathered_by self.old.gathered Move.One } }
     {
         let full = self.ones == 0 && self.items.len() == MOST_ITEMS as usize;
         if full || self.units == MOST_UNITS {
@@ -112,14 +112,16 @@ impl Tape {
         self.units += 1;
         true
     }
+}
 
-    // Keeps an item that is no Units, behind the steps that are no item yet.
+impl Tape {
+    // Notes an item that is no Units, behind the steps that are no item yet.
     fn note_item(&mut self, item: Item) -> bool
         requires fits { FitsItem item }
         requires other { is_units item ≡ false }
-        ensures value { result ≡ has_room (with_item self.old.kept item) }
+        ensures value { result ≡ has_room (with_item self.old.gathered item) }
         ensures state { result ≡ true
-            → self.new ≡ record self.old { kept = with_item self.old.kept item } }
+            → self.new ≡ record self.old { gathered = with_item self.old.gathered item } }
     {
         let closed = closed_len(&self.items, self.ones);
         if closed == MOST_ITEMS as usize || MOST_UNITS - self.units < item.units() {
@@ -132,10 +134,10 @@ impl Tape {
         true
     }
 
-    /// The journal of what is kept, of a run with this end.
+    /// The journal of what was gathered, of a run with this end.
     pub fn journal(self, completion: Completion, ending: Ending) -> Journal
         requires { FitsEnding ending }
-        ensures { result ≡ parts completion ending self.taken self.put (closed self.kept) }
+        ensures { result ≡ parts completion ending self.taken self.put (closed self.gathered) }
     {
         let Tape {
             input,

@@ -1,4 +1,4 @@
-//! A step of the machine, with what is kept of it.
+//! A step of the machine, with what is noted of it.
 
 ghost use Rattle.std.specs.Prelude.{◌≡◌, ◌++◌, ◌&&◌, length, nat_le, false, true};
 ghost use Rattle.alpha_io.specs.Sunk.{sunk};
@@ -7,7 +7,7 @@ ghost use Rattle.alpha_seq.specs.Machine.{Stays};
 ghost use Rattle.alpha_imprecise.specs.Telling.{telling};
 ghost use Rattle.alpha_imprecise.specs.WildEffect.{Framed};
 ghost use Rattle.alpha_imprecise.specs.WildTurn.{WildTurnEffect};
-ghost use Rattle.alpha_replay.specs.Turned.{LookPut, LookTaken, TurnKeeps};
+ghost use Rattle.alpha_replay.specs.Turned.{LookPut, LookTaken, TurnTapes};
 
 use crate::Move;
 use crate::look::{Look, look_ahead, register};
@@ -17,16 +17,15 @@ use alpha_imprecise::{Chooser, Wild, WildEnd};
 use alpha_io::{Sink, Source};
 use alpha_seq::Machine;
 
-/// How a step went, and whether what is kept of the run is as much as a journal may have.
+/// How a step went, and whether what is gathered of the run is as much as a journal may have.
 pub(crate) struct Turned {
     /// How the step went.
     pub end: WildEnd,
-    /// Whether the step could be kept.
+    /// Whether the step could be noted.
     pub fits: bool,
 }
 
-/// Makes one step, and keeps it, as far as that fits. What is put stands in memory before the step, and what is
-/// taken behind it.
+/// Makes one step, and notes it, as far as that fits.
 #[inline(always)]
 pub(crate) fn turn<C: Chooser, S: Source, K: Sink, N: Sink>(
     tape: &mut Tape,
@@ -41,7 +40,40 @@ pub(crate) fn turn<C: Chooser, S: Source, K: Sink, N: Sink>(
         (drawn S.Source input.old input.new)
         (sunk K.Sink out.old out.new)
         (sunk N.Sink notes.old notes.new) }
-    ensures keeps { TurnKeeps result.end result.fits tape.old tape.new wild.old wild.new
+    ensures tapes { TurnTapes result.end result.fits tape.old tape.new wild.old wild.new
+        (telling C.ahead C.drawn chooser.old) (telling C.ahead C.drawn chooser.new)
+        (drawn S.Source input.old input.new)
+        (sunk K.Sink out.old out.new) }
+    ensures frame { Framed wild.old.pending result.end wild.old.machine wild.new.machine }
+    ensures same { Stays wild.old.machine wild.new.machine }
+{
+    if wild.goes_on() {
+        let fits = tape.note_one();
+        return Turned {
+            end: WildEnd::Went,
+            fits,
+        };
+    }
+    turn_rarely(tape, wild, chooser, input, out, notes)
+}
+
+// The same for what is rare, and the words that only go on. What is put stands in memory before the step, and what is
+// taken behind it. It stands apart, so that the loop of the run is short.
+#[inline(never)]
+fn turn_rarely<C: Chooser, S: Source, K: Sink, N: Sink>(
+    tape: &mut Tape,
+    wild: &mut Wild,
+    chooser: &mut C,
+    input: &mut S,
+    out: &mut K,
+    notes: &mut N,
+) -> Turned
+    ensures effect { WildTurnEffect false result.end wild.old wild.new
+        (telling C.ahead C.drawn chooser.old) (telling C.ahead C.drawn chooser.new)
+        (drawn S.Source input.old input.new)
+        (sunk K.Sink out.old out.new)
+        (sunk N.Sink notes.old notes.new) }
+    ensures tapes { TurnTapes result.end result.fits tape.old tape.new wild.old wild.new
         (telling C.ahead C.drawn chooser.old) (telling C.ahead C.drawn chooser.new)
         (drawn S.Source input.old input.new)
         (sunk K.Sink out.old out.new) }

@@ -202,7 +202,7 @@ fn a_run_is_replayed(rt: HostRuntime) -> Result<(), Fail> {
 }
 
 #[test]
-fn a_run_is_kept(rt: HostRuntime) -> Result<(), Fail> {
+fn a_run_is_journaled(rt: HostRuntime) -> Result<(), Fail> {
     let alloc = rt.alloc();
     let image = sample(alloc, &PROGRAM, 0)?;
     let machine = Machine::new(alloc, image, Completion::Wrap)

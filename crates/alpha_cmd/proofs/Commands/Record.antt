@@ -8,9 +8,9 @@ use Rattle.alpha_seq.specs.Start.{start}
 use Rattle.alpha_imprecise.specs.Made.{Making, begun, first_words, most_words, ShownWild}
 use Rattle.alpha_replay.specs.declared.ending.Ending.TheVariants.{Spent}
 use Rattle.alpha_replay.specs.Journal.{Parts, parts, spelling}
-use Rattle.alpha_replay.specs.Keeping.{Keeping, unkept, journal_at, is_within}
+use Rattle.alpha_replay.specs.Journaled.{Journaled, unjournaled, journal_at, is_within}
 use Rattle.alpha_replay.specs.JournalEnd.{StopsAt, IsRecorded, IsPast}
-use Rattle.alpha_replay.proofs.KeptRuns.{one_place}
+use Rattle.alpha_replay.proofs.JournaledRuns.{one_place}
 use Rattle.alpha_replay.proofs.Stopping.{some_place}
 use Rattle.alpha_cmd.specs.declared.status.Status.{Status}
 use Rattle.alpha_cmd.specs.Outcome.{goes, stops, Then, Gives}
@@ -29,10 +29,10 @@ use Rattle.alpha_cmd.proofs.Commands.Imprecise.{ChoicesOf-lawful, Passes-lawful,
 -- ---- the place where a run stops
 
 module _ (n : ℕ) (g : Program) (bytes : List ℕ) (ahead : ℕ → ℕ) where
-  from : Keeping
-  from = unkept (begun (start g bytes) None 0 (first_words (most_words n) ahead))
+  from : Journaled
+  from = unjournaled (begun (start g bytes) None 0 (first_words (most_words n) ahead))
 
-  same_place : (k l : Keeping) → StopsAt n g bytes ahead k → StopsAt n g bytes ahead l → k ≡ l
+  same_place : (k l : Journaled) → StopsAt n g bytes ahead k → StopsAt n g bytes ahead l → k ≡ l
   unfolding from
   same_place k l h i = one_place n g from k l h i
 
@@ -40,22 +40,22 @@ module _ (n : ℕ) (g : Program) (bytes : List ℕ) (ahead : ℕ → ℕ) where
   same_journal p q h i = h.is ∙ (ap (journal_at g.how) (same_place h.place i.place h.stops i.stops) ∙ sym i.is)
 
   same_past : (k l : Making) → IsPast n g bytes ahead k → IsPast n g bytes ahead l → k ≡ l
-  same_past k l h i = h.is ∙ (ap (λ (x : Keeping). x.making) (same_place h.place i.place h.stops i.stops) ∙ sym i.is)
+  same_past k l h i = h.is ∙ (ap (λ (x : Journaled). x.making) (same_place h.place i.place h.stops i.stops) ∙ sym i.is)
 
   pub not_both : (p : Parts) (k : Making) → IsRecorded n g bytes ahead p → IsPast n g bytes ahead k → ⊥
   not_both p k h i =
-      let no : true ≡ false = sym h.within ∙ (ap (λ (x : Keeping). is_within (journal_at g.how x)) (same_place h.place i.place h.stops i.stops) ∙ i.past) in cc
+      let no : true ≡ false = sym h.within ∙ (ap (λ (x : Journaled). is_within (journal_at g.how x)) (same_place h.place i.place h.stops i.stops) ∙ i.past) in cc
 
   -- the run has a journal, or is stopped
   pub some_end : ((p : Parts) × IsRecorded n g bytes ahead p) ⊎ ((k : Making) × IsPast n g bytes ahead k)
   some_end = by (some_place n g (start g bytes) (first_words (most_words n) ahead))
     where
-      at : (k : Keeping) → StopsAt n g bytes ahead k → (b : Bool) → is_within (journal_at g.how k) ≡ b
+      at : (k : Journaled) → StopsAt n g bytes ahead k → (b : Bool) → is_within (journal_at g.how k) ≡ b
           → ((p : Parts) × IsRecorded n g bytes ahead p) ⊎ ((k : Making) × IsPast n g bytes ahead k)
       at k is true e = inl (journal_at g.how k, record { place = k; stops = is; within = e; is = refl })
       at k is false e = inr (k.making, record { place = k; stops = is; past = e; is = refl })
 
-      by : (k : Keeping) × StopsAt n g bytes ahead k → ((p : Parts) × IsRecorded n g bytes ahead p) ⊎ ((k : Making) × IsPast n g bytes ahead k)
+      by : (k : Journaled) × StopsAt n g bytes ahead k → ((p : Parts) × IsRecorded n g bytes ahead p) ⊎ ((k : Making) × IsPast n g bytes ahead k)
       by h = at h.0 h.1 (is_within (journal_at g.how h.0)) refl
 
 -- ---- the keep

@@ -3,7 +3,7 @@ use Rattle.std.proofs.lemmas.List.{length-append}
 use Rattle.alpha_replay.specs.declared.item.Item.{Item}
 use Rattle.alpha_replay.specs.declared.item.Item.TheVariants.{Units}
 use Rattle.alpha_replay.specs.Items.{units_of, FitsItem, AreMerged}
-use Rattle.alpha_replay.specs.Kept.{closed_by}
+use Rattle.alpha_replay.specs.Gathered.{closed_by}
 use Rattle.alpha_replay.proofs.Taping.{units_of-append, units-closed, fits_item, merged_closed, merged_item}
 use Rattle.alpha_replay.proofs.tape.Tape.note_item.Goals as goal
 

@@ -1,4 +1,4 @@
--- The items that are kept of a run that words make list it.
+-- The items that are gathered of a run that words make list it.
 use Rattle.std.specs.Prelude.{bit_or}
 use Rattle.std.proofs.Common.{◌≡◌, ◌+◌, ◌==◌, ◌/◌, ◌%◌, ◌^◌, ◌&&◌, ◌||◌, not, ℕ, zero, suc, Bool, true, false, cond, eqb, List, [], ◌∷◌, ◌++◌, drop, Option, Some, None, Ok, refl, sym, ap, ◌∙◌, ◌<◌, ◌≤◌, ⊎_elim, arith, add-one}
 use Rattle.std.proofs.lemmas.Bool.{cases_lt}
@@ -19,8 +19,8 @@ use Rattle.alpha_replay.specs.declared.moves.Move.{Move}
 use Rattle.alpha_replay.specs.declared.moves.Move.TheVariants.{One, Trips, Waits, Reports}
 use Rattle.alpha_replay.specs.Moves.{choice_of, adds_here, may_add, suits}
 use Rattle.alpha_replay.specs.Listed.{Played, played_by, move, units, item, listed_then, listed_from}
-use Rattle.alpha_replay.specs.Kept.{Kept, closed_by, closed, with_item, kept_by, noted_at, noted}
-use Rattle.alpha_replay.specs.Keeping.{Keeping, is_kept, kept_more, advance_keeping, steps_keeping, IsKept}
+use Rattle.alpha_replay.specs.Gathered.{Gathered, closed_by, closed, with_item, gathered_by, noted_at, noted}
+use Rattle.alpha_replay.specs.Journaled.{Journaled, has_stopped, journaled_more, advance_journaled, steps_journaled, IsJournaled}
 
 -- ---- the move that words make is possible, and is their step
 
@@ -118,7 +118,7 @@ making_moves g k going =
 -- ---- one item more
 
 -- from one run the items and the steps behind them lead to another
-pub record Lists (g : Program) (p : Played) (k : Kept) (q : Played) : Type 0 where
+pub record Lists (g : Program) (p : Played) (k : Gathered) (q : Played) : Type 0 where
   pub mid : Played
   pub listed : (n : ℕ) → listed_from g n k.items p ≡ Ok mid
   pub ones : units g k.ones mid ≡ Some q
@@ -136,21 +136,21 @@ listed_more g n [] i p q r e f =
 listed_more g n (j ∷ is) i p q r e f = then_ok g n is i (item g j p) q r (λ y h. listed_more g (n + 1) is i y q r h f) e
 
 -- as items alone
-pub lists_closed : (g : Program) (p q : Played) (k : Kept) → Lists g p k q → (n : ℕ) → listed_from g n (closed k) p ≡ Ok q
+pub lists_closed : (g : Program) (p q : Played) (k : Gathered) → Lists g p k q → (n : ℕ) → listed_from g n (closed k) p ≡ Ok q
 lists_closed g p q k h n = by k.ones h.ones
   where
     by : (ones : ℕ) → units g ones h.mid ≡ Some q → listed_from g n (closed_by k.items ones) p ≡ Ok q
     by zero e = let same : h.mid ≡ q = cc in h.listed n ∙ ap (λ (x : Played). Ok x) same
     by (suc ones) e = listed_more g n k.items (items.Units (suc ones)) p h.mid q (h.listed n) e
 
-lists_item : (g : Program) (p q r : Played) (k : Kept) (i : Item) → Lists g p k q → item g i q ≡ Some r → Lists g p (with_item k i) r
+lists_item : (g : Program) (p q r : Played) (k : Gathered) (i : Item) → Lists g p k q → item g i q ≡ Some r → Lists g p (with_item k i) r
 lists_item g p q r k i h e = record {
   mid = r;
   listed = λ n. listed_more g n (closed k) i p q r (lists_closed g p q k h n) e;
   ones = refl;
 }
 
-pub lists_more : (g : Program) (p q r : Played) (k : Kept) (m : Move) → Lists g p k q → move g q m ≡ Some r → Lists g p (kept_by k m) r
+pub lists_more : (g : Program) (p q r : Played) (k : Gathered) (m : Move) → Lists g p k q → move g q m ≡ Some r → Lists g p (gathered_by k m) r
 lists_more g p q r k One h e = record {
   mid = h.mid;
   listed = h.listed;
@@ -167,58 +167,58 @@ going_of false false c e = refl
 going_of false true c e = cc
 going_of true b c e = absurd cc
 
-module _ (n : ℕ) (g : Program) (from : Keeping) where
-  step_lists : (k : Keeping) → Lists g (played_in from.making) k.kept (played_in k.making)
-      → Lists g (played_in from.making) (advance_keeping n g k).kept (played_in (advance_keeping n g k).making)
-  step_lists k h = by (is_kept n g.how k) refl
+module _ (n : ℕ) (g : Program) (from : Journaled) where
+  step_lists : (k : Journaled) → Lists g (played_in from.making) k.gathered (played_in k.making)
+      → Lists g (played_in from.making) (advance_journaled n g k).gathered (played_in (advance_journaled n g k).making)
+  step_lists k h = by (has_stopped n g.how k) refl
     where
-      by : (b : Bool) → is_kept n g.how k ≡ b → Lists g (played_in from.making) (cond b k (kept_more g k)).kept (played_in (cond b k (kept_more g k)).making)
+      by : (b : Bool) → has_stopped n g.how k ≡ b → Lists g (played_in from.making) (cond b k (journaled_more g k)).gathered (played_in (cond b k (journaled_more g k)).making)
       by true e = h
       by false e =
-          lists_more g (played_in from.making) (played_in k.making) (played_in (advance_making g k.making)) k.kept (noted g k.making) h
+          lists_more g (played_in from.making) (played_in k.making) (played_in (advance_making g k.making)) k.gathered (noted g k.making) h
           (making_moves g k.making (going_of _ _ _ e))
 
-  pub steps_list : (steps : ℕ) → Lists g (played_in from.making) from.kept (played_in from.making)
-      → Lists g (played_in from.making) (steps_keeping n g from steps).kept (played_in (steps_keeping n g from steps).making)
+  pub steps_list : (steps : ℕ) → Lists g (played_in from.making) from.gathered (played_in from.making)
+      → Lists g (played_in from.making) (steps_journaled n g from steps).gathered (played_in (steps_journaled n g from steps).making)
   steps_list zero h = h
-  steps_list (suc steps) h = step_lists (steps_keeping n g from steps) (steps_list steps h)
+  steps_list (suc steps) h = step_lists (steps_journaled n g from steps) (steps_list steps h)
 
 -- ---- where such a run stops
 
-module _ (n : ℕ) (g : Program) (from : Keeping) where
-  stays_then : (a : ℕ) (k : Keeping) → is_kept n g.how (steps_keeping n g from a) ≡ true → k ≡ steps_keeping n g from a → advance_keeping n g k ≡ steps_keeping n g from a
-  stays_then a k e same = ap (advance_keeping n g) same ∙ ap (λ (b : Bool). cond b (steps_keeping n g from a) (kept_more g (steps_keeping n g from a))) e
+module _ (n : ℕ) (g : Program) (from : Journaled) where
+  stays_then : (a : ℕ) (k : Journaled) → has_stopped n g.how (steps_journaled n g from a) ≡ true → k ≡ steps_journaled n g from a → advance_journaled n g k ≡ steps_journaled n g from a
+  stays_then a k e same = ap (advance_journaled n g) same ∙ ap (λ (b : Bool). cond b (steps_journaled n g from a) (journaled_more g (steps_journaled n g from a))) e
 
-  pub stays_kept : (a b : ℕ) → a ≤ b → is_kept n g.how (steps_keeping n g from a) ≡ true → steps_keeping n g from b ≡ steps_keeping n g from a
-  stays_kept a zero low e = let same : 0 ≡ a = omega (arith, low) in ap (steps_keeping n g from) same
-  stays_kept a (suc b) low e =
+  pub stays_stopped : (a b : ℕ) → a ≤ b → has_stopped n g.how (steps_journaled n g from a) ≡ true → steps_journaled n g from b ≡ steps_journaled n g from a
+  stays_stopped a zero low e = let same : 0 ≡ a = omega (arith, low) in ap (steps_journaled n g from) same
+  stays_stopped a (suc b) low e =
       ⊎_elim
-      (λ (same : a ≡ suc b). ap (steps_keeping n g from) (sym same))
-      (λ (below : a < suc b). stays_then a (steps_keeping n g from b) e (stays_kept a b (omega (arith, below)) e))
+      (λ (same : a ≡ suc b). ap (steps_journaled n g from) (sym same))
+      (λ (below : a < suc b). stays_then a (steps_journaled n g from b) e (stays_stopped a b (omega (arith, below)) e))
       (eq-or-lt_of_le low)
 
-  same_place : (a b : ℕ) → is_kept n g.how (steps_keeping n g from a) ≡ true → is_kept n g.how (steps_keeping n g from b) ≡ true → steps_keeping n g from a ≡ steps_keeping n g from b
+  same_place : (a b : ℕ) → has_stopped n g.how (steps_journaled n g from a) ≡ true → has_stopped n g.how (steps_journaled n g from b) ≡ true → steps_journaled n g from a ≡ steps_journaled n g from b
   same_place a b e f =
       ⊎_elim
-      (λ (below : a < b). sym (stays_kept a b (omega (arith, below)) e))
-      (λ (low : b ≤ a). stays_kept b a low f)
+      (λ (below : a < b). sym (stays_stopped a b (omega (arith, below)) e))
+      (λ (low : b ≤ a). stays_stopped b a low f)
       (cases_lt a b)
 
-  pub one_place : (k l : Keeping) → IsKept n g from k → IsKept n g from l → k ≡ l
+  pub one_place : (k l : Journaled) → IsJournaled n g from k → IsJournaled n g from l → k ≡ l
   one_place k l one two =
       sym one.reached
-      ∙ (same_place one.steps two.steps (ap (is_kept n g.how) one.reached ∙ one.stopped) (ap (is_kept n g.how) two.reached ∙ two.stopped)
+      ∙ (same_place one.steps two.steps (ap (has_stopped n g.how) one.reached ∙ one.stopped) (ap (has_stopped n g.how) two.reached ∙ two.stopped)
       ∙ two.reached)
 
   -- the steps are those of the run
-  pub steps_run : (steps : ℕ) → (m : ℕ) × ((steps_keeping n g from steps).making ≡ steps_making g from.making m)
+  pub steps_run : (steps : ℕ) → (m : ℕ) × ((steps_journaled n g from steps).making ≡ steps_making g from.making m)
   steps_run zero = (0, refl)
-  steps_run (suc steps) = by (is_kept n g.how (steps_keeping n g from steps)) (steps_run steps)
+  steps_run (suc steps) = by (has_stopped n g.how (steps_journaled n g from steps)) (steps_run steps)
     where
-      by : (b : Bool) → (m : ℕ) × ((steps_keeping n g from steps).making ≡ steps_making g from.making m)
-          → (m : ℕ) × ((cond b (steps_keeping n g from steps) (kept_more g (steps_keeping n g from steps))).making ≡ steps_making g from.making m)
+      by : (b : Bool) → (m : ℕ) × ((steps_journaled n g from steps).making ≡ steps_making g from.making m)
+          → (m : ℕ) × ((cond b (steps_journaled n g from steps) (journaled_more g (steps_journaled n g from steps))).making ≡ steps_making g from.making m)
       by true h = h
       by false h = (suc h.0, ap (advance_making g) h.1)
 
-  pub kept_run : (k : Keeping) → IsKept n g from k → (m : ℕ) × (k.making ≡ steps_making g from.making m)
-  kept_run k is = let h = steps_run is.steps in (h.0, ap (λ (x : Keeping). x.making) (sym is.reached) ∙ h.1)
+  pub journaled_run : (k : Journaled) → IsJournaled n g from k → (m : ℕ) × (k.making ≡ steps_making g from.making m)
+  journaled_run k is = let h = steps_run is.steps in (h.0, ap (λ (x : Journaled). x.making) (sym is.reached) ∙ h.1)

@@ -27,11 +27,11 @@ abbrev pub noted : Program → Making → Move
 noted g k = noted_at (next_class g k.run.state.pc) k.run.state k.run.pending k.waited k.words
 
 -- the items so far, and the steps behind them that are no item yet, each a unit
-pub record Kept : Type 0 where
+pub record Gathered : Type 0 where
   pub items : List Item
   pub ones : ℕ
 
-abbrev pub no_moves : Kept
+abbrev pub no_moves : Gathered
 no_moves = record { items = []; ones = 0 }
 
 abbrev pub closed_by : List Item → ℕ → List Item
@@ -39,15 +39,15 @@ closed_by items zero = items
 closed_by items (suc n) = items ++ Units (suc n) ∷ []
 
 -- all of them as items
-abbrev pub closed : Kept → List Item
+abbrev pub closed : Gathered → List Item
 closed k = closed_by k.items k.ones
 
-abbrev pub with_item : Kept → Item → Kept
+abbrev pub with_item : Gathered → Item → Gathered
 with_item k i = record { items = closed k ++ i ∷ []; ones = 0 }
 
 -- one move more
-abbrev pub kept_by : Kept → Move → Kept
-kept_by k One = record k { ones = k.ones + 1 }
-kept_by k (Trips value) = with_item k (Trigger value)
-kept_by k (Waits adds value) = with_item k (Wait adds value)
-kept_by k Reports = with_item k Report
+abbrev pub gathered_by : Gathered → Move → Gathered
+gathered_by k One = record k { ones = k.ones + 1 }
+gathered_by k (Trips value) = with_item k (Trigger value)
+gathered_by k (Waits adds value) = with_item k (Wait adds value)
+gathered_by k Reports = with_item k Report

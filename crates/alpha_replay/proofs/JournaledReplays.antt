@@ -1,5 +1,5 @@
--- The journal that is kept of a run lists it over the input that it took, and so its replay is no refusal.
-use Rattle.std.proofs.Common.{◌≡◌, ◌+◌, ◌==◌, ◌&&◌, ◌||◌, not, ℕ, zero, suc, Bool, true, false, cond, List, [], ◌∷◌, ◌++◌, length, Option, Some, None, is_none, Ok, refl, sym, ap, ◌∙◌}
+-- The journal of a run lists it over the input that it took, and so its replay is no refusal.
+use Rattle.std.proofs.Common.{◌≡◌, ◌+◌, ◌==◌, ◌&&◌, ◌||◌, not, ℕ, zero, suc, Bool, true, false, cond, List, [], ◌∷◌, ◌++◌, length, Option, Some, None, is_none, Ok, refl, sym, ap, subst, ◌∙◌}
 use Rattle.std.proofs.lemmas.Bool.{eq-eqb}
 use Rattle.std.specs.Option.{option_map}
 use Rattle.alpha_words.specs.declared.Completion.{Completion}
@@ -15,19 +15,20 @@ use Rattle.alpha_replay.specs.declared.replaying.Replayed.{Replayed}
 use Rattle.alpha_replay.specs.Compared.{first_difference}
 use Rattle.alpha_replay.specs.Endings.{ending_kind, ending_first, ending_second}
 use Rattle.alpha_replay.specs.Journal.{Parts}
-use Rattle.alpha_replay.specs.Kept.{closed}
-use Rattle.alpha_replay.specs.Keeping.{Keeping, unkept, taken_by, journal_at, is_within, is_kept, kept_more, steps_keeping, IsKept}
+use Rattle.alpha_replay.specs.Gathered.{closed}
+use Rattle.alpha_replay.specs.Journaled.{Journaled, unjournaled, taken_by, journal_at, is_within, has_stopped, journaled_more, steps_journaled, IsJournaled}
 use Rattle.alpha_replay.specs.Listed.{played_over, unplayed, listed}
 use Rattle.alpha_replay.specs.Replay.{ending_of, same_ending, ends_as, reports_of, run_fault, answer_by, answered, replayed}
+use Rattle.alpha_replay.proofs.JournaledRuns.{played_in, Lists, lists_closed, steps_list}
 use Rattle.alpha_replay.proofs.Feeding.{list_feeds}
 use Rattle.alpha_replay.proofs.Recorded.{taken_is}
 
 -- the input that there was at the beginning stays
-input_stays : (n : ℕ) (g : Program) (from : Keeping) (m : ℕ) → (steps_keeping n g from m).input ≡ from.input
+input_stays : (n : ℕ) (g : Program) (from : Journaled) (m : ℕ) → (steps_journaled n g from m).input ≡ from.input
 input_stays n g from zero = refl
-input_stays n g from (suc m) = by (is_kept n g.how (steps_keeping n g from m)) ∙ input_stays n g from m
+input_stays n g from (suc m) = by (has_stopped n g.how (steps_journaled n g from m)) ∙ input_stays n g from m
   where
-    by : (b : Bool) → (cond b (steps_keeping n g from m) (kept_more g (steps_keeping n g from m))).input ≡ (steps_keeping n g from m).input
+    by : (b : Bool) → (cond b (steps_journaled n g from m) (journaled_more g (steps_journaled n g from m))).input ≡ (steps_journaled n g from m).input
     by true = refl
     by false = refl
 
@@ -67,30 +68,39 @@ no_fault p w output ending settled left =
     ∙ (ap (λ (b : Bool). last (length w.state.outside.input) b (length w.state.outside.input == 0) None) two
     ∙ ap (λ (b : Bool). last (length w.state.outside.input) true b None) (eq-eqb (length w.state.outside.input) 0 three))
 
--- ---- the journal that is kept
+-- ---- the journal of a run
 
-module _ (n : ℕ) (image : Image) (how : Completion) (input words : List ℕ) (k : Keeping) where
+-- from the start, the items list the run
+pub journaled_lists : (n : ℕ) (g : Program) (input words : List ℕ) (k : Journaled) → IsJournaled n g (unjournaled (begun (start g input) None 0 words)) k
+    → listed g input (closed k.gathered) ≡ Ok (played_in k.making)
+journaled_lists n g input words k is =
+    let from = unjournaled (begun (start g input) None 0 words) in
+    let none : Lists g (played_in from.making) from.gathered (played_in from.making) = record { mid = played_in from.making; listed = λ m. refl; ones = refl } in
+    let h = lists_closed g (played_in from.making) _ _ (steps_list n g from is.steps none) 0 in
+    subst (λ (x : Journaled). listed g input (closed x.gathered) ≡ Ok (played_in x.making)) is.reached h
+
+module _ (n : ℕ) (image : Image) (how : Completion) (input words : List ℕ) (k : Journaled) where
   abbrev g : Program
   g = record { image = image; how = how }
 
   -- the items list the run over what it took
-  pub listed_taken : IsKept n g (unkept (begun (start g input) None 0 words)) k
-      → listed g input (closed k.kept) ≡ Ok (record { run = k.making.run; waited = k.making.waited })
-      → listed g (taken_by k) (closed k.kept) ≡ Ok (played_over [] (record { run = k.making.run; waited = k.making.waited }))
+  pub listed_taken : IsJournaled n g (unjournaled (begun (start g input) None 0 words)) k
+      → listed g input (closed k.gathered) ≡ Ok (record { run = k.making.run; waited = k.making.waited })
+      → listed g (taken_by k) (closed k.gathered) ≡ Ok (played_over [] (record { run = k.making.run; waited = k.making.waited }))
   listed_taken is lists =
       let left = k.making.run.state.outside.input in
-      let fed = list_feeds g 0 (closed k.kept) (unplayed (start g input)) (record { run = k.making.run; waited = k.making.waited }) [] left lists refl in
-      let whole : k.input ≡ fed.0 ++ left = ap (λ (x : Keeping). x.input) (sym is.reached) ∙ (input_stays n g (unkept (begun (start g input) None 0 words)) is.steps ∙ fed.1) in
+      let fed = list_feeds g 0 (closed k.gathered) (unplayed (start g input)) (record { run = k.making.run; waited = k.making.waited }) [] left lists refl in
+      let whole : k.input ≡ fed.0 ++ left = ap (λ (x : Journaled). x.input) (sym is.reached) ∙ (input_stays n g (unjournaled (begun (start g input) None 0 words)) is.steps ∙ fed.1) in
       let taken : taken_by k ≡ fed.0 = ap (λ (l : List ℕ). taken_by (record k { input = l })) whole ∙ taken_is fed.0 left in
-      ap (λ (l : List ℕ). listed g l (closed k.kept)) taken ∙ fed.2
+      ap (λ (l : List ℕ). listed g l (closed k.gathered)) taken ∙ fed.2
 
-  pub kept_replays : IsKept n g (unkept (begun (start g input) None 0 words)) k → is_within (journal_at how k) ≡ true
-      → listed g input (closed k.kept) ≡ Ok (record { run = k.making.run; waited = k.making.waited })
-      → replayed image (journal_at how k) ≡ Ok (record { units = k.making.run.units; reports = reports_of (closed k.kept) })
-  kept_replays is within lists =
+  pub journaled_replays : IsJournaled n g (unjournaled (begun (start g input) None 0 words)) k → is_within (journal_at how k) ≡ true
+      → listed g input (closed k.gathered) ≡ Ok (record { run = k.making.run; waited = k.making.waited })
+      → replayed image (journal_at how k) ≡ Ok (record { units = k.making.run.units; reports = reports_of (closed k.gathered) })
+  journaled_replays is within lists =
       let p = journal_at how k in
       let q = played_over [] (record { run = k.making.run; waited = k.making.waited }) in
-      let r : Replayed = record { units = k.making.run.units; reports = reports_of (closed k.kept) } in
+      let r : Replayed = record { units = k.making.run.units; reports = reports_of (closed k.gathered) } in
       ap (answered p) (listed_taken is lists)
       ∙ ap (λ o. answer_by o r)
       (no_fault p q.run refl refl
