@@ -3,6 +3,7 @@ pub mod Bounds
 pub mod Changes
 pub mod Faults
 pub mod Forms
+pub mod Firsts
 pub mod Fronts
 pub mod Grammar
 pub mod Lists

@@ -1,6 +1,8 @@
 -- The values of a list.
 use Rattle.std.specs.Prelude.{◌≡◌, ◌⊎◌, ◌≤◌, ◌<◌, ◌-◌, ◌*◌, ◌^◌, ℕ, ℤ, List, [], ◌∷◌, ◌++◌, length, Bool, Option, None, Some, Result, Ok, Err, ◌==◌, ◌&&◌, if◌then◌else◌}
 use Rattle.std.specs.Option.{option_map, option_and_then}
+use Rattle.alpha_token.specs.declared.token.TokenKind.{TokenKind}
+use Rattle.alpha_token.specs.declared.token.TokenKind.TheVariants as kinds
 use Rattle.alpha_token.specs.Tokens.{Lexeme, Tokens, End, Bad, Next, tokens}
 use Rattle.alpha_operands.specs.declared.piece.Piece.{Piece}
 use Rattle.alpha_operands.specs.declared.piece.Piece.TheVariants as pieces
@@ -64,6 +66,30 @@ value_of o = value_in o.number o.offset o.label
 unfoldable pub first_value : Shape → List ℕ → Option (Listed × List ℕ)
 first_value shape list =
     option_and_then (λ found. option_map (λ v. (v, found.1)) (value_of found.0)) (first_operands (patterns shape) [] signs.Plus (tokens list) nothing)
+
+-- the piece of the numbers of a list; other shapes have none
+abbrev pub number_piece : Shape → Piece
+number_piece shapes.Bytes = pieces.Byte
+number_piece shapes.Words = pieces.Word
+number_piece shapes.Longs = pieces.Long
+number_piece shapes.Quads = pieces.Quad
+number_piece _ = pieces.Ra
+
+-- a token of a form stands at the front of a list
+abbrev pub HasToken : List ℕ → TokenKind → Lexeme → Type 0
+HasToken list kind t = (t.kind ≡ kind) × (tokens list ≡ Next t (tokens t.rest))
+
+-- a list begins with a number with this sign
+abbrev pub HasNumber : List ℕ → Sign → Lexeme → Type 0
+HasNumber list signs.Plus t = HasToken list kinds.Number t
+HasNumber list signs.Minus t = (minus : Lexeme) × HasToken list kinds.Minus minus × HasToken minus.rest kinds.Number t
+
+abbrev pub HasLabel : List ℕ → Lexeme → Type 0
+HasLabel list t = HasToken list kinds.Name t
+
+-- the list behind a value: it ends there, or a comma stands there
+abbrev pub IsPast : List ℕ → List ℕ → Type 0
+IsPast behind rest = ((tokens behind ≡ End 0) × (rest ≡ [])) ⊎ (tokens behind ≡ Next (record { kind = kinds.Comma; text = 44 ∷ []; rest = rest }) (tokens rest))
 
 -- the first value of a list of values of so many bytes each, and the list behind its comma
 abbrev pub next_of : ℕ → List ℕ → Option (Listed × List ℕ)

@@ -59,8 +59,8 @@ pub(crate) const NOTHING: Operands<'static> = Operands {
     left: 0,
 };
 
-// The number at a piece, `None` exactly where it is outside the piece's range.
-fn number_of(piece: Piece, sign: Sign, text: &[u8]) -> Option<Number>
+/// The number at a piece, `None` exactly where it is outside the piece's range.
+pub(crate) fn number_of(piece: Piece, sign: Sign, text: &[u8]) -> Option<Number>
     ensures { result ≡ number_of piece sign (number_value text.now) }
 {
     match number(text) {

@@ -1,15 +1,17 @@
-ghost use Rattle.std.specs.Prelude.{◌≡◌, ◌<◌, IfSome, length};
+ghost use Rattle.std.specs.Prelude.{◌≡◌, ◌<◌, ◌∷◌, List, ℕ, Some, IfSome, length};
 ghost use Rattle.std.specs.Option.{option_map};
-ghost use Rattle.alpha_token.specs.Tokens.{tokens};
+ghost use Rattle.alpha_token.specs.Tokens.{tokens, lexeme};
+ghost use Rattle.alpha_operands.specs.declared.number.Sign.TheVariants as signs;
+ghost use Rattle.alpha_operands.specs.declared.shape.Shape.TheVariants as shapes;
 ghost use Rattle.alpha_operands.specs.Shapes.{patterns};
 ghost use Rattle.alpha_operands.specs.Operands.{slots};
 ghost use Rattle.alpha_operands.specs.Reached.{front_of, IsReached};
-ghost use Rattle.alpha_operands.specs.Values.{view, list_shape, first_operands, value_of, first_value, next_of, IsOfSize};
+ghost use Rattle.alpha_operands.specs.Values.{view, list_shape, first_operands, value_of, first_value, next_of, IsOfSize, number as value, label, number_piece, HasNumber, HasLabel, IsPast};
 
-use crate::operands::{NOTHING, fill};
+use crate::operands::{NOTHING, fill, number_of};
 use crate::walk::{Reached, sign_after};
-use crate::{Number, Operands, Piece, Shape, Sign};
-use alpha_token::{Step, next};
+use crate::{Number, Operands, Piece, Shape, Sign, is_label};
+use alpha_token::{Step, Token, TokenKind, next};
 
 /// A label with an offset, 0 where none stands behind it.
 #[derive(Clone, Copy, Debug)]
@@ -99,9 +101,9 @@ fn list_shape(bytes: u8) -> Option<Shape>
     }
 }
 
-// The first value of a list of a shape, and the list behind its comma.
+// The first value of a list of a shape, and the list behind its comma, by the patterns of the shape.
 #[tactic(auto, unfolding(crate::specs::Values::first_value))]
-fn first_value(shape: Shape, list: &[u8]) -> Option<(ListValue<'_>, &[u8])>
+fn sought_value(shape: Shape, list: &[u8]) -> Option<(ListValue<'_>, &[u8])>
     ensures { option_map (λ v. (view v.0, v.1.now)) result ≡ first_value shape list.now }
 {
     let mut operands = NOTHING;
@@ -111,6 +113,126 @@ fn first_value(shape: Shape, list: &[u8]) -> Option<(ListValue<'_>, &[u8])>
             None => None,
         },
         None => None,
+    }
+}
+
+// The piece of the numbers of a list. Other shapes have none.
+#[inline(always)]
+fn number_piece(shape: Shape) -> Piece
+    ensures { result ≡ number_piece shape }
+{
+    match shape {
+        Shape::Bytes => Piece::Byte,
+        Shape::Words => Piece::Word,
+        Shape::Longs => Piece::Long,
+        Shape::Quads => Piece::Quad,
+        _ => Piece::Ra,
+    }
+}
+
+// The number behind a minus.
+#[inline(always)]
+fn behind_minus(list: &[u8]) -> Option<Token<'_>>
+    ensures { IfSome result (λ t. HasNumber list.now signs.Plus (lexeme t)) }
+{
+    match next(list) {
+        Step::Token(token) => match token.kind {
+            TokenKind::Number => Some(token),
+            _ => None,
+        },
+        _ => None,
+    }
+}
+
+// The list behind the comma at the front.
+#[inline(always)]
+fn behind_comma(behind: &[u8]) -> Option<&[u8]>
+    ensures { IfSome result (λ rest. behind.now ≡ 44 ∷ rest.now) }
+{
+    match behind {
+        [b',', rest @ ..] => Some(rest),
+        _ => None,
+    }
+}
+
+// The list behind a value: behind a comma, or at its end.
+#[inline(always)]
+fn past_value(behind: &[u8]) -> Option<&[u8]>
+    ensures { IfSome result (λ rest. IsPast behind.now rest.now) }
+{
+    if behind.is_empty() {
+        Some(&[])
+    } else {
+        let rest = behind_comma(behind)?;
+        Some(rest)
+    }
+}
+
+// The value of a number's token, and the list behind its comma.
+#[inline(always)]
+fn numbered<'a>(shape: Shape, sign: Sign, token: &Token<'a>) -> Option<(u64, &'a [u8])>
+    ensures { IfSome result (λ v. (list : List ℕ) → HasNumber list sign (lexeme token.now) → first_value shape list ≡ Some (value v.0, v.1.now)) }
+{
+    let piece = number_piece(shape);
+    let Some(Number::Value(n)) = number_of(piece, sign, token.text) else {
+        return None;
+    };
+    let rest = past_value(token.rest)?;
+    Some((n, rest))
+}
+
+// The label of a token in a list of quadwords, and the list behind its comma.
+#[inline(always)]
+fn labelled<'a>(token: &Token<'a>) -> Option<(Expr<'a>, &'a [u8])>
+    ensures { IfSome result (λ v. (list : List ℕ) → HasLabel list (lexeme token.now) → first_value shapes.Quads list ≡ Some (label v.0.label.now v.0.offset, v.1.now)) }
+{
+    if is_label(token.text) {
+        let rest = past_value(token.rest)?;
+        let (label, offset) = (token.text, 0);
+        Some((Expr { label, offset }, rest))
+    } else {
+        None
+    }
+}
+
+// The first value of a list of a shape, and the list behind its comma, where it is a number or a label with
+// nothing else before the comma.
+#[inline(always)]
+fn plain_value(shape: Shape, list: &[u8]) -> Option<(ListValue<'_>, &[u8])>
+    ensures { IfSome result (λ v. first_value shape list.now ≡ Some (view v.0, v.1.now)) }
+{
+    let token = match next(list) {
+        Step::Token(token) => token,
+        _ => return None,
+    };
+    match token.kind {
+        TokenKind::Number => {
+            let (n, rest) = numbered(shape, Sign::Plus, &token)?;
+            Some((ListValue::Number(n), rest))
+        }
+        TokenKind::Minus => {
+            let digits = behind_minus(token.rest)?;
+            let (n, rest) = numbered(shape, Sign::Minus, &digits)?;
+            Some((ListValue::Number(n), rest))
+        }
+        TokenKind::Name => match shape {
+            Shape::Quads => {
+                let (to, rest) = labelled(&token)?;
+                Some((ListValue::Label(to), rest))
+            }
+            _ => None,
+        },
+        _ => None,
+    }
+}
+
+// The first value of a list of a shape, and the list behind its comma.
+fn first_value(shape: Shape, list: &[u8]) -> Option<(ListValue<'_>, &[u8])>
+    ensures { option_map (λ v. (view v.0, v.1.now)) result ≡ first_value shape list.now }
+{
+    match plain_value(shape, list) {
+        Some(found) => Some(found),
+        None => sought_value(shape, list),
     }
 }
 
