@@ -1,5 +1,6 @@
 -- The first value of a list, where it is a number or a label and nothing else stands before its comma.
-use Rattle.std.proofs.Common.{◌≡◌, ℕ, pos, List, [], ◌∷◌, true, Some, refl, inl, inr}
+use Rattle.std.proofs.Common.{◌≡◌, ℕ, pos, List, [], ◌∷◌, true, Option, None, Some, length, refl, inl, inr, arith}
+use Rattle.std.specs.Option.{option_and_then}
 use Rattle.alpha_token.specs.Numeral.{number_value}
 use Rattle.alpha_token.specs.declared.token.TokenKind.TheVariants as kinds
 use Rattle.alpha_token.specs.Tokens.{Lexeme, Next, token_at, tokens}
@@ -12,7 +13,7 @@ use Rattle.alpha_operands.specs.declared.shape.Shape.TheVariants as shapes
 use Rattle.alpha_operands.specs.Ranges.{number_of}
 use Rattle.alpha_operands.specs.Shapes.{patterns}
 use Rattle.alpha_operands.specs.Operands.{is_label, filled}
-use Rattle.alpha_operands.specs.Values.{number, label, first_value, number_piece, HasNumber, HasLabel, IsPast}
+use Rattle.alpha_operands.specs.Values.{number, label, list_shape, first_value, next_of, number_piece, HasNumber, HasLabel, IsPast}
 
 pub token-comma : (s : List ℕ) → tokens (44 ∷ s) ≡ Next (record { kind = kinds.Comma; text = 44 ∷ []; rest = s }) (tokens s)
 unfolding tokens token_at
@@ -48,3 +49,17 @@ pub first-label : (t : Lexeme) (list rest : List ℕ) → HasLabel list t → is
 unfolding first_value patterns filled
 first-label t list rest (k, e) is (inl (p, z)) = rw (e, k, is, p, z) refl
 first-label t list rest (k, e) is (inr p) = rw (e, k, is, p) refl
+
+none-first : (shape : Shape) → first_value shape [] ≡ None
+unfolding first_value patterns tokens
+none-first shapes.Bytes = refl
+none-first shape = refl
+
+none-next : (shape : Option Shape) → option_and_then (λ s. first_value s []) shape ≡ None
+none-next None = refl
+none-next (Some shape) = none-first shape
+
+-- an empty list has no first value
+pub none-in-empty : (bytes : ℕ) (list : List ℕ) → length list ≡ 0 → next_of bytes list ≡ None
+none-in-empty bytes [] h = none-next (list_shape bytes)
+none-in-empty bytes (b ∷ list) h = absurd (omega arith)

@@ -244,6 +244,9 @@ pub fn next_value(list: &[u8], bytes: u8) -> Option<(ListValue<'_>, &[u8])>
     ensures sized { IfSome result (λ v. IsOfSize bytes (view v.0)) }
     ensures shorter { IfSome result (λ v. length v.1.now < length list.now) }
 {
+    if list.is_empty() {
+        return None;
+    }
     match list_shape(bytes) {
         Some(shape) => first_value(shape, list),
         None => None,
