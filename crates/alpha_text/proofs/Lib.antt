@@ -1,5 +1,6 @@
 pub mod Behind
 pub mod Bounds
+pub mod Directives
 pub mod Formats
 pub mod Forwards
 pub mod Meanings

@@ -61,6 +61,12 @@ token-reg r s h stop =
     let run : prefix_len is_ascii_alphanumeric (decimal r ++ s) ≡ length (decimal r) = prefix_len-run is_ascii_alphanumeric (decimal r) s (digits_alphanumeric (decimal r) (decimal-digits r h)) stop in
     token-next 36 (decimal r) s kinds.Register refl (λ e. cc) (register_at (decimal r ++ s) ∙ ap (if_any kinds.Register) run ∙ some_more kinds.Register (length (decimal r)) (decimal_nonempty r h))
 
+-- a register by two letters or digits
+pub token-letters : (a b : ℕ) (s : List ℕ) → is_ascii_alphanumeric a ≡ true → is_ascii_alphanumeric b ≡ true → Stops is_ascii_alphanumeric s → tokens (36 ∷ a ∷ b ∷ s) ≡ Next (record { kind = kinds.Register; text = 36 ∷ a ∷ b ∷ []; rest = s }) (tokens s)
+token-letters a b s first second stop =
+    let run : prefix_len is_ascii_alphanumeric (a ∷ b ∷ s) ≡ 2 = prefix_len-run is_ascii_alphanumeric (a ∷ b ∷ []) s (rw (first, second) refl) stop in
+    token-next 36 (a ∷ b ∷ []) s kinds.Register refl (λ e. cc) (register_at (a ∷ b ∷ s) ∙ ap (if_any kinds.Register) run)
+
 pub number_at : (b : ℕ) (s : List ℕ) → begins_name b ≡ false → is_ascii_digit b ≡ true → token_at b s ≡ Some (kinds.Number, number_more b s)
 unfolding token_at
 number_at b s a d = rw (a, d) refl

@@ -8,6 +8,8 @@ use Rattle.alpha_table.specs.declared.names.Mnemonic.TheVariants as mnemonics
 use Rattle.alpha_table.specs.Names.{name_of}
 use Rattle.alpha_token.specs.Bytes.{goes_on_name}
 use Rattle.alpha_token.specs.Tokens.{tokens}
+use Rattle.alpha_operands.specs.declared.piece.Piece.{Piece}
+use Rattle.alpha_operands.specs.declared.piece.Piece.TheVariants as pieces
 use Rattle.alpha_operands.specs.Shapes.{patterns}
 use Rattle.alpha_operands.specs.Operands.{Slots}
 use Rattle.alpha_operands.specs.Walk.{operands}
@@ -40,6 +42,14 @@ operation_of owns.NeglV = Some SublV
 operation_of owns.NegqV = Some SubqV
 operation_of owns.Sextl = Some Addl
 operation_of own = None
+
+-- how many bytes a value of a directive has, and the piece of its numbers
+abbrev pub values_of : Own → Option (ℕ × Piece)
+values_of owns.Byte = Some (1, pieces.Byte)
+values_of owns.Word = Some (2, pieces.Word)
+values_of owns.Long = Some (4, pieces.Long)
+values_of owns.Quad = Some (8, pieces.Quad)
+values_of own = None
 
 -- the operands behind any name say so much
 abbrev pub SaysBy : Head → List ℕ → Said → Type 0

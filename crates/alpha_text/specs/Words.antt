@@ -11,6 +11,8 @@ use Rattle.alpha_operands.specs.declared.number.Number.TheVariants as numbers
 use Rattle.alpha_operands.specs.declared.number.Sign.{Sign}
 use Rattle.alpha_operands.specs.declared.number.Sign.TheVariants.{Plus, Minus}
 use Rattle.alpha_operands.specs.Names.{register_of, operator_of}
+use Rattle.alpha_operands.specs.declared.number.Number.{Number}
+use Rattle.alpha_operands.specs.declared.piece.Piece.{Piece}
 use Rattle.alpha_operands.specs.declared.piece.Piece.TheVariants as pieces
 use Rattle.alpha_operands.specs.Ranges.{number_of, offset_of}
 use Rattle.alpha_operands.specs.Operands.{is_label}
@@ -54,6 +56,10 @@ HasEnd line = (left : ℕ) × (tokens line ≡ End left)
 abbrev pub HasSigned : List ℕ → Sign → ℕ → List ℕ → Type 0
 HasSigned line Plus n rest = HasNumber line n rest
 HasSigned line Minus n rest = (digits : List ℕ) × HasMark line kinds.Minus digits × HasNumber digits n rest
+
+-- a number of a piece, with its sign
+abbrev pub HasValue : Piece → List ℕ → Number → List ℕ → Type 0
+HasValue piece line v rest = (sign : Sign) × (n : ℕ) × HasSigned line sign n rest × (number_of piece sign n ≡ Some v)
 
 -- a register and a comma
 abbrev pub HasFirst : List ℕ → ℕ → List ℕ → Type 0

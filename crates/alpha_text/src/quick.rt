@@ -8,6 +8,7 @@ ghost use Rattle.alpha_text.specs.Statements.{said};
 ghost use Rattle.alpha_text.specs.Reading.{item_said, line_of};
 ghost use Rattle.alpha_text.specs.Quick.{SaysNamed, IsApart, IsParted, goes_on_label};
 
+use crate::data::of_data;
 use crate::forms::{of_own, of_row};
 use crate::front::{Front, begins_label};
 use crate::rows::{own_named, row_named};
@@ -45,8 +46,10 @@ fn of_own_name<'a>(front: &Front<'a>, words: &'a [u8]) -> Option<Statement<'a>>
     ensures { IfSome result (λ s. SaysNamed front.now.name.now front.now.behind.now (said s)) }
 {
     let own = own_named(front.name, front.key)?;
-    let insn = of_own(own, words)?;
-    Some(Statement::Code(insn))
+    match of_own(own, words) {
+        Some(insn) => Some(Statement::Code(insn)),
+        None => of_data(own, front.behind, words),
+    }
 }
 
 // The statement of a name with what stands behind it.
@@ -68,9 +71,9 @@ struct Parted<'a> {
     front: Front<'a>,
 }
 
-// The front of a line without a label.
+// The front of a line without a label, with `/v` if that ends it.
 #[inline(always)]
-fn trapping_front(line: &[u8]) -> Front<'_>
+fn whole_front(line: &[u8]) -> Front<'_>
     ensures { line.now ≡ result.name.now ++ result.behind.now }
 {
     let front = Front::of(line);
@@ -89,7 +92,7 @@ fn part_behind<'a>(label: &'a [u8], rest: &'a [u8]) -> Option<Parted<'a>>
     let line = without_blanks(rest);
     Some(Parted {
         label: Some(label),
-        front: trapping_front(line),
+        front: whole_front(line),
     })
 }
 

@@ -31,8 +31,8 @@ pub struct LineFault {
     pub column: u32,
 }
 
-// What stands behind a name, from its first token to where so many bytes are left.
-fn list_in(behind: &[u8], left: usize) -> &[u8]
+/// What stands behind a name, from its first token to where so many bytes are left.
+pub(crate) fn list_in(behind: &[u8], left: usize) -> &[u8]
     ensures { result.now ≡ list_in behind.now left }
 {
     let list = without_blanks(behind);

@@ -1,5 +1,6 @@
 mod bytes;
 mod near;
+mod rows;
 
 use crate::{Item, LineBuf, LineFault, LineFaultKind, Statement, read_line, write_line};
 use LineFaultKind::{BadOperands, BadToken, OutOfRange, UnknownName};

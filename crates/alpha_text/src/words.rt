@@ -1,6 +1,6 @@
 //! The words of operands, each read at the front of what is left of a line. Blanks may stand before each; what
 //! stands behind a comma is read on behind its blanks, so that most words have none before them.
-ghost use Rattle.std.specs.Prelude.{◌≡◌, ◌<◌, ◌+◌, ◌∷◌, ◌++◌, IfSome, IsTrue, List, ℕ, decimal};
+ghost use Rattle.std.specs.Prelude.{◌≡◌, ◌<◌, ◌+◌, ◌∷◌, ◌++◌, IfSome, IsTrue, List, ℕ, decimal, true};
 ghost use Rattle.std.specs.Char.{is_ascii_alphanumeric};
 ghost use Rattle.alpha_token.specs.declared.token.TokenKind.TheVariants as kinds;
 ghost use Rattle.alpha_token.specs.declared.token.TokenKind.{TokenKind};
@@ -12,13 +12,21 @@ use alpha_operands::{Half, Sign};
 use alpha_token::{Step, TokenKind, next, without_blanks};
 use alpha_words::Reg;
 
+// What stands behind the blanks at the front. It is a call, since most words have none before them.
+#[inline(never)]
+fn spaced(s: &[u8]) -> &[u8]
+    ensures { tokens s.now ≡ tokens result.now }
+{
+    without_blanks(s)
+}
+
 /// What stands behind the blanks at the front, which most words don't have before them.
 #[inline(always)]
 pub(crate) fn behind_blanks(s: &[u8]) -> &[u8]
     ensures { tokens s.now ≡ tokens result.now }
 {
     match s {
-        [b' ' | b'\t', ..] => without_blanks(s),
+        [b' ' | b'\t', ..] => spaced(s),
         _ => s,
     }
 }
@@ -106,17 +114,6 @@ fn short_number(s: &[u8]) -> Option<(u32, &[u8])>
     }
 }
 
-// What kind of token stands at the front, behind blanks.
-#[inline(never)]
-fn kind_at(s: &[u8]) -> Option<TokenKind>
-    ensures { IfSome result (λ kind. (text : List ℕ) × (rest : List ℕ) × HasToken s.now kind text rest) }
-{
-    match next(s) {
-        Step::Token(token) => Some(token.kind),
-        _ => None,
-    }
-}
-
 // What stands behind the token at the front, where there is one. It is asked for apart from the
 // token, so that both are answered in registers.
 #[inline(never)]
@@ -129,15 +126,12 @@ fn behind_token(s: &[u8]) -> &[u8]
     }
 }
 
-// What stands behind a mark of this kind at the front, behind blanks.
+// What stands behind a byte at the front, behind blanks.
 #[inline(always)]
-fn mark_behind(s: &[u8], kind: TokenKind) -> Option<&[u8]>
-    ensures { IfSome result (λ r. HasMark s.now kind r.now) }
+fn behind_spaced(byte: u8, s: &[u8]) -> Option<&[u8]>
+    ensures { IfSome result (λ r. tokens s.now ≡ tokens (byte ∷ r.now)) }
 {
-    match kind_at(s) {
-        Some(found) if found == kind => Some(behind_token(s)),
-        _ => None,
-    }
+    behind_byte(byte, spaced(s))
 }
 
 /// What stands behind a comma at the front and the blanks behind it.
@@ -148,7 +142,7 @@ pub(crate) fn comma(s: &[u8]) -> Option<&[u8]>
     match behind_byte(b',', s) {
         Some(rest) => Some(behind_blanks(rest)),
         None => {
-            let rest = mark_behind(s, TokenKind::Comma)?;
+            let rest = behind_spaced(b',', s)?;
             Some(behind_blanks(rest))
         }
     }
@@ -161,7 +155,7 @@ pub(crate) fn open(s: &[u8]) -> Option<&[u8]>
 {
     match behind_byte(b'(', s) {
         Some(rest) => Some(rest),
-        None => mark_behind(s, TokenKind::Open),
+        None => behind_spaced(b'(', s),
     }
 }
 
@@ -172,7 +166,7 @@ pub(crate) fn close(s: &[u8]) -> Option<&[u8]>
 {
     match behind_byte(b')', s) {
         Some(rest) => Some(rest),
-        None => mark_behind(s, TokenKind::Close),
+        None => behind_spaced(b')', s),
     }
 }
 
@@ -224,6 +218,34 @@ fn named(s: &[u8]) -> Option<Reg>
     }
 }
 
+// A letter or a digit at the front, and what stands behind it.
+#[inline(always)]
+fn letter(s: &[u8]) -> Option<(u8, &[u8])>
+    ensures value { IfSome result (λ r. s.now ≡ r.0 ∷ r.1.now) }
+    ensures kind { IfSome result (λ r. is_ascii_alphanumeric r.0 ≡ true) }
+{
+    match s {
+        [first, rest @ ..] if first.is_ascii_alphanumeric() => Some((*first, rest)),
+        _ => None,
+    }
+}
+
+// A register by a name of two letters or digits, with nothing before it.
+#[inline(always)]
+fn lettered(s: &[u8]) -> Option<(Reg, &[u8])>
+    ensures { IfSome result (λ r. HasRegister s.now r.0 r.1.now) }
+{
+    let name = behind_byte(b'$', s)?;
+    let (first, behind) = letter(name)?;
+    let (second, rest) = letter(behind)?;
+    if ends_word(rest) {
+        let r = alpha_operands::register(&[b'$', first, second])?;
+        Some((r, rest))
+    } else {
+        None
+    }
+}
+
 /// A register at the front, and what stands behind it.
 #[inline(always)]
 pub(crate) fn register(s: &[u8]) -> Option<(Reg, &[u8])>
@@ -231,10 +253,13 @@ pub(crate) fn register(s: &[u8]) -> Option<(Reg, &[u8])>
 {
     match numbered(s) {
         Some(found) => Some(found),
-        None => {
-            let r = named(s)?;
-            Some((r, behind_token(s)))
-        }
+        None => match lettered(s) {
+            Some(found) => Some(found),
+            None => {
+                let r = named(s)?;
+                Some((r, behind_token(s)))
+            }
+        },
     }
 }
 

@@ -1,25 +1,7 @@
 use super::{item, rewrite};
-use crate::front::Front;
-use crate::head::EVERY;
 use crate::reader::line_of;
-use crate::rows::{ROWS, key_of, own_named, row_named};
 use crate::{Item, LineBuf, Statement, quick};
 use alpha_table::Form;
-
-/// Each name is found at once, by the number that its bytes make and by that of a line's front.
-#[test]
-fn each_row_by_its_name(rt: HostRuntime) {
-    for row in ROWS {
-        let name = row.name();
-        let front = Front::of(name).with_trap(name);
-        assert_eq!(rt; front.key, key_of(name), "{name:?}");
-        assert_eq!(rt; row_named(front.name, front.key), Some(row), "{name:?}");
-    }
-    for own in EVERY {
-        let name = own.name();
-        assert_eq!(rt; own_named(name, key_of(name)), Some(own), "{name:?}");
-    }
-}
 
 // Whether a line and the same one with a comment have this canonical line.
 fn is_written(line: &[u8], commented: &[u8], want: &[u8]) -> bool {

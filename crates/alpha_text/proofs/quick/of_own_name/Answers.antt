@@ -1,7 +1,14 @@
 use Rattle.alpha_text.specs.declared.head.Head.TheVariants as heads
-use Rattle.alpha_text.proofs.Meanings.{by_own}
+use Rattle.alpha_text.specs.Statements.{said}
+use Rattle.alpha_text.specs.Quick.{SaysBy, SaysNamed}
+use Rattle.alpha_text.proofs.Meanings.{by_own, if-some}
 use Rattle.alpha_text.proofs.quick.of_own_name.Goals as goal
 
-pub returns : goal.returns
-returns c =
-    (heads.Own c.in_ok-own.own, c.in_ok-own.ensures, c.requires.0, by_own c.in_ok-own.own c.args.front.now.behind.now c.args.words.now c.in_ok-insn.insn c.requires.1 c.in_ok-insn.ensures)
+pub returns-in-Some : goal.returns-in-Some
+returns-in-Some c =
+    (heads.Own c.in_ok-own.own, c.in_ok-own.ensures, c.requires.0, by_own c.in_ok-own.own c.args.front.now.behind.now c.args.words.now c.in-Some.insn c.requires.1 c.in-Some.ensures)
+
+pub returns-in-None : goal.returns-in-None
+returns-in-None c =
+    if-some (λ s. SaysBy (heads.Own c.in_ok-own.own) c.args.front.now.behind.now (said s)) (λ s. SaysNamed c.args.front.now.name.now c.args.front.now.behind.now (said s)) c.of_data.result
+    (λ s h. (heads.Own c.in_ok-own.own, c.in_ok-own.ensures, c.requires.0, h)) c.of_data.ensures

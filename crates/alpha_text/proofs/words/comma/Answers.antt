@@ -13,4 +13,4 @@ pub returns-in-Some : goal.returns-in-Some
 returns-in-Some c = behind_comma c.args.s.now c.in-Some.rest.now c.behind_blanks.result.now (44 ∷ [], ap tokens c.in-Some.ensures ∙ token-comma c.in-Some.rest.now) c.behind_blanks.ensures
 
 pub returns-in_ok-rest-in-None : goal.returns-in_ok-rest-in-None
-returns-in_ok-rest-in-None c = behind_comma c.args.s.now c.in_ok-rest-in-None.rest.now c.behind_blanks-in-None.result.now c.in_ok-rest-in-None.ensures c.behind_blanks-in-None.ensures
+returns-in_ok-rest-in-None c = behind_comma c.args.s.now c.in_ok-rest-in-None.rest.now c.behind_blanks-in-None.result.now (44 ∷ [], c.in_ok-rest-in-None.ensures ∙ token-comma c.in_ok-rest-in-None.rest.now) c.behind_blanks-in-None.ensures

@@ -1,0 +1,123 @@
+//! Directives of data with one value, as most programs write them. What is written otherwise is `None` here.
+ghost use Rattle.std.specs.Prelude.{◌≡◌, IfSome};
+ghost use Rattle.alpha_token.specs.Tokens.{tokens};
+ghost use Rattle.alpha_text.specs.declared.head.Head.TheVariants as heads;
+ghost use Rattle.alpha_text.specs.declared.head.Own.TheVariants as owns;
+ghost use Rattle.alpha_text.specs.Statements.{said};
+ghost use Rattle.alpha_text.specs.Quick.{SaysBy, values_of};
+ghost use Rattle.alpha_text.specs.Words.{HasValue};
+
+use crate::Statement;
+use crate::groups::expr;
+use crate::head::Own;
+use crate::reader::list_in;
+use crate::words::{is_end, number, signed};
+use alpha_operands::{Number, Piece, Sign, number_at};
+
+// How many bytes a value of a directive has, and the piece of its numbers.
+#[inline(always)]
+fn values_of(own: Own) -> Option<(u8, Piece)>
+    ensures { result ≡ values_of own }
+{
+    match own {
+        Own::Byte => Some((1, Piece::Byte)),
+        Own::Word => Some((2, Piece::Word)),
+        Own::Long => Some((4, Piece::Long)),
+        Own::Quad => Some((8, Piece::Quad)),
+        _ => None,
+    }
+}
+
+// A number of a piece at the front, and what stands behind it.
+#[inline(always)]
+fn value(piece: Piece, words: &[u8]) -> Option<(Number, &[u8])>
+    ensures { IfSome result (λ r. HasValue piece words.now r.0 r.1.now) }
+{
+    let (sign, n, rest) = signed(words)?;
+    let value = number_at(piece, sign, n)?;
+    Some((value, rest))
+}
+
+// A directive of values with a number.
+#[inline(always)]
+fn valued<'a>(own: Own, behind: &'a [u8], words: &'a [u8]) -> Option<Statement<'a>>
+    requires { tokens behind.now ≡ tokens words.now }
+    ensures { IfSome result (λ s. SaysBy (heads.Own own) behind.now (said s)) }
+{
+    let (bytes, piece) = values_of(own)?;
+    let (_, rest) = value(piece, words)?;
+    if is_end(rest) {
+        let list = list_in(behind, rest.len());
+        Some(Statement::Values { bytes, list })
+    } else {
+        None
+    }
+}
+
+// `.quad` with an address.
+#[inline(always)]
+fn addressed<'a>(behind: &'a [u8], words: &'a [u8]) -> Option<Statement<'a>>
+    requires { tokens behind.now ≡ tokens words.now }
+    ensures { IfSome result (λ s. SaysBy (heads.Own owns.Quad) behind.now (said s)) }
+{
+    let Some((_, rest)) = expr(words) else {
+        return None;
+    };
+    if is_end(rest) {
+        let list = list_in(behind, rest.len());
+        Some(Statement::Values { bytes: 8, list })
+    } else {
+        None
+    }
+}
+
+// `.zero`.
+#[inline(always)]
+fn zeroed<'a>(behind: &'a [u8], words: &'a [u8]) -> Option<Statement<'a>>
+    requires { tokens behind.now ≡ tokens words.now }
+    ensures { IfSome result (λ s. SaysBy (heads.Own owns.Zero) behind.now (said s)) }
+{
+    let (n, rest) = number(words)?;
+    let Some(Number::Zeroed(n)) = number_at(Piece::Zeroed, Sign::Plus, n) else {
+        return None;
+    };
+    if is_end(rest) {
+        Some(Statement::Zero(n))
+    } else {
+        None
+    }
+}
+
+// `.align`.
+#[inline(always)]
+fn aligned<'a>(behind: &'a [u8], words: &'a [u8]) -> Option<Statement<'a>>
+    requires { tokens behind.now ≡ tokens words.now }
+    ensures { IfSome result (λ s. SaysBy (heads.Own owns.Align) behind.now (said s)) }
+{
+    let (n, rest) = number(words)?;
+    let Some(Number::Align(n)) = number_at(Piece::Align, Sign::Plus, n) else {
+        return None;
+    };
+    if is_end(rest) {
+        Some(Statement::Align(n))
+    } else {
+        None
+    }
+}
+
+/// What a directive of data says, which stands before `behind`; `words` are the same behind its blanks.
+#[inline(never)]
+pub(crate) fn of_data<'a>(own: Own, behind: &'a [u8], words: &'a [u8]) -> Option<Statement<'a>>
+    requires { tokens behind.now ≡ tokens words.now }
+    ensures { IfSome result (λ s. SaysBy (heads.Own own) behind.now (said s)) }
+{
+    match own {
+        Own::Zero => zeroed(behind, words),
+        Own::Align => aligned(behind, words),
+        Own::Quad => match words {
+            [b'-' | b'0'..=b'9', ..] => valued(own, behind, words),
+            _ => addressed(behind, words),
+        },
+        _ => valued(own, behind, words),
+    }
+}
