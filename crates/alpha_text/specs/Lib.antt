@@ -2,6 +2,7 @@ pub mod Bounds
 pub mod Canon
 pub mod Grammar
 pub mod Heads
+pub mod Listed
 pub mod Quick
 pub mod Reading
 pub mod Statements

@@ -1,17 +1,19 @@
-//! Directives of data with one value, as most programs write them. What is written otherwise is `None` here.
+//! Directives of data as most programs write them: with numbers or one address. What is written otherwise is `None`
+//! here.
 ghost use Rattle.std.specs.Prelude.{◌≡◌, IfSome};
 ghost use Rattle.alpha_token.specs.Tokens.{tokens};
 ghost use Rattle.alpha_text.specs.declared.head.Head.TheVariants as heads;
 ghost use Rattle.alpha_text.specs.declared.head.Own.TheVariants as owns;
 ghost use Rattle.alpha_text.specs.Statements.{said};
 ghost use Rattle.alpha_text.specs.Quick.{SaysBy, values_of};
+ghost use Rattle.alpha_text.specs.Listed.{HasValues};
 ghost use Rattle.alpha_text.specs.Words.{HasValue};
 
 use crate::Statement;
 use crate::groups::expr;
 use crate::head::Own;
 use crate::reader::list_in;
-use crate::words::{is_end, number, signed};
+use crate::words::{comma, is_end, number, signed};
 use alpha_operands::{Number, Piece, Sign, number_at};
 
 // How many bytes a value of a directive has, and the piece of its numbers.
@@ -38,20 +40,32 @@ fn value(piece: Piece, words: &[u8]) -> Option<(Number, &[u8])>
     Some((value, rest))
 }
 
-// A directive of values with a number.
+// What stands behind numbers of a piece with commas between, to the end. There are no more of them than bytes.
+fn behind_values(piece: Piece, words: &[u8]) -> Option<&[u8]>
+    ensures { IfSome result (λ rest. HasValues piece words.now rest.now) }
+{
+    let mut rest = words;
+    for _ in 0..words.len() {
+        let (_, behind) = value(piece, rest)?;
+        if is_end(behind) {
+            return Some(behind);
+        }
+        let more = comma(behind)?;
+        rest = more;
+    }
+    None
+}
+
+// A directive of values with numbers.
 #[inline(always)]
 fn valued<'a>(own: Own, behind: &'a [u8], words: &'a [u8]) -> Option<Statement<'a>>
     requires { tokens behind.now ≡ tokens words.now }
     ensures { IfSome result (λ s. SaysBy (heads.Own own) behind.now (said s)) }
 {
     let (bytes, piece) = values_of(own)?;
-    let (_, rest) = value(piece, words)?;
-    if is_end(rest) {
-        let list = list_in(behind, rest.len());
-        Some(Statement::Values { bytes, list })
-    } else {
-        None
-    }
+    let rest = behind_values(piece, words)?;
+    let list = list_in(behind, rest.len());
+    Some(Statement::Values { bytes, list })
 }
 
 // `.quad` with an address.
