@@ -16,8 +16,8 @@
 //! `reader.rt` and `specs/Reading.antt` read a line, `writer.rt` and `specs/Canon.antt` write one.
 //! `quick.rt` reads lines as programs write them, in one pass, and `specs/Quick.antt` says what its
 //! parts give: `front.rt` cuts the name off, `rows.rt` finds its row, `words.rt` and `groups.rt` read
-//! the words behind it, which `specs/Words.antt` and `Listed.antt` define; `forms.rt` and `data.rt` have what a name
-//! says with them.
+//! the words behind it, which `specs/Words.antt` and `Listed.antt` define; `forms.rt` and `data.rt`
+//! have what a name says with them.
 //! `specs/Grammar.antt` has the line grammar and the faults apart from reading.
 #![tactic(auto)]
 
