@@ -9,7 +9,7 @@ pub mod Whole
 pub mod Sound
 pub mod Making
 pub mod Adding
-pub mod Naming
 pub mod Spreading
 pub mod Cells
 pub mod Said
+pub mod ModuleLines

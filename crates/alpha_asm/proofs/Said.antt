@@ -45,7 +45,7 @@ line_taken kind is line h = by (nat_lt 1024 (length line)) h
     by true e = cc
     by false e = read_taken kind is (length is + 1) line (read line) refl e
 
-neither : (a b : Option AsmFault) → option_or a b ≡ None → (a ≡ None) × (b ≡ None)
+pub neither : (a b : Option AsmFault) → option_or a b ≡ None → (a ≡ None) × (b ≡ None)
 neither None b h = (refl, h)
 neither (Some x) b h = cc
 

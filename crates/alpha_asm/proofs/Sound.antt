@@ -15,12 +15,12 @@ filled-snoc : (es : List Segment) (s : Segment) → filled_size (es ++ s ∷ [])
 filled-snoc es s = sum_by-append (λ s. s.filled) es (s ∷ []) ∙ ap (λ n. filled_size es + n) (sum_by-cons (λ s. s.filled) s [] ∙ omega arith)
 
 -- the segment in hand grows, where it may
-keeps : (level : Option ℕ) (section next : Section) (earlier : List Segment) (last more : Segment) (size added : ℕ) → more.filled ≡ last.filled + added
+widens : (level : Option ℕ) (section next : Section) (earlier : List Segment) (last more : Segment) (size added : ℕ) → more.filled ≡ last.filled + added
     → ((n : ℕ) → level ≡ Some n → earlier ≡ [] → section ≡ Code → (next ≡ Code) × (added ≡ 0))
     → Filled level section earlier last size → Filled level next earlier more (size + added)
-keeps None section next earlier last more size added g side (e, f) = (e, omega arith)
-keeps (Some n) section next [] last more size added g side (c, z, s) = let (d, a) = side n refl refl c in (d, omega arith, omega arith)
-keeps (Some n) section next (e ∷ es) last more size added g side f = omega (arith, f, g, filled-snoc es last, filled-snoc es more)
+widens None section next earlier last more size added g side (e, f) = (e, omega arith)
+widens (Some n) section next [] last more size added g side (c, z, s) = let (d, a) = side n refl refl c in (d, omega arith, omega arith)
+widens (Some n) section next (e ∷ es) last more size added g side f = omega (arith, f, g, filled-snoc es last, filled-snoc es more)
 
 -- a segment begins
 begins : (level : Option ℕ) (section : Section) (earlier : List Segment) (last : Segment) (base size : ℕ) → not (is_some level) ≡ false → Filled level section earlier last size → Filled level Data (earlier ++ last ∷ []) (fresh base) size
@@ -34,11 +34,11 @@ none false = refl
 
 -- without data bytes
 same : (p : Place) (next : Section) (more : Segment) (size added : ℕ) → more.filled ≡ p.last.filled + added → added ≡ 0 → (p.section ≡ Code → next ≡ Code) → Filled p.level p.section p.earlier p.last size → Filled p.level next p.earlier more (size + added)
-same p next more size added g z stays f = keeps p.level p.section next p.earlier p.last more size added g (λ n e h c. (stays c, z)) f
+same p next more size added g z stays f = widens p.level p.section next p.earlier p.last more size added g (λ n e h c. (stays c, z)) f
 
 -- with data bytes, which stand in data
 grows : (p : Place) (more : Segment) (size added : ℕ) → more.filled ≡ p.last.filled + added → (p.section ≡ Code → ⊥) → Filled p.level p.section p.earlier p.last size → Filled p.level p.section p.earlier more (size + added)
-grows p more size added g stands f = keeps p.level p.section p.section p.earlier p.last more size added g (λ n e h c. absurd (stands c)) f
+grows p more size added g stands f = widens p.level p.section p.section p.earlier p.last more size added g (λ n e h c. absurd (stands c)) f
 
 ended : (b : Bool) → (b || true) ≡ false → ⊥
 ended true h = cc
@@ -75,7 +75,7 @@ filled-behind p size (says.entry_at n) h f = same p p.section (grown p (says.ent
 filled-behind p size (says.entry_label label offset) h f = same p p.section (grown p (says.entry_label label offset)) size (data_size (says.entry_label label offset) + filled_pad p (says.entry_label label offset)) refl (omega (arith, none p.has_zero)) (λ c. c) f.filled
 filled-behind p size (says.zero n) h f = same p p.section (grown p (says.zero n)) size (data_size (says.zero n) + filled_pad p (says.zero n)) refl (omega (arith, none p.has_zero)) (λ c. c) f.filled
 filled-behind p size says.code_section h f = same p Code (grown p says.code_section) size (data_size says.code_section + filled_pad p says.code_section) refl (omega (arith, none p.has_zero)) (λ c. refl) f.filled
-filled-behind p size says.data_section h f = keeps p.level p.section Data p.earlier p.last (grown p says.data_section) size (data_size says.data_section + filled_pad p says.data_section) refl (λ n e z c. absurd (no_segment p.level p.earlier n h e z)) f.filled
+filled-behind p size says.data_section h f = widens p.level p.section Data p.earlier p.last (grown p says.data_section) size (data_size says.data_section + filled_pad p says.data_section) refl (λ n e z c. absurd (no_segment p.level p.earlier n h e z)) f.filled
 filled-behind p size (says.align n) h f = grows p (grown p (says.align n)) size (data_size (says.align n) + filled_pad p (says.align n)) refl (data_only p.section h) f.filled
 filled-behind p size (says.values bytes list) h f = grows p (grown p (says.values bytes list)) size (data_size (says.values bytes list) + filled_pad p (says.values bytes list)) refl (data_only p.section (first_of_two (not (is_data p.section)) p.has_zero h)) f.filled
 filled-behind p size (says.text text) h f = grows p (grown p (says.text text)) size (data_size (says.text text) + filled_pad p (says.text text)) refl (data_only p.section (first_of_two (not (is_data p.section)) p.has_zero h)) f.filled

@@ -1,4 +1,4 @@
--- What the addresses of labels depend on, as the code keeps it.
+-- What the addresses of labels depend on, as the code has it.
 use Rattle.alpha_asm.specs.declared.bases.Bases.{Bases}
 use Rattle.alpha_asm.specs.Labels.{spot_named}
 use Rattle.alpha_asm.specs.Program.{Known}

@@ -1,4 +1,4 @@
--- Data bytes, of which those of paddings are kept by their number.
+-- Data bytes, of which those of paddings stand by their number.
 use Rattle.std.specs.Prelude.{ℕ, ◌+◌, List, [], ◌∷◌, ◌++◌, take, drop, replicate}
 use Rattle.alpha_asm.specs.declared.data.Gap.{Gap}
 

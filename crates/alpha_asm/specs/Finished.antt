@@ -1,4 +1,4 @@
--- A program with all addresses put in, as the code keeps it.
+-- A program with all addresses put in, as the code has it.
 use Rattle.std.specs.Prelude.{◌≡◌, ℕ, List, length, Option, None, Result, Ok}
 use Rattle.std.specs.Option.{option_map, unwrap_or}
 use Rattle.std.specs.List.{flat_map}

@@ -11,4 +11,4 @@ pub mod Bases
 pub mod Finished
 pub mod Data
 pub mod LineKinds
-pub mod Kept
+pub mod Symbols

@@ -1,4 +1,4 @@
--- The addresses that are put in behind the last line, as the pass keeps them.
+-- The addresses that are put in behind the last line, as the pass has them.
 use Rattle.std.specs.Prelude.{⊤, ◌≡◌, ℕ, ℤ, pos, neg_ℤ, ◌≤ℤ◌, ◌^◌, ◌+◌, nat_le, List, [], ◌∷◌, ◌++◌, length, map, take, drop, replicate, ◌*◌, slice_get, slice_set, Option, None, Some, if◌then◌else◌}
 use Rattle.std.specs.Option.{option_map, option_map_or}
 use Rattle.std.specs.List.{flat_map}

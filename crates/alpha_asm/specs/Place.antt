@@ -1,4 +1,4 @@
--- The place of an item, as the pass keeps it.
+-- The place of an item, as the pass has it.
 use Rattle.std.specs.Prelude.{ℕ, length, ◌<◌, ◌^◌}
 use Rattle.alpha_asm.specs.declared.place.Place.{Place as PlaceHere}
 use Rattle.alpha_asm.specs.Layout.{Place}

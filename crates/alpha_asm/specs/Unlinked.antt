@@ -1,9 +1,14 @@
 -- What the source of a module makes before any address is put in.
-use Rattle.std.specs.Prelude.{◌≡◌, ◌≤◌, ℕ, List, length, map}
-use Rattle.std.specs.List.{flat_map}
+use Rattle.std.specs.Prelude.{⊤, ◌≡◌, ◌≤◌, ℕ, List, length, map, true, None, IfSome}
+use Rattle.std.specs.List.{flat_map, AllByRecursion}
+use Rattle.alpha_table.specs.declared.form.Form.{Form}
+use Rattle.alpha_text.specs.References.{IsLabel, IsReference, HasNoWords, HasNoBytes}
 use Rattle.alpha_text.specs.Reading.{LineSaid}
+use Rattle.alpha_asm.specs.declared.statement.Use.{Use}
+use Rattle.alpha_asm.specs.declared.statement.Use.TheVariants as uses
 use Rattle.alpha_asm.specs.declared.unlinked.Unlinked.{Unlinked}
-use Rattle.alpha_asm.specs.Layout.{layout, end, spot_of}
+use Rattle.alpha_asm.specs.Statement.{Reference, Coded, coded, Cell, number, address, cells, segment_in, entry_in}
+use Rattle.alpha_asm.specs.Layout.{is_ldah, is_lda, layout, end, spot_of}
 use Rattle.alpha_asm.specs.Patches.{fix_of, raw_insns, raw_bytes, fixes}
 use Rattle.alpha_asm.specs.Labels.{spot_named}
 
@@ -16,3 +21,29 @@ pub record Makes (is : List LineSaid) (u : Unlinked) : Type 0 where
   pub zeroed : u.zeroed ≡ (end is).last.zeroed
   pub labels : (name : List ℕ) → spot_named u.labels name ≡ spot_of (layout is) name
   pub patches : map fix_of u.patches.items ≡ fixes 0 (layout is)
+
+-- the address of a label of at most 1,024 bytes
+abbrev pub IsAddress : Reference → Type 0
+IsAddress r = IsReference 1024 r.label r.offset
+
+-- an instruction that an address is put into, with displacement 0 until then
+abbrev pub Takes : Use → Form → Type 0
+Takes uses.Branch insn = HasNoWords insn
+Takes uses.High insn = HasNoBytes insn × (is_ldah insn ≡ true)
+Takes uses.Low insn = HasNoBytes insn × (is_lda insn ≡ true)
+
+abbrev pub IsReached : Coded → Type 0
+IsReached c = IfSome c.reach (λ r. Takes r.0 c.insn × IsAddress r.1)
+
+abbrev pub IsCell : Cell → Type 0
+IsCell (number bytes value) = ⊤
+IsCell (address r) = IsAddress r
+
+-- What a line of a module's source says. Its label and those that it names are whole, an address goes into an instruction
+-- that takes it, and there is neither an entry nor a further segment.
+pub record IsUnlinked (i : LineSaid) : Type 0 where
+  pub label : IfSome i.label (IsLabel 1024)
+  pub insn : IfSome (coded i.statement) IsReached
+  pub cells : AllByRecursion IsCell (cells i.statement)
+  pub entry : entry_in i.statement ≡ None
+  pub segment : segment_in i.statement ≡ None

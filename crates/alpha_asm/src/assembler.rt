@@ -32,7 +32,7 @@ pub fn assemble(alloc: Global, source: &[u8]) -> Result<Image, AsmFault>
     Ok(image)
 }
 
-/// Goes over all lines of a source of this kind, and adds their kinds to those that are kept.
+/// Goes over all lines of a source of this kind, and adds their kinds to those that are gathered.
 pub(crate) fn read_lines<'a>(
     alloc: Global,
     kind: SourceKind,
@@ -42,7 +42,7 @@ pub(crate) fn read_lines<'a>(
     requires { length source.now < 2 ^ 32 }
     ensures stands { IfOk result (Stands (map item_at (lines source.now))) }
     ensures taken { OnOk result (first_refused kind [] (lines source.now) ≡ None) }
-    ensures kinds { OnOk result (kinds.old.keeps ≡ true →
+    ensures kinds { OnOk result (kinds.old.gathers ≡ true →
         kinds.new.items.items ≡ kinds.old.items.items ++ kinds_of (map item_at (lines source.now))) }
     ensures refused { IfErr result (λ fault. fault ≢ faults.NoMemory → first_refused kind [] (lines source.now) ≡ Some fault) }
 {

@@ -17,7 +17,7 @@ pub(crate) struct Gap {
     pub zeros: u16,
 }
 
-/// The data bytes so far, which a clause sees. Of a padding only its size is kept, since the lines of
+/// The data bytes so far, which a clause sees. Of a padding only its size stands there, since the lines of
 /// a source may ask for more zero bytes than an image may have.
 #[derive(Drop)]
 pub(crate) struct Data {

@@ -1,4 +1,4 @@
-ghost use Rattle.std.specs.Prelude.{◌≡◌, ℕ, List, [], ◌∷◌, false, None, Some, is_some, IfOk, if◌then◌else◌};
+ghost use Rattle.std.specs.Prelude.{◌≡◌, ℕ, List, [], ◌∷◌, false, None, Some, is_some, map, IfOk, IfSome, if◌then◌else◌};
 ghost use Rattle.std.specs.Cmp.{on_per, on_equiv, partial_equiv_from_equiv};
 ghost use Rattle.std.specs.Cmp.Lexicographic.{nat_list_eq_equiv, bytes_decides};
 ghost use Rattle.std.specs.Hash.{on_Alike, same_Alike};
@@ -6,8 +6,8 @@ ghost use Rattle.std.specs.Str.{bytes_eq};
 ghost use Rattle.alpha_asm.specs.Labels.{spot_named, are_among};
 
 use crate::place::Spot;
+use indexmap::IndexMap;
 use std::alloc::{AllocError, Global};
-use std::collections::HashMap;
 use std::hash::{BuildHasher, DefaultHasher, FoldHasher, Hash, Hasher};
 
 /// A label as the key of a map. It is hashed at once, where a slice is hashed byte by byte.
@@ -74,13 +74,17 @@ impl BuildHasher for Seeded {
     }
 }
 
-/// The labels that a source defines.
+/// The labels that a source defines. They are numbered from 0, in the order of their lines.
 #[derive(Drop)]
 pub struct Labels<'a> {
-    // Those of the code, by how many instructions stand before them: a spot takes more room.
-    words: HashMap<Label<'a>, u32, Seeded>,
-    // Those of the data.
-    spots: HashMap<Label<'a>, Spot, Seeded>,
+    spots: IndexMap<Label<'a>, Spot, Seeded>,
+}
+
+// The names of labels.
+fn names_of<'a>(alloc: Global, labels: &[Label<'a>]) -> Result<Vec<&'a [u8]>, AllocError>
+    ensures { IfOk result (λ names. names.items ≡ map (λ l. l.name) labels.now) }
+{
+    labels.iter().map(|l| l.name).collect(alloc)
 }
 
 impl<'a> Labels<'a> {
@@ -88,10 +92,8 @@ impl<'a> Labels<'a> {
     pub(crate) fn new(alloc: Global, source: &[u8]) -> Labels<'a>
         ensures { (name : List ℕ) → spot_named result name ≡ None }
     {
-        let seeded = Seeded::by(source);
         Labels {
-            words: HashMap::with_hasher(alloc, seeded),
-            spots: HashMap::with_hasher(alloc, seeded),
+            spots: IndexMap::with_hasher(alloc, Seeded::by(source)),
         }
     }
 
@@ -99,25 +101,29 @@ impl<'a> Labels<'a> {
     pub fn spot(&self, name: &'a [u8]) -> Option<Spot>
         ensures { result ≡ spot_named self.now name.now }
     {
-        let label = Label { name };
-        match self.words.get(&label) {
-            Some(words) => Some(Spot::Code(*words)),
-            None => self.spots.get(&label).copied(),
-        }
+        self.spots.get(&Label { name }).copied()
     }
 
-    /// The names of all labels, each once, in no order that is said.
+    /// The number of a label, if it is defined.
+    pub fn number(&self, name: &'a [u8]) -> Option<usize>
+        ensures { is_some result ≡ is_some (spot_named self.now name.now) }
+    {
+        self.spots.get_index_of(&Label { name })
+    }
+
+    /// The label of a number, and where it is defined, `None` from the number of all labels on.
+    pub fn numbered(&self, number: usize) -> Option<(&'a [u8], Spot)>
+        ensures { IfSome result (λ label. spot_named self.now label.0.now ≡ Some label.1) }
+    {
+        let (label, spot) = self.spots.get_index(number)?;
+        Some((label.name, *spot))
+    }
+
+    /// The names of all labels, each once, in the order of their numbers.
     pub fn names(&self, alloc: Global) -> Result<Vec<&'a [u8]>, AllocError>
         ensures { IfOk result (λ names. (name : List ℕ) → are_among names.items name ≡ is_some (spot_named self.now name)) }
     {
-        let mut names = Vec::new(alloc);
-        for label in self.words.keys() {
-            names.push(label.name)?;
-        }
-        for label in self.spots.keys() {
-            names.push(label.name)?;
-        }
-        Ok(names)
+        names_of(alloc, self.spots.keys().as_slice())
     }
 
     /// Defines a label, unless it was defined before, and answers whether it was.
@@ -126,22 +132,7 @@ impl<'a> Labels<'a> {
         ensures defined { IfOk result (λ again. again ≡ false → (other : List ℕ) → spot_named self.new other
             ≡ (if bytes_eq name.entry.now other then Some spot else spot_named self.old other)) }
     {
-        let label = Label { name };
-        match spot {
-            Spot::Code(words) => {
-                if self.spots.contains_key(&label) {
-                    return Ok(true);
-                }
-                let old = self.words.insert(label, words)?;
-                Ok(old.is_some())
-            }
-            Spot::Data(..) => {
-                if self.words.contains_key(&label) {
-                    return Ok(true);
-                }
-                let old = self.spots.insert(label, spot)?;
-                Ok(old.is_some())
-            }
-        }
+        let old = self.spots.insert(Label { name }, spot)?;
+        Ok(old.is_some())
     }
 }

@@ -1,7 +1,7 @@
 //! The assembler: from a source to the image that it defines.
 //!
 //! - [`assemble`] gives the image of a source, or the first refusal, an [`AsmFault`].
-//! - [`assemble_kept`] gives beside the image what is kept of its source, [`Symbols`]: which labels name
+//! - [`assemble_with_symbols`] gives beside the image what is gathered of its source, [`Symbols`]: which labels name
 //!   words of the code, and what each line is to whoever puts instructions before it, a [`LineKind`].
 //! - [`laws_of_sources`] says by the relations of the line grammar what the lines, the lists and the texts
 //!   of a source are read as.
@@ -17,7 +17,7 @@
 //!
 //! `lines.rt` cuts a source into lines; `statement.rt` says what a statement asks, apart from where it
 //! stands; `place.rt` is the place that a line stands at, `fields.rt` the field statements, `label.rt`
-//! the labels, `output.rt` the instructions and data bytes, which `data.rt` keeps without their
+//! the labels, `output.rt` the instructions and data bytes, which `data.rt` holds without their
 //! paddings, `patch.rt` the addresses that are put in later, and `pass.rt` the state with the steps that
 //! each line takes. The image takes the instructions and the data bytes as they are: nothing is encoded
 //! or decoded.
@@ -64,5 +64,5 @@ pub use patch::{Displacement, Need, Patch, displaced};
 pub use place::{Section, Spot, padding};
 pub use program::are_within;
 pub use statement::Use;
-pub use symbols::{Symbols, assemble_kept};
+pub use symbols::{Symbols, assemble_with_symbols};
 pub use unlinked::Unlinked;

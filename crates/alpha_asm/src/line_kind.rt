@@ -67,22 +67,22 @@ fn line_kind(statement: &Statement<'_>) -> LineKind
     }
 }
 
-/// The kinds of the lines so far, where they are kept.
+/// The kinds of the lines so far, where they are gathered.
 #[derive(Drop)]
 pub(crate) struct LineKinds {
-    keeps: bool,
+    gathers: bool,
     /// One a line.
     pub items: Vec<LineKind>,
 }
 
 impl LineKinds {
-    /// Of no line, to be kept.
-    pub(crate) fn kept(alloc: Global) -> LineKinds
-        ensures keeps { result.keeps ≡ true }
+    /// Of no line, to be gathered.
+    pub(crate) fn gathered(alloc: Global) -> LineKinds
+        ensures gathers { result.gathers ≡ true }
         ensures items { result.items.items ≡ [] }
     {
         LineKinds {
-            keeps: true,
+            gathers: true,
             items: Vec::new(alloc),
         }
     }
@@ -90,18 +90,18 @@ impl LineKinds {
     /// None, of however many lines.
     pub(crate) fn none(alloc: Global) -> LineKinds {
         LineKinds {
-            keeps: false,
+            gathers: false,
             items: Vec::new(alloc),
         }
     }
 
     /// Adds that of a line with a statement.
     pub(crate) fn push(&mut self, statement: &Statement<'_>) -> Result<(), AllocError>
-        ensures keeps { self.new.keeps ≡ self.old.keeps }
-        ensures items { OnOk result (self.old.keeps ≡ true →
+        ensures gathers { self.new.gathers ≡ self.old.gathers }
+        ensures items { OnOk result (self.old.gathers ≡ true →
             self.new.items.items ≡ self.old.items.items ++ line_kind (said statement.now) ∷ []) }
     {
-        if self.keeps {
+        if self.gathers {
             self.items.push(line_kind(statement))?;
         }
         Ok(())

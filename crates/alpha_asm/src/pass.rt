@@ -52,7 +52,7 @@ impl<'a> Pass<'a> {
         }
     }
 
-    /// Goes over the next line of a source of this kind, and adds its kind to those that are kept.
+    /// Goes over the next line of a source of this kind, and adds its kind to those that are gathered.
     ///
     /// # Errors
     ///
@@ -71,8 +71,8 @@ impl<'a> Pass<'a> {
             (is : _) → Stands is self.old → refused kind is line.entry.now ≡ Some fault) }
         ensures bounded { OnOk result (IsBounded self.new) }
         ensures line { OnOk result (self.new.line ≡ self.old.line + 1) }
-        ensures keeps { kinds.new.keeps ≡ kinds.old.keeps }
-        ensures kinds { OnOk result (kinds.old.keeps ≡ true → kinds.new.items.items
+        ensures gathers { kinds.new.gathers ≡ kinds.old.gathers }
+        ensures kinds { OnOk result (kinds.old.gathers ≡ true → kinds.new.items.items
             ≡ kinds.old.items.items ++ line_kind (item_at line.entry.now).statement ∷ []) }
     {
         if line.len() > LONGEST_LINE {

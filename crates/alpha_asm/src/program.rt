@@ -5,7 +5,7 @@ ghost use Rattle.alpha_image.specs.Parts.{IsCodeInsn, numbered_level};
 ghost use Rattle.alpha_image.specs.Rules.{FieldsFit, least_bad_field};
 ghost use Rattle.alpha_asm.specs.Layout.{first, layout};
 ghost use Rattle.alpha_asm.specs.Program.{program_of, version_of, based, own_segments, known, names_in, undefined_line};
-ghost use Rattle.alpha_asm.specs.Assembled.{made, made_at};
+ghost use Rattle.alpha_asm.specs.Assembled.{made};
 ghost use Rattle.alpha_asm.specs.Patches.{entry_view};
 ghost use Rattle.alpha_asm.specs.Pass.{place_of, fields_read, Sound, Stands};
 ghost use Rattle.alpha_asm.specs.Bases.{known_of};
@@ -166,26 +166,14 @@ pub(crate) fn made<'a>(pass: Pass<'a>) -> Result<(Image, Labels<'a>), AsmFault>
         (is : _) → Stands is pass.entry → made is ≡ Err fault) }
 {
     match pass.fields.entry {
-        Some(entry) => made_at(pass, &entry),
-        None => Err(AsmFault::NoEntry),
-    }
-}
-
-// The image behind the last line, with an entry, and the labels.
-fn made_at<'a>(pass: Pass<'a>, entry: &Entry<'a>) -> Result<(Image, Labels<'a>), AsmFault>
-    requires { Sound (place_of pass) (length pass.output.bytes.items) }
-    ensures ok { IfOk result (λ r. (is : _) → Stands is pass.entry →
-        made_at is (Some (entry_view entry.now)) ≡ Ok (program_of r.0)) }
-    ensures labels { IfOk result (λ r. r.1 ≡ pass.entry.labels) }
-    ensures refused { IfErr result (λ fault. fault ≢ faults.NoMemory →
-        (is : _) → Stands is pass.entry → made_at is (Some (entry_view entry.now)) ≡ Err fault) }
-{
-    match finish(pass, entry) {
-        Ok((finished, labels)) => match finished.image() {
-            Ok(image) => Ok((image, labels)),
+        Some(entry) => match finish(pass, &entry) {
+            Ok((finished, labels)) => match finished.image() {
+                Ok(image) => Ok((image, labels)),
+                Err(fault) => Err(fault),
+            },
             Err(fault) => Err(fault),
         },
-        Err(fault) => Err(fault),
+        None => Err(AsmFault::NoEntry),
     }
 }
 

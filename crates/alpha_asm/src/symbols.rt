@@ -17,7 +17,7 @@ use alpha_image::Image;
 use std::alloc::Global;
 use std::marker::Model;
 
-/// What is kept of a source that has an image: its labels and the kinds of its lines. A clause sees the
+/// What is gathered of a source that has an image: its labels and the kinds of its lines. A clause sees the
 /// source.
 #[derive(Drop)]
 pub struct Symbols<'a> {
@@ -28,28 +28,31 @@ pub struct Symbols<'a> {
 
 impl<'a> Model for Symbols<'a> {
     ghost use Rattle.std.specs.Prelude.{ℕ, List};
-    ghost use Rattle.alpha_asm.specs.Kept.{IsKept};
+    ghost use Rattle.alpha_asm.specs.Symbols.{IsGathered};
 
     ghost Value = { List ℕ };
 
     ghost view = { λ s. s.source.now };
 
-    ghost invariant = { IsKept };
+    ghost invariant = { IsGathered };
 }
 
-/// The image that a source defines, with what is kept of the source.
+/// The image that a source defines, with what is gathered of the source.
 ///
 /// # Errors
 ///
 /// The first refusal, in the order of [`AsmFault`]. `NoMemory` may come in place of any answer.
 #[tactic(auto, unfolding(crate::specs::Assembled::assembled))]
-pub fn assemble_kept<'a>(alloc: Global, source: &'a [u8]) -> Result<(Image, Symbols<'a>), AsmFault>
+pub fn assemble_with_symbols<'a>(
+    alloc: Global,
+    source: &'a [u8],
+) -> Result<(Image, Symbols<'a>), AsmFault>
     requires { length source.now < 2 ^ 32 }
-    ensures ok { IfOk result (λ kept. assembled source.now ≡ Ok (program_of kept.0)) }
-    ensures symbols { IfOk result (λ kept. kept.1 ≡ source.now) }
+    ensures ok { IfOk result (λ made. assembled source.now ≡ Ok (program_of made.0)) }
+    ensures symbols { IfOk result (λ made. made.1 ≡ source.now) }
     ensures refused { IfErr result (λ fault. fault ≢ faults.NoMemory → assembled source.now ≡ Err fault) }
 {
-    let mut kinds = LineKinds::kept(alloc);
+    let mut kinds = LineKinds::gathered(alloc);
     let pass = read_lines(alloc, SourceKind::Program, source, &mut kinds)?;
     let (image, labels) = made(pass)?;
     let kinds = kinds.items;

@@ -1,8 +1,9 @@
 ghost use Rattle.std.specs.Prelude.{◌≡◌, ◌≢◌, ◌≤◌, ◌<◌, ◌^◌, [], length, map, Some, None, OnOk, IfOk, IfErr};
+ghost use Rattle.std.specs.List.{AllByRecursion};
 ghost use Rattle.std.specs.Str.Lines.{lines};
 ghost use Rattle.alpha_asm.specs.Assembled.{item_at, first_refused};
 ghost use Rattle.alpha_asm.specs.Pass.{Stands};
-ghost use Rattle.alpha_asm.specs.Unlinked.{Makes};
+ghost use Rattle.alpha_asm.specs.Unlinked.{Makes, IsUnlinked};
 ghost use Rattle.alpha_asm.specs.declared.fault.AsmFault.TheVariants as faults;
 ghost use Rattle.alpha_asm.specs.declared.kind.SourceKind.TheVariants as kinds;
 
@@ -44,6 +45,7 @@ impl<'a> Unlinked<'a> {
         requires { length source.now < 2 ^ 32 }
         ensures makes { IfOk result (Makes (map item_at (lines source.now))) }
         ensures few { IfOk result (λ made. length made.bytes.items ≤ made.filled) }
+        ensures good { OnOk result (AllByRecursion IsUnlinked (map item_at (lines source.now))) }
         ensures taken { OnOk result (first_refused kinds.Module [] (lines source.now) ≡ None) }
         ensures refused { IfErr result (λ fault. fault ≢ faults.NoMemory →
             first_refused kinds.Module [] (lines source.now) ≡ Some fault) }

@@ -6,7 +6,7 @@ ghost use Rattle.alpha_fix.specs.Fix.{HasImage, HasCuts, IsFixedSource, IsFar, R
 
 use crate::barriers::with_barriers;
 use crate::{CutFault, FixFault, cuts_of};
-use alpha_asm::{AsmFault, Symbols, assemble, assemble_kept};
+use alpha_asm::{AsmFault, Symbols, assemble, assemble_with_symbols};
 use alpha_image::Image;
 use std::alloc::Global;
 
@@ -21,7 +21,7 @@ pub fn fix(alloc: Global, source: &[u8]) -> Result<Vec<u8>, FixFault>
     ensures ok { IfOk result (λ text. IsFixedSource source.now text.items) }
     ensures refused { IfErr result (Refuses source.now) }
 {
-    match assemble_kept(alloc, source) {
+    match assemble_with_symbols(alloc, source) {
         Ok((image, symbols)) => fix_image(alloc, source, &image, symbols),
         Err(AsmFault::NoMemory) => Err(FixFault::NoMemory),
         Err(fault) => Err(FixFault::Source(fault)),

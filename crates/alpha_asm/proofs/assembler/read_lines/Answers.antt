@@ -5,7 +5,7 @@ use Rattle.alpha_asm.proofs.assembler.read_lines.Goals as goal
 pub loop-rest-init : goal.loop-rest-init
 loop-rest-init c = record {
   pass = begins c.args.kind c.args.source.now c.new-pass.result c.new-pass.ensures.stands c.new-pass.ensures.bounded c.new-pass.ensures.line;
-  keeps = refl;
+  gathers = refl;
   kinds = λ h. refl;
 }
 
@@ -14,9 +14,9 @@ loop-rest-preserved c = record {
   pass = goes_on c.args.kind c.args.source.now c.loop-rest.rest.now c.first_line.result.0.now c.first_line.result.1.now c.loop-rest.pass c.take_line.new.self
       c.loop-rest.invariant.pass c.first_line.ensures.value c.first_line.ensures.shorter
       c.in_ok-take_line.ensures.taken c.in_ok-take_line.ensures.ok c.in_ok-take_line.ensures.bounded c.in_ok-take_line.ensures.line;
-  keeps = c.in_ok-take_line.ensures.keeps ∙ c.loop-rest.invariant.keeps;
+  gathers = c.in_ok-take_line.ensures.gathers ∙ c.loop-rest.invariant.gathers;
   kinds = λ h. kinds_go_on _ _ _ c.args.source.now c.loop-rest.rest.now c.first_line.result.0.now c.first_line.result.1.now c.first_line.ensures.value
-      (c.in_ok-take_line.ensures.kinds (c.loop-rest.invariant.keeps ∙ h)) (c.loop-rest.invariant.kinds h);
+      (c.in_ok-take_line.ensures.kinds (c.loop-rest.invariant.gathers ∙ h)) (c.loop-rest.invariant.kinds h);
 }
 
 pub returns-clause-stands : goal.returns-clause-stands

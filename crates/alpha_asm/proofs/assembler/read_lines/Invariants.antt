@@ -8,6 +8,6 @@ decreases-loop-rest l = length l.rest
 abbrev pub invariant-loop-rest : goal.invariant-loop-rest
 invariant-loop-rest l = record {
   pass : Underway l.kind l.source l.rest l.pass;
-  keeps : l.kinds.keeps ≡ l.initial.kinds.keeps;
-  kinds : l.initial.kinds.keeps ≡ true → l.kinds.items.items ++ kinds_in l.rest ≡ l.initial.kinds.items.items ++ kinds_in l.source;
+  gathers : l.kinds.gathers ≡ l.initial.kinds.gathers;
+  kinds : l.initial.kinds.gathers ≡ true → l.kinds.items.items ++ kinds_in l.rest ≡ l.initial.kinds.items.items ++ kinds_in l.source;
 }

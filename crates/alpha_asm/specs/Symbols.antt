@@ -1,4 +1,4 @@
--- A source whose lines are read, as the code keeps it.
+-- What is gathered of a source whose lines are read.
 use Rattle.std.specs.Prelude.{◌≡◌, ℕ, List, map}
 use Rattle.std.specs.Str.Lines.{lines}
 use Rattle.alpha_asm.specs.declared.symbols.Symbols.TheInside.{Inside}
@@ -8,6 +8,6 @@ use Rattle.alpha_asm.specs.LineKinds.{kinds_of}
 use Rattle.alpha_asm.specs.Assembled.{item_at}
 
 -- its labels and the kinds of its lines
-pub record IsKept (i : Inside) : Type 0 where
+pub record IsGathered (i : Inside) : Type 0 where
   pub labels : (name : List ℕ) → spot_named i.labels name ≡ spot_of (layout (map item_at (lines i.source.now))) name
   pub kinds : i.kinds.items ≡ kinds_of (map item_at (lines i.source.now))

@@ -1,0 +1,113 @@
+-- What the lines of a module's source say, where none is refused.
+use Rattle.std.proofs.Common.{◌≡◌, ℕ, ◌+◌, ◌≤◌, List, [], ◌∷◌, ◌++◌, length, map, Bool, true, false, cond, not, ◌||◌, nat_lt, Option, None, Some, Result, Ok, Err, refl, sym, subst, arith}
+use Rattle.std.specs.Prelude.{IfSome}
+use Rattle.std.specs.List.{AllByRecursion}
+use Rattle.std.proofs.lemmas.Bool.{ltb-false}
+use Rattle.alpha_operands.specs.Values.{Listed, IsWholeList}
+use Rattle.alpha_operands.specs.Values as listed
+use Rattle.alpha_text.specs.declared.reader.LineFault.{LineFault}
+use Rattle.alpha_text.specs.Statements.{Said}
+use Rattle.alpha_text.specs.Statements as says
+use Rattle.alpha_text.specs.References.{IsLabel, IsListedWell, RefersWell, IsWell}
+use Rattle.alpha_text.specs.Reading.{LineSaid, read}
+use Rattle.alpha_text.proofs.Items.{list-whole}
+use Rattle.alpha_text.proofs.References.{read-well}
+use Rattle.alpha_asm.specs.declared.kind.SourceKind.TheVariants.{Module}
+use Rattle.alpha_asm.specs.declared.fault.AsmFault.TheVariants.{Duplicate, Section, LongLine}
+use Rattle.alpha_asm.specs.Statement.{coded, cells, cell_of, number, bytes_up_to, segment_in, entry_in}
+use Rattle.alpha_asm.specs.Layout.{layout, end, fields, spot_of, suits_module, is_misplaced, repeats_field, repeats_label}
+use Rattle.alpha_asm.specs.Assembled.{item_at, refused_read, refused, first_refused}
+use Rattle.alpha_asm.specs.Unlinked.{IsReached, IsCell, IsUnlinked}
+use Rattle.alpha_asm.proofs.Cells.{values_cells}
+use Rattle.alpha_asm.proofs.Said.{neither}
+
+-- labels of a line are no longer than a longer one
+label_within : (n m : ℕ) (name : List ℕ) → n ≤ m → IsLabel n name → IsLabel m name
+label_within n m name h (whole, size) = (whole, omega arith)
+
+if_label : (n m : ℕ) (l : Option (List ℕ)) → n ≤ m → IfSome l (IsLabel n) → IfSome l (IsLabel m)
+if_label n m None h l = tt
+if_label n m (Some name) h l = label_within n m name h l
+
+listed_within : (n m : ℕ) (all : List Listed) → n ≤ m → AllByRecursion (IsListedWell n) all → AllByRecursion (IsListedWell m) all
+listed_within n m [] h l = tt
+listed_within n m (listed.number value ∷ all) h (a, l) = (tt, listed_within n m all h l)
+listed_within n m (listed.label name offset ∷ all) h ((a, o), l) = ((label_within n m name h a, o), listed_within n m all h l)
+
+refers_within : (n m : ℕ) (s : Said) → n ≤ m → RefersWell n s → RefersWell m s
+refers_within n m (says.target insn name offset) h (a, (l, o)) = (a, (label_within n m name h l, o))
+refers_within n m (says.high insn name offset) h (a, (l, o)) = (a, (label_within n m name h l, o))
+refers_within n m (says.low insn name offset) h (a, (l, o)) = (a, (label_within n m name h l, o))
+refers_within n m (says.entry_label name offset) h (l, o) = (label_within n m name h l, o)
+refers_within n m (says.values bytes list) h r = λ all are. listed_within n m all h (r all are)
+refers_within n m _ h r = tt
+
+-- what a statement that a module may have asks for
+insn_well : (s : Said) → RefersWell 1024 s → suits_module s ≡ true → IfSome (coded s) IsReached
+insn_well (says.target insn name offset) r h = r
+insn_well (says.high insn name offset) (a, r) h = ((a, h), r)
+insn_well (says.low insn name offset) (a, r) h = ((a, h), r)
+insn_well _ r h = tt
+
+cells_listed : (bytes : ℕ) (all : List Listed) → AllByRecursion (IsListedWell 1024) all → AllByRecursion IsCell (map (cell_of bytes) all)
+cells_listed bytes [] l = tt
+cells_listed bytes (listed.number value ∷ all) (a, l) = (tt, cells_listed bytes all l)
+cells_listed bytes (listed.label name offset ∷ all) (a, l) = (a, cells_listed bytes all l)
+
+numbers_well : (bs : List ℕ) → AllByRecursion IsCell (map (number 1) bs)
+numbers_well [] = tt
+numbers_well (b ∷ bs) = (tt, numbers_well bs)
+
+cells_well : (s : Said) → RefersWell 1024 s → ((bytes : ℕ) (list : List ℕ) → s ≡ says.values bytes list → IsWholeList bytes list) → AllByRecursion IsCell (cells s)
+unfolding cells
+cells_well (says.values bytes list) r whole =
+    let (v, vs, are) = whole bytes list refl in
+    subst (AllByRecursion IsCell) (sym (values_cells bytes list (v ∷ vs) are)) (cells_listed bytes (v ∷ vs) (r (v ∷ vs) are))
+cells_well (says.text text) r whole = numbers_well (bytes_up_to (length text) text)
+cells_well _ r whole = tt
+
+no_entry : (s : Said) → suits_module s ≡ true → entry_in s ≡ None
+no_entry (says.entry_at n) h = cc
+no_entry (says.entry_label label offset) h = cc
+no_entry _ h = refl
+
+no_segment : (s : Said) → suits_module s ≡ true → segment_in s ≡ None
+no_segment (says.segment base) h = cc
+no_segment _ h = refl
+
+read_unlinked : (line : List ℕ) (i : LineSaid) → length line ≤ 1024 → read line ≡ Ok i → suits_module i.statement ≡ true → IsUnlinked i
+read_unlinked line i short e suits =
+    let well : IsWell (length line) i = read-well line i e in
+    let refers : RefersWell 1024 i.statement = refers_within (length line) 1024 i.statement short well.statement in
+    record {
+      label = if_label (length line) 1024 i.label short well.label;
+      insn = insn_well i.statement refers suits;
+      cells = cells_well i.statement refers (λ bytes list s. list-whole line i bytes list e s);
+      entry = no_entry i.statement suits;
+      segment = no_segment i.statement suits;
+    }
+
+taken_suits : (suits misplaced repeated : Bool) (n : ℕ) → cond (not suits || misplaced) (Some (Section n)) (cond repeated (Some (Duplicate n)) None) ≡ None → suits ≡ true
+taken_suits true misplaced repeated n h = refl
+taken_suits false misplaced repeated n h = cc
+
+taken_unlinked : (is : List LineSaid) (line : List ℕ) (r : Result LineSaid LineFault) → read line ≡ r → length line ≤ 1024 → refused_read Module is (length is + 1) r ≡ None → IsUnlinked (item_at line)
+taken_unlinked is line (Err fault) e short h = cc
+taken_unlinked is line (Ok i) e short h =
+    let at : item_at line ≡ i = rw e refl in
+    let suits = taken_suits (suits_module i.statement) (is_misplaced (end is) i.statement) (repeats_field (fields (layout is)) i.statement || repeats_label (spot_of (layout is)) i.label) (length is + 1) h in
+    rw at (read_unlinked line i short e suits)
+
+line_unlinked : (is : List LineSaid) (line : List ℕ) → refused Module is line ≡ None → IsUnlinked (item_at line)
+unfolding refused
+line_unlinked is line h = by (nat_lt 1024 (length line)) refl h
+  where
+    by : (long : Bool) → nat_lt 1024 (length line) ≡ long → cond long (Some (LongLine (length is + 1))) (refused_read Module is (length is + 1) (read line)) ≡ None → IsUnlinked (item_at line)
+    by true e k = cc
+    by false e k = taken_unlinked is line (read line) refl (ltb-false 1024 (length line) e) k
+
+pub lines_unlinked : (is : List LineSaid) (ls : List (List ℕ)) → first_refused Module is ls ≡ None → AllByRecursion IsUnlinked (map item_at ls)
+lines_unlinked is [] h = tt
+lines_unlinked is (line ∷ ls) h =
+    let (here, there) = neither (refused Module is line) (first_refused Module (is ++ item_at line ∷ []) ls) h in
+    (line_unlinked is line here, lines_unlinked (is ++ item_at line ∷ []) ls there)
