@@ -18,7 +18,7 @@ use Rattle.alpha_cmd.specs.Outcome.{stops}
 use Rattle.alpha_cmd.specs.Status.{done, refused, ended, class_of}
 use Rattle.alpha_cmd.specs.Tries.{CutBy}
 use Rattle.alpha_cmd.specs.Commands.Imprecise.{Plan, drawn_status, wild_status}
-use Rattle.alpha_cmd.specs.Commands.Record.{unwatched, Planned, Ends, kind, there, SaysAlone, RunsOn, IsOver, KeptBehind, stands, untaken, lost, spent}
+use Rattle.alpha_cmd.specs.Commands.Record.{unwatched, Planned, IsEndStatus, kind, there, SaysAlone, RunsOn, IsOver, KeptBehind, stands, untaken, lost, spent}
 use Rattle.alpha_cmd.proofs.Commands.Imprecise.{may_lose, wild_plain}
 use Rattle.alpha_cmd.proofs.Commands.Record.{lawful}
 use Rattle.alpha_cmd.proofs.Forms.{is_fault}
@@ -94,7 +94,7 @@ module _ (options : RunOptions) (force : Bool) (out : List ℕ) (input : Option 
   end_is : d.status ≡ wild_status run.shown.end run.shown.lost (run.shown.drawn % 2 ^ 64)
   end_is = ap (λ (a : Answer). a.status) run.says
 
-  run_ends : r ≡ d → Ends force r.status
+  run_ends : r ≡ d → IsEndStatus force r.status
   run_ends e =
       inl (run.shown.end, (run.shown.lost, (run.shown.drawn % 2 ^ 64, may_lose (unwatched options) force input plan run.shown run.may, ap (λ (x : Decision). x.status) e ∙ end_is)))
 

@@ -43,11 +43,11 @@ keeps_last out = record { ends = λ status. status ≡ Done 0; takes = false; ke
 
 -- one that writes while it takes input
 abbrev pub streams : (Status → Type 0) → Kind
-streams Ends = record { ends = Ends; takes = true; keeps = None }
+streams IsEndStatus = record { ends = IsEndStatus; takes = true; keeps = None }
 
 -- one that does so, and then keeps a file
 abbrev pub records : (Status → Type 0) → List ℕ → Kind
-records Ends out = record { ends = Ends; takes = true; keeps = Some out }
+records IsEndStatus out = record { ends = IsEndStatus; takes = true; keeps = Some out }
 
 -- The statuses under which input may have been taken: those of the end, of a stream that failed on the way, and of a file that
 -- was to be kept behind it.

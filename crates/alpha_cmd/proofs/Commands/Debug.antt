@@ -11,7 +11,7 @@ use Rattle.alpha_cmd.specs.Outcome.{goes}
 use Rattle.alpha_cmd.specs.Image.{ImageOf}
 use Rattle.alpha_cmd.specs.Answer.{World, Answer, AnswerBy}
 use Rattle.alpha_cmd.specs.Form.{MayTakeBy}
-use Rattle.alpha_cmd.specs.Commands.Debug.{MayTell, session_status, answer_told, Debugs, steps, Ends, kind, form, there}
+use Rattle.alpha_cmd.specs.Commands.Debug.{MayTell, session_status, answer_told, Debugs, steps, IsEndStatus, kind, form, there}
 use Rattle.alpha_cmd.proofs.Lawful.{Lawful, Then-lawful, Goes-lawful}
 use Rattle.alpha_cmd.proofs.Stages.{ImageOf-lawful, same_least}
 use Rattle.alpha_cmd.proofs.Forms.{IsLawfulForm, is_fault}
@@ -61,7 +61,7 @@ end_plain : (end : DebugEnd) → IsEnd end → is_fault (session_status end) ≡
 end_plain end (inl is) = ap (λ e. is_fault (session_status e)) is
 end_plain end (inr is) = ap (λ e. is_fault (session_status e)) is
 
-end_ends : (end : DebugEnd) → IsEnd end → Ends (session_status end)
+end_ends : (end : DebugEnd) → IsEnd end → IsEndStatus (session_status end)
 end_ends end (inl is) = inl (ap session_status is)
 end_ends end (inr is) = inr (ap session_status is)
 
@@ -71,7 +71,7 @@ lawful file w = record {
       Then-lawful {R = ImageOf w.files file} {S = Debugs w.input} (ImageOf-lawful _ _ _ w.files file (λ h. h.0) (λ h. h) (λ h. h))
       (λ image found. Debugs-lawful _ _ _ w.input image (λ h. h.1));
   ends = λ a h. inl (ap (λ (x : Answer). is_fault x.status) h.2.2 ∙ end_plain h.2.0.end (told_end w.input h.0 h.2.0 h.2.1));
-  status = λ a h. subst Ends (sym (ap (λ (x : Answer). x.status) h.2.2)) (end_ends h.2.0.end (told_end w.input h.0 h.2.0 h.2.1));
+  status = λ a h. subst IsEndStatus (sym (ap (λ (x : Answer). x.status) h.2.2)) (end_ends h.2.0.end (told_end w.input h.0 h.2.0 h.2.1));
 }
 
 pub told_answer : (w : World) (file : List ℕ) (image : Parts) (t : Transcript) → ImageOf w.files file (goes image) → MayTell w.input image t

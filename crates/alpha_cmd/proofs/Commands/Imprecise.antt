@@ -25,7 +25,7 @@ use Rattle.alpha_cmd.specs.Choosing.{choices_limit, listed_word, ChoicesOf}
 use Rattle.alpha_cmd.specs.Answer.{World, Answer, AnswerBy, said}
 use Rattle.alpha_cmd.specs.Form.{MayTakeBy}
 use Rattle.alpha_cmd.specs.Commands.Run.{program_by}
-use Rattle.alpha_cmd.specs.Commands.Imprecise.{Plan, plan_by, PlanOf, Passes, with_drawn, run_by, MadeByReads, MayShowWild, drawn_status, wild_status, answer_wild, RunsWild, MayLose, Ends, HasChoices, steps, kind, form, there}
+use Rattle.alpha_cmd.specs.Commands.Imprecise.{Plan, plan_by, PlanOf, Passes, with_drawn, run_by, MadeByReads, MayShowWild, drawn_status, wild_status, answer_wild, RunsWild, MayLose, IsEndStatus, HasChoices, steps, kind, form, there}
 use Rattle.alpha_cmd.proofs.Lawful.{Lawful, Then-lawful, Goes-lawful, Gives-lawful}
 use Rattle.alpha_cmd.proofs.Stages.{Reads-lawful, ImageOf-lawful, Judges-lawful, kept_same}
 use Rattle.alpha_cmd.proofs.Forms.{IsLawfulForm, is_fault}
@@ -148,7 +148,7 @@ takes_none true end n = takes_wild true end None n tt
 takes_none false end n = takes_wild false end None n refl
 
 -- of an unforced run's end no status is that of a trap that was lost
-pub found_end : (lost : Lost) → Ends false (statuses.Lost lost) → ⊥
+pub found_end : (lost : Lost) → IsEndStatus false (statuses.Lost lost) → ⊥
 found_end lost (Some end, (trap, (n, none, is))) = by end is
   where
     by : (end : End) → statuses.Lost lost ≡ drawn_status n end → ⊥

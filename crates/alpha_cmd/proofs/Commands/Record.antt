@@ -20,7 +20,7 @@ use Rattle.alpha_cmd.specs.Answer.{World, Answer, AnswerBy, said}
 use Rattle.alpha_cmd.specs.Keeping.{Untaken}
 use Rattle.alpha_cmd.specs.Commands.Run.{program_by}
 use Rattle.alpha_cmd.specs.Commands.Imprecise.{Plan, plan_by, PlanOf, Passes, MayShowWild, answer_wild}
-use Rattle.alpha_cmd.specs.Commands.Record.{unwatched, HasJournal, IsStopped, KeepsBehind, IsKeptRun, full_answer, IsFullRun, Records, Planned, Ends, form, there}
+use Rattle.alpha_cmd.specs.Commands.Record.{unwatched, HasJournal, IsStopped, KeepsBehind, IsKeptRun, full_answer, IsFullRun, Records, Planned, IsEndStatus, form, there}
 use Rattle.alpha_cmd.proofs.Lawful.{Lawful, Then-lawful, Goes-lawful, Gives-lawful}
 use Rattle.alpha_cmd.proofs.Stages.{ImageOf-lawful, taken_or_not, refused_there}
 use Rattle.alpha_cmd.proofs.Forms.{IsPlain, IsLawfulForm, is_fault}
@@ -143,12 +143,12 @@ module _ (options : RunOptions) (force : Bool) (out : List ℕ) (w : World) (pla
   plain there has a (inl h) = kept_plain there has a h h.keeps
   plain there has a (inr h) = inl (ap (λ (x : Answer). is_fault x.status) h.is)
 
-  kept_ends : (a : Answer) (h : IsKeptRun options force out w plan a) → KeepsBehind w out (spelling h.journal) (answer_wild w.input h.shown) a → Ends force a.status
+  kept_ends : (a : Answer) (h : IsKeptRun options force out w plan a) → KeepsBehind w out (spelling h.journal) (answer_wild w.input h.shown) a → IsEndStatus force a.status
   kept_ends a h (inl k) =
       inl (h.shown.end, (h.shown.lost, (h.shown.drawn % 2 ^ 64, may_lose (unwatched options) force w.input plan h.shown h.may, ap (λ (x : Answer). x.status) k.1)))
   kept_ends a h (inr k) = inr (inr (ap (λ (x : Answer). x.status) k.1))
 
-  ends : (a : Answer) → IsKeptRun options force out w plan a ⊎ IsFullRun options w plan a → Ends force a.status
+  ends : (a : Answer) → IsKeptRun options force out w plan a ⊎ IsFullRun options w plan a → IsEndStatus force a.status
   ends a (inl h) = kept_ends a h h.keeps
   ends a (inr h) = inr (inl (ap (λ (x : Answer). x.status) h.is))
 

@@ -57,11 +57,11 @@ abbrev pub steps : List ℕ → World → Outcome Answer → Type 0
 steps file w = Then (ImageOf w.files file) (Debugs w.input)
 
 -- the statuses of a session's end
-abbrev pub Ends : Status → Type 0
-Ends status = (status ≡ Done 0) ⊎ (status ≡ TooLarge script_limit)
+abbrev pub IsEndStatus : Status → Type 0
+IsEndStatus status = (status ≡ Done 0) ⊎ (status ≡ TooLarge script_limit)
 
 abbrev pub kind : Kind
-kind = streams Ends
+kind = streams IsEndStatus
 
 abbrev pub form : List ℕ → Form
 form file = record { steps = steps file; needs = needs_files_and_input; kind = kind }

@@ -148,12 +148,12 @@ MayLose true lost = Unit {0}
 MayLose false lost = lost ≡ None
 
 -- the statuses of a run's end
-abbrev pub Ends : Bool → Status → Type 0
-Ends force status =
+abbrev pub IsEndStatus : Bool → Status → Type 0
+IsEndStatus force status =
     (end : Option End) × ((lost : Option LostTrap) × ((n : ℕ) × MayLose force lost × (status ≡ wild_status end lost n)))
 
 abbrev pub kind : Bool → Kind
-kind force = streams (Ends force)
+kind force = streams (IsEndStatus force)
 
 abbrev pub form : RunOptions → Origin → Bool → List ℕ → Form
 form options choices force file =

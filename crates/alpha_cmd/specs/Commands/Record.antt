@@ -106,11 +106,11 @@ abbrev pub steps : RunOptions → Origin → Bool → List ℕ → List ℕ → 
 steps options choices force file out w = Then (Planned choices force file w.files) (Records options force out w)
 
 -- the statuses of a run's end, of one that was stopped, and of a shelf that doesn't take the journal
-abbrev pub Ends : Bool → Status → Type 0
-Ends force status = wilds.Ends force status ⊎ ((status ≡ JournalFull) ⊎ (status ≡ ShelfFault))
+abbrev pub IsEndStatus : Bool → Status → Type 0
+IsEndStatus force status = wilds.IsEndStatus force status ⊎ ((status ≡ JournalFull) ⊎ (status ≡ ShelfFault))
 
 abbrev pub kind : Bool → List ℕ → Kind
-kind force out = records (Ends force) out
+kind force out = records (IsEndStatus force) out
 
 abbrev pub form : RunOptions → Origin → Bool → List ℕ → List ℕ → Form
 form options choices force file out =

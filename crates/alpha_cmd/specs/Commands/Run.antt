@@ -70,11 +70,11 @@ abbrev pub steps : RunOptions → List ℕ → World → Outcome Answer → Type
 steps options file w = Then (ImageOf w.files file) (Runs options w.input)
 
 -- the statuses of a run's end
-abbrev pub Ends : Status → Type 0
-Ends status = (end : Option End) × (status ≡ run_status end)
+abbrev pub IsEndStatus : Status → Type 0
+IsEndStatus status = (end : Option End) × (status ≡ run_status end)
 
 abbrev pub kind : Kind
-kind = streams Ends
+kind = streams IsEndStatus
 
 abbrev pub form : RunOptions → List ℕ → Form
 form options file = record { steps = steps options file; needs = needs_files_and_input; kind = kind }
