@@ -42,6 +42,16 @@ def branch(disp):
     return 0x30 << 26 | 31 << 21 | disp & 0x1F_FFFF
 
 
+def branch_if(opcode, ra, disp):
+    """A branch of this opcode by so many words from the next one."""
+    return opcode << 26 | ra << 21 | disp & 0x1F_FFFF
+
+
+def ret(rb):
+    """`ret $31, (rb)`."""
+    return 0x1A << 26 | 31 << 21 | rb << 16 | 2 << 14
+
+
 def image(code, data=b""):
     header = struct.pack("<8sQQQIIII", b"ALPHAIM1", 0x10000, 0x10000000, 0x10000, len(code), len(data), 0, 65536)
     return header + struct.pack(f"<{len(code)}I", *code) + data

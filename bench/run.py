@@ -7,8 +7,8 @@ image is measured beside `check` of it.
 """
 import subprocess
 
-from measure import (NOP, TRAPB, best, branch, counts_instructions, file_of, image, instructions, memory_word,
-                     operate, the_program)
+from measure import (NOP, TRAPB, best, branch, branch_if, counts_instructions, file_of, image, instructions,
+                     memory_word, operate, ret, the_program)
 
 FEW, MANY = 20_000, 220_000
 
@@ -24,6 +24,13 @@ LOOPS = {
     "/V words": loop([operate(0x10, 0x60, 1, 2, rc) for rc in range(3, 15)] + [TRAPB]),
     "loads": loop([memory_word(0x29, 1, -8), memory_word(0x28, 2, -16), memory_word(0x0A, 3, -1)]),
     "stores": loop([memory_word(0x2D, 1, -8), memory_word(0x2C, 2, -16), memory_word(0x0E, 3, -1)]),
+}
+# Each leads to the next word, but that of a call the third word returns to the second one, which passes over the rest.
+BRANCHES = {
+    "br": loop([branch(0)]),
+    "branches taken": loop([branch_if(0x39, 31, 0), branch_if(0x3E, 31, 0)]),
+    "branches not taken": loop([branch_if(0x3D, 31, 0), branch_if(0x3A, 31, 0)]),
+    "bsr, ret and br": loop([branch_if(0x34, 26, 1), branch(2), ret(26), NOP]),
 }
 
 
@@ -43,7 +50,7 @@ def measure(program, name, file):
 
 def main():
     program = the_program()
-    for name, code in LOOPS.items():
+    for name, code in {**LOOPS, **BRANCHES}.items():
         with file_of(image(code)) as file:
             measure(program, name, file.name)
     with file_of(image([NOP, TRAPB])) as file:
