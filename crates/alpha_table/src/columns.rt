@@ -1,7 +1,7 @@
 ghost use Rattle.std.specs.Prelude.{◌≡◌, ◌<◌, ℕ, ◌↔◌, ◌∷◌, IsTrue, IfSome};
 ghost use Rattle.alpha_table.specs.declared.form.Form.TheVariants.{Mem};
 ghost use Rattle.alpha_words.specs.Regs.{Has};
-ghost use Rattle.alpha_table.specs.Columns.{counts, source_registers, uses_of, sets_of, kind_of, access_of, span_of, trap_op_of, level_of};
+ghost use Rattle.alpha_table.specs.Columns.{but_zero, counts, source_registers, uses_of, sets_of, kind_of, access_of, span_of, trap_op_of, level_of};
 
 use crate::{Form, Insn, MemOp, MemRole, OpRole, Src, TrapOp};
 use alpha_words::{Level, Reg, RegSet};
@@ -112,7 +112,14 @@ pub fn sets(i: &Insn) -> Option<Reg>
     ensures value { result ≡ sets_of i.now }
     ensures bound { IfSome result (λ r. r < 31) }
 {
-    let written = match i.form() {
+    written(i).filter(|r| r.number() < 31)
+}
+
+// The same, but that R31 may stand where there is none.
+fn written(i: &Insn) -> Option<Reg>
+    ensures { but_zero result ≡ sets_of i.now }
+{
+    match i.form() {
         Form::Mem { op, ra, .. } => match op.row().role {
             MemRole::Store => None,
             _ => Some(ra),
@@ -121,8 +128,7 @@ pub fn sets(i: &Insn) -> Option<Reg>
         Form::Jump { ra, .. } => Some(ra),
         Form::Operate { rc, .. } => Some(rc),
         _ => None,
-    };
-    written.filter(|r| r.number() < 31)
+    }
 }
 
 /// What the instruction is to a trap shadow (Architecture Handbook, arithmetic trap completion). A

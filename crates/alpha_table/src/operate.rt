@@ -161,6 +161,15 @@ impl Op {
         ensures opcode { result.opcode < 64 }
         ensures function { result.function < 128 }
     {
+        self.columns()
+    }
+
+    // The columns, as the rows have them. That its numbers lie within their fields is known of the definition, so that
+    // it isn't proved here row by row.
+    #[inline(always)]
+    fn columns(self) -> OpRow
+        ensures { result ≡ op_row self }
+    {
         operate_rows!(row_of self)
     }
 
