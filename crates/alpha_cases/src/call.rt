@@ -9,7 +9,7 @@ use anyhow::bail;
 use std::alloc::Global;
 
 // How many bytes a call writes at most, to the output or to the notes.
-const ROOM: usize = 1_048_576;
+const ROOM: usize = 16_777_216;
 
 // How many bytes a file has at most.
 const LARGEST: u64 = 18_874_368;

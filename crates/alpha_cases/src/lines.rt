@@ -35,10 +35,10 @@ pub fn entries_of<'a>(alloc: Global, text: &'a str) -> anyhow::Result<Vec<Entry<
     Ok(entries)
 }
 
-// Appends a line to a block, or the line behind `@N ` so many times.
+// Appends a line to a block, or the line behind `@N ` so many times, which is empty where nothing stands there.
 fn push_lines(block: &mut String, line: &str) -> anyhow::Result<()> {
     let (count, line) = match line.strip_prefix("@") {
-        Some(line) => line.split_once(" ").unwrap_or(("", line)),
+        Some(line) => line.split_once(" ").unwrap_or((line, "")),
         None => ("1", line),
     };
     for _ in 0..number_of(count)? {

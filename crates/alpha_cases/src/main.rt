@@ -3,7 +3,7 @@
 //!
 //! A file is a list of cases. A case has files, and calls of the program over them. Each line begins
 //! with a word that says what it is; lines that begin with four spaces belong to the line before, and
-//! `@N LINE` is N of them.
+//! `@N LINE` is N of them, and `@N` N empty ones.
 //!
 //! | Line | What it is |
 //! |---|---|
