@@ -119,9 +119,9 @@ fn aligned<'a>(behind: &'a [u8], words: &'a [u8]) -> Option<Statement<'a>>
     }
 }
 
-/// What a directive of data says, which stands before `behind`; `words` are the same behind its blanks.
+// What a directive of data says, which stands before `behind`; `words` are the same behind its blanks.
 #[inline(never)]
-pub(crate) fn of_data<'a>(own: Own, behind: &'a [u8], words: &'a [u8]) -> Option<Statement<'a>>
+fn stated<'a>(own: Own, behind: &'a [u8], words: &'a [u8]) -> Option<Statement<'a>>
     requires { tokens behind.now ≡ tokens words.now }
     ensures { IfSome result (λ s. SaysBy (heads.Own own) behind.now (said s)) }
 {
@@ -134,4 +134,14 @@ pub(crate) fn of_data<'a>(own: Own, behind: &'a [u8], words: &'a [u8]) -> Option
         },
         _ => valued(own, behind, words),
     }
+}
+
+/// The same as a part of the code that calls it: the place of the answer is cleared here, and not on the way
+/// of other names.
+#[inline(always)]
+pub(crate) fn of_data<'a>(own: Own, behind: &'a [u8], words: &'a [u8]) -> Option<Statement<'a>>
+    requires { tokens behind.now ≡ tokens words.now }
+    ensures { IfSome result (λ s. SaysBy (heads.Own own) behind.now (said s)) }
+{
+    stated(own, behind, words)
 }

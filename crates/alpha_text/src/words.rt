@@ -1,24 +1,15 @@
 //! The words of operands, each read at the front of what is left of a line. Blanks may stand before each; what
 //! stands behind a comma is read on behind its blanks, so that most words have none before them.
-ghost use Rattle.std.specs.Prelude.{◌≡◌, ◌<◌, ◌+◌, ◌∷◌, ◌++◌, IfSome, IsTrue, List, ℕ, decimal, true};
+ghost use Rattle.std.specs.Prelude.{◌≡◌, ◌<◌, ◌+◌, ◌∷◌, ◌++◌, IfSome, IsTrue, decimal, true};
 ghost use Rattle.std.specs.Char.{is_ascii_alphanumeric};
 ghost use Rattle.alpha_token.specs.declared.token.TokenKind.TheVariants as kinds;
-ghost use Rattle.alpha_token.specs.declared.token.TokenKind.{TokenKind};
 ghost use Rattle.alpha_token.specs.Tokens.{tokens};
-ghost use Rattle.alpha_text.specs.Words.{HasMark, HasComma, HasRegister, HasNumber, HasLabel, HasOpened, HasEnd, HasToken, HasSigned, Stops};
+ghost use Rattle.alpha_text.specs.Words.{HasMark, HasComma, HasRegister, HasNumber, HasLabel, HasOpened, HasEnd, HasSigned, Stops};
 
 use crate::front::{Front, begins_label, ends_name};
 use alpha_operands::{Half, Sign};
 use alpha_token::{Step, TokenKind, next, without_blanks};
 use alpha_words::Reg;
-
-// What stands behind the blanks at the front. It is a call, since most words have none before them.
-#[inline(never)]
-fn spaced(s: &[u8]) -> &[u8]
-    ensures { tokens s.now ≡ tokens result.now }
-{
-    without_blanks(s)
-}
 
 /// What stands behind the blanks at the front, which most words don't have before them.
 #[inline(always)]
@@ -26,7 +17,7 @@ pub(crate) fn behind_blanks(s: &[u8]) -> &[u8]
     ensures { tokens s.now ≡ tokens result.now }
 {
     match s {
-        [b' ' | b'\t', ..] => spaced(s),
+        [b' ' | b'\t', ..] => without_blanks(s),
         _ => s,
     }
 }
@@ -114,16 +105,12 @@ fn short_number(s: &[u8]) -> Option<(u32, &[u8])>
     }
 }
 
-// What stands behind the token at the front, where there is one. It is asked for apart from the
-// token, so that both are answered in registers.
+// What stands behind any blanks at the front. It is a call, since few words need it.
 #[inline(never)]
-fn behind_token(s: &[u8]) -> &[u8]
-    ensures { (kind : TokenKind) (text : List ℕ) (rest : List ℕ) → HasToken s.now kind text rest → result.now ≡ rest }
+fn spaced(s: &[u8]) -> &[u8]
+    ensures { tokens s.now ≡ tokens result.now }
 {
-    match next(s) {
-        Step::Token(token) => token.rest,
-        _ => s,
-    }
+    without_blanks(s)
 }
 
 // What stands behind a byte at the front, behind blanks.
@@ -204,14 +191,16 @@ fn numbered(s: &[u8]) -> Option<(Reg, &[u8])>
     }
 }
 
-// Any register, behind blanks.
-#[inline(never)]
-fn named(s: &[u8]) -> Option<Reg>
-    ensures { IfSome result (λ r. (rest : List ℕ) × HasRegister s.now r rest) }
+// Any register, behind blanks, and what stands behind it.
+fn named(s: &[u8]) -> Option<(Reg, &[u8])>
+    ensures { IfSome result (λ r. HasRegister s.now r.0 r.1.now) }
 {
     match next(s) {
         Step::Token(token) => match token.kind {
-            TokenKind::Register => alpha_operands::register(token.text),
+            TokenKind::Register => {
+                let r = alpha_operands::register(token.text)?;
+                Some((r, token.rest))
+            }
             _ => None,
         },
         _ => None,
@@ -231,7 +220,6 @@ fn letter(s: &[u8]) -> Option<(u8, &[u8])>
 }
 
 // A register by a name of two letters or digits, with nothing before it.
-#[inline(always)]
 fn lettered(s: &[u8]) -> Option<(Reg, &[u8])>
     ensures { IfSome result (λ r. HasRegister s.now r.0 r.1.now) }
 {
@@ -246,6 +234,25 @@ fn lettered(s: &[u8]) -> Option<(Reg, &[u8])>
     }
 }
 
+// A register that isn't written by its number, or stands behind blanks, and what stands behind it.
+#[inline(never)]
+fn other_register(s: &[u8]) -> Option<(Reg, &[u8])>
+    ensures { IfSome result (λ r. HasRegister s.now r.0 r.1.now) }
+{
+    match lettered(s) {
+        Some(found) => Some(found),
+        None => named(s),
+    }
+}
+
+// The same as a part of the code that calls it: the place of the answer is cleared here alone.
+#[inline(always)]
+fn sought_register(s: &[u8]) -> Option<(Reg, &[u8])>
+    ensures { IfSome result (λ r. HasRegister s.now r.0 r.1.now) }
+{
+    other_register(s)
+}
+
 /// A register at the front, and what stands behind it.
 #[inline(always)]
 pub(crate) fn register(s: &[u8]) -> Option<(Reg, &[u8])>
@@ -253,13 +260,7 @@ pub(crate) fn register(s: &[u8]) -> Option<(Reg, &[u8])>
 {
     match numbered(s) {
         Some(found) => Some(found),
-        None => match lettered(s) {
-            Some(found) => Some(found),
-            None => {
-                let r = named(s)?;
-                Some((r, behind_token(s)))
-            }
-        },
+        None => sought_register(s),
     }
 }
 
@@ -276,18 +277,29 @@ fn short(s: &[u8]) -> Option<(u64, &[u8])>
     }
 }
 
-// Any number, behind blanks.
+// Any number, behind blanks, and what stands behind it.
 #[inline(never)]
-fn long(s: &[u8]) -> Option<u64>
-    ensures { IfSome result (λ n. (rest : List ℕ) × HasNumber s.now n rest) }
+fn long(s: &[u8]) -> Option<(u64, &[u8])>
+    ensures { IfSome result (λ r. HasNumber s.now r.0 r.1.now) }
 {
     match next(s) {
         Step::Token(token) => match token.kind {
-            TokenKind::Number => alpha_token::number(token.text),
+            TokenKind::Number => {
+                let n = alpha_token::number(token.text)?;
+                Some((n, token.rest))
+            }
             _ => None,
         },
         _ => None,
     }
+}
+
+// The same as a part of the code that calls it: the place of the answer is cleared here alone.
+#[inline(always)]
+fn sought_number(s: &[u8]) -> Option<(u64, &[u8])>
+    ensures { IfSome result (λ r. HasNumber s.now r.0 r.1.now) }
+{
+    long(s)
 }
 
 /// A number at the front, and what stands behind it.
@@ -297,10 +309,7 @@ pub(crate) fn number(s: &[u8]) -> Option<(u64, &[u8])>
 {
     match short(s) {
         Some(found) => Some(found),
-        None => {
-            let n = long(s)?;
-            Some((n, behind_token(s)))
-        }
+        None => sought_number(s),
     }
 }
 
