@@ -6,7 +6,6 @@ use Rattle.std.specs.Char.{is_ascii_alphabetic}
 use Rattle.std.proofs.lemmas.Int.{ints}
 use Rattle.std.proofs.lemmas.Bool.Decides.{nat_tests}
 use Rattle.alpha_table.specs.Names.{name_of, mnemonic_of}
-use Rattle.alpha_table.specs.declared.names.Mnemonic.{Mnemonic}
 use Rattle.alpha_table.specs.declared.form.Form.{Form}
 use Rattle.alpha_table.specs.declared.form.Form.TheVariants.{Mem, Branch, Jump, Operate, Misc, Fetch, Pal}
 use Rattle.alpha_table.specs.declared.form.Src.{Src}

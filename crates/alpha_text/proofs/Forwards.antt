@@ -1,5 +1,5 @@
 -- The words behind a name, each with its value, give these operands.
-use Rattle.std.proofs.Common.{◌≡◌, ℕ, ℤ, List, [], ◌∷◌, Some, Ok, length, refl, ◌∙◌, ap}
+use Rattle.std.proofs.Common.{◌≡◌, ℕ, ℤ, List, Some, Ok, length, refl, ◌∙◌, ap}
 use Rattle.alpha_token.specs.declared.token.TokenKind.TheVariants as kinds
 use Rattle.alpha_token.specs.Tokens.{tokens}
 use Rattle.alpha_operands.specs.declared.names.Half.{Half}
@@ -12,7 +12,7 @@ use Rattle.alpha_operands.specs.Ranges.{number_of, offset_of}
 use Rattle.alpha_operands.specs.Shapes.{patterns}
 use Rattle.alpha_operands.specs.Operands.{Slots, nothing, filled}
 use Rattle.alpha_operands.specs.Walk.{operands}
-use Rattle.alpha_text.specs.Words.{HasToken, HasMark, HasComma, HasRegister, HasNumber, HasLabel, HasOpened, HasEnd}
+use Rattle.alpha_text.specs.Words.{HasMark, HasComma, HasRegister, HasNumber, HasLabel, HasOpened, HasEnd}
 
 -- the operands of a line by the patterns of a shape
 abbrev pub Gives : Shape → List ℕ → Slots → Type 0

@@ -1,5 +1,5 @@
 -- What a name and the words behind it say.
-use Rattle.std.proofs.Common.{◌≡◌, ◌⊎◌, ℕ, ℤ, pos, List, [], Option, Some, None, IfSome, Ok, refl, sym, ◌∙◌, ap, subst, inl, inr}
+use Rattle.std.proofs.Common.{◌≡◌, ◌⊎◌, ℕ, ℤ, pos, List, Option, Some, None, IfSome, Ok, refl, sym, ◌∙◌, ap, subst, inl, inr}
 use Rattle.std.specs.Prelude.{⊤}
 use Rattle.std.specs.Option.{option_map}
 use Rattle.alpha_table.specs.Op.{op_row}
@@ -31,7 +31,7 @@ use Rattle.alpha_operands.specs.Walk.{operands}
 use Rattle.alpha_text.specs.declared.head.Head.TheVariants as heads
 use Rattle.alpha_text.specs.declared.head.Own.{Own}
 use Rattle.alpha_text.specs.declared.head.Own.TheVariants as owns
-use Rattle.alpha_text.specs.Heads.{own_shape, operate_shape}
+use Rattle.alpha_text.specs.Heads.{operate_shape}
 use Rattle.alpha_text.specs.Statements.{Said, said, code, target, half_said, operate_form, own_said, link, move_number}
 use Rattle.alpha_text.specs.declared.statement.Statement.{Statement}
 use Rattle.alpha_text.specs.Reading.{list_in}

@@ -1,4 +1,4 @@
-use Rattle.std.proofs.Common.{◌∙◌, sym}
+use Rattle.std.proofs.Common.{sym}
 use Rattle.alpha_text.proofs.data.value.Goals as goal
 
 pub returns : goal.returns

@@ -1,4 +1,4 @@
-use Rattle.std.proofs.Common.{◌≡◌, Some, sym, ◌∙◌, ap}
+use Rattle.std.proofs.Common.{Some, sym, ◌∙◌, ap}
 use Rattle.alpha_table.specs.declared.names.Mnemonic.TheVariants as mnemonics
 use Rattle.alpha_text.specs.Statements.{said, half_said}
 use Rattle.alpha_text.proofs.Meanings.{said_as, says_address}

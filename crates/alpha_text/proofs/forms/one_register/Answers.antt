@@ -1,6 +1,6 @@
 use Rattle.alpha_table.specs.declared.names.Mnemonic.TheVariants as mnemonics
 use Rattle.alpha_table.specs.declared.form.Form.TheVariants.{Operate}
-use Rattle.alpha_table.specs.declared.form.Src.TheVariants.{Reg, Lit}
+use Rattle.alpha_table.specs.declared.form.Src.TheVariants.{Reg}
 use Rattle.alpha_text.proofs.Meanings.{if-coded, says_pair}
 use Rattle.alpha_text.proofs.forms.one_register.Goals as goal
 

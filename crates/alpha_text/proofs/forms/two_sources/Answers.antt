@@ -1,6 +1,5 @@
 use Rattle.alpha_table.specs.declared.names.Mnemonic.TheVariants as mnemonics
 use Rattle.alpha_table.specs.declared.form.Form.TheVariants.{Operate}
-use Rattle.alpha_table.specs.declared.form.Src.TheVariants.{Reg, Lit}
 use Rattle.alpha_text.proofs.Meanings.{if-coded, says_any}
 use Rattle.alpha_text.proofs.forms.two_sources.Goals as goal
 

@@ -1,4 +1,4 @@
-use Rattle.std.proofs.Common.{◌≡◌, pos, sym, ◌∙◌, ap}
+use Rattle.std.proofs.Common.{pos, sym, ◌∙◌, ap}
 use Rattle.alpha_table.specs.declared.names.Mnemonic.TheVariants as mnemonics
 use Rattle.alpha_table.specs.declared.form.Form.TheVariants.{Branch}
 use Rattle.alpha_text.specs.Statements.{target}

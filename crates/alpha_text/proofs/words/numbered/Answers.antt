@@ -1,4 +1,4 @@
-use Rattle.std.proofs.Common.{◌≡◌, ◌∷◌, ◌++◌, ◌<◌, ◌∙◌, Some, decimal, sym, ap, arith}
+use Rattle.std.proofs.Common.{◌∷◌, ◌<◌, ◌∙◌, Some, decimal, sym, ap, arith}
 use Rattle.alpha_token.specs.Tokens.{tokens}
 use Rattle.alpha_text.proofs.Registers.{register_of-number}
 use Rattle.alpha_text.proofs.Spelling.{token-reg}

@@ -1,4 +1,4 @@
-use Rattle.std.proofs.Common.{◌≡◌, ◌<◌, ◌^◌, ◌∙◌, decimal, sym, ap, rules}
+use Rattle.std.proofs.Common.{◌<◌, ◌^◌, ◌∙◌, decimal, sym, ap, rules}
 use Rattle.alpha_token.specs.Tokens.{tokens}
 use Rattle.alpha_text.proofs.Spelling.{token-num, number_value-decimal}
 use Rattle.alpha_text.proofs.words.short.Goals as goal
