@@ -11,10 +11,14 @@ pub mod Joined
 pub mod Linked
 pub mod Rising
 pub mod SourceNames
-pub mod MadeLists
 pub mod MadeModules
 pub mod Lists
 pub mod Naming
 pub mod Shifting
 pub mod Joining
 pub mod Imaged
+pub mod MadeSizes
+pub mod MadeSymbols
+pub mod MadeRelocations
+pub mod MadeChains
+pub mod MadeNames

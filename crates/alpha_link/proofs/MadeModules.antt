@@ -1,73 +1,101 @@
 -- The module that is made of what was read.
-use Rattle.std.proofs.Common.{◌≡◌, ℕ, ◌+◌, ◌^◌, ◌<◌, ◌≤◌, ◌&&◌, nat_lt, nat_le, List, [], ◌∷◌, ◌++◌, length, map, Option, None, Some, Bor, All, refl, sym, ap, ◌∙◌, arith}
-use Rattle.std.specs.Prelude.{Ok, Err}
-use Rattle.std.specs.List.{filter_map}
+use Rattle.std.proofs.Common.{◌≡◌, ℕ, ◌+◌, ◌^◌, ◌<◌, ◌≤◌, List, [], ◌∷◌, ◌++◌, length, map, Option, None, Some, Bor, All, refl, sym, ap, subst, ◌∙◌, arith}
+use Rattle.std.specs.Prelude.{Ok, Err, IfSome}
+use Rattle.std.specs.List.{AllByRecursion, filter_map, flat_map, list_any}
+use Rattle.std.specs.Str.{bytes_eq}
 use Rattle.std.proofs.lemmas.List.{length-map}
 use Rattle.alpha_words.specs.declared.Level.TheVariants.{One}
 use Rattle.alpha_table.specs.declared.form.Form.{Form}
 use Rattle.alpha_table.specs.Encoded.{encoded}
+use Rattle.alpha_text.specs.References.{IsLabel}
 use Rattle.alpha_text.specs.Reading.{LineSaid}
 use Rattle.alpha_image.specs.Parts.{IsByte, IsCodeInsn}
+use Rattle.alpha_image.specs.Rules.{size_of_segment}
 use Rattle.alpha_image.proofs.CodeInsns.{code_words_of_insns}
 use Rattle.alpha_asm.specs.declared.fault.AsmFault.TheVariants.{ImageField}
 use Rattle.alpha_asm.specs.declared.place.Section.TheVariants as sides
 use Rattle.alpha_asm.specs.declared.place.Spot.{Spot}
+use Rattle.alpha_asm.specs.declared.place.Spot.TheVariants as spots
 use Rattle.alpha_asm.specs.declared.unlinked.Unlinked.{Unlinked}
-use Rattle.alpha_asm.specs.Layout.{layout, spot_of}
-use Rattle.alpha_asm.specs.Patches.{fix_of, fixes}
-use Rattle.alpha_asm.specs.Labels.{spot_named}
-use Rattle.alpha_asm.specs.Unlinked.{Makes}
+use Rattle.alpha_asm.specs.Layout.{Place, start, placed, layout, end, spot_of}
+use Rattle.alpha_asm.specs.Patches.{fix_of, raw_bytes, fixes}
+use Rattle.alpha_asm.specs.Labels.{spot_named, are_among}
+use Rattle.alpha_asm.specs.Unlinked.{Makes, IsUnlinked}
 use Rattle.alpha_link.specs.declared.header.Sizes.{Sizes}
-use Rattle.alpha_link.specs.declared.symbol.SymbolSection.{SymbolSection}
-use Rattle.alpha_link.specs.declared.symbol.SymbolSection.TheVariants as sections
 use Rattle.alpha_link.specs.declared.relocation.Relocation.{Relocation}
-use Rattle.alpha_link.specs.Symbols.{Named, offset_fits, comes_behind, is_label_name, symbol_fits, IsSymbol}
-use Rattle.alpha_link.specs.Relocations.{Body, is_addend, stands_at, follows_all, relocation_fits, IsRelocation}
-use Rattle.alpha_link.specs.Parts.{ModuleParts, sizes_of, AreGood, IsModule}
+use Rattle.alpha_link.specs.Symbols.{Named, IsSymbol}
+use Rattle.alpha_link.specs.Relocations.{IsRelocation}
+use Rattle.alpha_link.specs.Parts.{ModuleParts, sizes_of, body_of, AreGood, IsModule}
 use Rattle.alpha_link.specs.Spelled.{body}
-use Rattle.alpha_link.specs.Made.{all_names, symbol_at_spot, relocation_for, module_of, bad_field, sized}
+use Rattle.alpha_link.specs.Made.{labels_in, references_in, all_names, symbol_at_spot, relocation_for, module_of, bad_field, sized}
+use Rattle.alpha_link.specs.Rising.{Rise}
+use Rattle.alpha_link.specs.Unlinked.{IsOfLines, IsNear}
+use Rattle.alpha_link.proofs.MadeSizes.{insns_of, words_all, filled_all, IsWithinPlace, spots_within}
+use Rattle.alpha_link.proofs.MadeNames.{all_well}
+use Rattle.alpha_link.proofs.MadeSymbols.{IsSpotIn, symbols_good, above_none, names_all}
+use Rattle.alpha_link.proofs.MadeRelocations.{Chain, all_good}
+use Rattle.alpha_link.proofs.MadeChains.{code_chain, data_chain}
 
--- a symbol depends on the sizes of the code and the data alone
-same_offsets : (z y : Sizes) (s : SymbolSection) (offset : ℕ) → z.words ≡ y.words → z.filled ≡ y.filled → z.zeroed ≡ y.zeroed → offset_fits z s offset ≡ offset_fits y s offset
-same_offsets z y sections.Code offset e f g = rw e refl
-same_offsets z y sections.Data offset e f g = rw (f, g) refl
-same_offsets z y sections.Undefined offset e f g = refl
+spot_in_sizes : (e : Place) (z : Sizes) (o : Option Spot) → e.words ≡ z.words → size_of_segment e.last ≡ z.filled + z.zeroed → IfSome o (IsWithinPlace e) → IfSome o (IsSpotIn z)
+spot_in_sizes e z None words size h = tt
+spot_in_sizes e z (Some (spots.Code n)) words size h = omega arith
+spot_in_sizes e z (Some (spots.Data segment offset)) words size h = omega arith
 
-same_symbol : (z y : Sizes) (before : List Named) (s : Named) → z.words ≡ y.words → z.filled ≡ y.filled → z.zeroed ≡ y.zeroed → symbol_fits z before s ≡ symbol_fits y before s
-unfolding symbol_fits
-same_symbol z y before s e f g = ap (λ b. nat_le (length s.name) 1024 && (is_label_name s.name && (b && comes_behind before s.name))) (same_offsets z y s.section s.offset e f g)
+-- the labels stand within the sizes of what was read
+spots_in : (is : List LineSaid) (u : Unlinked) (z : Sizes) → Makes is u → AllByRecursion IsUnlinked is → u.filled ≤ 16777216 → z.words ≡ length u.code.items → z.filled ≡ length u.bytes.items → z.zeroed ≡ u.zeroed
+    → (name : List ℕ) → IfSome (spot_named u.labels name) (IsSpotIn z)
+unfolding layout end
+spots_in is u z m all few words filled zeroed name =
+    let e : Place = end is in
+    let code : length u.code.items ≡ length (insns_of (placed start 1 is)) = ap length m.code in
+    let bytes : length u.bytes.items ≡ length (flat_map raw_bytes (placed start 1 is)) = ap length (m.bytes few) in
+    let grown : e.words ≡ start.words + length (insns_of (placed start 1 is)) = words_all start 1 is in
+    let spread : e.last.filled ≡ start.last.filled + length (flat_map raw_bytes (placed start 1 is)) = filled_all start 1 is all in
+    let zeros : u.zeroed ≡ e.last.zeroed = m.zeroed in
+    rw (m.labels name) (spot_in_sizes e z (spot_of (layout is) name) (omega (arith, grown, code, words)) (omega (arith, spread, bytes, filled, zeroed, zeros)) (spots_within name start 1 is all))
 
-symbols_for : (z y : Sizes) (before xs : List Named) → z.words ≡ y.words → z.filled ≡ y.filled → z.zeroed ≡ y.zeroed → AreGood (IsSymbol z) before xs → AreGood (IsSymbol y) before xs
-symbols_for z y before [] e f g all = tt
-symbols_for z y before (s ∷ xs) e f g (good, all) = (record { fits = sym (same_symbol z y before s e f g) ∙ good.fits; offset = good.offset }, symbols_for z y (before ++ s ∷ []) xs e f g all)
+near : (z : Sizes) (o : Option Spot) → z.words ≤ 262144 → z.filled + z.zeroed ≤ 16777216 → IfSome o (IsSpotIn z) → IfSome o IsNear
+near z None few small h = tt
+near z (Some (spots.Code n)) few small h = omega arith
+near z (Some (spots.Data segment offset)) few small h = omega arith
 
--- a relocation on the number of symbols
-same_relocation : (z y : Sizes) (b : Body) (before : List Relocation) (r : Relocation) → z.symbols ≡ y.symbols → relocation_fits z b before r ≡ relocation_fits y b before r
-unfolding relocation_fits
-same_relocation z y b before r e = ap (λ n. nat_lt r.symbol n && (is_addend r.addend && (stands_at b r.kind r.offset && follows_all before r))) e
+abbrev sizes_with : Unlinked → Sizes
+sizes_with u = record { words = length u.code.items; filled = length u.bytes.items; zeroed = u.zeroed; symbols = 0; relocations = 0 }
 
-relocations_for : (z y : Sizes) (b : Body) (before xs : List Relocation) → z.symbols ≡ y.symbols → AreGood (IsRelocation z b) before xs → AreGood (IsRelocation y b) before xs
-relocations_for z y b before [] e all = tt
-relocations_for z y b before (r ∷ xs) e (good, all) =
-    (record { fits = sym (same_relocation z y b before r e) ∙ good.fits; offset = good.offset; symbol = good.symbol }, relocations_for z y b (before ++ r ∷ []) xs e all)
+pub labels_near : (u : Unlinked) → IsOfLines u → length u.code.items ≤ 262144 → u.filled ≤ 16777216 → length u.bytes.items + u.zeroed ≤ 16777216 → (name : List ℕ) → IfSome (spot_named u.labels name) IsNear
+labels_near u (is, m, all) words few size name = near (sizes_with u) (spot_named u.labels name) words size (spots_in is u (sizes_with u) m all few refl refl refl name)
 
-pub module_good : (code : List Form) (bytes : List ℕ) (zeroed : ℕ) (symbols : List Named) (relocations : List Relocation) (z : Sizes)
-    → All (IsCodeInsn One) code → length code ≤ 262144 → length bytes + zeroed ≤ 16777216 → All IsByte bytes
-    → z.words ≡ length code → z.filled ≡ length bytes → z.zeroed ≡ zeroed → z.symbols ≡ length symbols
-    → AreGood (IsSymbol z) [] symbols → AreGood (IsRelocation z (body (map encoded code) bytes)) [] relocations
+-- what is made of the lines of a module's source is a module
+pub module_good : (u : Unlinked) (names : List (Bor (List ℕ))) (symbols : List Named) (relocations : List Relocation) → IsOfLines u
+    → All (IsCodeInsn One) u.code.items → length u.code.items ≤ 262144 → u.filled ≤ 16777216 → length u.bytes.items + u.zeroed ≤ 16777216 → All IsByte u.bytes.items → Rise names
+    → ((is : List LineSaid) → Makes is u → (q : List ℕ) → are_among names q ≡ list_any (bytes_eq q) (labels_in (layout is) ++ references_in (layout is)))
+    → symbols ≡ map (λ n. symbol_at_spot n.now (spot_named u.labels n.now)) names
+    → relocations ≡ filter_map (relocation_for sides.Code (map (λ n. n.now) names)) (map fix_of u.patches.items) ++ filter_map (relocation_for sides.Data (map (λ n. n.now) names)) (map fix_of u.patches.items)
     → length symbols < 2 ^ 32 → length relocations < 2 ^ 32
-    → IsModule (record { words = map encoded code; bytes = bytes; zeroed = zeroed; symbols = symbols; relocations = relocations })
-module_good code bytes zeroed symbols relocations z insns few size fits words filled zeros count good_symbols good_relocations few_symbols few_relocations =
-    let m : ModuleParts = record { words = map encoded code; bytes = bytes; zeroed = zeroed; symbols = symbols; relocations = relocations } in
-    let same : length (map encoded code) ≡ length code = length-map code encoded in
+    → IsModule (record { words = map encoded u.code.items; bytes = u.bytes.items; zeroed = u.zeroed; symbols = symbols; relocations = relocations })
+unfolding layout
+module_good u names symbols relocations (is, m, all) insns words few size bytes rise among made put few_symbols few_relocations =
+    let parts : ModuleParts = record { words = map encoded u.code.items; bytes = u.bytes.items; zeroed = u.zeroed; symbols = symbols; relocations = relocations } in
+    let z : Sizes = sizes_of parts in
+    let same : length (map encoded u.code.items) ≡ length u.code.items = length-map u.code.items encoded in
+    let own : List (List ℕ) = map (λ n. n.now) names in
+    let count : length symbols ≡ length own = ap length made ∙ (length-map names (λ n. symbol_at_spot n.now (spot_named u.labels n.now)) ∙ sym (length-map names (λ n. n.now))) in
+    let whole : AllByRecursion (λ n. IsLabel 1024 n.now) names = names_all (IsLabel 1024) (labels_in (layout is) ++ references_in (layout is)) names (all_well start 1 is all) (λ q h. sym (among is m q) ∙ h) in
+    let known = (code_words_of_insns One u.code.items insns).1 in
+    let held : u.bytes.items ≡ flat_map raw_bytes (layout is) = m.bytes few in
+    let code : Chain sides.Code (body (map encoded u.code.items) u.bytes.items) 0 (map fix_of u.patches.items) =
+    subst (Chain sides.Code (body (map encoded u.code.items) u.bytes.items) 0) (sym m.patches) (code_chain u.code.items u.bytes.items 0 start 1 0 is [] known words m.code refl (omega arith) all) in
+    let quads : Chain sides.Data (body (map encoded u.code.items) u.bytes.items) 0 (map fix_of u.patches.items) =
+    subst (Chain sides.Data (body (map encoded u.code.items) u.bytes.items) 0) (sym m.patches) (data_chain (map encoded u.code.items) u.bytes.items 0 start 1 0 is [] (omega arith) held refl (omega arith) all) in
     record {
       few = omega (arith, same);
       size = size;
-      words = (code_words_of_insns One code insns).0;
-      bytes = fits;
-      symbols = symbols_for z (sizes_of m) [] symbols (words ∙ sym same) filled zeros good_symbols;
+      words = (code_words_of_insns One u.code.items insns).0;
+      bytes = bytes;
+      symbols = subst (AreGood (IsSymbol z) []) (sym made)
+          (symbols_good z (spot_named u.labels) [] names (omega (arith, same)) size rise (above_none names) whole (spots_in is u z m all few same refl refl));
       symbol_count = few_symbols;
-      relocations = relocations_for z (sizes_of m) (body (map encoded code) bytes) [] relocations count good_relocations;
+      relocations = subst (AreGood (IsRelocation z (body_of parts)) []) (sym put) (all_good z (body_of parts) own (map fix_of u.patches.items) count (omega (arith, count)) code quads);
       relocation_count = few_relocations;
     }
 

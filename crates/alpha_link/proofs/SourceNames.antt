@@ -88,15 +88,18 @@ undefined_any known q ps = by (is_some (known q)) refl
     by true e = refl
     by false e = all e ps
 
-pub names_are : (is : List LineSaid) (u : Unlinked) (old pushed new : List (Bor (List ℕ))) → Makes is u
+-- the names that were sorted are those that the items define or name
+pub names_among : (is : List LineSaid) (u : Unlinked) (old pushed new : List (Bor (List ℕ))) → Makes is u
     → ((q : List ℕ) → are_among old q ≡ is_some (spot_named u.labels q))
     → ((q : List ℕ) → are_among pushed q ≡ (are_among old q || list_any (λ p. is_none (spot_named u.labels p.to.label.now) && bytes_eq q p.to.label.now) u.patches.items))
-    → Rise new → ((q : List ℕ) → are_among new q ≡ are_among pushed q) → map (λ n. n.now) new ≡ all_names is
-unfolding all_names
-names_are is u old pushed new makes before undefined rise same =
-    rising_is new (labels_in (layout is) ++ references_in (layout is)) rise (λ q.
+    → ((q : List ℕ) → are_among new q ≡ are_among pushed q) → (q : List ℕ) → are_among new q ≡ list_any (bytes_eq q) (labels_in (layout is) ++ references_in (layout is))
+names_among is u old pushed new makes before undefined same q =
     same q ∙ undefined q ∙ ap (λ b. b || list_any (λ p. is_none (spot_named u.labels p.to.label.now) && bytes_eq q p.to.label.now) u.patches.items) (before q)
     ∙ undefined_any (spot_named u.labels) q u.patches.items
     ∙ ap (λ b. b || list_any (λ p. bytes_eq q p.to.label.now) u.patches.items) (ap is_some (makes.labels q) ∙ defined_any q (layout is))
     ∙ ap (λ b. list_any (bytes_eq q) (labels_in (layout is)) || b) (named_any q is u.patches.items makes.patches)
-    ∙ sym (list_any-append (bytes_eq q) (labels_in (layout is)) (references_in (layout is))))
+    ∙ sym (list_any-append (bytes_eq q) (labels_in (layout is)) (references_in (layout is)))
+
+pub names_are : (is : List LineSaid) (new : List (Bor (List ℕ))) → Rise new → ((q : List ℕ) → are_among new q ≡ list_any (bytes_eq q) (labels_in (layout is) ++ references_in (layout is))) → map (λ n. n.now) new ≡ all_names is
+unfolding all_names
+names_are is new rise among = rising_is new (labels_in (layout is) ++ references_in (layout is)) rise among

@@ -12,3 +12,4 @@ pub mod Rising
 pub mod Made
 pub mod Names
 pub mod Output
+pub mod Unlinked

@@ -1,14 +1,14 @@
 //! Modules that are made of sources.
 
-ghost use Rattle.std.specs.Prelude.{◌≡◌, ◌≢◌, ◌+◌, ◌<◌, ◌≤◌, ◌^◌, length, map, Some, Ok, Err, All, IsTrue, IfOk, IfErr, IfNone};
+ghost use Rattle.std.specs.Prelude.{◌≡◌, ◌≢◌, ◌+◌, ◌<◌, ◌≤◌, ◌^◌, length, Some, Ok, Err, All, IfOk, IfErr, IfNone};
 ghost use Rattle.alpha_words.specs.declared.Level.TheVariants.{One};
-ghost use Rattle.alpha_image.specs.Parts.{IsCodeInsn};
+ghost use Rattle.alpha_image.specs.Parts.{IsByte};
 ghost use Rattle.alpha_asm.specs.Unlinked.{Makes};
 ghost use Rattle.alpha_asm.specs.declared.fault.AsmFault.TheVariants as faults;
 ghost use Rattle.alpha_link.specs.Parts.{IsModule};
 ghost use Rattle.alpha_link.specs.Made.{bad_field, sized, module_of, made_module};
+ghost use Rattle.alpha_link.specs.Unlinked.{IsOfLines};
 
-use crate::header::Sizes;
 use crate::labels::all_names;
 use crate::made_relocations::relocations_of;
 use crate::made_symbols::symbols_of;
@@ -39,45 +39,39 @@ fn bad_field(words: usize, filled: usize, zeroed: u64) -> Option<u8>
     None
 }
 
+// Data bytes are bytes, which a proof has where they are read.
+fn bytes_fit(bytes: &[u8])
+    ensures { All IsByte bytes.now }
+{
+    let _first = bytes.first();
+}
+
 // The module of what was read. An instruction of level 2 was refused with its line, so each is of the
 // first.
 fn module_of(alloc: Global, unlinked: Unlinked<'_>) -> Result<Module, NoMemory>
     requires words { length unlinked.code.items ≤ 262144 }
     requires filled { unlinked.filled ≤ 16777216 }
     requires data { length unlinked.bytes.items + unlinked.zeroed ≤ 16777216 }
+    requires lines { IsOfLines unlinked }
     ensures value { IfOk result (λ m. (is : _) → Makes is unlinked.entry → module_of is ≡ m) }
 {
     if !are_within(Level::One, &unlinked.code) {
         return Err(NoMemory);
     }
-    let mut names = all_names(alloc, &unlinked)?;
-    if names.names.len() > 0xffff_ffff {
+    let sorted = all_names(alloc, &unlinked)?;
+    if sorted.names.len() > 0xffff_ffff {
         return Err(NoMemory);
     }
-    let sizes = Sizes {
-        words: unlinked.code.len() as u32,
-        filled: unlinked.bytes.len() as u32,
-        zeroed: unlinked.zeroed as u32,
-        symbols: names.names.len() as u32,
-        relocations: 0,
-    };
-    let symbols = symbols_of(alloc, &sizes, unlinked.labels, &names.names)?;
-    names.note_keys(alloc)?;
-    let relocations = relocations_of(
-        alloc,
-        &names,
-        &sizes,
-        &unlinked.code,
-        &unlinked.bytes,
-        &unlinked.patches,
-    )?;
+    let symbols = symbols_of(alloc, unlinked.labels, &sorted)?;
+    let relocations = relocations_of(alloc, &sorted, &unlinked.patches)?;
     if relocations.len() > 0xffff_ffff {
         return Err(NoMemory);
     }
+    bytes_fit(&unlinked.bytes);
     Ok(Module {
         insns: unlinked.code,
         bytes: unlinked.bytes,
-        zeroed: sizes.zeroed,
+        zeroed: unlinked.zeroed as u32,
         symbols,
         relocations,
     })
@@ -85,7 +79,8 @@ fn module_of(alloc: Global, unlinked: Unlinked<'_>) -> Result<Module, NoMemory>
 
 // The module of what was read, unless its sizes are too great.
 fn sized(alloc: Global, unlinked: Unlinked<'_>) -> Result<Module, AsmFault>
-    requires { length unlinked.bytes.items ≤ unlinked.filled }
+    requires few { length unlinked.bytes.items ≤ unlinked.filled }
+    requires lines { IsOfLines unlinked }
     ensures ok { IfOk result (λ m. (is : _) → Makes is unlinked.entry → sized (module_of is) ≡ Ok m) }
     ensures refused { IfErr result (λ fault. fault ≢ faults.NoMemory →
         (is : _) → Makes is unlinked.entry → sized (module_of is) ≡ Err fault) }

@@ -1,25 +1,16 @@
 //! The relocations of a module that is made of a source.
 
-ghost use Rattle.std.specs.Prelude.{◌≡◌, ◌++◌, ◌∷◌, ℕ, [], map, All, Some, IfOk, OnOk, IfSome};
+ghost use Rattle.std.specs.Prelude.{◌≡◌, ◌++◌, ℕ, [], map, Some, IfOk, OnOk, IfSome};
 ghost use Rattle.std.specs.Option.{option_map};
 ghost use Rattle.std.specs.List.{filter_map, cons_option};
-ghost use Rattle.alpha_table.specs.Decoded.{decoded};
-ghost use Rattle.alpha_table.specs.Encoded.{encoded};
-ghost use Rattle.alpha_image.specs.Parts.{IsByte};
 ghost use Rattle.alpha_asm.specs.Patches.{fix_of, need_of};
 ghost use Rattle.alpha_asm.specs.declared.place.Section.TheVariants as sides;
-ghost use Rattle.alpha_link.specs.Relocations.{IsRelocation};
-ghost use Rattle.alpha_link.specs.Parts.{AreGood};
-ghost use Rattle.alpha_link.specs.Spelled.{body};
 ghost use Rattle.alpha_link.specs.Rising.{Rise};
 ghost use Rattle.alpha_link.specs.Made.{number_in, kind_in, offset_in, relocation_with, relocation_for};
 
-use crate::header::Sizes;
 use crate::labels::SortedNames;
 use crate::relocation::{Relocation, RelocationKind};
-use crate::relocations::relocation_fits;
 use alpha_asm::{Need, Patch, Section, Use};
-use alpha_table::Insn;
 use alpha_words::NoMemory;
 use std::alloc::Global;
 
@@ -67,19 +58,20 @@ fn addend_of(offset: i64) -> Option<i32>
     Some(offset as i32)
 }
 
-// The relocation of a kind at a patch. Each label has a number, and the numbers of a source are small, so
-// there is one.
+// The relocation of a kind at a patch whose label has such a number. Each label has a place, and the numbers
+// of a source are small, so there is one.
 fn relocation_with<'a>(
     kind: RelocationKind,
-    names: &SortedNames<'a>,
+    sorted: &SortedNames<'a>,
+    number: u32,
     patch: &Patch<'a>,
 ) -> Option<Relocation>
-    requires { Rise names.now.names.items }
+    requires { Rise sorted.now.names.items }
     ensures { IfSome result (λ r. option_map
         (relocation_with kind (offset_in (fix_of patch.now).at (fix_of patch.now).name.need) patch.now.to.offset)
-        (number_in (map (λ n. n.now) names.now.names.items) patch.now.to.label.now) ≡ Some r) }
+        (number_in (map (λ n. n.now) sorted.now.names.items) patch.now.to.label.now) ≡ Some r) }
 {
-    let symbol = names.number(patch.to.label)?;
+    let symbol = sorted.place(number, patch.to.label)?;
     let offset = offset_of(patch)?;
     let addend = addend_of(patch.to.offset)?;
     if symbol > 0xffff_ffff {
@@ -96,14 +88,15 @@ fn relocation_with<'a>(
 // The relocation of a patch that one of the two sections needs, if it does.
 fn relocation_for<'a>(
     side: Section,
-    names: &SortedNames<'a>,
+    sorted: &SortedNames<'a>,
+    number: u32,
     patch: &Patch<'a>,
 ) -> Result<Option<Relocation>, NoMemory>
-    requires { Rise names.now.names.items }
-    ensures { IfOk result (λ r. relocation_for side (map (λ n. n.now) names.now.names.items) (fix_of patch.now) ≡ r) }
+    requires { Rise sorted.now.names.items }
+    ensures { IfOk result (λ r. relocation_for side (map (λ n. n.now) sorted.now.names.items) (fix_of patch.now) ≡ r) }
 {
     match kind_in(side, patch.need) {
-        Some(kind) => match relocation_with(kind, names, patch) {
+        Some(kind) => match relocation_with(kind, sorted, number, patch) {
             Some(relocation) => Ok(Some(relocation)),
             None => Err(NoMemory),
         },
@@ -111,48 +104,20 @@ fn relocation_for<'a>(
     }
 }
 
-// Appends a relocation, which is good behind those before it. One that isn't would be given up as for
-// want of memory; no source makes one.
-fn push_good(
-    relocations: &mut Vec<Relocation>,
-    sizes: &Sizes,
-    insns: &[Insn],
-    filled: &[u8],
-    relocation: Relocation,
-) -> Result<(), NoMemory>
-    requires { map decoded (map encoded insns.now) ≡ map Some insns.now }
-    ensures pushed { OnOk result (relocations.new.items ≡ relocations.old.items ++ relocation ∷ []) }
-    ensures good { OnOk result
-        (AreGood (IsRelocation sizes.now (body (map encoded insns.now) filled.now)) [] relocations.old.items
-        → AreGood (IsRelocation sizes.now (body (map encoded insns.now) filled.now)) [] relocations.new.items) }
-{
-    if !relocation_fits(sizes, insns, filled, relocations, &relocation) {
-        return Err(NoMemory);
-    }
-    relocations.push(relocation)?;
-    Ok(())
-}
-
 // Appends the relocation of a patch that one of the two sections needs, if it does.
 fn push_relocation_for<'a>(
     relocations: &mut Vec<Relocation>,
     side: Section,
-    names: &SortedNames<'a>,
-    sizes: &Sizes,
-    insns: &[Insn],
-    filled: &[u8],
+    sorted: &SortedNames<'a>,
+    number: u32,
     patch: &Patch<'a>,
 ) -> Result<(), NoMemory>
-    requires known { map decoded (map encoded insns.now) ≡ map Some insns.now }
-    requires rise { Rise names.now.names.items }
-    ensures pushed { OnOk result (relocations.new.items ≡ relocations.old.items
-        ++ cons_option (relocation_for side (map (λ n. n.now) names.now.names.items) (fix_of patch.now)) []) }
-    ensures good { OnOk result
-        (AreGood (IsRelocation sizes.now (body (map encoded insns.now) filled.now)) [] relocations.old.items
-        → AreGood (IsRelocation sizes.now (body (map encoded insns.now) filled.now)) [] relocations.new.items) }
+    requires { Rise sorted.now.names.items }
+    ensures { OnOk result (relocations.new.items ≡ relocations.old.items
+        ++ cons_option (relocation_for side (map (λ n. n.now) sorted.now.names.items) (fix_of patch.now)) []) }
 {
-    match relocation_for(side, names, patch)? {
-        Some(relocation) => push_good(relocations, sizes, insns, filled, relocation),
+    match relocation_for(side, sorted, number, patch)? {
+        Some(relocation) => Ok(relocations.push(relocation)?),
         None => Ok(()),
     }
 }
@@ -161,22 +126,18 @@ fn push_relocation_for<'a>(
 fn push_relocations_for<'a>(
     relocations: &mut Vec<Relocation>,
     side: Section,
-    names: &SortedNames<'a>,
-    sizes: &Sizes,
-    insns: &[Insn],
-    filled: &[u8],
+    sorted: &SortedNames<'a>,
     patches: &[Patch<'a>],
 ) -> Result<(), NoMemory>
-    requires known { map decoded (map encoded insns.now) ≡ map Some insns.now }
-    requires rise { Rise names.now.names.items }
-    ensures pushed { OnOk result (relocations.new.items ≡ relocations.old.items
-        ++ filter_map (relocation_for side (map (λ n. n.now) names.now.names.items)) (map fix_of patches.now)) }
-    ensures good { OnOk result
-        (AreGood (IsRelocation sizes.now (body (map encoded insns.now) filled.now)) [] relocations.old.items
-        → AreGood (IsRelocation sizes.now (body (map encoded insns.now) filled.now)) [] relocations.new.items) }
+    requires { Rise sorted.now.names.items }
+    ensures { OnOk result (relocations.new.items ≡ relocations.old.items
+        ++ filter_map (relocation_for side (map (λ n. n.now) sorted.now.names.items)) (map fix_of patches.now)) }
 {
+    let mut at = 0usize;
     for patch in patches {
-        push_relocation_for(relocations, side, names, sizes, insns, filled, patch)?;
+        let number = sorted.patched.get(at).copied().unwrap_or(u32::MAX);
+        push_relocation_for(relocations, side, sorted, number, patch)?;
+        at = at.wrapping_add(1);
     }
     Ok(())
 }
@@ -184,25 +145,16 @@ fn push_relocations_for<'a>(
 /// The relocations of patches: those of the code, and then those of the data.
 pub(crate) fn relocations_of<'a>(
     alloc: Global,
-    names: &SortedNames<'a>,
-    sizes: &Sizes,
-    insns: &[Insn],
-    filled: &[u8],
+    sorted: &SortedNames<'a>,
     patches: &[Patch<'a>],
 ) -> Result<Vec<Relocation>, NoMemory>
-    requires known { map decoded (map encoded insns.now) ≡ map Some insns.now }
-    requires rise { Rise names.now.names.items }
-    ensures value { IfOk result (λ relocations. relocations.items
-        ≡ filter_map (relocation_for sides.Code (map (λ n. n.now) names.now.names.items)) (map fix_of patches.now)
-        ++ filter_map (relocation_for sides.Data (map (λ n. n.now) names.now.names.items)) (map fix_of patches.now)) }
-    ensures good { IfOk result (λ relocations.
-        AreGood (IsRelocation sizes.now (body (map encoded insns.now) filled.now)) [] relocations.items) }
-    ensures bytes { OnOk result (All IsByte filled.now) }
+    requires { Rise sorted.now.names.items }
+    ensures { IfOk result (λ relocations. relocations.items
+        ≡ filter_map (relocation_for sides.Code (map (λ n. n.now) sorted.now.names.items)) (map fix_of patches.now)
+        ++ filter_map (relocation_for sides.Data (map (λ n. n.now) sorted.now.names.items)) (map fix_of patches.now)) }
 {
     let mut relocations = Vec::new(alloc);
-    let code = Section::Code;
-    push_relocations_for(&mut relocations, code, names, sizes, insns, filled, patches)?;
-    let data = Section::Data;
-    push_relocations_for(&mut relocations, data, names, sizes, insns, filled, patches)?;
+    push_relocations_for(&mut relocations, Section::Code, sorted, patches)?;
+    push_relocations_for(&mut relocations, Section::Data, sorted, patches)?;
     Ok(relocations)
 }
