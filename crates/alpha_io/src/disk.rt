@@ -10,13 +10,25 @@ use std::{fs, io};
 
 /// The file system as a shelf, which tells nothing. Each error counts one fault, that of a missing
 /// file too. A clause sees the count of faults.
+///
+/// A file that is read piece by piece is opened once: it stays open where a piece was read of it, until
+/// its end was read or another piece or a `keep` is asked for.
 #[derive(Drop)]
-pub struct DiskShelf<R: Files> {
+pub struct DiskShelf<R: Files + AllocGlobal> {
     files: R,
+    begun: Option<Begun<R::File>>,
     faults: u64,
 }
 
-impl<R: Files> Model for DiskShelf<R> {
+// A file that is open, how far it was read, and its name, unless no memory was left for it.
+#[derive(Drop)]
+struct Begun<F> {
+    file: F,
+    at: u64,
+    name: Option<String>,
+}
+
+impl<R: Files + AllocGlobal> Model for DiskShelf<R> {
     ghost use Rattle.std.specs.Prelude.{ℕ};
 
     ghost Value = { ℕ };
@@ -24,17 +36,50 @@ impl<R: Files> Model for DiskShelf<R> {
     ghost view = { λ s. s.faults };
 }
 
-impl<R: Files> DiskShelf<R> {
+impl<R: Files + AllocGlobal> DiskShelf<R> {
     /// The shelf of the runtime's file system, without a fault so far. A program's `main`, which is
     /// given `rt: HostRuntime`, makes it by `DiskShelf::new(&rt)`.
     pub fn new(files: R) -> DiskShelf<R>
         ensures { result ≡ 0 }
     {
-        DiskShelf { files, faults: 0 }
+        DiskShelf {
+            files,
+            begun: None,
+            faults: 0,
+        }
+    }
+
+    // The file of that name from `at` on: the one that is open, if it was read up to there.
+    fn begun_at(&mut self, name: &str, at: u64) -> io::Result<Begun<R::File>>
+        ensures { self.new ≡ self.old }
+    {
+        match self.begun.take() {
+            Some(begun) if begun.at == at && begun.name.as_deref() == Some(name) => Ok(begun),
+            _ => {
+                let mut file = fs::open(&self.files, name)?;
+                file.seek(SeekFrom::Start(at))?;
+                let name = String::from_str(self.files.alloc(), name).ok();
+                Ok(Begun { file, at, name })
+            }
+        }
+    }
+
+    // Reads from `at` on, and keeps the file open unless this is its end.
+    fn read_at(&mut self, name: &str, at: u64, buf: &mut [u8]) -> io::Result<usize>
+        ensures bound { ReadsAtMost result buf.new }
+        ensures same { self.new ≡ self.old }
+    {
+        let mut begun = self.begun_at(name, at)?;
+        let count = begun.file.read(buf)?;
+        begun.at = at.saturating_add(count as u64);
+        if count > 0 {
+            self.begun = Some(begun);
+        }
+        Ok(count)
     }
 }
 
-impl<R: Files> Shelf for DiskShelf<R> {
+impl<R: Files + AllocGlobal> Shelf for DiskShelf<R> {
     ghost use Rattle.std.specs.Prelude.{None, true};
 
     ghost files = { λ _. None };
@@ -44,21 +89,13 @@ impl<R: Files> Shelf for DiskShelf<R> {
     ghost faults = { λ s. s };
 
     fn piece(&mut self, name: &str, at: u64, buf: &mut [u8]) -> Result<usize, Failed> {
-        let answer = read_at(&self.files, name, at, buf);
+        let answer = self.read_at(name, at, buf);
         counted(answer, &mut self.faults)
     }
 
     fn keep(&mut self, name: &str, bytes: &[u8]) -> Result<(), Failed> {
+        self.begun = None;
         let answer = fs::write(&self.files, name, bytes);
         counted(answer, &mut self.faults)
     }
-}
-
-// Opens the file and reads from `at` on.
-fn read_at<R: Files>(files: &R, name: &str, at: u64, buf: &mut [u8]) -> io::Result<usize>
-    ensures { ReadsAtMost result buf.new }
-{
-    let mut file = fs::open(files, name)?;
-    file.seek(SeekFrom::Start(at))?;
-    file.read(buf)
 }

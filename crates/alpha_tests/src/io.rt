@@ -174,3 +174,28 @@ fn the_disk_keeps_a_file(rt: HostRuntime) -> Result<(), Fail> {
     );
     Ok(())
 }
+
+// What a piece of at most two bytes is.
+fn two_at<H: Shelf>(shelf: &mut H, at: u64) -> (Result<usize, Failed>, [u8; 2]) {
+    let mut buffer = [0; 2];
+    let answer = shelf.piece(NAME, at, buffer.as_mut_slice());
+    (answer, buffer)
+}
+
+#[test]
+fn the_disk_reads_on_from_a_piece_or_anew(rt: HostRuntime) -> Result<(), Fail> {
+    let mut shelf = DiskShelf::new(&rt);
+    assert_eq!(rt; shelf.keep(NAME, &[1, 2, 3, 4, 5]), Ok(()));
+    assert_eq!(rt; two_at(&mut shelf, 0), (Ok(2), [1, 2]));
+    assert_eq!(rt; two_at(&mut shelf, 2), (Ok(2), [3, 4]));
+    assert_eq!(rt; two_at(&mut shelf, 1), (Ok(2), [2, 3]));
+    assert_eq!(rt; two_at(&mut shelf, 3), (Ok(2), [4, 5]));
+    assert_eq!(rt; two_at(&mut shelf, 5), (Ok(0), [0, 0]));
+    assert_eq!(rt; two_at(&mut shelf, 0), (Ok(2), [1, 2]));
+    assert_eq!(rt; shelf.keep(NAME, &[6, 7, 8, 9]), Ok(()));
+    assert_eq!(rt; two_at(&mut shelf, 2), (Ok(2), [8, 9]));
+    fs::remove_file(&rt, NAME)?;
+    assert_eq!(rt; two_at(&mut shelf, 4).0, Ok(0));
+    assert_eq!(rt; two_at(&mut shelf, 0).0, Err(Failed));
+    Ok(())
+}
