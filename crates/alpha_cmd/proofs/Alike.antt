@@ -10,34 +10,38 @@ use Rattle.alpha_request.specs.Command.{Command, check, run, imprecise}
 use Rattle.alpha_request.specs.declared.options.RunOptions.{RunOptions}
 use Rattle.alpha_request.specs.Options.{Origin}
 use Rattle.alpha_restart.proofs.Agreeing.{accepted_restarts}
+use Rattle.alpha_restart.proofs.FreeTogether.{accepted_free}
 use Rattle.alpha_seq.specs.declared.end.End.{End}
 use Rattle.alpha_seq.specs.declared.end.End.TheVariants as ends
 use Rattle.alpha_seq.specs.State.{Program}
-use Rattle.alpha_seq.specs.Run.{Shown, sequential}
-use Rattle.alpha_imprecise.specs.Made.{ShownWild, LostTrap, first_words, most_words}
+use Rattle.alpha_seq.specs.Run.{Shown, shown, sequential, notes_of}
+use Rattle.alpha_imprecise.specs.Made.{ShownWild, LostTrap, shown_making, first_words, most_words}
+use Rattle.alpha_imprecise.specs.Free.{FreeAlike}
 use Rattle.alpha_imprecise.specs.Restart.{IsRestartable}
 use Rattle.alpha_imprecise.specs.Shown.{ShowsSame}
 use Rattle.alpha_imprecise.proofs.Showing.{runs_alike}
 use Rattle.alpha_cmd.specs.declared.status.Status.{Status}
 use Rattle.alpha_cmd.specs.declared.status.Status.TheVariants.{Done, NoMemory}
 use Rattle.alpha_cmd.specs.Status.{class_of}
-use Rattle.alpha_cmd.specs.Outcome.{goes}
+use Rattle.alpha_cmd.specs.Outcome.{Outcome, goes, stops, Then}
 use Rattle.alpha_cmd.specs.Image.{ImageOf}
 use Rattle.alpha_cmd.specs.Asks.{Asks}
-use Rattle.alpha_cmd.specs.Answer.{World, Answer, AnswerBy, IsAnswered}
-use Rattle.alpha_cmd.specs.Commands.{IsTold}
+use Rattle.alpha_cmd.specs.Answer.{World, Answer, AnswerBy, answer_of, IsAnswered}
 use Rattle.alpha_cmd.specs.Commands.Check as checks
 use Rattle.alpha_cmd.specs.Commands.Run as runs
-use Rattle.alpha_cmd.specs.Commands.Run.{answer_shown}
+use Rattle.alpha_cmd.specs.Commands.Run.{program_by, run_by_reads, MayShow, answer_shown}
 use Rattle.alpha_cmd.specs.Commands.Imprecise as wilds
-use Rattle.alpha_cmd.specs.Commands.Imprecise.{plan_by, PlanOf, run_by, answer_wild}
-use Rattle.alpha_cmd.specs.Tried.{AreTold, IsAnswer, TriedBy}
+use Rattle.alpha_cmd.specs.Commands.Imprecise.{Plan, plan_by, PlanOf, Passes, with_drawn, run_by, MayShowWild, answer_wild, RunsWild}
+use Rattle.alpha_cmd.specs.Tried.{TriedBy, IsGiven}
 use Rattle.alpha_cmd.specs.Alike.{but_drawn, undrawn, IsChecked, HasWords}
 use Rattle.alpha_cmd.proofs.Forms.{done_goes}
 use Rattle.alpha_cmd.proofs.Commands.Check.{lawful}
 use Rattle.alpha_cmd.proofs.Commands.Run.{shown_answer}
-use Rattle.alpha_cmd.proofs.Commands.Imprecise.{wild_answer, passed}
-use Rattle.alpha_cmd.proofs.Tried.{AnswerOf-single, done_tried}
+use Rattle.alpha_cmd.proofs.Commands.Imprecise.{Planned-lawful, passed}
+use Rattle.alpha_cmd.proofs.Lawful.{Then-found}
+use Rattle.alpha_cmd.proofs.Tried.{AnswerOf-single, asked_answer, done_tried}
+use Rattle.alpha_cmd.proofs.Endings.{given_undrawn}
+use Rattle.alpha_cmd.proofs.Untold.{made_same, same_may}
 
 -- ---- an accepted file
 
@@ -58,12 +62,12 @@ good_restarts file files h = accepted_restarts h.image h.found.2.0 h.accepted
 -- ---- the two runs
 
 -- the answer of a run that shows these
-answer_by : List ℕ → Option End → Option LostTrap → List ℕ → List ℕ → List ℕ → ℕ → Answer
+answer_by : Option (List ℕ) → Option End → Option LostTrap → List ℕ → List ℕ → List ℕ → ℕ → Answer
 answer_by input end lost output left notes drawn =
-    undrawn (answer_wild (Some input) (record { end = end; lost = lost; units = 0; output = output; left = left; notes = notes; drawn = drawn }))
+    undrawn (answer_wild input (record { end = end; lost = lost; units = 0; output = output; left = left; notes = notes; drawn = drawn }))
 
-sequential_by : (input : List ℕ) (end : Option End) (steps : ℕ) (output left notes : List ℕ) (drawn : ℕ)
-    → answer_by input end None output left notes drawn ≡ answer_shown (Some input) (record { end = end; steps = steps; output = output; left = left; notes = notes })
+sequential_by : (input : Option (List ℕ)) (end : Option End) (steps : ℕ) (output left notes : List ℕ) (drawn : ℕ)
+    → answer_by input end None output left notes drawn ≡ answer_shown input (record { end = end; steps = steps; output = output; left = left; notes = notes })
 unfolding answer_by
 sequential_by input None steps output left notes drawn = refl
 sequential_by input (Some (ends.Exit v)) steps output left notes drawn = refl
@@ -73,7 +77,7 @@ sequential_by input (Some (ends.Access pc addr)) steps output left notes drawn =
 sequential_by input (Some (ends.Align pc addr)) steps output left notes drawn = refl
 sequential_by input (Some (ends.Overflow pc)) steps output left notes drawn = refl
 
-answers_alike : (input : List ℕ) (s : Shown) (t : ShownWild) → ShowsSame s t → undrawn (answer_wild (Some input) t) ≡ answer_shown (Some input) s
+answers_alike : (input : Option (List ℕ)) (s : Shown) (t : ShownWild) → ShowsSame s t → undrawn (answer_wild input t) ≡ answer_shown input s
 unfolding answer_by
 answers_alike input s t h =
     ap (λ end. answer_by input end t.lost t.output t.left t.notes t.drawn) h.end
@@ -88,86 +92,86 @@ runs_same : (force : Bool) (g : Program) (input : List ℕ) (ahead : ℕ → ℕ
 runs_same true g input ahead n watch h = runs_alike g.image h g.how input (first_words (most_words n) ahead) n watch
 runs_same false g input ahead n watch h = record { end = refl; lost = refl; steps = refl; output = refl; left = refl; notes = refl }
 
--- ---- the answers
+-- a run of the sequential machine that shows what this one does
+record IsShown (options : RunOptions) (input : Option (List ℕ)) (image : Parts) (t : ShownWild) : Type 0 where
+  what : Shown
+  may : MayShow options input image what
+  same : undrawn (answer_wild input t) ≡ answer_shown input what
 
--- what a run reads is told
-abbrev IsRead : World → Type 0
-IsRead w = IsSome w.files × IsSome w.input
-
--- an answer of the imprecise run, which is the sequential one's but for the number
-record Same (options : RunOptions) (choices : Origin) (force : Bool) (file : List ℕ) (w : World) (a : Answer) : Type 0 where
-  answer : Answer
-  is : AnswerBy (wilds.steps options choices force file) w answer
-  same : undrawn answer ≡ a
-
-same_at : (options : RunOptions) (choices : Origin) (force : Bool) (file : List ℕ) (w : World) (a : Answer) (input : List ℕ) → w.input ≡ Some input → IsRead w
-    → HasWords w.files choices → IsGood file w.files → AnswerBy (runs.steps options file) w a → Same options choices force file w a
-same_at options choices force file w a input e told words good is =
-    let g : Program = record { image = good.image; how = options.complete } in
-    let plan = plan_by good.image words.0 in
-    let wild = run_by force g input words.0 options.steps options.watch in
-    let found : PlanOf w.files file choices (goes plan) = (good.image, good.found, (words.0, words.1, refl)) in
-    let shown = sequential g input options.steps options.watch in
-    let one = shown_answer w options file good.image shown good.found (rw e refl) in
-    let two = wild_answer w options choices force file plan wild found (passed force plan (λ judges. good.accepted)) (rw e refl) in
+is_shown : (options : RunOptions) (force : Bool) (input : Option (List ℕ)) (plan : Plan) (t : ShownWild) → IsRestartable plan.image → FreeAlike plan.image
+    → MayShowWild options force input plan t → IsShown options input plan.image t
+is_shown options true None plan t restarts alike (m, is) =
+    let q = made_same options plan alike m in
+    let s = shown options.watch (run_by_reads options plan.image q.inputs) in
+    let wild = shown_making options.watch m.making in
     record {
-      answer = answer_wild w.input wild;
-      is = two;
+      what = s;
+      may = same_may options plan.image m.making.run q;
       same =
-          ap (λ l. undrawn (answer_wild l wild)) e
-          ∙ (answers_alike input shown wild (runs_same force g input words.0 options.steps options.watch (good_restarts file w.files good))
-          ∙ (ap (λ l. answer_shown l shown) (sym e) ∙ AnswerOf-single (run options file) w (answer_shown w.input shown) a told one is));
+          ap (λ (u : ShownWild). undrawn (answer_wild None u)) is
+          ∙ answers_alike None s (record wild { left = s.left })
+          (record { end = q.end; lost = q.lost; steps = q.steps; output = q.output; left = refl; notes = ap (notes_of options.watch) q.trace });
+    }
+is_shown options false None plan t restarts alike (m, (s, may, is)) = record {
+  what = s;
+  may = may;
+  same =
+      ap (λ (u : ShownWild). undrawn (answer_wild None u)) is
+      ∙ answers_alike None s (with_drawn s m.making.count) (record { end = refl; lost = refl; steps = refl; output = refl; left = refl; notes = refl });
+}
+is_shown options force (Some input) plan t restarts alike is =
+    let g = program_by options plan.image in
+    let s = sequential g input options.steps options.watch in
+    record {
+      what = s;
+      may = refl;
+      same =
+          ap (λ (u : ShownWild). undrawn (answer_wild (Some input) u)) is
+          ∙ answers_alike (Some input) s (run_by force g input plan.ahead options.steps options.watch) (runs_same force g input plan.ahead options.steps options.watch restarts);
     }
 
-told_input : (o : Option (List ℕ)) → IsSome o → (input : List ℕ) × (o ≡ Some input)
-told_input None told = cc
-told_input (Some input) told = (input, refl)
+-- ---- the answers
 
-same_answer : (options : RunOptions) (choices : Origin) (force : Bool) (file : List ℕ) (w : World) (a : Answer) → IsRead w
-    → HasWords w.files choices → IsChecked file w → AnswerBy (runs.steps options file) w a → Same options choices force file w a
-same_answer options choices force file w a told words checked is =
-    let input = told_input w.input told.1 in
-    same_at options choices force file w a input.0 input.1 told words (checked_good file w checked) is
+-- each answer of the imprecise run is one of the sequential run, but for the number
+pub run_answer : (options : RunOptions) (choices : Origin) (force : Bool) (file : List ℕ) (w : World) (b : Answer) → IsSome w.files → HasWords w.files choices → IsChecked file w
+    → AnswerBy (wilds.steps options choices force file) w b → AnswerBy (runs.steps options file) w (undrawn b)
+run_answer options choices force file w b files words checked (o, h, is) =
+    by (checked_good file w checked) o is h
+  where
+    shows : (good : IsGood file w.files) (o : Outcome Answer) → b ≡ answer_of w.input o → RunsWild options force w.input (plan_by good.image words.0) o
+        → AnswerBy (runs.steps options file) w (undrawn b)
+    shows good (goes a) is (t, may, wild) =
+        let s = is_shown options force w.input (plan_by good.image words.0) t (good_restarts file w.files good) (accepted_free good.image good.found.2.0 good.accepted) may in
+        subst (AnswerBy (runs.steps options file) w) (sym (ap undrawn (is ∙ wild) ∙ s.same)) (shown_answer w options file good.image s.what good.found s.may)
+    shows good (stops status line) is never = absurd never
 
--- the answers are the same but for the number
+    by : (good : IsGood file w.files) (o : Outcome Answer) → b ≡ answer_of w.input o → wilds.steps options choices force file w o → AnswerBy (runs.steps options file) w (undrawn b)
+    by good o is h =
+        let plan = plan_by good.image words.0 in
+        let found : PlanOf w.files file choices (goes plan) = (good.image, good.found, (words.0, words.1, refl)) in
+        let law = Planned-lawful (IsSome w.files) ⊥ ⊥ w choices force file (λ e. e) (λ no. absurd no) (λ no. absurd no) (λ no. absurd no) in
+        shows good o is
+        (Then-found (Then (PlanOf w.files file choices) (Passes force)) (RunsWild options force w.input) (law.single files) plan
+        (plan, found, passed force plan (λ judges. good.accepted)) o h)
+
+-- the answers are the same but for the number, where the input is told
 pub alike : (options : RunOptions) (choices : Origin) (force : Bool) (file : List ℕ) (w : World) (a b : Answer) → IsSome w.files → IsSome w.input
     → HasWords w.files choices → IsChecked file w → AnswerBy (runs.steps options file) w a → AnswerBy (wilds.steps options choices force file) w b → undrawn b ≡ a
 alike options choices force file w a b files input words checked is other =
-    let same = same_answer options choices force file w a (files, input) words checked is in
-    ap undrawn (AnswerOf-single (imprecise options choices force file) w b same.answer (files, input) other same.is) ∙ same.same
+    AnswerOf-single (run options file) w (undrawn b) a (files, input) (run_answer options choices force file w b files words checked other) is
 
 -- ---- a call
 
-told_alike : (words : List (List ℕ)) (options : RunOptions) (choices : Origin) (force : Bool) (file : List ℕ) (w : World)
-    → Asks words (imprecise options choices force file) → IsRead w → AreTold words w
-told_alike words options choices force file w asks told = λ command asked.
-    let same : imprecise options choices force file ≡ command = (let x = sym asks ∙ asked in cc) in
-    subst (λ (c : Command). IsTold c w) same told
-
--- what is answered but for the number
-answered_undrawn : (b : Answer) (status : Status) (left : Option (List ℕ)) (s : Shelved) (out notes : Sunk) → IsAnswered b status left s out notes
-    → IsAnswered (undrawn b) (but_drawn status) left s out notes
-answered_undrawn b status left s out notes h = record {
-  status_is = ap but_drawn h.status_is;
-  left_is = h.left_is;
-  files = h.files;
-  output = h.output;
-  line = h.line;
-}
-
--- the call gives the sequential run's answer, but for the number, if it gives an answer of its words
+-- it gives the sequential run's answer, but for the number, if it gives an answer of its words
 pub alike_call : (words : List (List ℕ)) (options : RunOptions) (choices : Origin) (force : Bool) (file : List ℕ) (w : World) (a : Answer) (status : Status) (left : Option (List ℕ))
     (s : Shelved) (out notes : Sunk) → Asks words (imprecise options choices force file) → IsSome w.files → IsSome w.input
     → HasWords w.files choices → IsChecked file w → AnswerBy (runs.steps options file) w a
-    → ((b : Answer) → AreTold words w → IsAnswer words w b → IsAnswered b status left s out notes ⊎ (status ≡ NoMemory))
-    → IsAnswered a (but_drawn status) left s out notes ⊎ (status ≡ NoMemory)
-alike_call words options choices force file w a status left s out notes asks files input has checked is exact =
-    let same = same_answer options choices force file w a (files, input) has checked is in
-    ⊎_elim
-    (λ (h : IsAnswered same.answer status left s out notes).
-    inl (subst (λ (x : Answer). IsAnswered x (but_drawn status) left s out notes) same.same (answered_undrawn same.answer status left s out notes h)))
-    (λ (h : status ≡ NoMemory). inr h)
-    (exact same.answer (told_alike words options choices force file w asks (files, input)) (inr (imprecise options choices force file, asks, same.is)))
+    → IsGiven words w status left s out notes → IsAnswered a (but_drawn status) left s out notes ⊎ (status ≡ NoMemory)
+alike_call words options choices force file w a status left s out notes asks files input has checked is given =
+    given_undrawn words w a status left s out notes
+    (λ b answer.
+    alike options choices force file w a b files input has checked is (asked_answer words (imprecise options choices force file) w b asks answer))
+    given
 
 -- ---- a check that is done
 

@@ -1,5 +1,5 @@
 -- From what a command has written and decided to how the call ends.
-use Rattle.std.proofs.Common.{◌≡◌, ◌≢◌, ◌⊎◌, ◌∙◌, ℕ, List, [], Option, None, Some, IfSome, Result, Ok, Err, refl, sym, subst, inl, inr, ⊎_elim, arith}
+use Rattle.std.proofs.Common.{◌≡◌, ◌≢◌, ◌⊎◌, ◌∙◌, ℕ, List, [], Option, None, Some, IfSome, Result, Ok, Err, refl, sym, ap, subst, inl, inr, ⊎_elim, arith}
 use Rattle.alpha_io.specs.declared.Failed.{Failed}
 use Rattle.alpha_io.specs.Shelved.{Shelved}
 use Rattle.alpha_io.specs.Sunk.{Sunk, sunk_by, Puts, Partly, HasFailed, IsCalm}
@@ -11,8 +11,9 @@ use Rattle.alpha_cmd.specs.declared.status.Status.TheVariants.{SinkFault, NoMemo
 use Rattle.alpha_cmd.specs.Answer.{World, Answer, notes_of, IsLeft, IsAnswered}
 use Rattle.alpha_cmd.specs.Kept.{Kept, nothing, HasKept}
 use Rattle.alpha_cmd.specs.Ends.{Ends, EndsPart, Leaves, Decides, still}
-use Rattle.alpha_cmd.specs.Tried.{AreTold, IsAnswer, TriedBy}
-use Rattle.alpha_cmd.proofs.Tried.{exact_tried, tried_not_sink, IsAnswered-tried}
+use Rattle.alpha_cmd.specs.Tried.{IsAnswer, TriedBy, IsGiven}
+use Rattle.alpha_cmd.specs.Alike.{but_drawn, undrawn}
+use Rattle.alpha_cmd.proofs.Tried.{calm_tried, tried_not_sink}
 
 IsLeft-same : (left : Option (List ℕ)) → IfSome left (λ rest. left ≡ Some rest)
 IsLeft-same None = tt
@@ -115,13 +116,35 @@ module _ {K N : Type 0} (out-written : K → Option (List ℕ)) (out-faults : K 
     failed = failed h;
   }
 
--- ---- where files are told and no device fails
+-- ---- where no device fails
 
-pub exact_whole : (shelf input : Type 0) (words : List (List ℕ)) (w : World) (a : Answer) (status : Status) (left : Option (List ℕ)) (s : Shelved) (out notes : Sunk) → AreTold words w
-    → (shelf → ⊥) → (input → ⊥) → Ends (TriedBy shelf input words w) status left s out notes → IsAnswer words w a → IsAnswered a status left s out notes ⊎ (status ≡ NoMemory)
-exact_whole shelf input words w a status left s out notes told calm quiet ends is =
-    IsAnswered-tried ends.tried a status left s out notes ends.status_is ends.left_is ends.files ends.output ends.line
-    (exact_tried shelf input words w ends.tried a told calm quiet ends.is is)
+pub given_whole : (shelf input : Type 0) (words : List (List ℕ)) (w : World) (status : Status) (left : Option (List ℕ)) (s : Shelved) (out notes : Sunk)
+    → (shelf → ⊥) → (input → ⊥) → Ends (TriedBy shelf input words w) status left s out notes → IsGiven words w status left s out notes
+given_whole shelf input words w status left s out notes calm quiet ends =
+    ⊎_elim
+    (λ (is : IsAnswer words w ends.tried).
+    inl (ends.tried, is, record { status_is = ends.status_is; left_is = ends.left_is; files = ends.files; output = ends.output; line = ends.line }))
+    (λ (memory : ends.tried.status ≡ NoMemory). inr (ends.status_is ∙ memory))
+    (calm_tried shelf input words w ends.tried calm quiet ends.is)
+
+-- where all of them are this one, it was given
+pub given_one : (words : List (List ℕ)) (w : World) (a : Answer) (status : Status) (left : Option (List ℕ)) (s : Shelved) (out notes : Sunk)
+    → ((b : Answer) → IsAnswer words w b → b ≡ a) → IsGiven words w status left s out notes → IsAnswered a status left s out notes ⊎ (status ≡ NoMemory)
+given_one words w a status left s out notes one (inl (b, is, given)) = inl (subst (λ (x : Answer). IsAnswered x status left s out notes) (one b is) given)
+given_one words w a status left s out notes one (inr memory) = inr memory
+
+-- and where they are this one but for the number of words that were drawn, it was given but for that number
+pub given_undrawn : (words : List (List ℕ)) (w : World) (a : Answer) (status : Status) (left : Option (List ℕ)) (s : Shelved) (out notes : Sunk)
+    → ((b : Answer) → IsAnswer words w b → undrawn b ≡ a) → IsGiven words w status left s out notes → IsAnswered a (but_drawn status) left s out notes ⊎ (status ≡ NoMemory)
+given_undrawn words w a status left s out notes one (inl (b, is, given)) =
+    inl (subst (λ (x : Answer). IsAnswered x (but_drawn status) left s out notes) (one b is) (record {
+      status_is = ap but_drawn given.status_is;
+      left_is = given.left_is;
+      files = given.files;
+      output = given.output;
+      line = given.line;
+    }))
+given_undrawn words w a status left s out notes one (inr memory) = inr memory
 
 -- no sink failed
 pub calm_part : (P : Answer → Type 0) (s : Shelved) (out notes : Sunk) → EndsPart P s out notes → IsCalm out → IsCalm notes → ⊥

@@ -106,6 +106,20 @@ Then-lawful {there = there} {R = R} {S = S} first second = record {
   plain = Then-plain there R S first.plain (λ x h. (second x h).plain);
 }
 
+-- where the first stage's outcome is known, the row has one of the second
+pub Then-found : {X Y : Type 0} (R : Outcome X → Type 0) (S : X → Outcome Y → Type 0) → IsSingle R → (x : X) → R (goes x) → (o : Outcome Y) → Then R S o → S x o
+Then-found {X = X} {Y = Y} R S first x r = go
+  where
+    moved : (z : X) (o : Outcome Y) → R (goes z) → S z o → S x o
+    moved z o h s =
+        let e = first (goes z) (goes x) h r in
+        let same : z ≡ x = cc in subst (λ v. S v o) same s
+
+    go : (o : Outcome Y) → Then R S o → S x o
+    go (goes y) h = moved h.0 (goes y) h.1 h.2
+    go (stops s l) (inl h) = absurd (let e = first (goes x) (stops s l) r h in cc)
+    go (stops s l) (inr h) = moved h.0 (stops s l) h.1 h.2
+
 -- a stage that stops, or what cuts it short, stops the row
 pub first_stops : {X Y : Type 0} {C : Type 0} (R : Outcome X → Type 0) (S : X → Outcome Y → Type 0) (s : Status) (l : List ℕ) → R (stops s l) ⊎ C → Then R S (stops s l) ⊎ C
 first_stops R S s l (inl h) = inl (inl h)

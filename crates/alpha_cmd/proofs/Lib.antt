@@ -15,6 +15,7 @@ pub mod Lawful
 pub mod Listed
 pub mod ModuleWords
 pub mod Ran
+pub mod ReadsNothing
 pub mod ReplayedRuns
 pub mod Stages
 pub mod Tested

@@ -1,8 +1,6 @@
 -- What a call tries, by its words.
 use Rattle.std.proofs.Common.{◌≡◌, ◌≢◌, ◌⊎◌, ◌∙◌, ℕ, Bool, false, List, Option, None, Some, IsSome, refl, sym, ap, subst, inl, inr, ⊎_elim, arith}
 use Rattle.alpha_io.specs.Faults.{Rose, Calm}
-use Rattle.alpha_io.specs.Shelved.{Shelved}
-use Rattle.alpha_io.specs.Sunk.{Sunk, Puts}
 use Rattle.alpha_trap.specs.declared.handler.Lost.{Lost}
 use Rattle.alpha_request.specs.Command.{Command, imprecise}
 use Rattle.alpha_request.specs.Options.{Origin}
@@ -13,8 +11,7 @@ use Rattle.alpha_cmd.specs.declared.status.Status.TheVariants.{Done, BadWords, S
 use Rattle.alpha_cmd.specs.declared.status.Status.TheVariants as statuses
 use Rattle.alpha_cmd.specs.Status.{refused, ended, failed, class_of, status_line}
 use Rattle.alpha_cmd.specs.Asks.{Asks}
-use Rattle.alpha_cmd.specs.Kept.{HasKept}
-use Rattle.alpha_cmd.specs.Answer.{World, Answer, HaveBytes, notes_of, said, IsLeft, IsAnswered}
+use Rattle.alpha_cmd.specs.Answer.{World, Answer, HaveBytes, said}
 use Rattle.alpha_cmd.specs.Form.{Form, Needs, needs_nothing, needs_files, needs_files_and_input, IsToldFor}
 use Rattle.alpha_cmd.specs.Tries.{CutBy, FailsBy, TriesBy}
 use Rattle.alpha_cmd.specs.Commands.{form_of, there_of, AnswerOf, EndsBy}
@@ -55,26 +52,21 @@ pub asked_tried : (shelf input : Type 0) (words : List (List ℕ)) (command : Co
 asked_tried shelf input words command w t asks (inl h) = inl (inr (command, asks, h))
 asked_tried shelf input words command w t asks (inr h) = inr (inl (command, asks, h))
 
+-- an answer to words is one of the command that they ask for
+pub asked_answer : (words : List (List ℕ)) (command : Command) (w : World) (a : Answer) → Asks words command → IsAnswer words w a → AnswerOf command w a
+asked_answer words command w a asks (inl h) = absurd (let x = sym asks ∙ h.0 in cc)
+asked_answer words command w a asks (inr h) =
+    let x = h.1 in
+    let same : h.0 ≡ command = cc in
+    subst (λ (c : Command). AnswerOf c w a) same h.2
+
 -- ---- where no device fails it is an answer to the words, or memory ran out
 
-calm_tried : (shelf input : Type 0) (words : List (List ℕ)) (w : World) (t : Answer) → (shelf → ⊥) → (input → ⊥) → TriedBy shelf input words w t
+pub calm_tried : (shelf input : Type 0) (words : List (List ℕ)) (w : World) (t : Answer) → (shelf → ⊥) → (input → ⊥) → TriedBy shelf input words w t
     → IsAnswer words w t ⊎ (t.status ≡ NoMemory)
 calm_tried shelf input words w t calm quiet (inl h) = inl h
 calm_tried shelf input words w t calm quiet (inr (inl h)) = inr (fails_calm shelf input (form_of h.0) w t calm quiet h.2)
 calm_tried shelf input words w t calm quiet (inr (inr h)) = inr (ap (λ (a : Answer). a.status) h)
-
--- and where what is read is told, it is their one answer
-pub exact_tried : (shelf input : Type 0) (words : List (List ℕ)) (w : World) (t a : Answer) → AreTold words w → (shelf → ⊥) → (input → ⊥) → TriedBy shelf input words w t
-    → IsAnswer words w a → (t ≡ a) ⊎ (t.status ≡ NoMemory)
-exact_tried shelf input words w t a told calm quiet tried is =
-    ⊎_elim (λ h. inl (IsAnswer-single words w t a told h is)) (λ (h : t.status ≡ NoMemory). inr h) (calm_tried shelf input words w t calm quiet tried)
-
--- what was tried was written
-pub IsAnswered-tried : (t a : Answer) (status : Status) (left : Option (List ℕ)) (s : Shelved) (out notes : Sunk) → status ≡ t.status → IsLeft t left → HasKept t.kept s → Puts out t.output → Puts notes (notes_of t)
-    → (t ≡ a) ⊎ (t.status ≡ NoMemory) → IsAnswered a status left s out notes ⊎ (status ≡ NoMemory)
-IsAnswered-tried t a status left s out notes is rest files output line (inl same) =
-    inl (subst (λ x. IsAnswered x status left s out notes) same (record { status_is = is; left_is = rest; files = files; output = output; line = line }))
-IsAnswered-tried t a status left s out notes is rest files output line (inr memory) = inr (is ∙ memory)
 
 -- ---- a call that is done
 
@@ -90,11 +82,7 @@ fails_not shelf input command w t e (inr (inr h)) = cut_not shelf t.status e h.c
 -- what is tried with this status is an answer
 pub done_tried : (shelf input : Type 0) (words : List (List ℕ)) (command : Command) (w : World) (t : Answer) → Asks words command → TriedBy shelf input words w t → t.status ≡ Done 0
     → AnswerOf command w t
-done_tried shelf input words command w t asks (inl (inl h)) e = absurd (let x = sym asks ∙ h.0 in cc)
-done_tried shelf input words command w t asks (inl (inr h)) e =
-    let x = h.1 in
-    let same : h.0 ≡ command = cc in
-    subst (λ (c : Command). AnswerOf c w t) same h.2
+done_tried shelf input words command w t asks (inl h) e = asked_answer words command w t asks h
 done_tried shelf input words command w t asks (inr (inl h)) e = absurd (fails_not shelf input h.0 w t e h.2)
 done_tried shelf input words command w t asks (inr (inr h)) e = absurd (let x : t.status ≡ NoMemory = ap (λ (a : Answer). a.status) h in cc)
 

@@ -13,6 +13,7 @@ pub mod Image
 pub mod Keeping
 pub mod Kept
 pub mod Outcome
+pub mod ReadsNothing
 pub mod Replayed
 pub mod Status
 pub mod Sure

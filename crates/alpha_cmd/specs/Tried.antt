@@ -1,10 +1,13 @@
 -- What a call has as its answer, by its words, and what it tries to write.
-use Rattle.std.specs.Prelude.{◌≡◌, ◌⊎◌, ℕ, List}
+use Rattle.std.specs.Prelude.{◌≡◌, ◌⊎◌, ℕ, List, Option}
+use Rattle.alpha_io.specs.Shelved.{Shelved}
+use Rattle.alpha_io.specs.Sunk.{Sunk}
 use Rattle.alpha_request.specs.Command.{Command}
+use Rattle.alpha_cmd.specs.declared.status.Status.{Status}
 use Rattle.alpha_cmd.specs.declared.status.Status.TheVariants.{BadWords, NoMemory}
 use Rattle.alpha_cmd.specs.Status.{status_line}
 use Rattle.alpha_cmd.specs.Asks.{Asks, AsksNothing}
-use Rattle.alpha_cmd.specs.Answer.{World, Answer, said}
+use Rattle.alpha_cmd.specs.Answer.{World, Answer, said, IsAnswered}
 use Rattle.alpha_cmd.specs.Tries.{FailsBy}
 use Rattle.alpha_cmd.specs.Commands.{form_of, AnswerOf, IsTold}
 
@@ -13,6 +16,11 @@ abbrev pub IsAnswer : List (List ℕ) → World → Answer → Type 0
 IsAnswer words w a =
     (AsksNothing words × (a ≡ said w.input BadWords (status_line BadWords)))
     ⊎ ((command : Command) × Asks words command × AnswerOf command w a)
+
+-- one of the words' answers was given, or memory ran out
+abbrev pub IsGiven : List (List ℕ) → World → Status → Option (List ℕ) → Shelved → Sunk → Sunk → Type 0
+IsGiven words w status left shelf out notes =
+    ((a : Answer) × IsAnswer words w a × IsAnswered a status left shelf out notes) ⊎ (status ≡ NoMemory)
 
 -- what the words' command reads is told
 abbrev pub AreTold : List (List ℕ) → World → Type 0

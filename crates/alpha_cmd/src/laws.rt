@@ -20,6 +20,7 @@ ghost use Rattle.alpha_cmd.specs.Commands.Module.{KeepsModule};
 ghost use Rattle.alpha_cmd.specs.Commands.Record.{KeepsRun};
 ghost use Rattle.alpha_cmd.specs.Commands.Replay as replays;
 ghost use Rattle.alpha_cmd.specs.Commands.Run as runs;
+ghost use Rattle.alpha_cmd.specs.ReadsNothing.{ReadsNothing, answer_unread};
 ghost use Rattle.alpha_cmd.specs.Tried.{AreTold, IsAnswer};
 
 /// The laws of answers: words have one answer where what their command reads is told, the files and
@@ -43,14 +44,36 @@ pub fn laws_of_listed_files()
 /// `run FILE` with the same options, the verdict passed over or not: the same status, output, notes
 /// and input left, whatever words the machine draws. Only their number, which the status carries
 /// where the program has exited, is its own.
+///
+/// Whatever the input tells, each answer of `run --imprecise FILE` is one of `run FILE`, but for that number.
 pub fn laws_of_restarts()
     ensures accepted { (image : Parts) → IsImage image → IsAccepted image.words
         → IsRestartable image }
+    ensures answers { (options : RunOptions) (choices : Origin) (force : Bool) (file : List ℕ)
+        (w : World) (b : Answer) → IsSome w.files → HasWords w.files choices → IsChecked file w
+        → AnswerBy (wilds.steps options choices force file) w b
+        → AnswerBy (runs.steps options file) w (undrawn b) }
     ensures alike { (options : RunOptions) (choices : Origin) (force : Bool) (file : List ℕ)
         (w : World) (a b : Answer) → IsSome w.files → IsSome w.input
         → HasWords w.files choices → IsChecked file w
         → AnswerBy (runs.steps options file) w a
         → AnswerBy (wilds.steps options choices force file) w b → undrawn b ≡ a }
+{}
+
+/// The laws of programs that read nothing, in the steps that are asked for: where the image of a told file
+/// is one, `run FILE` has one answer over every source, told or not. It is that of the sequential run over
+/// no input, and all input is left. `run --imprecise FILE` has that answer where `check FILE` is done, but
+/// for the number of words that it draws.
+pub fn laws_of_unread_inputs()
+    ensures run { (options : RunOptions) (file : List ℕ) (image : Parts) (w : World) (a : Answer)
+        → IsSome w.files → ImageOf w.files file (goes image) → ReadsNothing options image
+        → AnswerBy (runs.steps options file) w a → a ≡ answer_unread options image w.input }
+    ensures imprecise { (options : RunOptions) (choices : Origin) (force : Bool) (file : List ℕ)
+        (image : Parts) (w : World) (b : Answer) → IsSome w.files
+        → ImageOf w.files file (goes image) → ReadsNothing options image
+        → HasWords w.files choices → IsChecked file w
+        → AnswerBy (wilds.steps options choices force file) w b
+        → undrawn b ≡ answer_unread options image w.input }
 {}
 
 /// The laws of accepted files. The spelling of a good image is short enough for a file of any call; and

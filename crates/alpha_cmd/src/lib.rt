@@ -18,6 +18,8 @@
 //!   the number of words that it draws (`specs/Alike.antt`). [`laws_of_records`] says that a journal
 //!   that `record` has kept is never refused by `replay`. [`laws_of_accepted_files`] says that a
 //!   file which spells an accepted image meets what those laws ask.
+//! - [`laws_of_unread_inputs`] says that a program which reads nothing has one answer over every source,
+//!   told or not (`specs/ReadsNothing.antt`).
 //! - [`laws_of_kept_modules`] says that a file which `module` keeps is one of those that make a link
 //!   accepted.
 //!
@@ -60,7 +62,7 @@ pub use entry::alpha_main;
 pub use image::{IMAGE_LIMIT, image_of};
 pub use laws::{
     laws_of_accepted_files, laws_of_answers, laws_of_kept_modules, laws_of_listed_files,
-    laws_of_records, laws_of_restarts,
+    laws_of_records, laws_of_restarts, laws_of_unread_inputs,
 };
 pub use link::MODULE_LIMIT;
 pub use status::Status;

@@ -24,9 +24,12 @@ ghost use Rattle.alpha_cmd.specs.Commands.Run as runs;
 ghost use Rattle.alpha_cmd.specs.Ends.{Decides, Ends, EndsPart, status_in};
 ghost use Rattle.alpha_cmd.specs.Fixed.{IsSafe};
 ghost use Rattle.alpha_cmd.specs.Kept.{Serves};
+ghost use Rattle.alpha_cmd.specs.Image.{ImageOf};
+ghost use Rattle.alpha_cmd.specs.Outcome.{goes};
+ghost use Rattle.alpha_cmd.specs.ReadsNothing.{ReadsNothing, answer_unread};
 ghost use Rattle.alpha_cmd.specs.Replayed.{ShowsRun};
 ghost use Rattle.alpha_cmd.specs.Status.{class_of, ended};
-ghost use Rattle.alpha_cmd.specs.Tried.{AreTold, IsAnswer, TriedBy};
+ghost use Rattle.alpha_cmd.specs.Tried.{AreTold, IsAnswer, IsGiven, TriedBy};
 ghost use Rattle.alpha_cmd.specs.Tries.{CountStays, TriesBy};
 
 use crate::Status;
@@ -120,6 +123,15 @@ pub fn alpha_top<H: Shelf, S: Source, K: Sink, N: Sink>(
     ensures script { (file : List ℕ) → Asks words.now (commands.debug file)
         → LeavesTail script_most (S.left input.old) (S.left input.new) }
 
+    // Where no device fails, one of the words' answers is given, or memory ran out.
+    ensures given { Calm (H.faults shelf.old) (H.faults shelf.new)
+        → Calm (S.faults input.old) (S.faults input.new)
+        → IsCalm (sunk K.Sink out.old out.new)
+        → IsCalm (sunk N.Sink notes.old notes.new)
+        → IsGiven words.now (world H.Shelf S.Source shelf.old input.old) result
+        (S.left input.new) (shelved H.Shelf shelf.old shelf.new)
+        (sunk K.Sink out.old out.new) (sunk N.Sink notes.old notes.new) }
+
     // Where what the words' command reads is told and no device fails, the words' answer is given,
     // or memory ran out.
     ensures exact { (a : Answer)
@@ -195,6 +207,37 @@ pub fn alpha_top<H: Shelf, S: Source, K: Sink, N: Sink>(
         → IsCalm (sunk K.Sink out.old out.new)
         → IsCalm (sunk N.Sink notes.old notes.new)
         → IsAnswered a (but_drawn result) (S.left input.new)
+        (shelved H.Shelf shelf.old shelf.new)
+        (sunk K.Sink out.old out.new)
+        (sunk N.Sink notes.old notes.new) ⊎ (result ≡ Status.NoMemory) }
+
+    // A run of a told file whose program reads nothing in the steps that are asked for has the answer of
+    // the sequential run over no input, whatever the source tells or doesn't tell.
+    ensures unread { (options : RunOptions) (file : List ℕ) (image : Parts)
+        → Asks words.now (commands.run options file)
+        → IsSome (H.files shelf.old) → ImageOf (H.files shelf.old) file (goes image)
+        → ReadsNothing options image
+        → Calm (H.faults shelf.old) (H.faults shelf.new)
+        → Calm (S.faults input.old) (S.faults input.new)
+        → IsCalm (sunk K.Sink out.old out.new)
+        → IsCalm (sunk N.Sink notes.old notes.new)
+        → IsAnswered (answer_unread options image (S.left input.old)) result (S.left input.new)
+        (shelved H.Shelf shelf.old shelf.new)
+        (sunk K.Sink out.old out.new)
+        (sunk N.Sink notes.old notes.new) ⊎ (result ≡ Status.NoMemory) }
+
+    // So has a run of the imprecise machine of such a file that a check accepts, but for the number of
+    // words that it draws.
+    ensures unread_alike { (options : RunOptions) (choices : Origin) (force : Bool) (file : List ℕ)
+        (image : Parts) → Asks words.now (commands.imprecise options choices force file)
+        → let w = world H.Shelf S.Source shelf.old input.old in
+        IsSome w.files → ImageOf w.files file (goes image) → ReadsNothing options image
+        → HasWords w.files choices → IsChecked file w
+        → Calm (H.faults shelf.old) (H.faults shelf.new)
+        → Calm (S.faults input.old) (S.faults input.new)
+        → IsCalm (sunk K.Sink out.old out.new)
+        → IsCalm (sunk N.Sink notes.old notes.new)
+        → IsAnswered (answer_unread options image w.input) (but_drawn result) (S.left input.new)
         (shelved H.Shelf shelf.old shelf.new)
         (sunk K.Sink out.old out.new)
         (sunk N.Sink notes.old notes.new) ⊎ (result ≡ Status.NoMemory) }

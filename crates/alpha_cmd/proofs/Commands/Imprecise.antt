@@ -22,8 +22,8 @@ use Rattle.alpha_cmd.specs.Status.{status_line}
 use Rattle.alpha_cmd.specs.Outcome.{goes, stops, Then, Gives}
 use Rattle.alpha_cmd.specs.Image.{Reads, ImageOf, IsRefused, Judges}
 use Rattle.alpha_cmd.specs.Choosing.{choices_limit, listed_word, ChoicesOf}
-use Rattle.alpha_cmd.specs.Answer.{World, Answer, AnswerBy, said}
-use Rattle.alpha_cmd.specs.Form.{MayTakeBy}
+use Rattle.alpha_cmd.specs.Answer.{World, Answer, AnswerBy, HaveBytes, said}
+use Rattle.alpha_cmd.specs.Form.{IsThere, MayTakeBy}
 use Rattle.alpha_cmd.specs.Commands.Run.{program_by}
 use Rattle.alpha_cmd.specs.Commands.Imprecise.{Plan, plan_by, PlanOf, Passes, with_drawn, run_by, MadeByReads, MayShowWild, drawn_status, wild_status, answer_wild, RunsWild, MayLose, IsEndStatus, HasChoices, steps, kind, form, there}
 use Rattle.alpha_cmd.proofs.Lawful.{Lawful, Then-lawful, Goes-lawful, Gives-lawful}
@@ -44,6 +44,18 @@ pub Passes-lawful : (told whole there : Type 0) (force : Bool) (plan : Plan) →
 Passes-lawful told whole there true plan = Gives-lawful plan
 Passes-lawful told whole there false plan =
     Then-lawful {R = Judges plan.image} {S = λ image. Gives plan} (Judges-lawful told whole there plan.image) (λ image judged. Gives-lawful plan)
+
+-- what leads to a plan that the verdict lets through
+pub Planned-lawful : (told whole there : Type 0) (w : World) (choices : Origin) (force : Bool) (file : List ℕ) → (told → IsSome w.files) → (whole → IsSome w.files × HaveBytes w.files)
+    → (there → IsThere file w) → (there → HasChoices choices w) → Lawful told whole there (Then (PlanOf w.files file choices) (Passes force))
+Planned-lawful told whole there w choices force file is_told is_whole has_file has_choices =
+    Then-lawful {R = PlanOf w.files file choices} {S = Passes force}
+    (Then-lawful {R = ImageOf w.files file} {S = λ image. Then (ChoicesOf w.files choices) (λ ahead. Gives (plan_by image ahead))}
+    (ImageOf-lawful told whole there w.files file is_told is_whole has_file)
+    (λ image found.
+    Then-lawful {R = ChoicesOf w.files choices} {S = λ ahead. Gives (plan_by image ahead)} (ChoicesOf-lawful told whole w choices is_told (λ h. (is_whole h).0) there has_choices)
+    (λ ahead given. Gives-lawful (plan_by image ahead))))
+    (λ plan found. Passes-lawful told whole there force plan)
 
 -- a run by the plan's words, whose reads find nothing
 some_made : (options : RunOptions) (plan : Plan) → MadeByReads options plan
@@ -101,13 +113,7 @@ pub lawful : (options : RunOptions) (choices : Origin) (force : Bool) (file : Li
 lawful options choices force file w = record {
   stages =
       Then-lawful {R = Then (PlanOf w.files file choices) (Passes force)} {S = RunsWild options force w.input}
-      (Then-lawful {R = PlanOf w.files file choices} {S = Passes force}
-      (Then-lawful {R = ImageOf w.files file} {S = λ image. Then (ChoicesOf w.files choices) (λ ahead. Gives (plan_by image ahead))}
-      (ImageOf-lawful _ _ _ w.files file (λ h. h.0) (λ h. h) (λ h. h.0))
-      (λ image found.
-      Then-lawful {R = ChoicesOf w.files choices} {S = λ ahead. Gives (plan_by image ahead)} (ChoicesOf-lawful _ _ w choices (λ h. h.0) (λ h. h.0) _ (λ h. h.1))
-      (λ ahead given. Gives-lawful (plan_by image ahead))))
-      (λ plan found. Passes-lawful _ _ _ force plan))
+      (Planned-lawful _ _ _ w choices force file (λ h. h.0) (λ h. h) (λ h. h.0) (λ h. h.1))
       (λ plan passed. RunsWild-lawful _ _ _ options force w.input plan (λ h. h.1));
   ends = λ a h. inl (ap (λ (x : Answer). is_fault x.status) h.2.2 ∙ wild_plain h.2.0.end h.2.0.lost (h.2.0.drawn % 2 ^ 64));
   status = λ a h. (h.2.0.end, (h.2.0.lost, (h.2.0.drawn % 2 ^ 64, may_lose options force w.input h.0 h.2.0 h.2.1, ap (λ (x : Answer). x.status) h.2.2)));

@@ -13,18 +13,17 @@ use Rattle.alpha_replay.specs.JournalEnd.{StopsAt, IsRecorded, IsPast}
 use Rattle.alpha_replay.proofs.JournaledRuns.{one_place}
 use Rattle.alpha_replay.proofs.Stopping.{some_place}
 use Rattle.alpha_cmd.specs.declared.status.Status.{Status}
-use Rattle.alpha_cmd.specs.Outcome.{goes, stops, Then, Gives}
-use Rattle.alpha_cmd.specs.Image.{ImageOf, IsRefused}
-use Rattle.alpha_cmd.specs.Choosing.{ChoicesOf}
+use Rattle.alpha_cmd.specs.Outcome.{goes, stops}
+use Rattle.alpha_cmd.specs.Image.{IsRefused}
 use Rattle.alpha_cmd.specs.Answer.{World, Answer, AnswerBy, said}
 use Rattle.alpha_cmd.specs.Keeping.{Untaken}
 use Rattle.alpha_cmd.specs.Commands.Run.{program_by}
-use Rattle.alpha_cmd.specs.Commands.Imprecise.{Plan, plan_by, PlanOf, Passes, MayShowWild, answer_wild}
+use Rattle.alpha_cmd.specs.Commands.Imprecise.{Plan, PlanOf, Passes, MayShowWild, answer_wild}
 use Rattle.alpha_cmd.specs.Commands.Record.{unwatched, HasJournal, IsStopped, KeepsBehind, IsKeptRun, full_answer, IsFullRun, Records, Planned, IsEndStatus, form, there}
-use Rattle.alpha_cmd.proofs.Lawful.{Lawful, Then-lawful, Goes-lawful, Gives-lawful}
-use Rattle.alpha_cmd.proofs.Stages.{ImageOf-lawful, taken_or_not, refused_there}
+use Rattle.alpha_cmd.proofs.Lawful.{Lawful, Then-lawful, Goes-lawful}
+use Rattle.alpha_cmd.proofs.Stages.{taken_or_not, refused_there}
 use Rattle.alpha_cmd.proofs.Forms.{IsPlain, IsLawfulForm, is_fault}
-use Rattle.alpha_cmd.proofs.Commands.Imprecise.{ChoicesOf-lawful, Passes-lawful, some_shown, same_shown, may_lose, wild_plain}
+use Rattle.alpha_cmd.proofs.Commands.Imprecise.{Planned-lawful, some_shown, same_shown, may_lose, wild_plain}
 
 -- ---- the place where a run stops
 
@@ -157,13 +156,7 @@ pub lawful : (options : RunOptions) (choices : Origin) (force : Bool) (file out 
 lawful options choices force file out w = record {
   stages =
       Then-lawful {R = Planned choices force file w.files} {S = Records options force out w}
-      (Then-lawful {R = PlanOf w.files file choices} {S = Passes force}
-      (Then-lawful {R = ImageOf w.files file} {S = λ image. Then (ChoicesOf w.files choices) (λ ahead. Gives (plan_by image ahead))}
-      (ImageOf-lawful _ _ _ w.files file (λ h. h.0) (λ h. h) (λ h. h.0))
-      (λ image found.
-      Then-lawful {R = ChoicesOf w.files choices} {S = λ ahead. Gives (plan_by image ahead)} (ChoicesOf-lawful _ _ w choices (λ h. h.0) (λ h. h.0) _ (λ h. h.1))
-      (λ ahead given. Gives-lawful (plan_by image ahead))))
-      (λ plan found. Passes-lawful _ _ _ force plan))
+      (Planned-lawful _ _ _ w choices force file (λ h. h.0) (λ h. h) (λ h. h.0) (λ h. h.1))
       (λ plan passed. Records-lawful options force out w plan _ _ _ (λ h. h.1));
   ends = λ a h. plain options force out w h.0 (there options choices force file out w) (λ p has t. t.2 h.0 p h.1 has) a h.2;
   status = λ a h. ends options force out w h.0 a h.2;

@@ -15,14 +15,15 @@ use Rattle.alpha_cmd.specs.Decision.{answer_in}
 use Rattle.alpha_cmd.proofs.Forms.{is_fault}
 use Rattle.alpha_cmd.proofs.JournalStatus.{no_end}
 use Rattle.alpha_cmd.specs.Tried.{TriedBy}
-use Rattle.alpha_cmd.proofs.Endings.{Leaves-not_sink, whole, part, exact_whole, calm_part}
-use Rattle.alpha_cmd.proofs.Tried.{tried_ended, ended_found}
+use Rattle.alpha_cmd.proofs.Endings.{Leaves-not_sink, whole, part, given_whole, given_one, calm_part}
+use Rattle.alpha_cmd.proofs.Tried.{IsAnswer-single, tried_ended, ended_found}
 use Rattle.alpha_cmd.proofs.Trying.{MayTake-sink, Spares-sink}
 use Rattle.alpha_cmd.proofs.Accepted.{accepted_call}
 use Rattle.alpha_cmd.proofs.Alike.{tried_restarts, alike_call}
 use Rattle.alpha_cmd.proofs.Fixed.{tried_fixed}
 use Rattle.alpha_cmd.proofs.KeptLinks.{kept_link}
 use Rattle.alpha_cmd.proofs.KeptModules.{kept_module}
+use Rattle.alpha_cmd.proofs.ReadsNothing.{unread_call, unread_alike_call}
 use Rattle.alpha_cmd.proofs.ReplayedRuns.{shows_run}
 use Rattle.alpha_cmd.proofs.top.alpha_top.Goals as goal
 
@@ -110,8 +111,8 @@ returns-in-Ok-clause-found g c = λ options choices file lost asks e.
 pub returns-in-Err-clause-found : goal.returns-in-Err-clause-found
 returns-in-Err-clause-found g c = λ options choices file lost asks e. cc
 
-pub returns-in-Ok-clause-exact : goal.returns-in-Ok-clause-exact
-returns-in-Ok-clause-exact g c = λ a told quiet fed out notes is.
+pub returns-in-Ok-clause-given : goal.returns-in-Ok-clause-given
+returns-in-Ok-clause-given g c = λ quiet fed out notes.
     let w = world g.H.Shelf g.S.Source c.args.shelf.now c.args.input.now in
     let shelf = Rose (g.H.Shelf.faults c.args.shelf.now) (g.H.Shelf.faults c.decide.new.shelf) in
     let input = Rose (g.S.Source.faults c.args.input.now) (g.S.Source.faults c.decide.new.input) in
@@ -121,14 +122,14 @@ returns-in-Ok-clause-exact g c = λ a told quiet fed out notes is.
     ⊎_elim
     (λ (e : c.deliver.result ≡ SinkFault). absurd (calm_part (TriedBy shelf input c.args.words.now w) s O N (returns-in-Ok-clause-part g c e) out notes))
     (λ (e : c.deliver.result ≡ c.in-Ok.decision.status).
-    exact_whole shelf input c.args.words.now w a c.deliver.result (g.S.Source.left c.decide.new.input) s O N told
+    given_whole shelf input c.args.words.now w c.deliver.result (g.S.Source.left c.decide.new.input) s O N
     (λ p. Rose-not_calm _ _ p quiet) (λ p. Rose-not_calm _ _ p fed) (returns-in-Ok-clause-whole g c (λ failed.
     Leaves-not_sink shelf input c.args.words.now w (answer_in (g.S.Source.left c.decide.new.input) c.in-Ok.decision) s
-    (sunk g.K.Sink c.args.out.now c.decide.new.out) (sunk g.N.Sink c.args.notes.now c.decide.new.notes) c.in-Ok.ensures.tried (sym e ∙ failed))) is)
+    (sunk g.K.Sink c.args.out.now c.decide.new.out) (sunk g.N.Sink c.args.notes.now c.decide.new.notes) c.in-Ok.ensures.tried (sym e ∙ failed))))
     c.deliver.ensures.status
 
-pub returns-in-Err-clause-exact : goal.returns-in-Err-clause-exact
-returns-in-Err-clause-exact g c = λ a told quiet fed out notes is.
+pub returns-in-Err-clause-given : goal.returns-in-Err-clause-given
+returns-in-Err-clause-given g c = λ quiet fed out notes.
     let w = world g.H.Shelf g.S.Source c.args.shelf.now c.args.input.now in
     let shelf = Rose (g.H.Shelf.faults c.args.shelf.now) (g.H.Shelf.faults c.decide.new.shelf) in
     let input = Rose (g.S.Source.faults c.args.input.now) (g.S.Source.faults c.decide.new.input) in
@@ -136,6 +137,54 @@ returns-in-Err-clause-exact g c = λ a told quiet fed out notes is.
     (shelved g.H.Shelf c.args.shelf.now c.decide.new.shelf)
     (sunk g.K.Sink c.args.out.now c.decide.new.out) (sunk g.N.Sink c.args.notes.now c.decide.new.notes)
     c.in-Err.ensures.tried out notes)
+
+pub returns-in-Ok-clause-exact : goal.returns-in-Ok-clause-exact
+returns-in-Ok-clause-exact g c = λ a told quiet fed out notes is.
+    let w = world g.H.Shelf g.S.Source c.args.shelf.now c.args.input.now in
+    given_one c.args.words.now w a c.deliver.result (g.S.Source.left c.decide.new.input)
+    (shelved g.H.Shelf c.args.shelf.now c.decide.new.shelf)
+    (sunk g.K.Sink c.args.out.now c.deliver.new.out) (sunk g.N.Sink c.args.notes.now c.deliver.new.notes)
+    (λ b also. IsAnswer-single c.args.words.now w b a told also is) (returns-in-Ok-clause-given g c quiet fed out notes)
+
+pub returns-in-Err-clause-exact : goal.returns-in-Err-clause-exact
+returns-in-Err-clause-exact g c = λ a told quiet fed out notes is.
+    let w = world g.H.Shelf g.S.Source c.args.shelf.now c.args.input.now in
+    given_one c.args.words.now w a SinkFault (g.S.Source.left c.decide.new.input)
+    (shelved g.H.Shelf c.args.shelf.now c.decide.new.shelf)
+    (sunk g.K.Sink c.args.out.now c.decide.new.out) (sunk g.N.Sink c.args.notes.now c.decide.new.notes)
+    (λ b also. IsAnswer-single c.args.words.now w b a told also is) (returns-in-Err-clause-given g c quiet fed out notes)
+
+pub returns-in-Ok-clause-unread : goal.returns-in-Ok-clause-unread
+returns-in-Ok-clause-unread g c = λ options file image asks told found unread quiet fed out notes.
+    let w = world g.H.Shelf g.S.Source c.args.shelf.now c.args.input.now in
+    unread_call c.args.words.now options file image w c.deliver.result (g.S.Source.left c.decide.new.input)
+    (shelved g.H.Shelf c.args.shelf.now c.decide.new.shelf)
+    (sunk g.K.Sink c.args.out.now c.deliver.new.out) (sunk g.N.Sink c.args.notes.now c.deliver.new.notes)
+    asks told found unread (returns-in-Ok-clause-given g c quiet fed out notes)
+
+pub returns-in-Err-clause-unread : goal.returns-in-Err-clause-unread
+returns-in-Err-clause-unread g c = λ options file image asks told found unread quiet fed out notes.
+    let w = world g.H.Shelf g.S.Source c.args.shelf.now c.args.input.now in
+    unread_call c.args.words.now options file image w SinkFault (g.S.Source.left c.decide.new.input)
+    (shelved g.H.Shelf c.args.shelf.now c.decide.new.shelf)
+    (sunk g.K.Sink c.args.out.now c.decide.new.out) (sunk g.N.Sink c.args.notes.now c.decide.new.notes)
+    asks told found unread (returns-in-Err-clause-given g c quiet fed out notes)
+
+pub returns-in-Ok-clause-unread_alike : goal.returns-in-Ok-clause-unread_alike
+returns-in-Ok-clause-unread_alike g c = λ options choices force file image asks told found unread has checked quiet fed out notes.
+    let w = world g.H.Shelf g.S.Source c.args.shelf.now c.args.input.now in
+    unread_alike_call c.args.words.now options choices force file image w c.deliver.result (g.S.Source.left c.decide.new.input)
+    (shelved g.H.Shelf c.args.shelf.now c.decide.new.shelf)
+    (sunk g.K.Sink c.args.out.now c.deliver.new.out) (sunk g.N.Sink c.args.notes.now c.deliver.new.notes)
+    asks told found unread has checked (returns-in-Ok-clause-given g c quiet fed out notes)
+
+pub returns-in-Err-clause-unread_alike : goal.returns-in-Err-clause-unread_alike
+returns-in-Err-clause-unread_alike g c = λ options choices force file image asks told found unread has checked quiet fed out notes.
+    let w = world g.H.Shelf g.S.Source c.args.shelf.now c.args.input.now in
+    unread_alike_call c.args.words.now options choices force file image w SinkFault (g.S.Source.left c.decide.new.input)
+    (shelved g.H.Shelf c.args.shelf.now c.decide.new.shelf)
+    (sunk g.K.Sink c.args.out.now c.decide.new.out) (sunk g.N.Sink c.args.notes.now c.decide.new.notes)
+    asks told found unread has checked (returns-in-Err-clause-given g c quiet fed out notes)
 
 pub returns-in-Ok-clause-restarts : goal.returns-in-Ok-clause-restarts
 returns-in-Ok-clause-restarts g c = λ file asks e.
@@ -151,7 +200,7 @@ returns-in-Ok-clause-alike g c = λ options choices force file a asks files inpu
     alike_call c.args.words.now options choices force file w a c.deliver.result (g.S.Source.left c.decide.new.input)
     (shelved g.H.Shelf c.args.shelf.now c.decide.new.shelf)
     (sunk g.K.Sink c.args.out.now c.deliver.new.out) (sunk g.N.Sink c.args.notes.now c.deliver.new.notes)
-    asks files input has checked is (λ b read answer. returns-in-Ok-clause-exact g c b read quiet fed out notes answer)
+    asks files input has checked is (returns-in-Ok-clause-given g c quiet fed out notes)
 
 pub returns-in-Ok-clause-fixed : goal.returns-in-Ok-clause-fixed
 returns-in-Ok-clause-fixed g c = λ file out asks e.
@@ -173,7 +222,7 @@ returns-in-Err-clause-alike g c = λ options choices force file a asks files inp
     alike_call c.args.words.now options choices force file w a SinkFault (g.S.Source.left c.decide.new.input)
     (shelved g.H.Shelf c.args.shelf.now c.decide.new.shelf)
     (sunk g.K.Sink c.args.out.now c.decide.new.out) (sunk g.N.Sink c.args.notes.now c.decide.new.notes)
-    asks files input has checked is (λ b read answer. returns-in-Err-clause-exact g c b read quiet fed out notes answer)
+    asks files input has checked is (returns-in-Err-clause-given g c quiet fed out notes)
 
 pub returns-in-Ok-clause-accepted : goal.returns-in-Ok-clause-accepted
 returns-in-Ok-clause-accepted g c = λ image file asks good safe told there quiet fed out notes.

@@ -1,0 +1,5 @@
+use Rattle.alpha_cmd.proofs.ReadsNothing.{one_unread, unread_alike}
+use Rattle.alpha_cmd.proofs.laws.laws_of_unread_inputs.Goals as goal
+
+pub returns : goal.returns
+returns c = record { run = one_unread; imprecise = unread_alike }
