@@ -11,7 +11,7 @@ use Rattle.alpha_io.proofs.Writes.{WritesPrefix-all, WritesPrefix-after, WritesP
 use Rattle.alpha_table.specs.Class.{barrier}
 use Rattle.alpha_mem.specs.Memory.{bytes_at}
 use Rattle.alpha_pal.specs.CallEffect.{Takes}
-use Rattle.alpha_seq.specs.State.{Program, State}
+use Rattle.alpha_seq.specs.State.{Program}
 use Rattle.alpha_seq.specs.Step.{next_class, step, step_from}
 use Rattle.alpha_seq.specs.Notes.{overflow_line}
 use Rattle.alpha_seq.specs.Run.{Mark, notes_of}
