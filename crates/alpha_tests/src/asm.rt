@@ -1,5 +1,5 @@
-use alpha_asm::{AsmFault, assemble};
 use AsmFault::{Duplicate, ImageField, Line, LongLine, NoEntry, Reach, Section, Undefined};
+use alpha_asm::{AsmFault, assemble};
 use alpha_image::{Image, code_word, image_bytes};
 use alpha_text::{LineFault, LineFaultKind};
 use std::alloc::Global;

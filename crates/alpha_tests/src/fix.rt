@@ -1,6 +1,6 @@
-use alpha_fix::{FixFault, cuts_of, fix};
 use FixFault::{Far, Fixed, Source, Unfixable};
 use alpha_asm::{AsmFault, assemble};
+use alpha_fix::{FixFault, cuts_of, fix};
 use alpha_shadow::{Broken, Condition};
 use alpha_text::{LineFault, LineFaultKind};
 use std::alloc::{AllocError, Global};

@@ -31,6 +31,8 @@ mod request;
 #[cfg(test)]
 mod table;
 #[cfg(test)]
+mod text;
+#[cfg(test)]
 mod token;
 #[cfg(test)]
 mod trap;

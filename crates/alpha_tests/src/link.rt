@@ -1,8 +1,8 @@
 //! Bytes of modules that were laid out by hand, and sources.
 
-use alpha_link::{LinkFault, ModuleFault, link, make_module, module_bytes, read_module, verdict};
 use alpha_asm::AsmFault;
 use alpha_image::{Image, code_word};
+use alpha_link::{LinkFault, ModuleFault, link, make_module, module_bytes, read_module, verdict};
 use alpha_shadow::{Broken, Condition};
 use std::alloc::Global;
 use std::test::Fail;

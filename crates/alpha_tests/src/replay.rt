@@ -1,6 +1,6 @@
-use alpha_replay::*;
 use alpha_imprecise::{ListChooser, Wild};
 use alpha_io::{ReadSource, WriteSink};
+use alpha_replay::*;
 use alpha_samples::sample;
 use alpha_seq::Machine;
 use alpha_words::Completion;

@@ -1,7 +1,7 @@
-use alpha_token::{Step, TokenKind, next, next_byte, number};
 use TokenKind::{
     Close, Colon, Comma, Dot, Minus, Name, Number, Open, Operator, Plus, Register, Text,
 };
+use alpha_token::{Step, TokenKind, next, next_byte, number};
 use std::process::Abort;
 
 // What ends a line of tokens: the line's end or comment, or a byte that begins none, with the count

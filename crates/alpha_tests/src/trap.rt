@@ -1,8 +1,8 @@
 ghost use Rattle.std.specs.Prelude.{◌≡◌, false, IfOk};
 
-use alpha_trap::{Lost, handle, scan_back};
 use alpha_pal::Kernel;
 use alpha_samples::sample;
+use alpha_trap::{Lost, handle, scan_back};
 use alpha_words::{Completion, NoMemory, Reg, RegFile, RegSet};
 use std::alloc::Global;
 use std::test::Fail;

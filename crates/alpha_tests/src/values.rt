@@ -1,5 +1,5 @@
-use alpha_values::*;
 use alpha_table::{Cond, MemAccess, Op, TrapOp};
+use alpha_values::*;
 use alpha_words::{Completion, Level, Reg};
 
 // Chosen results: sums, products and byte forms at their edges.

@@ -1,6 +1,6 @@
 use super::item;
-use crate::{Item, LineFaultKind, Statement};
 use LineFaultKind::{BadOperands, BadToken, UnknownName};
+use alpha_text::{Item, LineFaultKind, Statement};
 
 // Whether a line has this fault, or none.
 fn has_fault(line: &[u8], want: Option<(LineFaultKind, u32)>) -> bool {

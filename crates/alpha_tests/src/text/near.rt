@@ -1,7 +1,5 @@
 use super::{item, rewrite};
-use crate::reader::line_of;
-use crate::{Item, LineBuf, Statement, quick};
-use alpha_table::Form;
+use alpha_text::{LineBuf, Statement};
 
 // Whether a line and the same one with a comment have this canonical line.
 fn is_written(line: &[u8], commented: &[u8], want: &[u8]) -> bool {
@@ -12,25 +10,7 @@ fn is_written(line: &[u8], commented: &[u8], want: &[u8]) -> bool {
     first.bytes() == want && second.bytes() == want
 }
 
-// The form of the instruction that a line says.
-fn form_of(item: &Item<'_>) -> Option<Form> {
-    match item.statement {
-        Statement::Code(insn) => Some(insn.form()),
-        _ => None,
-    }
-}
-
-// Whether a line that is read in one pass says by the reader of all lines what it says so.
-fn is_read_alike(line: &[u8]) -> bool {
-    match (quick::item(line), line_of(line)) {
-        (Some(quickly), Ok(walked)) => form_of(&quickly) == form_of(&walked),
-        (Some(_), Err(_)) => false,
-        (None, _) => true,
-    }
-}
-
-/// Lines that are read in one pass or nearly so, and the same ones with a comment, say the same, and
-/// so they do by the reader of all lines.
+/// Lines that are read in one pass or nearly so, and the same ones with a comment, say the same.
 #[test]
 fn lines_near_canonical_ones(rt: HostRuntime) {
     let lines: [(&[u8], &[u8], &[u8]); 70] = [
@@ -151,8 +131,6 @@ fn lines_near_canonical_ones(rt: HostRuntime) {
     ];
     for (line, commented, want) in lines {
         assert!(rt; is_written(line, commented, want), "{line:?}");
-        assert!(rt; is_read_alike(line), "{line:?}");
-        assert!(rt; is_read_alike(commented), "{line:?}");
     }
 }
 
