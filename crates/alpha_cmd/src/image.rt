@@ -10,24 +10,24 @@ ghost use Rattle.alpha_cmd.specs.Image.{Reads, Spells, ImageOf};
 ghost use Rattle.alpha_cmd.specs.Tries.{CutBy};
 
 use crate::Status;
-use alpha_image::{Image, ImageFault, read_image};
+use alpha_image::{Image, ImageFault, take_image};
 use alpha_io::{ReadFault, Shelf, read_whole};
 use std::alloc::Global;
 
 /// The most bytes of an image file.
 pub const IMAGE_LIMIT: u64 = 18_874_368;
 
-/// The image that the bytes of a file spell.
+/// The image that the bytes of a file spell, which may keep them.
 ///
 /// # Errors
 ///
 /// `BadImage` with the first fault of the bytes. Memory runs out only where they have none.
-pub fn image_of(alloc: Global, bytes: &[u8]) -> Result<Image, Status>
-    ensures ok { IfOk result (λ image. Spells bytes.now (goes image)) }
-    ensures refused { IfErr result (λ status. Spells bytes.now (stops status (status_line status))
-        ⊎ ((status ≡ Status.NoMemory) × (first_fault bytes.now ≡ None))) }
+pub fn image_of(alloc: Global, bytes: Vec<u8>) -> Result<Image, Status>
+    ensures ok { IfOk result (λ image. Spells bytes.items (goes image)) }
+    ensures refused { IfErr result (λ status. Spells bytes.items (stops status (status_line status))
+        ⊎ ((status ≡ Status.NoMemory) × (first_fault bytes.items ≡ None))) }
 {
-    match read_image(alloc, bytes) {
+    match take_image(alloc, bytes) {
         Ok(image) => Ok(image),
         Err(ImageFault::NoMemory) => Err(Status::NoMemory),
         Err(fault) => Err(Status::BadImage(fault)),
@@ -67,7 +67,7 @@ pub(crate) fn load<H: Shelf>(alloc: Global, shelf: &mut H, name: &str) -> Result
         (result ≢ Err Status.ShelfFault) }
 {
     match read_file(alloc, shelf, name, IMAGE_LIMIT) {
-        Ok(bytes) => image_of(alloc, bytes.as_slice()),
+        Ok(bytes) => image_of(alloc, bytes),
         Err(status) => Err(status),
     }
 }

@@ -131,7 +131,7 @@ behind-parts : (bytes : List ℕ) → behind_front bytes ≡ code_in bytes ++ da
 unfolding data_in
 behind-parts bytes = sym (take-append-drop (4 * (numbers_of bytes).words) (behind_front bytes))
 
-length-words_in : (bytes : List ℕ) → HasForm bytes → length (words_in bytes) ≡ (numbers_of bytes).words
+pub length-words_in : (bytes : List ℕ) → HasForm bytes → length (words_in bytes) ≡ (numbers_of bytes).words
 unfolding words_in
 length-words_in bytes form = omega (arith, length-words_of (code_in bytes), length-code_in bytes form)
 
@@ -172,6 +172,11 @@ unfolding form_fault
 Refuses-front_fault e bytes ne h = Refuses-option_or e (front_fault (version_of bytes) bytes) _ ne h
 
 -- behind a good form the first fault is that of the words
+pub first_fault-words : (bytes : List ℕ) → form_fault bytes ≡ None → word_fault (numbered_level (numbers_of bytes).level) (words_in bytes) ≡ first_fault bytes
+unfolding first_fault
+first_fault-words bytes none = rw none refl
+
+-- the same by the code that is cut out of the bytes
 pub first_fault-form : (bytes code : List ℕ) → form_fault bytes ≡ None → code ≡ code_in bytes → word_fault (numbered_level (numbers_of bytes).level) (words_of code) ≡ first_fault bytes
 unfolding first_fault words_in
 first_fault-form bytes code none e = rw (none, e) refl

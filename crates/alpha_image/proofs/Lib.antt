@@ -1,3 +1,4 @@
+pub mod Kept
 pub mod Numbers
 pub mod FieldRules
 pub mod Apart

@@ -6,8 +6,8 @@ ghost use Rattle.alpha_table.specs.Encoded.{encoded};
 ghost use Rattle.alpha_table.specs.Class.{class_of};
 ghost use Rattle.alpha_table.specs.Code.{class_at};
 ghost use Rattle.alpha_image.specs.Header.{header_numbers};
-ghost use Rattle.alpha_image.specs.Layout.{longword, words_of, first_segment, filled_size};
-ghost use Rattle.alpha_image.specs.Parts.{IsByte, IsCodeInsn, IsCodeWord};
+ghost use Rattle.alpha_image.specs.Layout.{longword, words_of, words_in, version_of, numbers_of, first_segment, filled_size};
+ghost use Rattle.alpha_image.specs.Parts.{IsByte, IsCodeInsn, IsCodeWord, HasForm, parts_of};
 ghost use Rattle.alpha_image.specs.Rules.{FieldsFit};
 ghost use Rattle.alpha_image.specs.ImageFault.{Tells, word_fault};
 
@@ -21,12 +21,14 @@ use std::marker::Model;
 
 /// A program image. A clause sees its parts, a record of the version, the level, the addresses, the
 /// number of stack bytes, the segments, the code words and the data bytes. The code is kept as its
-/// instructions, each of which has one word, and the data as the bytes of the image.
+/// instructions, each of which has one word. The data is kept as the bytes of the image, which may stand
+/// behind others: behind the front of the file that the image was read from, and its code.
 #[derive(Debug, Drop)]
 pub struct Image {
     header: Header,
     insns: Vec<Insn>,
     bytes: Vec<u8>,
+    data_at: usize,
 }
 
 impl Model for Image {
@@ -134,7 +136,7 @@ impl Image {
     {
         let segment = self.segment(n)?;
         let before = self.header.filled_before(n as usize);
-        let (_, behind) = self.bytes.split_at(before);
+        let (_, behind) = self.data_bytes().split_at(before);
         let (bytes, _) = behind.split_at(segment.filled as usize);
         Some(bytes)
     }
@@ -197,7 +199,8 @@ impl Image {
         ensures value { result.now ≡ self.now.bytes }
         ensures good { IsImage self.now }
     {
-        self.bytes.as_slice()
+        let (_, data) = self.bytes.split_at(self.data_at);
+        data
     }
 
     /// The place of the code word at an address, `None` exactly where the address is not that of a
@@ -242,6 +245,30 @@ impl Image {
             header,
             insns,
             bytes: Vec::from_slice(alloc, bytes)?,
+            data_at: 0,
+        })
+    }
+
+    /// The image that the bytes spell, which have this header, if each code word is in the instruction
+    /// table at the header's level. The bytes are kept as they are.
+    pub(crate) fn kept(alloc: Global, header: Header, bytes: Vec<u8>) -> Result<Image, ImageFault>
+        requires version { header.version ≡ version_of bytes.items }
+        requires numbers { header_numbers header ≡ numbers_of bytes.items }
+        requires form { HasForm bytes.items }
+        ensures fault { let level = numbered_level header.fields.level in
+            Tells result (word_fault level (words_in bytes.items)) }
+        ensures good { IfOk result IsImage }
+        ensures parts { IfOk result (λ image. image ≡ parts_of bytes.items) }
+    {
+        let behind = &bytes[header.front_size()..];
+        let (code, data) = behind.split_at(4 * header.words as usize);
+        let insns = read_words(alloc, header.level(), code)?;
+        let data_at = bytes.len() - data.len();
+        Ok(Image {
+            header,
+            insns,
+            bytes,
+            data_at,
         })
     }
 
@@ -262,6 +289,7 @@ impl Image {
             header,
             insns,
             bytes,
+            data_at: 0,
         }
     }
 

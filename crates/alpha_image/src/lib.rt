@@ -35,7 +35,8 @@
 //! The laws, each with the call that carries it:
 //!
 //! - What [`read_image`] answers is good, and the bytes are its spelling. A refusal is the first fault of
-//!   the bytes. Memory runs out only where there is none.
+//!   the bytes. Memory runs out only where there is none. [`take_image`] answers the same of a file's
+//!   bytes that may be kept: most of them aren't copied then.
 //! - [`image_bytes`] gives the spelling.
 //! - [`Image::build`] and [`Image::build_level`] give the image of the parts given, or the least bad
 //!   field, or the first bad word. [`Image::of_program`] gives that of its instructions.
@@ -76,7 +77,7 @@ pub use fault::ImageFault;
 pub use fields::{Fields, LevelFields};
 pub use image::{Image, code_word};
 pub use laws::{laws_of_fields, laws_of_pieces, laws_of_places, laws_of_spelling};
-pub use read::read_image;
+pub use read::{read_image, take_image};
 pub use segment::Segment;
 pub use version::Version;
 pub use words::{push_words, read_words};

@@ -7,6 +7,7 @@ ghost use Rattle.alpha_image.specs.Parts.{IsImage, HasForm, spelling};
 ghost use Rattle.alpha_image.specs.ImageFault.{Tells, form_fault, first_fault};
 
 use crate::header::Header;
+use crate::segment::filled;
 use crate::{Image, ImageFault};
 use std::alloc::Global;
 
@@ -31,7 +32,7 @@ fn checked_header(bytes: &[u8]) -> Result<Header, ImageFault>
     Ok(header)
 }
 
-/// The image that the bytes spell. Memory taken is that of its code and data bytes.
+/// The image that the bytes spell. Memory taken is that of its instructions and data bytes.
 ///
 /// # Errors
 ///
@@ -44,4 +45,23 @@ pub fn read_image(alloc: Global, bytes: &[u8]) -> Result<Image, ImageFault>
     let header = checked_header(bytes)?;
     let (code, data) = bytes[header.front_size()..].split_at(4 * header.words as usize);
     Image::checked(alloc, header, code, data)
+}
+
+/// The image that the bytes spell, as [`read_image`] answers it. Where more than half of the bytes are data,
+/// the image keeps them as they are, and memory taken is that of its instructions. Else it has its data
+/// bytes on its own, which are the fewer, and the others are given back.
+///
+/// # Errors
+///
+/// Those of [`read_image`].
+pub fn take_image(alloc: Global, bytes: Vec<u8>) -> Result<Image, ImageFault>
+    ensures good { IfOk result IsImage }
+    ensures spelled { IfOk result (λ image. bytes.items ≡ spelling image) }
+    ensures fault { Tells result (first_fault bytes.items) }
+{
+    let header = checked_header(bytes.as_slice())?;
+    if filled(&header.segments) <= bytes.len() as u64 / 2 {
+        return read_image(alloc, bytes.as_slice());
+    }
+    Image::kept(alloc, header, bytes)
 }

@@ -70,11 +70,11 @@ fn an_image_that_is_not_taken_is_a_shelf_fault(rt: HostRuntime) -> Result<(), Fa
 #[test]
 fn bytes_give_their_image(rt: HostRuntime) -> Result<(), Fail> {
     let alloc = rt.alloc();
-    match image_of(alloc, &ACCEPTED) {
+    match image_of(alloc, ACCEPTED.to_vec(alloc)?) {
         Ok(image) => assert!(rt; image.code_base() == 0x1_0000),
         Err(_) => return Err(Fail::from("no image")),
     }
-    match image_of(alloc, &ACCEPTED[..67]) {
+    match image_of(alloc, ACCEPTED[..67].to_vec(alloc)?) {
         Ok(_) => return Err(Fail::from("an image")),
         Err(status) => { assert_eq!(rt; status, Status::BadImage(ImageFault::Length(67, 68))) }
     }

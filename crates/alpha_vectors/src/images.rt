@@ -2,6 +2,7 @@ ghost use Rattle.std.specs.Prelude.{◌≡◌, ◌%◌, length, IfOk};
 
 use alpha_image::{
     Fields, Image, ImageFault, LevelFields, Segment, code_word, image_bytes, read_image,
+    take_image,
 };
 use alpha_table::decode;
 use alpha_words::{Level, Word};
@@ -78,18 +79,31 @@ fn numbers_of(alloc: Global, text: &str) -> anyhow::Result<Vec<u64>> {
     Ok(numbers)
 }
 
-// The fault, or the parts of the image, whose bytes are those that were read.
+// The fault, or the parts of the image, whose bytes are those that were read; the same where the image keeps them.
 fn read(alloc: Global, text: &str) -> anyhow::Result<String> {
     let bytes = bytes_of(alloc, text)?;
-    match read_image(alloc, &bytes) {
+    let answer = answer_of(alloc, read_image(alloc, &bytes), &bytes)?;
+    let kept = answer_of(alloc, take_image(alloc, bytes_of(alloc, text)?), &bytes)?;
+    if kept != answer {
+        return Ok(format!(in alloc; "another answer where the bytes are kept")?);
+    }
+    Ok(answer)
+}
+
+fn answer_of(
+    alloc: Global,
+    answer: Result<Image, ImageFault>,
+    bytes: &[u8],
+) -> anyhow::Result<String> {
+    match answer {
         Err(fault) => Ok(format!(in alloc; "{fault}")?),
         Ok(image) => {
             let Ok(spelled) = image_bytes(alloc, &image) else {
                 bail!("no memory");
             };
-            let is_same = spelled.as_slice() == bytes.as_slice();
+            let is_same = spelled.as_slice() == bytes;
             let is_whole = has_its_words(&image)
-                && has_its_code(alloc, &image, &bytes)?
+                && has_its_code(alloc, &image, bytes)?
                 && has_its_data(alloc, &image)?;
             if !is_same || !is_whole {
                 return Ok(format!(in alloc; "an image whose parts differ")?);

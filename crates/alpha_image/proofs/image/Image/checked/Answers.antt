@@ -25,6 +25,7 @@ invariant_of-result c =
       good = rw (spelled, c.in_ok-from_slice.ensures.items) good;
       numbers = rw spelled same;
       insns = rw spelled read;
+      within = omega arith;
     }
 
 pub returns-clause-good : goal.returns-clause-good

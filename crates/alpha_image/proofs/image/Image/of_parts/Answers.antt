@@ -1,4 +1,4 @@
-use Rattle.std.proofs.Common.{◌≡◌, length, map, ◌∙◌}
+use Rattle.std.proofs.Common.{◌≡◌, length, map, ◌∙◌, arith}
 use Rattle.std.proofs.lemmas.List.{length-map}
 use Rattle.alpha_table.specs.Encoded.{encoded}
 use Rattle.alpha_image.specs.Header.{header_numbers}
@@ -26,6 +26,7 @@ invariant_of-result c =
           (code_words_of_insns (numbered_level h.fields.level) insns c.requires.insns).0 c.requires.bytes;
       numbers = numbers-parts_with h.version (header_numbers h) (map encoded insns) c.args.bytes.items c.requires.fields size;
       insns = (code_words_of_insns (numbered_level h.fields.level) insns c.requires.insns).1;
+      within = omega arith;
     }
 
 pub returns-clause-insns : goal.returns-clause-insns
