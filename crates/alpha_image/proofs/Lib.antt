@@ -1,4 +1,4 @@
-pub mod Kept
+pub mod OfFile
 pub mod Numbers
 pub mod FieldRules
 pub mod Apart

@@ -63,5 +63,5 @@ pub fn take_image(alloc: Global, bytes: Vec<u8>) -> Result<Image, ImageFault>
     if filled(&header.segments) <= bytes.len() as u64 / 2 {
         return read_image(alloc, bytes.as_slice());
     }
-    Image::kept(alloc, header, bytes)
+    Image::of_file(alloc, header, bytes)
 }

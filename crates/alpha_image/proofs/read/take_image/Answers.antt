@@ -21,8 +21,8 @@ returns-clause-spelled c =
     let bytes = c.args.bytes.items in
     let form = rw c.as_slice.ensures.value at c.in_ok-header.ensures.form in
     let whole : bytes ≡ spelling (parts_of bytes) = spelling-parts_of bytes (IsBytes-All bytes (All-from_get_or IsByte bytes 0 (λ i less. omega arith))) form in
-    IfOk-weaker c.kept.result (λ (image : Parts). image ≡ parts_of bytes) (λ (image : Parts). bytes ≡ spelling image)
-    (λ image e. whole ∙ ap spelling (sym e)) c.kept.ensures.parts
+    IfOk-weaker c.of_file.result (λ (image : Parts). image ≡ parts_of bytes) (λ (image : Parts). bytes ≡ spelling image)
+    (λ image e. whole ∙ ap spelling (sym e)) c.of_file.ensures.parts
 
 pub returns-clause-fault : goal.returns-clause-fault
 returns-clause-fault c =
@@ -30,4 +30,4 @@ returns-clause-fault c =
     let none : form_fault bytes ≡ None = rw c.as_slice.ensures.value at c.in_ok-header.ensures.fault in
     let numbers = rw c.as_slice.ensures.value at c.in_ok-header.ensures.numbers in
     let level = ap (λ (m : Numbers). word_fault (numbered_level m.level) (words_in bytes)) numbers in
-    subst (λ (fault : Option ImageFault). Tells c.kept.result fault) (level ∙ first_fault-words bytes none) c.kept.ensures.fault
+    subst (λ (fault : Option ImageFault). Tells c.of_file.result fault) (level ∙ first_fault-words bytes none) c.of_file.ensures.fault

@@ -5,8 +5,8 @@ use Rattle.alpha_image.specs.Header.{header_numbers}
 use Rattle.alpha_image.specs.Parts.{IsByte, numbered_level}
 use Rattle.alpha_image.specs.ImageFault.{Refuses, word_fault}
 use Rattle.alpha_image.proofs.Form.{IsBytes-All}
-use Rattle.alpha_image.proofs.Kept.{words_cut, code_cut, kept}
-use Rattle.alpha_image.proofs.image.Image.kept.Goals as goal
+use Rattle.alpha_image.proofs.OfFile.{words_cut, code_cut, of_file}
+use Rattle.alpha_image.proofs.image.Image.of_file.Goals as goal
 
 pub returns-in_err-insns-clause-fault : goal.returns-in_err-insns-clause-fault
 returns-in_err-insns-clause-fault c =
@@ -29,7 +29,7 @@ invariant_of-result c =
     let front = rw c.deref.ensures.value at c.split_at.ensures.front in
     let back = rw c.deref.ensures.value at c.split_at.ensures.back in
     let none = rw c.level.ensures.value at c.in_ok-insns.ensures.fault in
-    let k = kept bytes c.front_size.result c.args.header.version (header_numbers c.args.header) c.split_at.result.0.now c.split_at.result.1.now fits c.requires.form c.front_size.ensures.value
+    let k = of_file bytes c.front_size.result c.args.header.version (header_numbers c.args.header) c.split_at.result.0.now c.split_at.result.1.now fits c.requires.form c.front_size.ensures.value
     c.requires.version c.requires.numbers front back (c.len.result - length c.split_at.result.1.now) (omega (arith, c.len.ensures, c.args.bytes.ok.0)) c.in_ok-insns.insns.items none c.in_ok-insns.ensures.insns in
     record { good = k.good; numbers = k.numbers; insns = k.insns; within = omega (arith, c.len.ensures, c.args.bytes.ok.0) }
 
@@ -55,6 +55,6 @@ returns-clause-parts c =
     let front = rw c.deref.ensures.value at c.split_at.ensures.front in
     let back = rw c.deref.ensures.value at c.split_at.ensures.back in
     let none = rw c.level.ensures.value at c.in_ok-insns.ensures.fault in
-    let k = kept bytes c.front_size.result c.args.header.version (header_numbers c.args.header) c.split_at.result.0.now c.split_at.result.1.now fits c.requires.form c.front_size.ensures.value
+    let k = of_file bytes c.front_size.result c.args.header.version (header_numbers c.args.header) c.split_at.result.0.now c.split_at.result.1.now fits c.requires.form c.front_size.ensures.value
     c.requires.version c.requires.numbers front back (c.len.result - length c.split_at.result.1.now) (omega (arith, c.len.ensures, c.args.bytes.ok.0)) c.in_ok-insns.insns.items none c.in_ok-insns.ensures.insns in
     k.parts

@@ -29,7 +29,7 @@ unfolding words_in
 words_cut bytes code e = ap words_of e
 
 -- an image by these instructions and by the bytes from a place on
-pub record Kept (bytes : List ℕ) (at : ℕ) (v : Version) (n : Numbers) (read : List Form) : Type 0 where
+pub record OfFile (bytes : List ℕ) (at : ℕ) (v : Version) (n : Numbers) (read : List Form) : Type 0 where
   pub good : IsImage (parts_with v n (map encoded read) (drop at bytes))
   pub parts : parts_with v n (map encoded read) (drop at bytes) ≡ parts_of bytes
   pub numbers : numbers (parts_with v n (map encoded read) (drop at bytes)) ≡ n
@@ -48,9 +48,9 @@ module _ (bytes : List ℕ) (size : ℕ) (v : Version) (n : Numbers) (code rest 
       let whole : length bytes ≡ size_of v n = form.size ∙ (ap (λ (w : Version). size_of w (numbers_of bytes)) (sym ev) ∙ ap (λ (m : Numbers). size_of v m) (sym en)) in
       ap (λ (j : ℕ). drop j bytes) e ∙ (data_at_end bytes size (4 * n.words) rest (omega arith) back ∙ (cut_behind bytes size v n (4 * n.words) code rest es ev en refl front back).1)
 
-  pub kept : (at : ℕ) → at ≡ length bytes - length rest → (insns : List Form) → word_fault (numbered_level n.level) (words_of code) ≡ None → map decoded (words_of code) ≡ map Some insns
-      → Kept bytes at v n insns
-  kept at e insns none read =
+  pub of_file : (at : ℕ) → at ≡ length bytes - length rest → (insns : List Form) → word_fault (numbered_level n.level) (words_of code) ≡ None → map decoded (words_of code) ≡ map Some insns
+      → OfFile bytes at v n insns
+  of_file at e insns none read =
       let parts = parts_with-cut bytes code (drop at bytes) v n ev en code_cut (data_cut at e) in
       let level : numbered_level n.level ≡ numbered_level (numbers_of bytes).level = ap (λ (m : Numbers). numbered_level m.level) en in
       let whole = IsImage-first_fault bytes fits form (ap (λ l. word_fault l (words_in bytes)) (sym level) ∙ (ap (word_fault (numbered_level n.level)) (sym (words_cut bytes code code_cut)) ∙ none)) in
