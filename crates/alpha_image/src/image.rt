@@ -251,7 +251,11 @@ impl Image {
 
     /// The image that the bytes spell, which have this header, if each code word is in the instruction
     /// table at the header's level. The bytes stay as they are.
-    pub(crate) fn of_file(alloc: Global, header: Header, bytes: Vec<u8>) -> Result<Image, ImageFault>
+    pub(crate) fn of_file(
+        alloc: Global,
+        header: Header,
+        bytes: Vec<u8>,
+    ) -> Result<Image, ImageFault>
         requires version { header.version ≡ version_of bytes.items }
         requires numbers { header_numbers header ≡ numbers_of bytes.items }
         requires form { HasForm bytes.items }

@@ -35,4 +35,3 @@ pub use laws::{
 };
 pub use memory::Memory;
 pub use number::number_of;
-

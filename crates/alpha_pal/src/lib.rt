@@ -38,4 +38,3 @@ pub use kernel::Kernel;
 pub use laws::laws_of_calls;
 pub use pal_end::PalEnd;
 pub use summary::Summary;
-

@@ -39,4 +39,3 @@ pub use displaced::{access_address, address, high_address};
 pub use laws::{laws_of_addresses, laws_of_completion, laws_of_results};
 pub use results::{operate, operate_at};
 pub use trap::{completed, overflows};
-

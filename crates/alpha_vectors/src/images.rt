@@ -1,8 +1,7 @@
 ghost use Rattle.std.specs.Prelude.{◌≡◌, ◌%◌, length, IfOk};
 
 use alpha_image::{
-    Fields, Image, ImageFault, LevelFields, Segment, code_word, image_bytes, read_image,
-    take_image,
+    Fields, Image, ImageFault, LevelFields, Segment, code_word, image_bytes, read_image, take_image,
 };
 use alpha_table::decode;
 use alpha_words::{Level, Word};
