@@ -6,6 +6,10 @@ use std::{fs, io};
 
 const NAME: &str = "alpha_io_test.bin";
 
+const FIRST: &str = "alpha_io_first.bin";
+
+const SECOND: &str = "alpha_io_second.bin";
+
 // A reader that fails.
 #[derive(Drop)]
 struct Broken;
@@ -175,10 +179,10 @@ fn the_disk_keeps_a_file(rt: HostRuntime) -> Result<(), Fail> {
     Ok(())
 }
 
-// What a piece of at most two bytes is.
-fn two_at<H: Shelf>(shelf: &mut H, at: u64) -> (Result<usize, Failed>, [u8; 2]) {
+// What a piece of a file is that has two bytes at most.
+fn two_at<H: Shelf>(shelf: &mut H, name: &str, at: u64) -> (Result<usize, Failed>, [u8; 2]) {
     let mut buffer = [0; 2];
-    let answer = shelf.piece(NAME, at, buffer.as_mut_slice());
+    let answer = shelf.piece(name, at, buffer.as_mut_slice());
     (answer, buffer)
 }
 
@@ -186,16 +190,29 @@ fn two_at<H: Shelf>(shelf: &mut H, at: u64) -> (Result<usize, Failed>, [u8; 2]) 
 fn the_disk_reads_on_from_a_piece_or_anew(rt: HostRuntime) -> Result<(), Fail> {
     let mut shelf = DiskShelf::new(&rt);
     assert_eq!(rt; shelf.keep(NAME, &[1, 2, 3, 4, 5]), Ok(()));
-    assert_eq!(rt; two_at(&mut shelf, 0), (Ok(2), [1, 2]));
-    assert_eq!(rt; two_at(&mut shelf, 2), (Ok(2), [3, 4]));
-    assert_eq!(rt; two_at(&mut shelf, 1), (Ok(2), [2, 3]));
-    assert_eq!(rt; two_at(&mut shelf, 3), (Ok(2), [4, 5]));
-    assert_eq!(rt; two_at(&mut shelf, 5), (Ok(0), [0, 0]));
-    assert_eq!(rt; two_at(&mut shelf, 0), (Ok(2), [1, 2]));
+    assert_eq!(rt; two_at(&mut shelf, NAME, 0), (Ok(2), [1, 2]));
+    assert_eq!(rt; two_at(&mut shelf, NAME, 2), (Ok(2), [3, 4]));
+    assert_eq!(rt; two_at(&mut shelf, NAME, 1), (Ok(2), [2, 3]));
+    assert_eq!(rt; two_at(&mut shelf, NAME, 3), (Ok(2), [4, 5]));
+    assert_eq!(rt; two_at(&mut shelf, NAME, 5), (Ok(0), [0, 0]));
+    assert_eq!(rt; two_at(&mut shelf, NAME, 0), (Ok(2), [1, 2]));
     assert_eq!(rt; shelf.keep(NAME, &[6, 7, 8, 9]), Ok(()));
-    assert_eq!(rt; two_at(&mut shelf, 2), (Ok(2), [8, 9]));
+    assert_eq!(rt; two_at(&mut shelf, NAME, 2), (Ok(2), [8, 9]));
     fs::remove_file(&rt, NAME)?;
-    assert_eq!(rt; two_at(&mut shelf, 4).0, Ok(0));
-    assert_eq!(rt; two_at(&mut shelf, 0).0, Err(Failed));
+    assert_eq!(rt; two_at(&mut shelf, NAME, 4).0, Ok(0));
+    assert_eq!(rt; two_at(&mut shelf, NAME, 0).0, Err(Failed));
+    Ok(())
+}
+
+#[test]
+fn the_disk_reads_two_files_in_turn(rt: HostRuntime) -> Result<(), Fail> {
+    let mut shelf = DiskShelf::new(&rt);
+    assert_eq!(rt; shelf.keep(FIRST, &[1, 2, 3, 4]), Ok(()));
+    assert_eq!(rt; shelf.keep(SECOND, &[5, 6, 7, 8]), Ok(()));
+    assert_eq!(rt; two_at(&mut shelf, FIRST, 0), (Ok(2), [1, 2]));
+    assert_eq!(rt; two_at(&mut shelf, SECOND, 2), (Ok(2), [7, 8]));
+    assert_eq!(rt; two_at(&mut shelf, FIRST, 2), (Ok(2), [3, 4]));
+    fs::remove_file(&rt, FIRST)?;
+    fs::remove_file(&rt, SECOND)?;
     Ok(())
 }

@@ -1,5 +1,6 @@
-//! Tests of what no clause says, a module for each crate: values from outside, printed text, and that each call succeeds where
-//! memory is there. They use the crates as whoever stands on them does, and are proved without proving these again.
+//! Examples of what the crates do, those of a crate in a module of its name: values from outside, printed text, and that each
+//! call succeeds where memory is there. They use the crates as whoever stands on them does, and are proved without proving
+//! these again.
 //!
 //! Tests of commands are cases of `alpha_cases`, those of images lines of `alpha_vectors/data/images.tsv`.
 #![tactic(auto)]
