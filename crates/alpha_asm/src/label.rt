@@ -7,6 +7,7 @@ ghost use Rattle.alpha_asm.specs.Labels.{spot_named, are_among};
 
 use crate::place::Spot;
 use indexmap::IndexMap;
+use memchr::memchr;
 use std::alloc::{AllocError, Global};
 use std::hash::{BuildHasher, DefaultHasher, FoldHasher, Hash, Hasher};
 
@@ -56,10 +57,12 @@ impl Seeded {
         Seeded { hasher }
     }
 
-    // Those that a source seeds.
+    // Those that a source seeds. A source without a colon defines no label, and needs no seed.
     fn by(source: &[u8]) -> Seeded {
         let mut whole = DefaultHasher::new();
-        whole.write(source);
+        if memchr(b':', source).is_some() {
+            whole.write(source);
+        }
         Seeded::behind(whole)
     }
 }
