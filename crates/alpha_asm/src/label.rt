@@ -77,7 +77,8 @@ impl BuildHasher for Seeded {
     }
 }
 
-/// The labels that a source defines. They are numbered from 0, in the order of their lines.
+/// The labels that a source defines. Each has a number, by which it is found without its hash. Which one
+/// that is no clause says, so the label that a number finds is compared with the one that is sought.
 #[derive(Drop)]
 pub struct Labels<'a> {
     spots: IndexMap<Label<'a>, Spot, Seeded>,
@@ -107,14 +108,14 @@ impl<'a> Labels<'a> {
         self.spots.get(&Label { name }).copied()
     }
 
-    /// The number of a label, if it is defined.
+    /// A number of a label, which it has exactly where it is defined.
     pub fn number(&self, name: &'a [u8]) -> Option<usize>
         ensures { is_some result ≡ is_some (spot_named self.now name.now) }
     {
         self.spots.get_index_of(&Label { name })
     }
 
-    /// The label of a number, and where it is defined, `None` from the number of all labels on.
+    /// A label that is defined, and where, or `None`. It is the one with this number, but no clause says so.
     pub fn numbered(&self, number: usize) -> Option<(&'a [u8], Spot)>
         ensures { IfSome result (λ label. spot_named self.now label.0.now ≡ Some label.1) }
     {
@@ -122,7 +123,7 @@ impl<'a> Labels<'a> {
         Some((label.name, *spot))
     }
 
-    /// The names of all labels, each once, in the order of their numbers.
+    /// The names of all labels. They stand in the order of their numbers, but no clause says so.
     pub fn names(&self, alloc: Global) -> Result<Vec<&'a [u8]>, AllocError>
         ensures { IfOk result (λ names. (name : List ℕ) → are_among names.items name ≡ is_some (spot_named self.now name)) }
     {
