@@ -1,11 +1,13 @@
 -- Values of data are added one after the other.
 use Rattle.std.proofs.Common.{◌≡◌, ℕ, zero, suc, ◌+◌, ◌-◌, ◌/◌, ◌%◌, ◌<◌, ◌≤◌, List, [], ◌∷◌, ◌++◌, length, map, Option, None, Some, refl, sym, ◌∙◌, ap, append_assoc, length-append, arith}
 use Rattle.std.specs.Option.{option_and_then}
+use Rattle.std.proofs.Math.Nat.{mod-eq_of_lt}
 use Rattle.std.proofs.lemmas.List.{append-nil}
 use Rattle.alpha_token.specs.Quoted.{first_byte}
 use Rattle.alpha_operands.specs.Values.{Listed, list_shape, first_value}
 use Rattle.alpha_words.specs.Digits.{digits, low_bytes}
 use Rattle.alpha_asm.specs.declared.output.Output.{Output}
+use Rattle.alpha_asm.specs.Data.{DataBytes}
 use Rattle.alpha_asm.specs.Statement.{Cell, number, address, cell_size, cell_of, values_up_to, bytes_up_to}
 use Rattle.alpha_asm.specs.Patches.{fix_of, raw_cell, raw_cells, cell_fixes, AddsCells}
 
@@ -50,6 +52,15 @@ adds-more line c cs old middle new a b =
 
 pub adds-none : (line : ℕ) (o : Output) → AddsCells line [] o o
 adds-none line o = record { code = refl; bytes = sym (append-nil o.bytes.items); patches = sym (append-nil (map fix_of o.patches.items)) }
+
+-- a byte of a string
+pub adds-byte : (line b : ℕ) (old : Output) (bytes : DataBytes) → b < 256 → bytes.items ≡ old.bytes.items ++ b ∷ [] → AddsCells line (number 1 b ∷ []) old (record old { bytes = bytes })
+unfolding digits
+adds-byte line b old bytes h e = record {
+  code = refl;
+  bytes = e ∙ ap (λ d. old.bytes.items ++ d ∷ []) (sym (mod-eq_of_lt h));
+  patches = sym (append-nil (map fix_of old.patches.items));
+}
 
 -- A list of values: what is still to be added makes up for all.
 abbrev pub next_value : ℕ → List ℕ → Option (Listed × List ℕ)

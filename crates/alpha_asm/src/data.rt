@@ -64,8 +64,8 @@ impl Data {
         self.len
     }
 
-    // Appends a byte.
-    fn push(&mut self, byte: u8) -> Result<(), AllocError>
+    /// Appends a byte.
+    pub(crate) fn push(&mut self, byte: u8) -> Result<(), AllocError>
         ensures { OnOk result (self.new.items ≡ self.old.items ++ byte ∷ []) }
     {
         if self.len >= MOST {

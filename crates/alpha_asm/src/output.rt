@@ -157,6 +157,14 @@ impl<'a> Output<'a> {
         self.bytes.push_number(8, 0)
     }
 
+    // Adds a byte of a string.
+    fn push_byte(&mut self, line: u32, byte: u8) -> Result<(), AllocError>
+        ensures { OnOk result (AddsCells line (cell 1 byte ∷ []) self.old self.new) }
+    {
+        self.bytes.push(byte)?;
+        Ok(())
+    }
+
     /// Adds the bytes that the text of a string stands for. There are no more of them than it has
     /// bytes.
     pub(crate) fn push_text(&mut self, line: u32, text: &[u8]) -> Result<(), AllocError>
@@ -167,7 +175,7 @@ impl<'a> Output<'a> {
         for _ in 0..text.len() {
             match next_byte(rest) {
                 Some((byte, more)) => {
-                    self.push_value(line, 1, &ListValue::Number(u64::from(byte)))?;
+                    self.push_byte(line, byte)?;
                     rest = more;
                 }
                 None => return Ok(()),

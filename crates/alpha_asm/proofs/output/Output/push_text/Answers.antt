@@ -6,9 +6,9 @@ use Rattle.alpha_asm.proofs.output.Output.push_text.Goals as goal
 
 pub loop-preserved : goal.loop-preserved
 loop-preserved c =
-    more_bytes c.args.line (length c.args.text.now) c.loop.counter c.loop.rest.now c.in-Some.more.now c.in-Some.byte c.loop.self c.push_value.new.self
+    more_bytes c.args.line (length c.args.text.now) c.loop.counter c.loop.rest.now c.in-Some.more.now c.in-Some.byte c.loop.self c.push_byte.new.self
     (λ new. AddsCells c.args.line (map (number 1) (bytes_up_to (length c.args.text.now) c.args.text.now)) c.args.self.now new)
-    c.loop-test.true c.in-Some.ensures.value (rw c.from.ensures at c.in_ok-push_value-in-Some.ensures) c.loop.invariant
+    c.loop-test.true c.in-Some.ensures.value c.in_ok-push_byte-in-Some.ensures c.loop.invariant
 
 pub returns-in-None : goal.returns-in-None
 returns-in-None c =
