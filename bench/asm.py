@@ -43,6 +43,9 @@ WRITTEN = {
     "halves of addresses": lambda count: "x: nop\n" + written("ldah $9,%hi(x)($31)", "lda $9,%lo(x)($9)", "ldah $9,%hi(x+8)($31)")(count - 1),
     "jumps": written("ret", "ret $31,($26),1", "jsr $26,($27)", "jmp $31,($1),0", "jsr $ra,($pv)"),
     "data of one value": lambda count: "ret\n.data\n" + written(".quad 5", ".quad 0x123456789abcdef", ".long -7", ".word 65535", ".byte 1")(count),
+    "data of four bytes": lambda count: "ret\n.data\n" + written(".byte 1,2,3,4")(count),
+    "addresses with an offset": lambda count: "x: ret\n.data\n" + written(".quad x+8")(count),
+    "strings of twenty bytes": lambda count: "ret\n.data\n" + written('.ascii "abcdefghijklmnopqrst"')(count),
 }
 
 # A function as somebody writes it by hand; N stands for its number.
