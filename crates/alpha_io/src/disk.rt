@@ -64,7 +64,7 @@ impl<R: Files + AllocGlobal> DiskShelf<R> {
         }
     }
 
-    // Reads from `at` on, and keeps the file open unless this is its end.
+    // Reads from `at` on, and leaves the file open unless this is its end.
     fn read_at(&mut self, name: &str, at: u64, buf: &mut [u8]) -> io::Result<usize>
         ensures bound { ReadsAtMost result buf.new }
         ensures same { self.new ≡ self.old }

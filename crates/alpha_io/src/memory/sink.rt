@@ -91,7 +91,7 @@ impl Sink for MemorySink {
     }
 }
 
-/// A sink that keeps nothing and never fails. It tells nothing.
+/// A sink that drops all bytes and never fails. It tells nothing.
 #[derive(Clone, Copy, Debug)]
 pub struct NullSink;
 
