@@ -1,4 +1,4 @@
--- An image that keeps the bytes that it was read from.
+-- An image that holds the bytes that it was read from.
 use Rattle.std.proofs.Common.{◌≡◌, ℕ, ◌+◌, ◌*◌, ◌-◌, ◌≤◌, List, length, map, take, drop, Some, None, refl, sym, ap, subst, ◌∙◌, arith}
 use Rattle.std.proofs.lemmas.List.{length-drop, drop-drop, take_rest}
 use Rattle.alpha_table.specs.declared.form.Form.{Form}

@@ -1,4 +1,4 @@
--- The parts of an `Image`, whose code is kept as its instructions.
+-- The parts of an `Image`, whose code is held as its instructions.
 use Rattle.std.specs.Prelude.{◌≡◌, ◌≤◌, length, drop, map, Some}
 use Rattle.alpha_table.specs.Decoded.{decoded}
 use Rattle.alpha_table.specs.Encoded.{encoded}

@@ -136,7 +136,7 @@ level_fits level = level == 1 || level == 2
 unfoldable pub segments_fit : List Segment → Bool
 segments_fit segments = nat_le (length segments) 8
 
--- each test passes exactly where its rule is kept
+-- each test passes exactly where its rule holds
 pub record TestsDecide (n : Numbers) : Type 0 where
   pub code_base : IsTrue (is_base n.code_base) ↔ CodeBaseFits n
   pub data_bases : IsTrue (data_bases_fit n.segments) ↔ DataBasesFit n

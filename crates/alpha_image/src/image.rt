@@ -20,8 +20,8 @@ use std::alloc::{AllocError, Global};
 use std::marker::Model;
 
 /// A program image. A clause sees its parts, a record of the version, the level, the addresses, the
-/// number of stack bytes, the segments, the code words and the data bytes. The code is kept as its
-/// instructions, each of which has one word. The data is kept as the bytes of the image, which may stand
+/// number of stack bytes, the segments, the code words and the data bytes. The code is held as its
+/// instructions, each of which has one word. The data is held as the bytes of the image, which may stand
 /// behind others: behind the front of the file that the image was read from, and its code.
 #[derive(Debug, Drop)]
 pub struct Image {

@@ -30,8 +30,8 @@ pub fn laws_of_pieces()
     ensures count { (p : Parts) → length (pieces p) ≡ length p.segments }
 {}
 
-/// The test of each field passes exactly where its rule is kept, and no field is bad exactly where all
-/// rules are kept. So parts have no first fault exactly where they are a good image.
+/// The test of each field passes exactly where its rule holds, and no field is bad exactly where all
+/// rules hold. So parts have no first fault exactly where they are a good image.
 pub fn laws_of_fields()
     ensures tests { (n : Numbers) → TestsDecide n }
     ensures fields { (n : Numbers) → (least_bad_field n ≡ None) ↔ FieldsFit n }

@@ -22,7 +22,7 @@
 //! | 40 + 16 * k | the code words, then the data bytes of the segments in order |
 //!
 //! - [`Image`] is a good image: no field is bad, and each code word is in the instruction table at the
-//!   image's level. A clause sees its `Parts`, one record for both versions. The code is kept as
+//!   image's level. A clause sees its `Parts`, one record for both versions. The code is held as
 //!   instructions, which are decoded once, where the words are read: [`Image::insn`],
 //!   [`Image::insn_at`] and [`Image::insns`] give them, and [`Image::code_bytes`] their words.
 //! - [`ImageFault`] says why there is no image.
@@ -36,7 +36,7 @@
 //!
 //! - What [`read_image`] answers is good, and the bytes are its spelling. A refusal is the first fault of
 //!   the bytes. Memory runs out only where there is none. [`take_image`] answers the same of a file's
-//!   bytes that may be kept: most of them aren't copied then.
+//!   bytes, which the image may hold as they are: most of them aren't copied then.
 //! - [`image_bytes`] gives the spelling.
 //! - [`Image::build`] and [`Image::build_level`] give the image of the parts given, or the least bad
 //!   field, or the first bad word. [`Image::of_program`] gives that of its instructions.
@@ -55,7 +55,7 @@
 //! `specs/Layout.antt` has the layout of the bytes, `specs/Rules.antt` the rules of the fields over the
 //! `specs/Numbers.antt` of either version, `specs/Parts.antt` what an image is and its spelling,
 //! `specs/ImageFault.antt` the first fault, and `specs/Image.antt` and `specs/Header.antt` what an
-//! [`Image`] keeps.
+//! [`Image`] holds.
 #![tactic(auto)]
 
 mod build;

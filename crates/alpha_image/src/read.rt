@@ -48,7 +48,7 @@ pub fn read_image(alloc: Global, bytes: &[u8]) -> Result<Image, ImageFault>
 }
 
 /// The image that the bytes spell, as [`read_image`] answers it. Where more than half of the bytes are data,
-/// the image keeps them as they are, and memory taken is that of its instructions. Else it has its data
+/// the image holds them as they are, and memory taken is that of its instructions. Else it has its data
 /// bytes on its own, which are the fewer, and the others are given back.
 ///
 /// # Errors

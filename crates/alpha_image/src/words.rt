@@ -40,7 +40,7 @@ pub fn read_words(alloc: Global, level: Level, code: &[u8]) -> Result<Vec<Insn>,
     Ok(insns)
 }
 
-// The fault of the word at a place. It is made apart, so that the loop above keeps its list in registers.
+// The fault of the word at a place. It is made apart, so that the loop above has its list in registers.
 #[cold]
 #[inline(never)]
 fn bad_word(place: u32, word: u32) -> ImageFault
