@@ -22,9 +22,9 @@ no_feed : (l : List ℕ) → AreInside l → All (λ b. eqb b 10 ≡ false) l
 no_feed l h i d n = let x : nat_lt 13 (get_or l i d) ≡ true = AllPass-from_list_all is_inside l h i d n in grind (arith, nat_tests)
 
 -- a line that doesn't end with a carriage return stays whole
-kept : (l : List ℕ) → AreInside l → strip_carriage_return l ≡ l
-kept [] h = refl
-kept (b ∷ l) h =
+strip_carriage_return-inside : (l : List ℕ) → AreInside l → strip_carriage_return l ≡ l
+strip_carriage_return-inside [] h = refl
+strip_carriage_return-inside (b ∷ l) h =
     let x : nat_lt 13 (get_or (b ∷ l) (length (b ∷ l) - 1) 0) ≡ true = AllPass-from_list_all is_inside (b ∷ l) h (length (b ∷ l) - 1) 0 (omega arith) in
     let other : eqb (get_or (b ∷ l) (length (b ∷ l) - 1) 0) 13 ≡ false = grind (arith, nat_tests) in
     rw other refl
@@ -37,7 +37,7 @@ first_line : (l s : List ℕ) → AreInside l → lines (l ++ (10 ∷ s)) ≡ l 
 first_line l s h =
     ap lines_of_parts (slice_split_at (λ b. eqb b 10) l 10 s (no_feed l h) refl)
     ∙ (more_parts l (slice_split (λ b. eqb b 10) s) (omega (arith, length-slice_split (λ b. eqb b 10) s))
-    ∙ ap (λ x. x ∷ lines s) (kept l h))
+    ∙ ap (λ x. x ∷ lines s) (strip_carriage_return-inside l h))
 
 pub lines-text : (ls : List (List ℕ)) → AllByRecursion AreInside ls → lines (text ls) ≡ ls
 lines-text [] h = refl

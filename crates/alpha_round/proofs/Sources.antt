@@ -98,16 +98,16 @@ insn_allowed k p level c (h, l) =
 
 -- ---- what holds behind the items of lines that are not refused
 
-record Kept (k : Known) (is : List LineSaid) : Type 0 where
+record Consistent (k : Known) (is : List LineSaid) : Type 0 where
   sound : Sound (end is) (length (flat_map (bytes_in k) (layout is)))
   words : (end is).words ≡ length (flat_map (code_in k) (layout is))
   code : All (IsAllowed (end is).level) (flat_map (code_in k) (layout is))
   fresh : (end is).begun ≡ false → flat_map (code_in k) (layout is) ≡ []
   bytes : All IsByte (flat_map (bytes_in k) (layout is))
 
-kept_none : (k : Known) → Kept k []
+consistent_none : (k : Known) → Consistent k []
 unfolding end layout
-kept_none k = record {
+consistent_none k = record {
   sound = record { filled = (refl, refl); fresh = λ e. (refl, refl, refl) };
   words = refl;
   code = All-nil (IsAllowed None);
@@ -139,8 +139,8 @@ nothing_begun : (k : Known) (p : Place) (s : Said) (code : List Form) → (p.beg
 nothing_begun k p says.empty code fresh g = append-nil code ∙ fresh (neither p.begun false g).0
 nothing_begun k p s code fresh g = let no : true ≡ false = (neither p.begun true g).1 in cc
 
-kept_more : (k : Known) (is : List LineSaid) (i : LineSaid) → Kept k is → SaysInsn i.statement → is_misplaced (end is) i.statement ≡ false → Kept k (is ++ i ∷ [])
-kept_more k is i kept h m =
+consistent_more : (k : Known) (is : List LineSaid) (i : LineSaid) → Consistent k is → SaysInsn i.statement → is_misplaced (end is) i.statement ≡ false → Consistent k (is ++ i ∷ [])
+consistent_more k is i consistent h m =
     let x : Placed = item_behind is i in
     let code : flat_map (code_in k) (layout (is ++ i ∷ [])) ≡ flat_map (code_in k) (layout is) ++ code_in k (item_behind is i) =
     ap (flat_map (code_in k)) (layout-snoc is i) ∙ flat_map-snoc (code_in k) (layout is) (item_behind is i) in
@@ -151,14 +151,14 @@ kept_more k is i kept h m =
     let count : length (flat_map (code_in k) (layout is) ++ code_in k (item_behind is i)) ≡ length (flat_map (code_in k) (layout is)) + cond (is_some (coded i.statement)) 1 0 =
     length-append (flat_map (code_in k) (layout is)) (code_in k (item_behind is i)) ∙ ap (λ n. length (flat_map (code_in k) (layout is)) + n) (length-code_in k (end is) (coded i.statement)) in
     let sound : Sound (behind (end is) i.statement) (length (flat_map (bytes_in k) (layout is)) + (data_size i.statement + filled_pad (end is) i.statement)) =
-    sound-behind (end is) (length (flat_map (bytes_in k) (layout is))) i.statement m kept.sound in
+    sound-behind (end is) (length (flat_map (bytes_in k) (layout is))) i.statement m consistent.sound in
     record {
       sound = rw (end-snoc is i, bytes, size) sound;
-      words = rw (end-snoc is i, code, count) (ap (λ n. n + cond (is_some (coded i.statement)) 1 0) kept.words);
+      words = rw (end-snoc is i, code, count) (ap (λ n. n + cond (is_some (coded i.statement)) 1 0) consistent.words);
       code = rw (end-snoc is i, code) (All-append (IsAllowed (behind (end is) i.statement).level) (flat_map (code_in k) (layout is)) (code_in k (item_behind is i))
-          (level_stays (end is) i.statement (flat_map (code_in k) (layout is)) m kept.fresh kept.code) (code_allowed k (end is) i.statement h m));
-      fresh = rw (end-snoc is i, code) (nothing_begun k (end is) i.statement (flat_map (code_in k) (layout is)) kept.fresh);
-      bytes = rw bytes (All-append IsByte (flat_map (bytes_in k) (layout is)) (bytes_in k (item_behind is i)) kept.bytes (item_bytes k (item_behind is i)));
+          (level_stays (end is) i.statement (flat_map (code_in k) (layout is)) m consistent.fresh consistent.code) (code_allowed k (end is) i.statement h m));
+      fresh = rw (end-snoc is i, code) (nothing_begun k (end is) i.statement (flat_map (code_in k) (layout is)) consistent.fresh);
+      bytes = rw bytes (All-append IsByte (flat_map (bytes_in k) (layout is)) (bytes_in k (item_behind is i)) consistent.bytes (item_bytes k (item_behind is i)));
     }
 
 -- a line that is not refused is read, and what it says is not misplaced
@@ -175,14 +175,14 @@ accepted is line = by (nat_lt 1024 (length line)) (read line) refl
     by false (Err fault) e h = cc
     by false (Ok i) e h = (i, e, placed_so i (is_misplaced (end is) i.statement) (repeats_field (fields (layout is)) i.statement || repeats_label (spot_of (layout is)) i.label) h)
 
-kept_all : (k : Known) (is : List LineSaid) (ls : List (List ℕ)) → Kept k is → first_refused source_kinds.Program is ls ≡ None → Kept k (is ++ map item_at ls)
-kept_all k is [] kept h = rw (append-nil is) kept
-kept_all k is (l ∷ ls) kept h =
+consistent_all : (k : Known) (is : List LineSaid) (ls : List (List ℕ)) → Consistent k is → first_refused source_kinds.Program is ls ≡ None → Consistent k (is ++ map item_at ls)
+consistent_all k is [] consistent h = rw (append-nil is) consistent
+consistent_all k is (l ∷ ls) consistent h =
     let (taken, rest) = option_or-none (refused source_kinds.Program is l) (first_refused source_kinds.Program (is ++ item_at l ∷ []) ls) h in
     let (i, e, m) = accepted is l taken in
     let at : item_at l ≡ i = ap (λ r. result_unwrap_or r (record { label = None; statement = says.empty })) e in
-    let next : Kept k (is ++ item_at l ∷ []) = rw at (kept_more k is i kept (read-insn l i e) m) in
-    subst (Kept k) (append_assoc is (item_at l ∷ []) (map item_at ls)) (kept_all k (is ++ item_at l ∷ []) ls next rest)
+    let next : Consistent k (is ++ item_at l ∷ []) = rw at (consistent_more k is i consistent (read-insn l i e) m) in
+    subst (Consistent k) (append_assoc is (item_at l ∷ []) (map item_at ls)) (consistent_all k (is ++ item_at l ∷ []) ls next rest)
 
 -- ---- the words of the code
 
@@ -219,15 +219,15 @@ suits (Some l) n e h = tt
 abbrev image_of : List LineSaid → Entry → List ℕ → Parts
 image_of is entry words = parts_with (version_of (end is).level) (numbers_of is entry) words (flat_map (bytes_in (known is)) (layout is))
 
-good_image : (is : List LineSaid) (entry : Entry) → Kept (known is) is → FieldsFit (numbers_of is entry) → (image : Parts) × IsImage image × (program_of image ≡ program is entry)
+good_image : (is : List LineSaid) (entry : Entry) → Consistent (known is) is → FieldsFit (numbers_of is entry) → (image : Parts) × IsImage image × (program_of image ≡ program is entry)
 unfolding segments_of
-good_image is entry kept fit =
+good_image is entry consistent fit =
     let n : Numbers = numbers_of is entry in
     let level : level_number (numbered_level (unwrap_or (end is).level 1)) ≡ unwrap_or (end is).level 1 = fitting_level (unwrap_or (end is).level 1) fit.level in
-    let allowed : All (λ i. IsInsn i × (level_number (level_of i) ≤ level_number (numbered_level (unwrap_or (end is).level 1)))) (flat_map (code_in (known is)) (layout is)) = rw level kept.code in
+    let allowed : All (λ i. IsInsn i × (level_number (level_of i) ≤ level_number (numbered_level (unwrap_or (end is).level 1)))) (flat_map (code_in (known is)) (layout is)) = rw level consistent.code in
     let w = words_of (numbered_level (unwrap_or (end is).level 1)) (flat_map (code_in (known is)) (layout is)) allowed in
-    let (filled, single) = own-filled (end is).level (end is).section (end is).earlier (end is).last (data_base_of (fields (layout is))) (length (flat_map (bytes_in (known is)) (layout is))) kept.sound.filled in
-    let count : length w.words ≡ (end is).words = w.count ∙ sym kept.words in
+    let (filled, single) = own-filled (end is).level (end is).section (end is).earlier (end is).last (data_base_of (fields (layout is))) (length (flat_map (bytes_in (known is)) (layout is))) consistent.sound.filled in
+    let count : length w.words ≡ (end is).words = w.count ∙ sym consistent.words in
     let same : numbers (image_of is entry w.words) ≡ numbers_of is entry = λ i. record (numbers_of is entry) { level = level i; words = count i } in
     let code : program_of (image_of is entry w.words) ≡ program is entry = ap (λ (c : List Form). record (program is entry) { code = c }) w.read in
     let one : (end is).level ≡ None → length (own_segments (end is).level (segments_of is)) ≡ 1 = λ e. rw e (single e) in (
@@ -236,7 +236,7 @@ good_image is entry kept fit =
         version = subst (SuitsVersion (version_of (end is).level)) (sym same) (suits (end is).level (numbers_of is entry) refl one);
         fields = subst FieldsFit (sym same) fit;
         words = w.good;
-        bytes = kept.bytes;
+        bytes = consistent.bytes;
         filled = filled;
       },
       code,
@@ -252,20 +252,20 @@ no_field : (o : Option ℕ) → option_map ImageField o ≡ None → o ≡ None
 no_field None h = refl
 no_field (Some n) h = cc
 
-made_image : (is : List LineSaid) (e : Option Entry) (made : Program) → Kept (known is) is → made_at is e ≡ Ok made → (image : Parts) × IsImage image × (program_of image ≡ made)
-made_image is None made kept h = cc
-made_image is (Some entry) made kept h =
+made_image : (is : List LineSaid) (e : Option Entry) (made : Program) → Consistent (known is) is → made_at is e ≡ Ok made → (image : Parts) × IsImage image × (program_of image ≡ made)
+made_image is None made consistent h = cc
+made_image is (Some entry) made consistent h =
     let (defined, a) = unless-ok (option_map Undefined (first (undefined_line (known is)) (flat_map names_in (layout is)))) _ made h in
     let (fine, b) = unless-ok (option_map ImageField (least_bad_field (numbers_of is entry))) _ made a in
     let (met, c) = unless-ok (option_map Reach (first (unmet_line (known is)) (flat_map names_in (layout is)))) _ made b in
     let same : program is entry ≡ made = cc c in
-    let (image, good, code) = good_image is entry kept (FieldsFit-least (numbers_of is entry) (no_field (least_bad_field (numbers_of is entry)) fine)) in
+    let (image, good, code) = good_image is entry consistent (FieldsFit-least (numbers_of is entry) (no_field (least_bad_field (numbers_of is entry)) fine)) in
     (image, good, code ∙ same)
 
 pub some-image : (source : List ℕ) (found : Program) → assembled source ≡ Ok found → (image : Parts) × IsSourceOf source image
 unfolding assembled made
 some-image source found h =
     let (taken, done) = unless-ok (first_refused source_kinds.Program [] (lines source)) (made (map item_at (lines source))) found h in
-    let kept : Kept (known (map item_at (lines source))) (map item_at (lines source)) = kept_all (known (map item_at (lines source))) [] (lines source) (kept_none (known (map item_at (lines source)))) taken in
-    let (image, good, code) = made_image (map item_at (lines source)) (fields (layout (map item_at (lines source)))).entry found kept done in
+    let consistent : Consistent (known (map item_at (lines source))) (map item_at (lines source)) = consistent_all (known (map item_at (lines source))) [] (lines source) (consistent_none (known (map item_at (lines source)))) taken in
+    let (image, good, code) = made_image (map item_at (lines source)) (fields (layout (map item_at (lines source)))).entry found consistent done in
     (image, (good, h ∙ ap Ok (sym code)))
