@@ -17,7 +17,7 @@ use std::alloc::Global;
 /// The most bytes of an image file.
 pub const IMAGE_LIMIT: u64 = 18_874_368;
 
-/// The image that the bytes of a file spell, which may keep them.
+/// The image that the bytes of a file spell. It may hold those very bytes.
 ///
 /// # Errors
 ///
