@@ -1,6 +1,5 @@
 -- The commands: the form of each, its kind, and the files that are there where it meets no missing one.
 use Rattle.alpha_request.specs.Command.{Command, check, dis, asm, fix, make_module, link, replay, record_run, run, imprecise, debug, trial}
-use Rattle.std.specs.Prelude.{ℕ, List}
 use Rattle.alpha_io.specs.Files.{Files}
 use Rattle.alpha_cmd.specs.declared.status.Status.{Status}
 use Rattle.alpha_cmd.specs.Answer.{World, Answer, AnswerBy}
