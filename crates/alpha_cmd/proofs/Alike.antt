@@ -1,12 +1,12 @@
 -- On an image that `check` accepts, a run of the imprecise machine has the answer of the sequential run, but for the number
 -- of words that it draws.
-use Rattle.std.proofs.Common.{◌≡◌, ◌⊎◌, ◌∙◌, ℕ, Bool, true, false, List, Option, None, Some, IsSome, refl, sym, ap, subst, inl, inr, ⊎_elim}
+use Rattle.std.proofs.Common.{◌≡◌, ◌⊎◌, ◌∙◌, ℕ, Bool, true, false, List, Option, None, Some, IsSome, refl, sym, ap, subst}
 use Rattle.alpha_io.specs.Files.{Files, HasFile}
 use Rattle.alpha_io.specs.Shelved.{Shelved}
 use Rattle.alpha_io.specs.Sunk.{Sunk}
 use Rattle.alpha_image.specs.Parts.{Parts, IsImage, spelling}
 use Rattle.alpha_shadow.specs.Broken.{IsAccepted}
-use Rattle.alpha_request.specs.Command.{Command, check, run, imprecise}
+use Rattle.alpha_request.specs.Command.{check, run, imprecise}
 use Rattle.alpha_request.specs.declared.options.RunOptions.{RunOptions}
 use Rattle.alpha_request.specs.Options.{Origin}
 use Rattle.alpha_restart.proofs.Agreeing.{accepted_restarts}
@@ -37,7 +37,7 @@ use Rattle.alpha_cmd.specs.Alike.{but_drawn, undrawn, IsChecked, HasWords}
 use Rattle.alpha_cmd.proofs.Forms.{done_goes}
 use Rattle.alpha_cmd.proofs.Commands.Check.{lawful}
 use Rattle.alpha_cmd.proofs.Commands.Run.{shown_answer}
-use Rattle.alpha_cmd.proofs.Commands.Imprecise.{Planned-lawful, passed}
+use Rattle.alpha_cmd.proofs.Commands.Imprecise.{Planned-lawful, passed, some_shown, wild_answer}
 use Rattle.alpha_cmd.proofs.Lawful.{Then-found}
 use Rattle.alpha_cmd.proofs.Tried.{AnswerOf-single, asked_answer, done_tried}
 use Rattle.alpha_cmd.proofs.Endings.{given_undrawn}
@@ -153,6 +153,15 @@ run_answer options choices force file w b files words checked (o, h, is) =
         shows good o is
         (Then-found (Then (PlanOf w.files file choices) (Passes force)) (RunsWild options force w.input) (law.single files) plan
         (plan, found, passed force plan (λ judges. good.accepted)) o h)
+
+-- it has an answer, whatever the input tells
+pub some_checked_run : (options : RunOptions) (choices : Origin) (force : Bool) (file : List ℕ) (w : World) → HasWords w.files choices → IsChecked file w
+    → (b : Answer) × AnswerBy (wilds.steps options choices force file) w b
+some_checked_run options choices force file w words checked =
+    let good = checked_good file w checked in
+    let plan = plan_by good.image words.0 in
+    let (s, may) = some_shown options force w.input plan in
+    (answer_wild w.input s, wild_answer w options choices force file plan s (good.image, good.found, (words.0, words.1, refl)) (passed force plan (λ judges. good.accepted)) may)
 
 -- the answers are the same but for the number, where the input is told
 pub alike : (options : RunOptions) (choices : Origin) (force : Bool) (file : List ℕ) (w : World) (a b : Answer) → IsSome w.files → IsSome w.input

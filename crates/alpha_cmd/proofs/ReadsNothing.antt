@@ -10,7 +10,7 @@ use Rattle.alpha_request.specs.declared.options.RunOptions.{RunOptions}
 use Rattle.alpha_seq.specs.State.{Program, State, Event, Went, Barriered, Overflowed, Ends, Stepped, stepped}
 use Rattle.alpha_seq.specs.Start.{start}
 use Rattle.alpha_seq.specs.Step.{next_class, step_from}
-use Rattle.alpha_seq.specs.Run.{Run, Mark, marks_of, started, end_of, is_over, extended_by, advance, after, Shown, shown, sequential}
+use Rattle.alpha_seq.specs.Run.{Run, Mark, marks_of, started, end_of, is_over, extended_by, advance, after, Shown, shown}
 use Rattle.alpha_seq.specs.Inputs.{over_input, advance_over, run_over, HasMade, takes_input, IsUnread}
 use Rattle.alpha_seq.proofs.Inputs.{advance_over-going, advance_over-over}
 use Rattle.alpha_seq.proofs.Running.{after-over, after-steps}
@@ -31,7 +31,8 @@ use Rattle.alpha_cmd.proofs.Lawful.{Then-found}
 use Rattle.alpha_cmd.proofs.Stages.{ImageOf-lawful}
 use Rattle.alpha_cmd.proofs.Tried.{asked_answer}
 use Rattle.alpha_cmd.proofs.Endings.{given_one, given_undrawn}
-use Rattle.alpha_cmd.proofs.Alike.{run_answer}
+use Rattle.alpha_cmd.proofs.Commands.Run.{some_shown, shown_answer}
+use Rattle.alpha_cmd.proofs.Alike.{run_answer, some_checked_run}
 
 -- ---- a run over another input
 
@@ -154,11 +155,25 @@ one_unread options file image w a told found unread (o, h, is) =
     by (goes b) is (s, may, shows) = is ∙ (shows ∙ one_shown options image w.input s unread may)
     by (stops status line) is never = absurd never
 
+-- and it is one
+pub some_unread : (options : RunOptions) (file : List ℕ) (image : Parts) (w : World) → ImageOf w.files file (goes image) → ReadsNothing options image
+    → AnswerBy (runs.steps options file) w (answer_unread options image w.input)
+some_unread options file image w found unread =
+    let (s, may) = some_shown options w.input image in
+    subst (AnswerBy (runs.steps options file) w) (one_shown options image w.input s unread may) (shown_answer w options file image s found may)
+
 -- and of a run of the imprecise machine, by whatever words
 pub unread_alike : (options : RunOptions) (choices : Origin) (force : Bool) (file : List ℕ) (image : Parts) (w : World) (b : Answer) → IsSome w.files → ImageOf w.files file (goes image)
     → ReadsNothing options image → HasWords w.files choices → IsChecked file w → AnswerBy (wilds.steps options choices force file) w b → undrawn b ≡ answer_unread options image w.input
 unread_alike options choices force file image w b told found unread words checked is =
     one_unread options file image w (undrawn b) told found unread (run_answer options choices force file w b told words checked is)
+
+-- which has such an answer
+pub some_unread_alike : (options : RunOptions) (choices : Origin) (force : Bool) (file : List ℕ) (image : Parts) (w : World) → IsSome w.files → ImageOf w.files file (goes image)
+    → ReadsNothing options image → HasWords w.files choices → IsChecked file w → (b : Answer) × AnswerBy (wilds.steps options choices force file) w b × (undrawn b ≡ answer_unread options image w.input)
+some_unread_alike options choices force file image w told found unread words checked =
+    let (b, is) = some_checked_run options choices force file w words checked in
+    (b, is, unread_alike options choices force file image w b told found unread words checked is)
 
 -- ---- a call
 

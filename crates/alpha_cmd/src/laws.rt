@@ -60,20 +60,30 @@ pub fn laws_of_restarts()
         → AnswerBy (wilds.steps options choices force file) w b → undrawn b ≡ a }
 {}
 
-/// The laws of programs that read nothing, in the steps that are asked for: where the image of a told file
-/// is one, `run FILE` has one answer over every source, told or not. It is that of the sequential run over
-/// no input, and all input is left. `run --imprecise FILE` has that answer where `check FILE` is done, but
-/// for the number of words that it draws.
+/// The laws of programs that read nothing in the steps that are asked for. Where the image of a told file is
+/// such a program, `run FILE` has one answer over every source, told or not, and no other: that of the
+/// sequential run over no input, with all input left. Where `check FILE` is done too and the choices have
+/// words, `run --imprecise FILE` has an answer, and each of its answers is that of `run FILE`, but for the
+/// number of words that it draws.
 pub fn laws_of_unread_inputs()
     ensures run { (options : RunOptions) (file : List ℕ) (image : Parts) (w : World) (a : Answer)
         → IsSome w.files → ImageOf w.files file (goes image) → ReadsNothing options image
         → AnswerBy (runs.steps options file) w a → a ≡ answer_unread options image w.input }
+    ensures some_run { (options : RunOptions) (file : List ℕ) (image : Parts) (w : World)
+        → ImageOf w.files file (goes image) → ReadsNothing options image
+        → AnswerBy (runs.steps options file) w (answer_unread options image w.input) }
     ensures imprecise { (options : RunOptions) (choices : Origin) (force : Bool) (file : List ℕ)
         (image : Parts) (w : World) (b : Answer) → IsSome w.files
         → ImageOf w.files file (goes image) → ReadsNothing options image
         → HasWords w.files choices → IsChecked file w
         → AnswerBy (wilds.steps options choices force file) w b
         → undrawn b ≡ answer_unread options image w.input }
+    ensures some_imprecise { (options : RunOptions) (choices : Origin) (force : Bool)
+        (file : List ℕ) (image : Parts) (w : World) → IsSome w.files
+        → ImageOf w.files file (goes image) → ReadsNothing options image
+        → HasWords w.files choices → IsChecked file w
+        → (b : Answer) × AnswerBy (wilds.steps options choices force file) w b
+        × (undrawn b ≡ answer_unread options image w.input) }
 {}
 
 /// The laws of accepted files. The spelling of a good image is short enough for a file of any call; and
