@@ -78,13 +78,13 @@ fn numbers_of(alloc: Global, text: &str) -> anyhow::Result<Vec<u64>> {
     Ok(numbers)
 }
 
-// The fault, or the parts of the image, whose bytes are those that were read; the same where the image keeps them.
+// The fault, or the parts of the image, whose bytes are those that were read; the same where the image takes them over.
 fn read(alloc: Global, text: &str) -> anyhow::Result<String> {
     let bytes = bytes_of(alloc, text)?;
     let answer = answer_of(alloc, read_image(alloc, &bytes), &bytes)?;
-    let kept = answer_of(alloc, take_image(alloc, bytes_of(alloc, text)?), &bytes)?;
-    if kept != answer {
-        return Ok(format!(in alloc; "another answer where the bytes are kept")?);
+    let taken = answer_of(alloc, take_image(alloc, bytes_of(alloc, text)?), &bytes)?;
+    if taken != answer {
+        return Ok(format!(in alloc; "another answer where the image takes the bytes over")?);
     }
     Ok(answer)
 }
