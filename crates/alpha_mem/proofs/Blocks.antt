@@ -63,7 +63,7 @@ one_passes_both {A = A} P p q r c (x ∷ xs) pc qc pqr all one hp hq =
     λ e f. or_right (r x) _ (one_passes_both P p q r c xs pc qc pqr all.1 (one-rest c x xs one) e f) in
     ⊎_elim (λ (e : p x ≡ true). ⊎_elim (λ (f : q x ≡ true). first e f) (λ (f : list_any q xs ≡ true). absurd (alone q qc (pc x all.0 e) f)) (or_cases (q x) (list_any q xs) hq)) (λ (e : list_any p xs ≡ true). ⊎_elim (λ (f : q x ≡ true). absurd (alone p pc (qc x all.0 f) e)) (λ (f : list_any q xs ≡ true). rest e f) (or_cases (q x) (list_any q xs) hq)) (or_cases (p x) (list_any p xs) hp)
 
--- a write keeps where the block lies
+-- a write leaves the block where it lies
 pub shape-overwritten : (b : Block) (a : ℕ) (xs : List ℕ) → holds (shape_of b) a (length xs) ≡ true → shape_of (overwritten b a xs) ≡ shape_of b
 shape-overwritten b a xs h =
     let p = holds-true (shape_of b) a (length xs) h in

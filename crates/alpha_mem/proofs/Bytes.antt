@@ -15,7 +15,7 @@ has x s = holds s x 1
 abbrev pub AreApart : List Shape → Type 0
 AreApart ss = (x : ℕ) → count_by (has x) ss ≤ 1
 
--- a write keeps where the blocks lie
+-- a write leaves each block where it lies
 pub shapes-write_bytes : (m : List Block) (a : ℕ) (xs : List ℕ) → shapes (write_bytes m a xs) ≡ shapes m
 unfolding write_bytes
 shapes-write_bytes [] a xs = refl
@@ -41,11 +41,11 @@ byte_at-none (b ∷ m) x h =
 -- one byte of a written block
 written_first : (b : Block) (m n : List Block) (a : ℕ) (xs : List ℕ) (x : ℕ) → holds (shape_of b) a (length xs) ≡ true → (x < a) ⊎ (a + length xs ≤ x) → byte_at m x ≡ byte_at n x → byte_at (overwritten b a xs ∷ m) x ≡ byte_at (b ∷ n) x
 written_first b m n a xs x h outside same =
-    let kept = ap (has x) (shape-overwritten b a xs h) in
+    let unmoved = ap (has x) (shape-overwritten b a xs h) in
     let in_range = holds-true (shape_of b) a (length xs) h in
     ⊎_elim (λ (e : has x (shape_of b) ≡ true).
     let p = holds-true (shape_of b) x 1 e in
-    byte_at-first (overwritten b a xs) m x (kept ∙ e) ∙ (⊎_elim (λ (o : x < a). get_or-overwritten_below b.bytes xs (a - b.first) (x - b.first) (omega arith) (omega arith)) (λ (o : a + length xs ≤ x). get_or-overwritten_above b.bytes xs (a - b.first) (x - b.first) (omega arith) (omega arith)) outside ∙ sym (byte_at-first b n x e))) (λ (e : has x (shape_of b) ≡ false). byte_at-rest (overwritten b a xs) m x (kept ∙ e) ∙ (same ∙ sym (byte_at-rest b n x e))) (cases_Bool (has x (shape_of b)))
+    byte_at-first (overwritten b a xs) m x (unmoved ∙ e) ∙ (⊎_elim (λ (o : x < a). get_or-overwritten_below b.bytes xs (a - b.first) (x - b.first) (omega arith) (omega arith)) (λ (o : a + length xs ≤ x). get_or-overwritten_above b.bytes xs (a - b.first) (x - b.first) (omega arith) (omega arith)) outside ∙ sym (byte_at-first b n x e))) (λ (e : has x (shape_of b) ≡ false). byte_at-rest (overwritten b a xs) m x (unmoved ∙ e) ∙ (same ∙ sym (byte_at-rest b n x e))) (cases_Bool (has x (shape_of b)))
 
 same_first : (b : Block) (m n : List Block) (x : ℕ) → byte_at m x ≡ byte_at n x → byte_at (b ∷ m) x ≡ byte_at (b ∷ n) x
 same_first b m n x same =
@@ -162,5 +162,5 @@ length-bytes_at_le (b ∷ m) a n =
 -- a write of no bytes changes nothing
 pub write_bytes-nothing : (m : List Block) (a : ℕ) → AreApart (shapes m) → write_bytes m a [] ≡ m
 write_bytes-nothing m a apart =
-    let kept = shapes-write_bytes m a [] in
-    same_memory (write_bytes m a []) m kept (subst AreApart (sym kept) apart) (λ x. byte_at-write_bytes_outside m a [] x (⊎_elim (λ (h : x < a). inl h) (λ (h : a ≤ x). inr (omega arith)) (cases_lt x a)))
+    let unmoved = shapes-write_bytes m a [] in
+    same_memory (write_bytes m a []) m unmoved (subst AreApart (sym unmoved) apart) (λ x. byte_at-write_bytes_outside m a [] x (⊎_elim (λ (h : x < a). inl h) (λ (h : a ≤ x). inr (omega arith)) (cases_lt x a)))

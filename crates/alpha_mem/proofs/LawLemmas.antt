@@ -12,19 +12,19 @@ use Rattle.alpha_mem.proofs.Numbers as numbers
 use Rattle.alpha_mem.proofs.Faults as faults
 use Rattle.alpha_mem.proofs.Bytes as bytes
 use Rattle.alpha_mem.proofs.Places as places
-use Rattle.alpha_mem.proofs.Kept as kept
+use Rattle.alpha_mem.proofs.Memories as memories
 
 -- a range of some bytes lies in one block
 in_one : (m : List Block) (a n : ℕ) → 0 < n → IsTrue (within (shapes m) Load a n) → list_any (λ s. holds s a n) (shapes m) ≡ true
 in_one m a n some there = sym (faults.within-one_block (shapes m) Load a n some) ∙ there
 
--- a write keeps where the blocks lie
+-- a write leaves each block where it lies
 pub shapes-write_bytes : (m : List Block) (a : ℕ) (xs : List ℕ) → shapes (write_bytes m a xs) ≡ shapes m
 shapes-write_bytes m a xs = bytes.shapes-write_bytes m a xs
 
--- a write of bytes keeps a memory one
+-- after a write of bytes a memory is still one
 pub IsMemory-write_bytes : (m : List Block) (a : ℕ) (xs : List ℕ) → IsMemory m → ((k : ℕ) → slice_index xs k < 256) → IsMemory (write_bytes m a xs)
-IsMemory-write_bytes m a xs memory small = kept.IsMemory-write_bytes m a xs memory small
+IsMemory-write_bytes m a xs memory small = memories.IsMemory-write_bytes m a xs memory small
 
 -- a byte outside the written range stays
 pub byte_at-write_bytes_outside : (m : List Block) (a : ℕ) (xs : List ℕ) (x : ℕ) → (x < a) ⊎ (a + length xs ≤ x) → byte_at (write_bytes m a xs) x ≡ byte_at m x
@@ -60,9 +60,9 @@ length-bytes_at m a (suc n) there = bytes.length-bytes_at m a (suc n) (in_one m 
 -- what was written is read back
 pub bytes_at-write_bytes : (m : List Block) (a : ℕ) (xs : List ℕ) → IsLayout (shapes m) → IsTrue (within (shapes m) Load a (length xs)) → bytes_at (write_bytes m a xs) a (length xs) ≡ xs
 bytes_at-write_bytes m a xs layout there =
-    let kept = shapes-write_bytes m a xs in
-    let layout_after : IsLayout (shapes (write_bytes m a xs)) = subst IsLayout (sym kept) layout in
-    let there_after : IsTrue (within (shapes (write_bytes m a xs)) Load a (length xs)) = ap (λ ss. within ss Load a (length xs)) kept ∙ there in
+    let unmoved = shapes-write_bytes m a xs in
+    let layout_after : IsLayout (shapes (write_bytes m a xs)) = subst IsLayout (sym unmoved) layout in
+    let there_after : IsTrue (within (shapes (write_bytes m a xs)) Load a (length xs)) = ap (λ ss. within ss Load a (length xs)) unmoved ∙ there in
     let sized = length-bytes_at (write_bytes m a xs) a (length xs) there_after in
     ext_get_or 0 (bytes_at (write_bytes m a xs) a (length xs)) xs sized (λ k less.
     let k_of : a + k - a ≡ k = omega arith in
@@ -120,4 +120,4 @@ within-below ss intent a n layout some there = faults.within-below ss intent a n
 -- free addresses that a new block doesn't take stay free
 pub IsFree-push : (m : List Block) (first : ℕ) (xs : List ℕ) (zeroed : ℕ) (writable : Bool) (a n : ℕ) → IsFree (shapes m) a n → (a + n ≤ first) ⊎ (first + length xs + zeroed ≤ a) → IsFree (shapes (m ++ block first xs zeroed writable ∷ [])) a n
 IsFree-push m first xs zeroed writable a n free apart =
-    kept.IsFree-push m first xs zeroed writable a n free apart
+    memories.IsFree-push m first xs zeroed writable a n free apart

@@ -4,6 +4,6 @@ mod Faults
 mod Bytes
 mod Places
 mod Writable
-mod Kept
+mod Memories
 pub mod LawLemmas
 pub mod Regions

@@ -5,8 +5,8 @@ ghost use Rattle.alpha_mem.specs.Block.{Block, Shape, shapes, within, block};
 ghost use Rattle.alpha_mem.specs.Fault.{each_within, fault_of};
 ghost use Rattle.alpha_mem.specs.Memory.{bytes_at, byte_at, write_bytes, IsFree, IsLayout, IsMemory};
 
-/// The laws of writes: they keep where the blocks lie, and change exactly the bytes that they
-/// name. Two that follow one another are one, and what was written is read back.
+/// The laws of writes: they leave each block where it lies, and change exactly the bytes that
+/// they name. Two that follow one another are one, and what was written is read back.
 pub fn laws_of_writes()
     ensures shapes { (m : List Block) (a : ℕ) (xs : List ℕ)
         → shapes (write_bytes m a xs) ≡ shapes m }

@@ -8,8 +8,8 @@
 //! - [`Size`] is how many bytes a load or a store has, [`MemFault`] why one is refused. [`number_of`]
 //!   is the number that bytes are in memory.
 //! - The functions of `src/laws.rt` do nothing: their contracts are the laws of memory.
-//!   [`laws_of_writes`]: a write keeps where the regions lie, keeps each byte outside its range, and
-//!   puts its bytes inside; two writes that follow one another are one. [`laws_of_reads`]: two
+//!   [`laws_of_writes`]: a write leaves each region where it lies and each byte outside its range as it
+//!   was, and puts its bytes inside; two writes that follow one another are one. [`laws_of_reads`]: two
 //!   memories whose regions lie alike and whose bytes are equal are equal. [`laws_of_accesses`]: an
 //!   aligned access has its bytes in one region, and one without a fault ends at or below 2 ^ 30.
 //!   [`laws_of_ranges`] has ranges within one region, [`laws_of_numbers`] numbers in memory, and

@@ -1,7 +1,7 @@
 use Rattle.std.proofs.Common.{◌≡◌, ◌+◌, ◌++◌, [], ◌∷◌, length, sym, ap, subst, ◌∙◌, arith}
 use Rattle.alpha_mem.specs.Block.{Block, shapes, block}
 use Rattle.alpha_mem.specs.Memory.{IsFree, IsMemory}
-use Rattle.alpha_mem.proofs.Kept.{IsMemory-push}
+use Rattle.alpha_mem.proofs.Memories.{IsMemory-push}
 use Rattle.alpha_mem.proofs.memory.Memory.add.Goals as goal
 
 pub invariant_of-self-2 : goal.invariant_of-self-2

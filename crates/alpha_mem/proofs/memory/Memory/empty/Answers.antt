@@ -1,6 +1,6 @@
 use Rattle.std.proofs.Common.{sym, subst}
 use Rattle.alpha_mem.specs.Memory.{IsMemory}
-use Rattle.alpha_mem.proofs.Kept.{IsMemory-empty}
+use Rattle.alpha_mem.proofs.Memories.{IsMemory-empty}
 use Rattle.alpha_mem.proofs.memory.Memory.empty.Goals as goal
 
 pub invariant_of-result : goal.invariant_of-result

@@ -8,7 +8,7 @@ use Rattle.alpha_mem.proofs.Numbers.{low_bytes-byte}
 use Rattle.alpha_mem.proofs.Faults.{answers_align, answers_none, answers_region}
 use Rattle.alpha_mem.proofs.Places.{spans-at_position}
 use Rattle.alpha_mem.proofs.Bytes.{shapes-write_bytes}
-use Rattle.alpha_mem.proofs.Kept.{IsMemory-write_bytes}
+use Rattle.alpha_mem.proofs.Memories.{IsMemory-write_bytes}
 use Rattle.alpha_mem.proofs.Writable.{place_found, store_there, set-stored}
 use Rattle.alpha_mem.proofs.memory.Memory.store.Goals as goal
 

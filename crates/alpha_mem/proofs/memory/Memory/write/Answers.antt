@@ -3,7 +3,7 @@ use Rattle.alpha_mem.specs.Block.{shapes}
 use Rattle.alpha_mem.specs.Memory.{write_bytes, IsMemory}
 use Rattle.alpha_mem.proofs.Places.{spans, spans-at_position, set-at_position, unchanged-missing}
 use Rattle.alpha_mem.proofs.Bytes.{shapes-write_bytes}
-use Rattle.alpha_mem.proofs.Kept.{IsMemory-write_bytes}
+use Rattle.alpha_mem.proofs.Memories.{IsMemory-write_bytes}
 use Rattle.alpha_mem.proofs.memory.Memory.write.Goals as goal
 
 pub put-requires : goal.put-requires

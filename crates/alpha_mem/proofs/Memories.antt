@@ -1,4 +1,4 @@
--- What stays a memory.
+-- What is a memory: no blocks, a memory after a write, and one with a block more.
 use Rattle.std.proofs.Common.{◌≡◌, ℕ, ◌+◌, ◌-◌, ◌%◌, ◌^◌, ◌<◌, ◌≤◌, ◌⊎◌, Bool, true, false, cond, List, [], ◌∷◌, ◌++◌, length, get_or, replicate, refl, sym, ap, subst, ◌∙◌, inl, inr, ⊎_elim, arith, count_by}
 use Rattle.std.specs.List.{list_any}
 use Rattle.std.proofs.lemmas.Bool.{cases_Bool, cases_lt, cond-true, cond-false, cond_both, false_from_ne_true, or_from}
@@ -24,7 +24,7 @@ written_byte m a xs memory there small x =
     let below : (n k : ℕ) → n ≡ k → k < 256 → n < 256 = λ n k e h. omega arith in
     ⊎_elim (λ (h : x < a). below _ _ (byte_at-write_bytes_outside m a xs x (inl h)) (memory.bytes x)) (λ (h : a ≤ x). ⊎_elim (λ (g : x < a + length xs). below _ _ (byte_at-write_bytes_inside m a xs x memory.layout.apart there h g) (small (x - a))) (λ (g : a + length xs ≤ x). below _ _ (byte_at-write_bytes_outside m a xs x (inr g)) (memory.bytes x)) (cases_lt x (a + length xs))) (cases_lt x a)
 
--- a write keeps a memory one
+-- after a write a memory is still one
 pub IsMemory-write_bytes : (m : List Block) (a : ℕ) (xs : List ℕ) → IsMemory m → ((k : ℕ) → get_or xs k 0 < 256) → IsMemory (write_bytes m a xs)
 IsMemory-write_bytes m a xs memory small =
     ⊎_elim (λ (there : list_any (λ s. holds s a (length xs)) (shapes m) ≡ true). record { layout = subst IsLayout (sym (shapes-write_bytes m a xs)) memory.layout; bytes = written_byte m a xs memory there small }) (λ (none : list_any (λ s. holds s a (length xs)) (shapes m) ≡ false). subst IsMemory (sym (write_bytes-none m a xs (sym (list_any-map (λ s. holds s a (length xs)) shape_of m) ∙ none))) memory) (cases_Bool _)
