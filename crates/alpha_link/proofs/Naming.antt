@@ -30,9 +30,9 @@ name_more name other address find new free e = by (bytes_eq name other) refl e
         f ∙ ap (λ (o : Option ℕ). option_or o (Some address)) (sym missing)
     by false t f = f ∙ or_none (find other)
 
--- one that has an address keeps it
-pub name_kept : (name other : List ℕ) (address : ℕ) (find : List ℕ → Option ℕ) → is_some (find name) ≡ true → find other ≡ option_or (find other) (cond (bytes_eq name other) (Some address) None)
-name_kept name other address find there = by (bytes_eq name other) refl
+-- one that has an address has the same one afterwards
+pub name_same : (name other : List ℕ) (address : ℕ) (find : List ℕ → Option ℕ) → is_some (find name) ≡ true → find other ≡ option_or (find other) (cond (bytes_eq name other) (Some address) None)
+name_same name other address find there = by (bytes_eq name other) refl
   where
     some : (o : Option ℕ) → is_some o ≡ true → o ≡ option_or o (Some address)
     some None h = absurd cc

@@ -1,4 +1,4 @@
--- The labels that the items of a source define and name, as the pass keeps them.
+-- The labels that the items of a source define and name, as the pass has them.
 use Rattle.std.proofs.Common.{◌≡◌, ℕ, Bool, true, false, cond, ◌||◌, ◌&&◌, List, [], ◌∷◌, ◌++◌, map, Option, None, Some, Bor, is_some, refl, sym, ap, ◌∙◌}
 use Rattle.std.specs.Prelude.{is_none}
 use Rattle.std.specs.Option.{option_or}

@@ -53,17 +53,17 @@ to_words bytes z b e = headed bytes (Ok (z, b)) e
 pub to_data : (bytes : List ℕ) (z : Sizes) (b words b2 : List ℕ) → Heads bytes z b → words_at (length bytes) z.words b ≡ Ok (words, b2) → module_at bytes ≡ filled_at (length bytes) z words b2
 to_data bytes z b words b2 e f = to_words bytes z b e ∙ coded (length bytes) z b (Ok (words, b2)) f
 
-pub to_symbols : (bytes : List ℕ) (z : Sizes) (b words b2 kept b3 : List ℕ) → Heads bytes z b → words_at (length bytes) z.words b ≡ Ok (words, b2) → taken (length bytes) z.filled b2 ≡ Ok (kept, b3)
-    → module_at bytes ≡ named_at (length bytes) z words kept b3
-to_symbols bytes z b words b2 kept b3 e f g = to_data bytes z b words b2 e f ∙ filled (length bytes) z words b2 (Ok (kept, b3)) g
+pub to_symbols : (bytes : List ℕ) (z : Sizes) (b words b2 stored b3 : List ℕ) → Heads bytes z b → words_at (length bytes) z.words b ≡ Ok (words, b2) → taken (length bytes) z.filled b2 ≡ Ok (stored, b3)
+    → module_at bytes ≡ named_at (length bytes) z words stored b3
+to_symbols bytes z b words b2 stored b3 e f g = to_data bytes z b words b2 e f ∙ filled (length bytes) z words b2 (Ok (stored, b3)) g
 
-pub to_relocations : (bytes : List ℕ) (z : Sizes) (b words b2 kept b3 : List ℕ) (symbols : List Named) (b4 : List ℕ) → Heads bytes z b → words_at (length bytes) z.words b ≡ Ok (words, b2) → taken (length bytes) z.filled b2 ≡ Ok (kept, b3)
-    → items_at (symbol_at (length bytes) z) z.symbols [] b3 ≡ Ok (symbols, b4) → module_at bytes ≡ relocated_at (length bytes) z words kept symbols b4
-to_relocations bytes z b words b2 kept b3 symbols b4 e f g h =
-    to_symbols bytes z b words b2 kept b3 e f g ∙ named (length bytes) z words kept b3 (Ok (symbols, b4)) h
+pub to_relocations : (bytes : List ℕ) (z : Sizes) (b words b2 stored b3 : List ℕ) (symbols : List Named) (b4 : List ℕ) → Heads bytes z b → words_at (length bytes) z.words b ≡ Ok (words, b2) → taken (length bytes) z.filled b2 ≡ Ok (stored, b3)
+    → items_at (symbol_at (length bytes) z) z.symbols [] b3 ≡ Ok (symbols, b4) → module_at bytes ≡ relocated_at (length bytes) z words stored symbols b4
+to_relocations bytes z b words b2 stored b3 symbols b4 e f g h =
+    to_symbols bytes z b words b2 stored b3 e f g ∙ named (length bytes) z words stored b3 (Ok (symbols, b4)) h
 
-pub to_end : (bytes : List ℕ) (z : Sizes) (b words b2 kept b3 : List ℕ) (symbols : List Named) (b4 : List ℕ) (relocations : List Relocation) (b5 : List ℕ) → Heads bytes z b → words_at (length bytes) z.words b ≡ Ok (words, b2)
-    → taken (length bytes) z.filled b2 ≡ Ok (kept, b3) → items_at (symbol_at (length bytes) z) z.symbols [] b3 ≡ Ok (symbols, b4) → items_at (relocation_at (length bytes) z (body words kept)) z.relocations [] b4 ≡ Ok (relocations, b5)
-    → module_at bytes ≡ ended (length bytes) (parts z words kept symbols relocations) b5
-to_end bytes z b words b2 kept b3 symbols b4 relocations b5 e f g h i =
-    to_relocations bytes z b words b2 kept b3 symbols b4 e f g h ∙ relocated (length bytes) z words kept symbols b4 (Ok (relocations, b5)) i
+pub to_end : (bytes : List ℕ) (z : Sizes) (b words b2 stored b3 : List ℕ) (symbols : List Named) (b4 : List ℕ) (relocations : List Relocation) (b5 : List ℕ) → Heads bytes z b → words_at (length bytes) z.words b ≡ Ok (words, b2)
+    → taken (length bytes) z.filled b2 ≡ Ok (stored, b3) → items_at (symbol_at (length bytes) z) z.symbols [] b3 ≡ Ok (symbols, b4) → items_at (relocation_at (length bytes) z (body words stored)) z.relocations [] b4 ≡ Ok (relocations, b5)
+    → module_at bytes ≡ ended (length bytes) (parts z words stored symbols relocations) b5
+to_end bytes z b words b2 stored b3 symbols b4 relocations b5 e f g h i =
+    to_relocations bytes z b words b2 stored b3 symbols b4 e f g h ∙ relocated (length bytes) z words stored symbols b4 (Ok (relocations, b5)) i

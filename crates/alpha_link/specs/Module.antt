@@ -1,4 +1,4 @@
--- The parts of a `Module`, whose code is kept as its instructions.
+-- The parts of a `Module`, whose code is held as its instructions.
 use Rattle.std.specs.Prelude.{◌≡◌, map, Some}
 use Rattle.alpha_table.specs.Decoded.{decoded}
 use Rattle.alpha_table.specs.Encoded.{encoded}

@@ -1,4 +1,4 @@
--- The addresses of names, as the code keeps them.
+-- The addresses of names, as the code has them.
 use Rattle.std.specs.Prelude.{ℕ, List, Option}
 use Rattle.std.specs.HashMap.{get_by}
 use Rattle.std.specs.Str.{bytes_eq}

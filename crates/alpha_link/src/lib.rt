@@ -24,7 +24,7 @@
 //!   offsets rise. What a relocation stands at has displacement 0, or is eight zero bytes, which no other
 //!   relocation shares. The addend lies from -(2^31 - 1) to 2^31 - 1.
 //!
-//! [`Module`] is a good module, whose parts a clause sees; the code is kept as instructions. [`ModuleFault`]
+//! [`Module`] is a good module, whose parts a clause sees; the code is held as instructions. [`ModuleFault`]
 //! says why bytes are none.
 //!
 //! The laws, each with the call that carries it:
@@ -49,16 +49,16 @@
 //! and `made_relocations.rt`.
 //!
 //! The linker goes over the modules four times. `located.rt` says where each one stands, and `names.rt`
-//! keeps the addresses of the names that they define in one table, in which each symbol's name is then
+//! holds the addresses of the names that they define in one table, in which each symbol's name is then
 //! looked up. `linker.rt` has the refusals in their order, and `output.rt` copies the modules into one
 //! buffer of instructions and one of data bytes, and puts in there what each relocation asks for.
 //!
 //! `specs/Reading.antt` says how bytes are read from the front, `specs/Header.antt`, `specs/Symbols.antt`
 //! and `specs/Relocations.antt` which items there are and which are good, `specs/Parts.antt` what a module
-//! is, `specs/Spelled.antt` its bytes both ways, and `specs/Module.antt` what a [`Module`] keeps;
+//! is, `specs/Spelled.antt` its bytes both ways, and `specs/Module.antt` what a [`Module`] holds;
 //! `specs/Made.antt` has the module that a source makes, and `specs/Rising.antt` names in order;
 //! `specs/Alike.antt` says which words no condition of a trap shadow tells apart. `specs/Names.antt` and
-//! `specs/Output.antt` say what the linker keeps on its way.
+//! `specs/Output.antt` say what the linker holds on its way.
 #![tactic(auto)]
 
 mod fault;

@@ -6,7 +6,7 @@ use alpha_table::Insn;
 use std::marker::Model;
 
 /// A module: code and data that were assembled apart, with the labels that they define and name. A
-/// clause sees its parts. The code is kept as its instructions, each of which has one word.
+/// clause sees its parts. The code is held as its instructions, each of which has one word.
 #[derive(Debug, Drop)]
 pub struct Module {
     pub(crate) insns: Vec<Insn>,

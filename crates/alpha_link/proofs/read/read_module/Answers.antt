@@ -60,11 +60,11 @@ returns-in_err-symbols-clause-value c =
     let behind = c.in_ok-sizes.behind.now in
     let words = map encoded c.in_ok-insns.insns.items in
     let b2 = c.in_ok-insns.behind.now in
-    let kept = c.in_ok-data.data.now in
+    let stored = c.in_ok-data.data.now in
     let b3 = c.in_ok-data.behind.now in
-    let so_far = to_symbols bytes z behind words b2 kept b3 c.in_ok-sizes.ensures c.in_ok-insns.ensures.value c.in_ok-data.ensures in
+    let so_far = to_symbols bytes z behind words b2 stored b3 c.in_ok-sizes.ensures c.in_ok-insns.ensures.value c.in_ok-data.ensures in
     let p = err_from_is_err_and c.from_residual-in_err-symbols.result c.from_residual-in_err-symbols.ensures.1 in
-    rw (p.1, p.2) (passed_on c.in_err-symbols.field-0.0 (items_at (symbol_at n z) z.symbols [] b3) (module_at bytes) (λ d e. so_far ∙ named n z words kept b3 (Err d) e) c.in_err-symbols.ensures)
+    rw (p.1, p.2) (passed_on c.in_err-symbols.field-0.0 (items_at (symbol_at n z) z.symbols [] b3) (module_at bytes) (λ d e. so_far ∙ named n z words stored b3 (Err d) e) c.in_err-symbols.ensures)
 
 pub returns-in_err-relocations-clause-value : goal.returns-in_err-relocations-clause-value
 returns-in_err-relocations-clause-value c =
@@ -74,14 +74,14 @@ returns-in_err-relocations-clause-value c =
     let behind = c.in_ok-sizes.behind.now in
     let words = map encoded c.in_ok-insns.insns.items in
     let b2 = c.in_ok-insns.behind.now in
-    let kept = c.in_ok-data.data.now in
+    let stored = c.in_ok-data.data.now in
     let b3 = c.in_ok-data.behind.now in
     let symbols = map named_symbol c.in_ok-symbols.symbols.items in
     let b4 = c.in_ok-symbols.behind.now in
-    let so_far = to_relocations bytes z behind words b2 kept b3 symbols b4 c.in_ok-sizes.ensures c.in_ok-insns.ensures.value c.in_ok-data.ensures c.in_ok-symbols.ensures in
+    let so_far = to_relocations bytes z behind words b2 stored b3 symbols b4 c.in_ok-sizes.ensures c.in_ok-insns.ensures.value c.in_ok-data.ensures c.in_ok-symbols.ensures in
     let refused = rw c.deref.ensures.value at c.in_err-relocations.ensures in
     let p = err_from_is_err_and c.from_residual-in_err-relocations.result c.from_residual-in_err-relocations.ensures.1 in
-    rw (p.1, p.2) (passed_on c.in_err-relocations.field-0.0 (items_at (relocation_at n z (body words kept)) z.relocations [] b4) (module_at bytes) (λ d e. so_far ∙ relocated n z words kept symbols b4 (Err d) e) refused)
+    rw (p.1, p.2) (passed_on c.in_err-relocations.field-0.0 (items_at (relocation_at n z (body words stored)) z.relocations [] b4) (module_at bytes) (λ d e. so_far ∙ relocated n z words stored symbols b4 (Err d) e) refused)
 
 pub returns-then-not-is_empty-clause-value : goal.returns-then-not-is_empty-clause-value
 returns-then-not-is_empty-clause-value c =
@@ -91,16 +91,16 @@ returns-then-not-is_empty-clause-value c =
     let behind = c.in_ok-sizes.behind.now in
     let words = map encoded c.in_ok-insns.insns.items in
     let b2 = c.in_ok-insns.behind.now in
-    let kept = c.in_ok-data.data.now in
+    let stored = c.in_ok-data.data.now in
     let b3 = c.in_ok-data.behind.now in
     let symbols = map named_symbol c.in_ok-symbols.symbols.items in
     let b4 = c.in_ok-symbols.behind.now in
     let relocations = c.in_ok-relocations.relocations.items in
     let b5 = c.in_ok-relocations.behind.now in
     let last = rw c.deref.ensures.value at c.in_ok-relocations.ensures in
-    let so_far = to_end bytes z behind words b2 kept b3 symbols b4 relocations b5 c.in_ok-sizes.ensures c.in_ok-insns.ensures.value c.in_ok-data.ensures c.in_ok-symbols.ensures last in
+    let so_far = to_end bytes z behind words b2 stored b3 symbols b4 relocations b5 c.in_ok-sizes.ensures c.in_ok-insns.ensures.value c.in_ok-data.ensures c.in_ok-symbols.ensures last in
     let some : (length b5 == 0) ≡ false = sym c.is_empty.ensures ∙ c.if-not-is_empty.true in
-    rw c.saturating_sub.ensures (so_far ∙ ended_some n (parts z words kept symbols relocations) b5 some)
+    rw c.saturating_sub.ensures (so_far ∙ ended_some n (parts z words stored symbols relocations) b5 some)
 
 pub returns-clause-value : goal.returns-clause-value
 returns-clause-value c =
@@ -110,17 +110,17 @@ returns-clause-value c =
     let behind = c.in_ok-sizes.behind.now in
     let words = map encoded c.in_ok-insns.insns.items in
     let b2 = c.in_ok-insns.behind.now in
-    let kept = c.in_ok-data.data.now in
+    let stored = c.in_ok-data.data.now in
     let b3 = c.in_ok-data.behind.now in
     let symbols = map named_symbol c.in_ok-symbols.symbols.items in
     let b4 = c.in_ok-symbols.behind.now in
     let relocations = c.in_ok-relocations.relocations.items in
     let b5 = c.in_ok-relocations.behind.now in
     let last = rw c.deref.ensures.value at c.in_ok-relocations.ensures in
-    let so_far = to_end bytes z behind words b2 kept b3 symbols b4 relocations b5 c.in_ok-sizes.ensures c.in_ok-insns.ensures.value c.in_ok-data.ensures c.in_ok-symbols.ensures last in
+    let so_far = to_end bytes z behind words b2 stored b3 symbols b4 relocations b5 c.in_ok-sizes.ensures c.in_ok-insns.ensures.value c.in_ok-data.ensures c.in_ok-symbols.ensures last in
     let none : (length b5 == 0) ≡ true = sym c.is_empty.ensures ∙ c.if-not-is_empty.false in
     let same = ap (λ (l : List ℕ). parts z words l symbols relocations) (sym c.in_ok-from_slice.ensures.items) in
-    let read = so_far ∙ (ended_none n (parts z words kept symbols relocations) b5 none ∙ ap (λ (m : ModuleParts). Ok m) same) in
+    let read = so_far ∙ (ended_none n (parts z words stored symbols relocations) b5 none ∙ ap (λ (m : ModuleParts). Ok m) same) in
     read
 
 pub returns-clause-good : goal.returns-clause-good
@@ -131,17 +131,17 @@ returns-clause-good c =
     let behind = c.in_ok-sizes.behind.now in
     let words = map encoded c.in_ok-insns.insns.items in
     let b2 = c.in_ok-insns.behind.now in
-    let kept = c.in_ok-data.data.now in
+    let stored = c.in_ok-data.data.now in
     let b3 = c.in_ok-data.behind.now in
     let symbols = map named_symbol c.in_ok-symbols.symbols.items in
     let b4 = c.in_ok-symbols.behind.now in
     let relocations = c.in_ok-relocations.relocations.items in
     let b5 = c.in_ok-relocations.behind.now in
     let last = rw c.deref.ensures.value at c.in_ok-relocations.ensures in
-    let so_far = to_end bytes z behind words b2 kept b3 symbols b4 relocations b5 c.in_ok-sizes.ensures c.in_ok-insns.ensures.value c.in_ok-data.ensures c.in_ok-symbols.ensures last in
+    let so_far = to_end bytes z behind words b2 stored b3 symbols b4 relocations b5 c.in_ok-sizes.ensures c.in_ok-insns.ensures.value c.in_ok-data.ensures c.in_ok-symbols.ensures last in
     let none : (length b5 == 0) ≡ true = sym c.is_empty.ensures ∙ c.if-not-is_empty.false in
     let same = ap (λ (l : List ℕ). parts z words l symbols relocations) (sym c.in_ok-from_slice.ensures.items) in
-    let read = so_far ∙ (ended_none n (parts z words kept symbols relocations) b5 none ∙ ap (λ (m : ModuleParts). Ok m) same) in
+    let read = so_far ∙ (ended_none n (parts z words stored symbols relocations) b5 none ∙ ap (λ (m : ModuleParts). Ok m) same) in
     (module_takes bytes _ (λ i. omega (arith, c.type_inv.bytes i)) read).0
 
 pub returns-clause-spelled : goal.returns-clause-spelled
@@ -152,17 +152,17 @@ returns-clause-spelled c =
     let behind = c.in_ok-sizes.behind.now in
     let words = map encoded c.in_ok-insns.insns.items in
     let b2 = c.in_ok-insns.behind.now in
-    let kept = c.in_ok-data.data.now in
+    let stored = c.in_ok-data.data.now in
     let b3 = c.in_ok-data.behind.now in
     let symbols = map named_symbol c.in_ok-symbols.symbols.items in
     let b4 = c.in_ok-symbols.behind.now in
     let relocations = c.in_ok-relocations.relocations.items in
     let b5 = c.in_ok-relocations.behind.now in
     let last = rw c.deref.ensures.value at c.in_ok-relocations.ensures in
-    let so_far = to_end bytes z behind words b2 kept b3 symbols b4 relocations b5 c.in_ok-sizes.ensures c.in_ok-insns.ensures.value c.in_ok-data.ensures c.in_ok-symbols.ensures last in
+    let so_far = to_end bytes z behind words b2 stored b3 symbols b4 relocations b5 c.in_ok-sizes.ensures c.in_ok-insns.ensures.value c.in_ok-data.ensures c.in_ok-symbols.ensures last in
     let none : (length b5 == 0) ≡ true = sym c.is_empty.ensures ∙ c.if-not-is_empty.false in
     let same = ap (λ (l : List ℕ). parts z words l symbols relocations) (sym c.in_ok-from_slice.ensures.items) in
-    let read = so_far ∙ (ended_none n (parts z words kept symbols relocations) b5 none ∙ ap (λ (m : ModuleParts). Ok m) same) in
+    let read = so_far ∙ (ended_none n (parts z words stored symbols relocations) b5 none ∙ ap (λ (m : ModuleParts). Ok m) same) in
     (module_takes bytes _ (λ i. omega (arith, c.type_inv.bytes i)) read).1
 
 pub invariant_of-result : goal.invariant_of-result
@@ -173,15 +173,15 @@ invariant_of-result c =
     let behind = c.in_ok-sizes.behind.now in
     let words = map encoded c.in_ok-insns.insns.items in
     let b2 = c.in_ok-insns.behind.now in
-    let kept = c.in_ok-data.data.now in
+    let stored = c.in_ok-data.data.now in
     let b3 = c.in_ok-data.behind.now in
     let symbols = map named_symbol c.in_ok-symbols.symbols.items in
     let b4 = c.in_ok-symbols.behind.now in
     let relocations = c.in_ok-relocations.relocations.items in
     let b5 = c.in_ok-relocations.behind.now in
     let last = rw c.deref.ensures.value at c.in_ok-relocations.ensures in
-    let so_far = to_end bytes z behind words b2 kept b3 symbols b4 relocations b5 c.in_ok-sizes.ensures c.in_ok-insns.ensures.value c.in_ok-data.ensures c.in_ok-symbols.ensures last in
+    let so_far = to_end bytes z behind words b2 stored b3 symbols b4 relocations b5 c.in_ok-sizes.ensures c.in_ok-insns.ensures.value c.in_ok-data.ensures c.in_ok-symbols.ensures last in
     let none : (length b5 == 0) ≡ true = sym c.is_empty.ensures ∙ c.if-not-is_empty.false in
     let same = ap (λ (l : List ℕ). parts z words l symbols relocations) (sym c.in_ok-from_slice.ensures.items) in
-    let read = so_far ∙ (ended_none n (parts z words kept symbols relocations) b5 none ∙ ap (λ (m : ModuleParts). Ok m) same) in
+    let read = so_far ∙ (ended_none n (parts z words stored symbols relocations) b5 none ∙ ap (λ (m : ModuleParts). Ok m) same) in
     record { good = (module_takes bytes _ (λ i. omega (arith, c.type_inv.bytes i)) read).0; insns = c.in_ok-insns.ensures.known }

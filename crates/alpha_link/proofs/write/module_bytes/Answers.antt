@@ -30,9 +30,9 @@ returns c =
     let i = c.module.inside in
     let header = c.in_ok-push_header.ensures.ok ∙ ap (λ (z : Sizes). c.in_ok-out.out.items ++ header_bytes z) (c.sizes.ensures.value ∙ ap sizes_of (sym c.module.view_is)) in
     let words = c.in_ok-push_words.ensures.ok ∙ ap (λ (is : List Form). c.push_header.new.out.items ++ flat_map longword (map encoded is)) c.deref.ensures.value in
-    let kept = c.in_ok-extend_from_slice.ensures.items ∙ ap (λ (b : List ℕ). c.push_words.new.out.items ++ b) c.deref-2.ensures.value in
+    let stored = c.in_ok-extend_from_slice.ensures.items ∙ ap (λ (b : List ℕ). c.push_words.new.out.items ++ b) c.deref-2.ensures.value in
     let symbols = c.in_ok-push_symbols.ensures.ok ∙ ap (λ (xs : List Symbol). c.extend_from_slice.new.self.items ++ flat_map symbol_bytes (map named xs)) c.deref-3.ensures.value in
     let relocations = c.in_ok-push_relocations.ensures.ok ∙ ap (λ (rs : List Relocation). c.push_symbols.new.out.items ++ flat_map relocation_bytes rs) c.deref-4.ensures.value in
     let all = joined _ _ _ _ _ _ (header_bytes (sizes_of (parts_in i))) (flat_map longword (map encoded i.insns.items)) i.bytes.items (flat_map symbol_bytes (map named i.symbols.items)) (flat_map relocation_bytes i.relocations.items)
-    c.in_ok-out.ensures.items header words kept symbols relocations in
+    c.in_ok-out.ensures.items header words stored symbols relocations in
     record { value = all ∙ ap spelling c.module.view_is }
