@@ -62,11 +62,11 @@ fn module_of(alloc: Global, unlinked: Unlinked<'_>) -> Result<Module, NoMemory>
     if sorted.names.len() > 0xffff_ffff {
         return Err(NoMemory);
     }
-    let symbols = symbols_of(alloc, unlinked.labels, &sorted)?;
-    let relocations = relocations_of(alloc, &sorted, &unlinked.patches)?;
+    let relocations = relocations_of(alloc, &sorted, unlinked.patches)?;
     if relocations.len() > 0xffff_ffff {
         return Err(NoMemory);
     }
+    let symbols = symbols_of(alloc, unlinked.labels, &sorted)?;
     bytes_fit(&unlinked.bytes);
     Ok(Module {
         insns: unlinked.code,

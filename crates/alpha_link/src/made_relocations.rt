@@ -58,12 +58,12 @@ fn addend_of(offset: i64) -> Option<i32>
     Some(offset as i32)
 }
 
-// The relocation of a kind at a patch whose label has such a number. Each label has a place, and the numbers
-// of a source are small, so there is one.
+// The relocation of a kind at a patch, with a guess at its label's rank. Each label has a rank, and the
+// numbers of a source are small, so there is one.
 fn relocation_with<'a>(
     kind: RelocationKind,
     sorted: &SortedNames<'a>,
-    number: u32,
+    guess: u32,
     patch: &Patch<'a>,
 ) -> Option<Relocation>
     requires { Rise sorted.now.names.items }
@@ -71,7 +71,7 @@ fn relocation_with<'a>(
         (relocation_with kind (offset_in (fix_of patch.now).at (fix_of patch.now).name.need) patch.now.to.offset)
         (number_in (map (λ n. n.now) sorted.now.names.items) patch.now.to.label.now) ≡ Some r) }
 {
-    let symbol = sorted.place(number, patch.to.label)?;
+    let symbol = sorted.rank(guess, patch.to.label)?;
     let offset = offset_of(patch)?;
     let addend = addend_of(patch.to.offset)?;
     if symbol > 0xffff_ffff {
@@ -89,14 +89,14 @@ fn relocation_with<'a>(
 fn relocation_for<'a>(
     side: Section,
     sorted: &SortedNames<'a>,
-    number: u32,
+    guess: u32,
     patch: &Patch<'a>,
 ) -> Result<Option<Relocation>, NoMemory>
     requires { Rise sorted.now.names.items }
     ensures { IfOk result (λ r. relocation_for side (map (λ n. n.now) sorted.now.names.items) (fix_of patch.now) ≡ r) }
 {
     match kind_in(side, patch.need) {
-        Some(kind) => match relocation_with(kind, sorted, number, patch) {
+        Some(kind) => match relocation_with(kind, sorted, guess, patch) {
             Some(relocation) => Ok(Some(relocation)),
             None => Err(NoMemory),
         },
@@ -109,14 +109,14 @@ fn push_relocation_for<'a>(
     relocations: &mut Vec<Relocation>,
     side: Section,
     sorted: &SortedNames<'a>,
-    number: u32,
+    guess: u32,
     patch: &Patch<'a>,
 ) -> Result<(), NoMemory>
     requires { Rise sorted.now.names.items }
     ensures { OnOk result (relocations.new.items ≡ relocations.old.items
         ++ cons_option (relocation_for side (map (λ n. n.now) sorted.now.names.items) (fix_of patch.now)) []) }
 {
-    match relocation_for(side, sorted, number, patch)? {
+    match relocation_for(side, sorted, guess, patch)? {
         Some(relocation) => Ok(relocations.push(relocation)?),
         None => Ok(()),
     }
@@ -133,28 +133,26 @@ fn push_relocations_for<'a>(
     ensures { OnOk result (relocations.new.items ≡ relocations.old.items
         ++ filter_map (relocation_for side (map (λ n. n.now) sorted.now.names.items)) (map fix_of patches.now)) }
 {
-    let mut at = 0usize;
-    for patch in patches {
-        let number = sorted.patched.get(at).copied().unwrap_or(u32::MAX);
-        push_relocation_for(relocations, side, sorted, number, patch)?;
-        at = at.wrapping_add(1);
+    for (number, patch) in patches.iter().enumerate() {
+        let guess = sorted.patched.get(number).copied().unwrap_or(u32::MAX);
+        push_relocation_for(relocations, side, sorted, guess, patch)?;
     }
     Ok(())
 }
 
-/// The relocations of patches: those of the code, and then those of the data.
+/// The relocations of patches, which aren't needed any more: those of the code, and then those of the data.
 pub(crate) fn relocations_of<'a>(
     alloc: Global,
     sorted: &SortedNames<'a>,
-    patches: &[Patch<'a>],
+    patches: Vec<Patch<'a>>,
 ) -> Result<Vec<Relocation>, NoMemory>
     requires { Rise sorted.now.names.items }
     ensures { IfOk result (λ relocations. relocations.items
-        ≡ filter_map (relocation_for sides.Code (map (λ n. n.now) sorted.now.names.items)) (map fix_of patches.now)
-        ++ filter_map (relocation_for sides.Data (map (λ n. n.now) sorted.now.names.items)) (map fix_of patches.now)) }
+        ≡ filter_map (relocation_for sides.Code (map (λ n. n.now) sorted.now.names.items)) (map fix_of patches.entry.items)
+        ++ filter_map (relocation_for sides.Data (map (λ n. n.now) sorted.now.names.items)) (map fix_of patches.entry.items)) }
 {
-    let mut relocations = Vec::new(alloc);
-    push_relocations_for(&mut relocations, Section::Code, sorted, patches)?;
-    push_relocations_for(&mut relocations, Section::Data, sorted, patches)?;
+    let mut relocations = Vec::with_capacity(alloc, patches.len())?;
+    push_relocations_for(&mut relocations, Section::Code, sorted, &patches)?;
+    push_relocations_for(&mut relocations, Section::Data, sorted, &patches)?;
     Ok(relocations)
 }

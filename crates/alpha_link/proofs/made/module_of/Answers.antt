@@ -15,9 +15,9 @@ symbols_of-requires c = labels_near c.args.unlinked c.requires.lines c.requires.
 pub invariant_of-result : goal.invariant_of-result
 invariant_of-result c =
     let insns : All (IsCodeInsn One) c.args.unlinked.code.items = rw c.deref.ensures.value at (c.are_within.ensures c.if-not-are_within.false) in
-    let bytes : All IsByte c.args.unlinked.bytes.items = rw c.deref-3.ensures.value at c.bytes_fit.ensures in
+    let bytes : All IsByte c.args.unlinked.bytes.items = rw c.deref-2.ensures.value at c.bytes_fit.ensures in
     let made = c.in_ok-symbols.ensures in
-    let put = rw c.deref-2.ensures.value at c.in_ok-relocations.ensures in
+    let put = c.in_ok-relocations.ensures in
     let count : length (map named c.in_ok-symbols.symbols.items) ≡ length c.in_ok-sorted.sorted.names.items =
     ap length made ∙ length-map c.in_ok-sorted.sorted.names.items (λ n. symbol_at_spot n.now (spot_named c.args.unlinked.labels n.now)) in
     record {
@@ -29,5 +29,5 @@ invariant_of-result c =
 pub returns : goal.returns
 returns c = record {
   value = λ is m. module_is is c.args.unlinked c.in_ok-sorted.sorted.names.items (map named c.in_ok-symbols.symbols.items) c.in_ok-relocations.relocations.items m c.requires.filled (c.in_ok-sorted.ensures.value is m)
-      c.in_ok-symbols.ensures (rw c.deref-2.ensures.value at c.in_ok-relocations.ensures);
+      c.in_ok-symbols.ensures c.in_ok-relocations.ensures;
 }

@@ -4,7 +4,7 @@ use Rattle.alpha_asm.specs.Patches.{fix_of}
 use Rattle.alpha_link.specs.Made.{relocation_for}
 use Rattle.alpha_link.proofs.made_relocations.push_relocations_for.Given as goal
 
-abbrev pub invariant-loop-patch : goal.invariant-loop-patch
-invariant-loop-patch l =
-    l.relocations.items ++ filter_map (relocation_for l.side (map (λ n. n.now) l.sorted.names.items)) (map fix_of (drop l.patch-index l.patches))
+abbrev pub invariant-loop-number : goal.invariant-loop-number
+invariant-loop-number l =
+    l.relocations.items ++ filter_map (relocation_for l.side (map (λ n. n.now) l.sorted.names.items)) (map fix_of (drop l.number l.patches))
     ≡ l.initial.relocations.items ++ filter_map (relocation_for l.side (map (λ n. n.now) l.sorted.names.items)) (map fix_of l.patches)
