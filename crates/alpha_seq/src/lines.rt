@@ -87,7 +87,6 @@ pub fn line_of_end(end: &End) -> Line
 }
 
 /// Appends the registers in eight lines of four, or on `Failed` a prefix of them.
-#[tactic(auto, using(crate::proofs::Writing::both_written, crate::proofs::Writing::first_part, crate::proofs::Writing::second_part, crate::proofs::Writing::register_halves))]
 pub fn write_registers<K: Sink>(regs: &RegFile, to: &mut K) -> Result<(), Failed>
     ensures written { OnOk result (Appends (K.written to.old) (K.written to.new)
         (register_lines regs.now)) }
@@ -100,7 +99,6 @@ pub fn write_registers<K: Sink>(regs: &RegFile, to: &mut K) -> Result<(), Failed
 
 /// Appends the lines of a barrier, or on `Failed` a prefix of them: `barrier A`, where A is the PC after it,
 /// and the registers.
-#[tactic(auto, using(crate::proofs::Writing::both_written, crate::proofs::Writing::first_part, crate::proofs::Writing::second_part))]
 #[inline(never)]
 pub fn write_barrier<K: Sink>(pc: u64, regs: &RegFile, to: &mut K) -> Result<(), Failed>
     ensures written { OnOk result (Appends (K.written to.old) (K.written to.new)
@@ -108,12 +106,20 @@ pub fn write_barrier<K: Sink>(pc: u64, regs: &RegFile, to: &mut K) -> Result<(),
     ensures prefix { WritesPrefix (K.written to.old) (K.written to.new) (barrier_lines pc regs.now) }
     ensures cause { HasCause (K.faults to.old) (K.faults to.new) result }
 {
-    write_whole(to, line_of_barrier(pc).as_bytes())?;
+    write_barrier_line(pc, to)?;
     write_registers(regs, to)
 }
 
+// Appends the line `barrier A`, or on `Failed` a prefix of it.
+fn write_barrier_line<K: Sink>(pc: u64, to: &mut K) -> Result<(), Failed>
+    ensures written { OnOk result (Appends (K.written to.old) (K.written to.new) (barrier_line pc)) }
+    ensures prefix { WritesPrefix (K.written to.old) (K.written to.new) (barrier_line pc) }
+    ensures cause { HasCause (K.faults to.old) (K.faults to.new) result }
+{
+    write_whole(to, line_of_barrier(pc).as_bytes())
+}
+
 // Appends sixteen registers from one on.
-#[tactic(auto, using(crate::proofs::Writing::both_written, crate::proofs::Writing::first_part, crate::proofs::Writing::second_part))]
 fn write_sixteen<K: Sink>(regs: &RegFile, first: u8, to: &mut K) -> Result<(), Failed>
     requires { first + 16 ≤ 32 }
     ensures written { OnOk result (Appends (K.written to.old) (K.written to.new)
