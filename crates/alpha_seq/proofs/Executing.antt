@@ -1,31 +1,44 @@
 -- What the execution of a word does, class by class.
-use Rattle.std.proofs.Common.{◌≡◌, ℕ, ◌+◌, ◌%◌, ◌^◌, List, [], Option, None, Some, refl, sym, ap, subst, ◌∙◌, append-nil}
-use Rattle.std.specs.Prelude.{slice_get}
+use Rattle.std.proofs.Common.{◌≡◌, ◌≢◌, ℕ, ◌+◌, ◌%◌, ◌^◌, Bool, true, false, cond, List, [], Option, None, Some, Result, Ok, Err, refl, sym, ap, subst, ◌∙◌, append-nil}
+use Rattle.std.specs.Prelude.{slice_get, is_ok, IfErr}
 use Rattle.std.specs.Option.{option_map, option_and_then}
 use Rattle.alpha_io.proofs.Sinks.{Puts-none}
+use Rattle.alpha_words.specs.Regs.{reg}
+use Rattle.alpha_words.specs.declared.Completion.{Completion}
 use Rattle.alpha_words.specs.declared.PalCall.{PalCall}
 use Rattle.alpha_pal.specs.Kernel.{KernelState}
+use Rattle.alpha_pal.specs.Call.{Called, goes, exits, signals, call}
 use Rattle.alpha_pal.specs.CallEffect.{kernel_after}
 use Rattle.alpha_pal.proofs.Serving.{rest_of, Takes-nothing}
+use Rattle.alpha_table.specs.declared.columns.InsnKind.TheVariants as kinds
+use Rattle.alpha_table.specs.declared.columns.MemAccess.{MemAccess}
 use Rattle.alpha_table.specs.declared.op.Op.{Op}
 use Rattle.alpha_table.specs.declared.op.OpRole.{OpRole}
+use Rattle.alpha_table.specs.declared.op.TrapOp.{TrapOp}
 use Rattle.alpha_table.specs.declared.op.OpRole.TheVariants.{Plain, Move, Trap}
 use Rattle.alpha_table.specs.declared.form.Src.{Src}
 use Rattle.alpha_table.specs.declared.form.Form.{Form}
-use Rattle.alpha_table.specs.declared.form.Form.TheVariants.{Operate}
+use Rattle.alpha_table.specs.declared.form.Form.TheVariants.{Operate, Misc}
+use Rattle.alpha_table.specs.declared.rows.MiscOp.{MiscOp}
+use Rattle.alpha_table.specs.Rows.{misc_row}
 use Rattle.alpha_table.specs.Op.{role_trap, trap_of, op_row}
-use Rattle.alpha_table.specs.Class.{Class, operate, barrier, operate_class, class_of}
+use Rattle.alpha_table.specs.Class.{Class, operate, trigger, barrier, idle, operate_class, class_of}
+use Rattle.alpha_table.specs.Columns.{class_kind, kind_of}
 use Rattle.alpha_table.specs.Code.{class_at}
 use Rattle.alpha_table.specs.Decoded.{decoded}
 use Rattle.alpha_mem.specs.Block.{shapes}
+use Rattle.alpha_mem.specs.declared.access.MemFault.{MemFault}
+use Rattle.alpha_values.specs.Source.{source_value}
+use Rattle.alpha_values.specs.TrapOp.{overflow_of, completed_of, stops}
 use Rattle.alpha_image.specs.Parts.{place_of}
+use Rattle.alpha_seq.specs.declared.end.End.TheVariants as ends
 use Rattle.alpha_seq.specs.declared.machine.Machine.{Machine}
-use Rattle.alpha_seq.specs.State.{Event, Went, Barriered, Stepped, stepped}
-use Rattle.alpha_seq.specs.Step.{next_pc, step}
+use Rattle.alpha_seq.specs.State.{State, Event, Went, Barriered, Overflowed, Ends, Stepped, stepped}
+use Rattle.alpha_seq.specs.Step.{next_pc, setting, fault_end, accessed, ended, went, logging, overflowed, returned, step}
 use Rattle.alpha_seq.specs.Next.{next_insn}
 use Rattle.alpha_seq.specs.Machine.{program_of, state_of, class_here, kernel_left}
 use Rattle.alpha_seq.specs.StepEffect.{Steps}
-use Rattle.alpha_seq.specs.Executed.{Does, GoesOn}
+use Rattle.alpha_seq.specs.Executed.{Does, GoesOn, FaultEffect, NeverGoes}
 use Rattle.alpha_seq.proofs.Stepping.{Leaves-step}
 
 -- the class of a place's word is that of its instruction
@@ -100,3 +113,65 @@ called-kernel function old mid kernel here same e =
     e
     ∙ (ap (λ (m : Machine). kernel_after function (next_pc (state_of m [] [])) m.regs m.kernel) same
     ∙ ap (λ (c : Option Class). kernel_left c (next_pc (state_of old [] [])) old.regs old.kernel) (sym here))
+
+-- ---- words that never only go on
+
+overflowed-never : (how : Completion) (s : State) (rc value : ℕ) → (overflowed how s rc value).event ≢ Went
+overflowed-never how s rc value = by (stops how)
+  where
+    by : (b : Bool) → (cond b (ended s (ends.Overflow s.pc)) (stepped (logging s rc value) (Overflowed s.pc))).event ≢ Went
+    by true = λ e. cc
+    by false = λ e. cc
+
+pub overflow-never : (op : TrapOp) (ra : ℕ) (src : Src) (rc : ℕ) (m : Machine) → overflow_of op (reg m.regs ra) (source_value m.regs src) ≡ true
+    → NeverGoes (Some (trigger op ra src rc)) m
+overflow-never op ra src rc m over = λ input output e.
+    let s = state_of m input output in
+    let value = completed_of op (reg m.regs ra) (source_value m.regs src) m.how in
+    overflowed-never m.how s rc value (sym (ap (λ (b : Bool). (cond b (overflowed m.how s rc value) (went (setting s rc value))).event) over) ∙ e)
+
+-- an instruction that traps
+trap_class : (role : OpRole) (op : Op) (trap : TrapOp) (ra : ℕ) (src : Src) (rc : ℕ) → role_trap role ≡ Some trap → operate_class role op ra src rc ≡ trigger trap ra src rc
+trap_class Plain op trap ra src rc e = cc
+trap_class Move op trap ra src rc e = cc
+trap_class (Trap own) op trap ra src rc e = cc
+
+pub trap-never : (op : Op) (trap : TrapOp) (ra : ℕ) (src : Src) (rc : ℕ) (i : Form) (m : Machine) → trap_of op ≡ Some trap → Operate op ra src rc ≡ i
+    → overflow_of trap (reg m.regs ra) (source_value m.regs src) ≡ true → NeverGoes (Some (class_of i)) m
+trap-never op trap ra src rc i m traps is over =
+    subst (λ (class : Class). NeverGoes (Some class) m) (sym (trap_class (op_row op).role op trap ra src rc traps) ∙ ap class_of is)
+    (overflow-never trap ra src rc m over)
+
+returned-never : (function : PalCall) (called : Called) (s : State) → (returned function called s).event ≢ Went
+returned-never function (goes regs mem outside) s = λ e. cc
+returned-never function (exits v) s = λ e. cc
+returned-never function (signals code) s = λ e. cc
+
+pub barrier-never : (call : Option PalCall) (m : Machine) → NeverGoes (Some (barrier call)) m
+barrier-never None m = λ input output e. cc
+barrier-never (Some function) m = λ input output.
+    let s = state_of m input output in
+    returned-never function (call function s.regs s.mem s.outside) s
+
+misc_barrier : (op : MiscOp) → kind_of (Misc op) ≡ kinds.Barrier → class_of (Misc op) ≡ barrier None
+misc_barrier op e = by (misc_row op).reports e
+  where
+    by : (b : Bool) → class_kind (cond b (barrier None) idle) ≡ kinds.Barrier → cond b (barrier None) idle ≡ barrier None
+    by true e = refl
+    by false e = cc
+
+pub misc-never : (op : MiscOp) (i : Form) (m : Machine) → Misc op ≡ i → kind_of i ≡ kinds.Barrier → NeverGoes (Some (class_of i)) m
+misc-never op i m is kind =
+    subst (λ (class : Class). NeverGoes (Some class) m) (sym (misc_barrier op (ap kind_of is ∙ kind)) ∙ ap class_of is) (barrier-never None m)
+
+-- an access that faults ends the program
+pub fault-never : {T : Type 0} (r : Result T MemFault) (class : Class) (at : MemAccess) (old new : Machine)
+    → IfErr r (λ fault. FaultEffect fault class at old new) → is_ok r ≡ false → NeverGoes (Some class) old
+fault-never (Ok v) class at old new h e = absurd cc
+fault-never (Err fault) class at old new h failed = λ input output e.
+    let is : Ends (fault_end fault old.pc (accessed at (state_of old [] []))) ≡ Went = sym (ap (λ (t : Stepped). t.event) (h.1.is input output)) ∙ e in
+    cc
+
+-- nor does the machine go on where no word is
+pub fetch-never : (m : Machine) → NeverGoes None m
+fetch-never m = λ input output e. cc

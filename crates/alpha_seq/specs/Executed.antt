@@ -1,5 +1,5 @@
 -- What the execution of one word did, by its answer.
-use Rattle.std.specs.Prelude.{◌≡◌, ℕ, ℤ, ◌+◌, ◌%◌, ◌^◌, ◌⊎◌, List, [], Option, Some, None}
+use Rattle.std.specs.Prelude.{◌≡◌, ◌≢◌, ℕ, ℤ, ◌+◌, ◌%◌, ◌^◌, ◌⊎◌, List, [], Option, Some, None}
 use Rattle.std.specs.Int.{w32}
 use Rattle.alpha_words.specs.Regs.{put}
 use Rattle.alpha_table.specs.declared.rows.MemOp.{MemOp}
@@ -45,6 +45,11 @@ pub record GoesOn (old new : Machine) : Type 0 where
   pub class : Class
   pub here : class_here old ≡ Some class
   pub does : Does Went class old new
+
+-- The step of the definition at such a word, at any input and output, doesn't only go on: it overflows, is a barrier or
+-- ends the program.
+abbrev pub NeverGoes : Option Class → Machine → Type 0
+NeverGoes class m = (input output : List ℕ) → (step (program_of m) class (state_of m input output)).event ≢ Went
 
 -- the machine after an overflow that is completed
 abbrev pub logged_machine : Machine → ℕ → ℕ → Machine

@@ -1,7 +1,8 @@
-ghost use Rattle.std.specs.Prelude.{◌≡◌, false, IsTrue};
+ghost use Rattle.std.specs.Prelude.{◌≡◌, false, Some, IsTrue};
 ghost use Rattle.alpha_table.specs.Class.{class_of};
 ghost use Rattle.alpha_seq.specs.State.{Went};
-ghost use Rattle.alpha_seq.specs.Executed.{Does, ExecuteEffect, GoesOn};
+ghost use Rattle.alpha_seq.specs.Machine.{class_here};
+ghost use Rattle.alpha_seq.specs.Executed.{Does, ExecuteEffect, GoesOn, NeverGoes};
 
 use crate::access::{fault_end, memory_access};
 use crate::{End, Machine};
@@ -56,6 +57,7 @@ impl Machine {
     fn goes(&mut self, insn: &Insn) -> bool
         ensures went { IsTrue result → Does Went (class_of insn.now) self.old self.new }
         ensures stays { result ≡ false → self.new ≡ self.old }
+        ensures refused { result ≡ false → NeverGoes (Some (class_of insn.now)) self.old }
     {
         match insn.form() {
             Form::Operate { op, ra, src, rc } => match op.trap() {
@@ -77,12 +79,13 @@ impl Machine {
         true
     }
 
-    /// Makes one step where it only goes on: no overflow, no barrier and no end. All else stays to be done by
+    /// Makes one step exactly where it only goes on: no overflow, no barrier and no end. All else stays to be done by
     /// [`Machine::step`], and leaves all as it was.
     #[inline(always)]
     pub fn goes_on(&mut self) -> bool
         ensures went { IsTrue result → GoesOn self.old self.new }
         ensures stays { result ≡ false → self.new ≡ self.old }
+        ensures refused { result ≡ false → NeverGoes (class_here self.old) self.old }
     {
         match self.insn() {
             Some(insn) => self.goes(&insn),
