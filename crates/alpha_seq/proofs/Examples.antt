@@ -168,9 +168,9 @@ watched-ends = refl
 
 -- `ldq_l $2,-16($30); stq $1,-16($30); stq_c $27,-8($30); bis $27,$27,$16; lda $0,1($31); callsys`: another store leaves
 -- the flag, which stands for sixteen bytes
-lock-kept : end Wrap 6 (0xac5efff0 ∷ 0xb43efff0 ∷ 0xbf7efff8 ∷ 0x477b0410 ∷ 0x201f0001 ∷ 0x83 ∷ []) ≡ Some (Exit 1)
+lock-stays : end Wrap 6 (0xac5efff0 ∷ 0xb43efff0 ∷ 0xbf7efff8 ∷ 0x477b0410 ∷ 0x201f0001 ∷ 0x83 ∷ []) ≡ Some (Exit 1)
 unfolding end
-lock-kept = refl
+lock-stays = refl
 
 -- `ldq_l $2,-16($30); lda $0,9($31); callsys; stq_c $27,-16($30); bis $27,$27,$16; lda $0,1($31); callsys`: a system call
 -- clears the flag, one that is refused too

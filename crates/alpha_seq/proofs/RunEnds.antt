@@ -187,7 +187,7 @@ turn-cause watch steps.SinkFault end old new input out notes stops did =
     subst (λ r. RunCause r input out notes) same (turn-sink_cause watch old new input out notes did)
 
 -- no fault, and then the causes of a last step
-cause-more : (end : RunEnd) (input out notes : Times)
+pub cause-more : (end : RunEnd) (input out notes : Times)
     → HasNoFault (drawn_before input) (sunk_before out) (sunk_before notes)
     → RunCause end (drawn_after input) (sunk_after out) (sunk_after notes)
     → RunCause end (drawn_over input) (sunk_over out) (sunk_over notes)

@@ -68,8 +68,8 @@ Leaves-step g (Some (load extension at ra)) s = Leaves-unless s _ _ _ (length-pu
 Leaves-step g (Some (store at ra)) s = Leaves-unless s _ _ _ refl (shapes-write_bytes s.mem _ _)
 Leaves-step g (Some (load_locked extension at ra)) s = Leaves-unless s _ _ _ (length-put s.regs ra _) refl
 Leaves-step g (Some (store_conditional at ra)) s =
-    let kept = Leaves-conditional (matches s.lock (lock_block at s)) at ra s in
-    Leaves-unless s _ _ _ kept.0 kept.1
+    let parts = Leaves-conditional (matches s.lock (lock_block at s)) at ra s in
+    Leaves-unless s _ _ _ parts.0 parts.1
 Leaves-step g (Some (branch None ra disp)) s = goes_on s _ refl (length-put s.regs ra _) refl
 Leaves-step g (Some (branch (Some c) ra disp)) s = goes_on s _ refl refl refl
 Leaves-step g (Some (jump ra rb)) s = goes_on s _ refl (length-put s.regs ra _) refl

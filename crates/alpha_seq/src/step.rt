@@ -42,8 +42,8 @@ impl Machine {
         self.step_rarely(input, out, notes)
     }
 
-    // The same for what is rare, and the words that only go on. It stands apart, so that the loops of the runs are
-    // short.
+    // Makes one step of any kind. `step` calls this where a step does more than go on, which is rare; it is never
+    // inlined there, so that the loops of the runs are short.
     #[inline(never)]
     fn step_rarely<S: Source, K: Sink, N: Sink>(
         &mut self,
