@@ -27,7 +27,8 @@ impl Model for Wild {
 impl Wild {
     ghost use Rattle.alpha_io.specs.Sunk.{sunk};
     ghost use Rattle.alpha_seq.specs.Devices.{drawn};
-    ghost use Rattle.alpha_seq.specs.Machine.{Stays};
+    ghost use Rattle.alpha_seq.specs.Machine.{class_here, Stays};
+    ghost use Rattle.alpha_seq.specs.Executed.{NeverGoes};
     ghost use Rattle.alpha_imprecise.specs.Telling.{telling};
     ghost use Rattle.alpha_imprecise.specs.WildEffect.{Framed, WildCause, WildEffect, WildGoesOn};
 
@@ -60,13 +61,15 @@ impl Wild {
         self.pending
     }
 
-    /// Makes one step where nothing is pending and the word at the PC only goes on: it draws no word, puts and takes
-    /// nothing, doesn't overflow, is no barrier and doesn't end the program. All else stays to be done by
+    /// Makes one step exactly where nothing is pending and the word at the PC only goes on: it draws no word, puts and
+    /// takes nothing, doesn't overflow, is no barrier and doesn't end the program. All else stays to be done by
     /// [`Wild::step`], and leaves all as it was.
     #[inline(always)]
     pub fn goes_on(&mut self) -> bool
         ensures went { IsTrue result → WildGoesOn self.old self.new }
         ensures stays { result ≡ false → self.new ≡ self.old }
+        ensures refused { result ≡ false → self.old.pending ≡ None
+            → NeverGoes (class_here self.old.machine) self.old.machine }
         ensures same { Stays self.old.machine self.new.machine }
     {
         match self.pending {
