@@ -27,7 +27,7 @@ abbrev pub idle_sink : Option (List ℕ) → ℕ → Sunk
 idle_sink written count = record { old = written; new = written; before = count; now = count }
 
 -- a step that leaves the input and the output alone
-pub quietly : (happened : Happening) (old new : WildState) (before after : Telling) (words : List ℕ) (left written : Option (List ℕ)) (faults count : ℕ)
+abbrev pub quietly : (happened : Happening) (old new : WildState) (before after : Telling) (words : List ℕ) (left written : Option (List ℕ)) (faults count : ℕ)
     → Moves before after words → Chooses happened old new words
     → WildSteps happened old new before after (resting left faults) (idle_sink written count)
 quietly happened old new before after words left written faults count drew chooses = record {

@@ -5,7 +5,6 @@ pub mod Masks
 pub mod Choosing
 pub mod Joining
 pub mod Causes
-pub mod Words
 pub mod Making
 pub mod Settling
 pub mod RunSteps

@@ -1,8 +1,7 @@
 -- Which count of faults rose in a run, what it left of what was written, and what it shows.
-use Rattle.std.proofs.Common.{◌≡◌, ◌≤◌, ℕ, Bool, List, [], ◌++◌, length, Some, None, sym, ap, subst, ◌∙◌, inl, inr, ⊎_elim}
+use Rattle.std.proofs.Common.{◌≡◌, ℕ, Bool, List, [], ◌++◌, length, Some, None, sym, ap, subst, ◌∙◌, inr, ⊎_elim}
 use Rattle.std.specs.Io.KnownBytes.{Appends}
 use Rattle.std.proofs.KnownBytes.{Appends-nil, Appends-trans}
-use Rattle.alpha_io.specs.Faults.{Rose}
 use Rattle.alpha_io.specs.Written.{WritesPrefix}
 use Rattle.alpha_io.specs.Sunk.{Sunk, Puts}
 use Rattle.alpha_io.proofs.Counts.{Rose-not_calm}
@@ -13,6 +12,7 @@ use Rattle.alpha_seq.specs.Machine.{program_of}
 use Rattle.alpha_seq.specs.Devices.{Drawn, Idles, AreCalm}
 use Rattle.alpha_seq.specs.StepEffect.{OutputFails}
 use Rattle.alpha_seq.specs.RunEffect.{HasGrown, HasNoFault, HasOutputFault, HasNotesFault}
+use Rattle.alpha_seq.proofs.RunEnds.{cause-more}
 use Rattle.alpha_seq.proofs.RunSteps.{Times, drawn_before, drawn_after, drawn_over, sunk_before, sunk_after, sunk_over}
 use Rattle.alpha_imprecise.specs.declared.end.WildEnd.{WildEnd}
 use Rattle.alpha_imprecise.specs.declared.end.WildEnd.TheVariants as ends
@@ -20,6 +20,7 @@ use Rattle.alpha_imprecise.specs.Made.{Making, made, shown_making}
 use Rattle.alpha_imprecise.specs.Telling.{Telling}
 use Rattle.alpha_imprecise.specs.Wild.{WildState}
 use Rattle.alpha_imprecise.specs.WildEffect.{CallFails, ReportFails, WildEffect}
+use Rattle.alpha_imprecise.proofs.Causes.{step_cause}
 use Rattle.alpha_imprecise.specs.WildTurn.{WatchFails, WildTurnEffect, run_ended_by}
 use Rattle.alpha_imprecise.specs.WildRunEffect.{begun_at, making_at, IsMade, WildRunEffect, WildRunCause, ShowsWild, ShowsMade}
 
@@ -38,21 +39,11 @@ turn_calm watch (ends.Lost pc mask) old new before after input out notes goes di
 turn_calm watch ends.InputFault old new before after input out notes goes did = absurd cc
 turn_calm watch ends.SinkFault old new before after input out notes goes did = absurd cc
 
-step_sink : (old new : WildState) (before after : Telling) (input : Drawn) (out notes : Sunk)
-    → WildEffect ends.SinkFault old new before after input out notes → WildRunCause runs.SinkFault input out notes
-step_sink old new before after input out notes did =
-    ⊎_elim
-    (λ (failed : CallFails (OutputFails old.machine new.machine input out) old new before after × Idles notes).
-    inl (record { source = failed.0.fails.left.same; later = failed.0.fails.later; sink = failed.0.fails.cause; lines = failed.1.same }))
-    (λ (failed : ReportFails old new before after input out notes).
-    inr (record { source = failed.made.took.same; sink = failed.made.wrote.same; later = failed.part.later; lines = failed.cause }))
-    did
-
 turn_sink : (watch : Bool) (old new : WildState) (before after : Telling) (input : Drawn) (out notes : Sunk)
     → WildTurnEffect watch ends.SinkFault old new before after input out notes → WildRunCause runs.SinkFault input out notes
 turn_sink watch old new before after input out notes did =
     ⊎_elim
-    (λ failed. step_sink old new before after input out notes failed)
+    (λ failed. step_cause ends.SinkFault old new before after input out notes failed)
     (λ (failed : WatchFails watch old new before after input out notes).
     inr (record { source = failed.made.took.same; sink = failed.made.wrote.same; later = failed.part.later; lines = failed.cause }))
     did
@@ -83,30 +74,11 @@ cause_more : (end : RunEnd) (input out notes : Times)
     → HasNoFault (drawn_before input) (sunk_before out) (sunk_before notes)
     → WildRunCause end (drawn_after input) (sunk_after out) (sunk_after notes)
     → WildRunCause end (drawn_over input) (sunk_over out) (sunk_over notes)
-cause_more (runs.Ended end) input out notes one two = record { source = two.source ∙ one.source; sink = two.sink ∙ one.sink; lines = two.lines ∙ one.lines }
-cause_more runs.Spent input out notes one two = record { source = two.source ∙ one.source; sink = two.sink ∙ one.sink; lines = two.lines ∙ one.lines }
-cause_more (runs.Lost pc mask) input out notes one two = record { source = two.source ∙ one.source; sink = two.sink ∙ one.sink; lines = two.lines ∙ one.lines }
-cause_more runs.InputFault input out notes one two = record {
-  later = subst (λ k. k ≤ input.faults_last) one.source two.later;
-  source = subst (λ k. Rose k input.faults_last) one.source two.source;
-  sink = two.sink ∙ one.sink;
-  lines = two.lines ∙ one.lines;
-}
-cause_more runs.SinkFault input out notes one two =
-    ⊎_elim
-    (λ (failed : HasOutputFault (drawn_after input) (sunk_after out) (sunk_after notes)). inl (record {
-      source = failed.source ∙ one.source;
-      later = subst (λ k. k ≤ out.faults_last) one.sink failed.later;
-      sink = subst (λ k. Rose k out.faults_last) one.sink failed.sink;
-      lines = failed.lines ∙ one.lines;
-    }))
-    (λ (failed : HasNotesFault (drawn_after input) (sunk_after out) (sunk_after notes)). inr (record {
-      source = failed.source ∙ one.source;
-      sink = failed.sink ∙ one.sink;
-      later = subst (λ k. k ≤ notes.faults_last) one.lines failed.later;
-      lines = subst (λ k. Rose k notes.faults_last) one.lines failed.lines;
-    }))
-    two
+cause_more (runs.Ended end) input out notes one two = cause-more (runs.Ended end) input out notes one two
+cause_more runs.Spent input out notes one two = cause-more runs.Spent input out notes one two
+cause_more (runs.Lost pc mask) input out notes one two = cause-more runs.Spent input out notes one two
+cause_more runs.InputFault input out notes one two = cause-more runs.InputFault input out notes one two
+cause_more runs.SinkFault input out notes one two = cause-more runs.SinkFault input out notes one two
 
 pub counts_go_on : (watch : Bool) (answer : WildEnd) (old new : WildState) (before after : Telling) (input out notes : Times)
     → run_ended_by answer ≡ None

@@ -100,12 +100,12 @@ lift_some g n fuel t from k some going near =
 -- ---- what is pending behind a step
 
 -- whether a trap may be pending behind such a step
-abbrev pub keeps : Happening → Bool
-keeps (Precisely event) = false
-keeps Triggered = true
-keeps Waited = true
-keeps (Reported at) = false
-keeps (Lost pc mask) = false
+abbrev pub may_be_pending : Happening → Bool
+may_be_pending (Precisely event) = false
+may_be_pending Triggered = true
+may_be_pending Waited = true
+may_be_pending (Reported at) = false
+may_be_pending (Lost pc mask) = false
 
 settles_as : (t : Trap) (h : Happening) (mid new : WildState) (before after : Telling) (input : Drawn) (out : Sunk) → trap_in mid.pending ≡ Some t
     → WildSteps h mid new before after input out
@@ -139,16 +139,16 @@ waits_more p q h mid new before after input out some still going did = by (settl
 
 -- nothing is pending behind a report, or behind a word that is executed with nothing pending and doesn't overflow
 pub calm_after : (h : Happening) (mid new : WildState) (before after : Telling) (input : Drawn) (out : Sunk)
-    → finished h ≡ false → keeps h ≡ false → WildSteps h mid new before after input out → new.pending ≡ None
+    → finished h ≡ false → may_be_pending h ≡ false → WildSteps h mid new before after input out → new.pending ≡ None
 calm_after h mid new before after input out going calm did = no_trap new.pending (by (trap_in mid.pending) refl)
   where
     settled_calm : Settles (waited_in mid.pending) (moment (state_of new.machine [] []) (trap_in new.pending) h) → trap_in new.pending ≡ None
     settled_calm (none e) = e
     settled_calm (over e) = absurd (let f = sym going ∙ e in cc)
-    settled_calm (longer e low) = absurd (let f = sym calm ∙ ap keeps e in cc)
+    settled_calm (longer e low) = absurd (let f = sym calm ∙ ap may_be_pending e in cc)
 
-    precise : (b : Bool) (x y : Moment) → keeps x.happened ≡ true → y.pending ≡ None → cond b x y ≡ moment (state_of new.machine did.rest ([] ++ did.bytes)) (trap_in new.pending) h → trap_in new.pending ≡ None
-    precise true x y k n e = absurd (let f = sym calm ∙ (sym (ap (λ (m : Moment). keeps m.happened) e) ∙ k) in cc)
+    precise : (b : Bool) (x y : Moment) → may_be_pending x.happened ≡ true → y.pending ≡ None → cond b x y ≡ moment (state_of new.machine did.rest ([] ++ did.bytes)) (trap_in new.pending) h → trap_in new.pending ≡ None
+    precise true x y k n e = absurd (let f = sym calm ∙ (sym (ap (λ (m : Moment). may_be_pending m.happened) e) ∙ k) in cc)
     precise false x y k n e = sym (ap (λ (m : Moment). m.pending) e) ∙ n
 
     by : (p : Option Trap) → trap_in mid.pending ≡ p → trap_in new.pending ≡ None

@@ -11,8 +11,8 @@ use Rattle.alpha_seq.specs.declared.machine.Machine.{Machine}
 use Rattle.alpha_seq.specs.State.{Program, State, Event, Went, Barriered, Overflowed, Ends}
 use Rattle.alpha_seq.specs.Run.{Mark, marks_of}
 use Rattle.alpha_seq.specs.Machine.{program_of, state_of}
-use Rattle.alpha_seq.specs.Devices.{Drawn, Draws}
-use Rattle.alpha_seq.proofs.RunSteps.{Times, drawn_before, drawn_after, drawn_over, sunk_before, sunk_after, sunk_over}
+use Rattle.alpha_seq.specs.Devices.{Drawn}
+use Rattle.alpha_seq.proofs.RunSteps.{Times, drawn_before, drawn_after, drawn_over, sunk_before, sunk_after, sunk_over, joined}
 use Rattle.alpha_imprecise.specs.Moment.{Happening, Precisely, Triggered, Waited, Reported, Lost, Moment, moment}
 use Rattle.alpha_imprecise.specs.Run.{WildRun, wild_marks, finished, unit_of, extended_wild}
 use Rattle.alpha_imprecise.specs.Chosen.{Draw, draw, chosen, waited_after}
@@ -63,36 +63,6 @@ Moves-then a b d xs ys first second = record {
   went = goes_then a.ahead b.ahead d.ahead xs ys first.went second.went;
   counted = counts_then a.count b.count d.count (length xs) (length ys) (length (xs ++ ys)) (length-append xs ys) first.counted second.counted;
 }
-
--- ---- the input
-
-record Joined (input : Times) (taken rest taken' rest' : List ℕ) : Type 0 where
-  same : rest ≡ taken' ++ rest'
-  took : Draws (drawn_over input) (taken ++ taken') rest'
-
-joined_at : (xs : List ℕ) (mid last : Option (List ℕ)) (a b c : ℕ) (taken rest taken' rest' : List ℕ)
-    → Draws (record { old = Some xs; new = mid; before = a; now = b }) taken rest
-    → Draws (record { old = mid; new = last; before = b; now = c }) taken' rest'
-    → Joined (record { first = Some xs; mid = mid; last = last; faults_first = a; faults_mid = b; faults_last = c }) taken rest taken' rest'
-joined_at xs None last a b c taken rest taken' rest' one two = absurd (let e = one.took.1 in cc)
-joined_at xs (Some ys) last a b c taken rest taken' rest' one two =
-    let told : ys ≡ rest = (let e = one.took.1 in cc) in
-    let same : rest ≡ taken' ++ rest' = sym told ∙ two.took.0 in
-    record {
-      same = same;
-      took = record {
-        took = (one.took.0 ∙ ap (λ l. taken ++ l) same ∙ sym (append_assoc taken taken' rest'), two.took.1);
-        same = two.same ∙ one.same;
-      };
-    }
-
-joined : (xs : List ℕ) (input : Times) (taken rest taken' rest' : List ℕ) → input.first ≡ Some xs
-    → Draws (drawn_before input) taken rest → Draws (drawn_after input) taken' rest' → Joined input taken rest taken' rest'
-joined xs input taken rest taken' rest' told one two =
-    let P : Option (List ℕ) → Type 0 = λ first.
-    Draws (record { old = first; new = input.mid; before = input.faults_first; now = input.faults_mid }) taken rest
-    → Joined (record input { first = first }) taken rest taken' rest' in
-    subst P (sym told) (λ first. joined_at xs input.mid input.last input.faults_first input.faults_mid input.faults_last taken rest taken' rest' first two) one
 
 -- ---- one step more of the definition
 

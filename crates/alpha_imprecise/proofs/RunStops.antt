@@ -28,7 +28,7 @@ use Rattle.alpha_imprecise.specs.WildTurn.{WildTurns, WatchFails, WildTurnEffect
 use Rattle.alpha_imprecise.specs.WildRunEffect.{Leads, Makes, run_answer, answer_of, IsMade, IsCut, IsUnnoted, WildRunEffect}
 use Rattle.alpha_imprecise.proofs.Settling.{stays_settled, none_settled, over_settled, advance-over}
 use Rattle.alpha_imprecise.proofs.RunSteps.{onto, Leads-as}
-use Rattle.alpha_imprecise.proofs.RunGoes.{Nears, Goes, used, keeps, calm_after, Came, came, notes-more, lines_more}
+use Rattle.alpha_imprecise.proofs.RunGoes.{Nears, Goes, used, may_be_pending, calm_after, Came, came, notes-more, lines_more}
 
 -- ---- the end of a run
 
@@ -136,7 +136,7 @@ cut n units watch Fails old mid new before told after input out notes source sin
 
 unnoted : (xs : List ℕ) (n units : ℕ) (watch : Bool) (h : Happening) (old mid new : WildState) (before told after : Telling) (input out notes : Times)
     → input.first ≡ Some xs → IfSome mid.pending (λ p. p.waited ≤ most_waited) → n + unit_of (trap_in mid.pending) ≤ units
-    → finished h ≡ false → keeps h ≡ false
+    → finished h ≡ false → may_be_pending h ≡ false
     → Goes n watch old mid before told (drawn_before input) (sunk_before out) (sunk_before notes)
     → WildSteps h mid new told after (drawn_after input) (sunk_after out)
     → Partly (sunk_after notes) (notes_of watch (wild_marks h (bare new.machine)))

@@ -83,8 +83,8 @@ fn with_none<C: Chooser, S: Source, K: Sink, N: Sink>(
     with_none_rarely(machine, pending, chooser, input, out, notes)
 }
 
-// The same for what is rare, an overflow too, and the words that only go on. It stands apart, so that the loop of the
-// run is short.
+// Makes a step of any kind with nothing pending. `with_none` calls this where a step does more than go on, as one that
+// overflows, which is rare; it is never inlined there, so that the loop of the run is short.
 #[inline(never)]
 fn with_none_rarely<C: Chooser, S: Source, K: Sink, N: Sink>(
     machine: &mut Machine,
