@@ -10,7 +10,7 @@ use Rattle.std.specs.Str.{bytes_eq}
 use Rattle.std.proofs.lemmas.Bool.Decides.{nat_tests}
 use Rattle.std.proofs.lemmas.Map.Keys.{sorted_head, sorted_tail}
 use Rattle.std.proofs.lemmas.Slice.Eq.{bytes_eq-Decides}
-use Rattle.alpha_text.specs.Quick as text
+use Rattle.alpha_text.specs.References as text
 use Rattle.alpha_text.specs.References.{IsWholeLabel, IsLabel}
 use Rattle.alpha_asm.specs.declared.place.Spot.{Spot}
 use Rattle.alpha_asm.specs.declared.place.Spot.TheVariants as spots

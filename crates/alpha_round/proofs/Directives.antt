@@ -29,7 +29,7 @@ use Rattle.alpha_text.specs.Statements.{Said, whole_in, zeroed_in, level_in, ent
 use Rattle.alpha_text.specs.Statements as says
 use Rattle.alpha_text.specs.Reading.{list_in, with_head, read}
 use Rattle.alpha_text.proofs.Formats.{alone_words}
-use Rattle.alpha_text.specs.Words.{Stops}
+use Rattle.alpha_text.specs.Behind.{Stops}
 use Rattle.alpha_text.proofs.Spelling.{prefix_len-run, token-next, tokens-space, digit_apart, decimal-digits}
 use Rattle.alpha_image.specs.Parts.{IsByte}
 use Rattle.alpha_dis.specs.Listing.{hexadecimal, address_line, count_line, byte_line}

@@ -28,7 +28,7 @@ pub are-operands : (head : Head) (ts : Tokens) (o : Slots) → AreOperands (patt
 unfolding operands
 are-operands head ts o (q, c, s) = spells-follow (patterns (shape_of head)) (shapes-distinct (shape_of head)) [] q signs.Plus ts nothing o c s
 
-operands_gave : (head : Head) (behind : List ℕ) (r : Result Slots OperandFault) (s : Said) → with_operands head behind r ≡ Ok s → (o : Slots) × (r ≡ Ok o) × (s ≡ said_by head o (list_in behind o.left))
+pub operands_gave : (head : Head) (behind : List ℕ) (r : Result Slots OperandFault) (s : Said) → with_operands head behind r ≡ Ok s → (o : Slots) × (r ≡ Ok o) × (s ≡ said_by head o (list_in behind o.left))
 operands_gave head behind (Err f) s h = cc
 operands_gave head behind (Ok o) s h = (o, refl, cc)
 

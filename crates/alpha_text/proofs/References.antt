@@ -41,7 +41,7 @@ use Rattle.alpha_text.specs.declared.head.Head.TheVariants as heads
 use Rattle.alpha_text.specs.Heads.{shape_of}
 use Rattle.alpha_text.specs.Statements.{Said, said_by, half_said, memory_said, branch_said, entry_said}
 use Rattle.alpha_text.specs.Reading.{LineSaid, list_in, read}
-use Rattle.alpha_text.specs.Quick.{goes_on_label}
+use Rattle.alpha_text.specs.References.{goes_on_label}
 use Rattle.alpha_text.specs.Grammar.{IsStatement, IsLabelled, IsLine, IsBehindLabel}
 use Rattle.alpha_token.proofs.Order.{Falls, tokens-fall}
 use Rattle.alpha_token.proofs.Reading.{tokens-behind}

@@ -16,7 +16,7 @@ use Rattle.alpha_token.specs.Numeral.{hex_len, number_more, number_value}
 use Rattle.alpha_token.specs.Tokens.{Lexeme, Tokens, End, Next, token_at, tokens, if_any, name_kind}
 use Rattle.alpha_token.proofs.Choices.{both}
 use Rattle.alpha_token.proofs.Reading.{tokens-next}
-use Rattle.alpha_text.specs.Words.{Stops}
+use Rattle.alpha_text.specs.Behind.{Stops}
 use Rattle.alpha_text.specs.Canon.{Word, reg, num, mark, spell, behind_name}
 
 pub prefix_len-run : (p : ℕ → Bool) (ds s : List ℕ) → list_all p ds ≡ true → Stops p s → prefix_len p (ds ++ s) ≡ length ds

@@ -124,3 +124,8 @@ shape_of (heads.Insn (mnemonics.Misc op)) = shapes.Alone
 shape_of (heads.Insn (mnemonics.Fetch modify)) = shapes.Prefetch
 shape_of (heads.Insn (mnemonics.Pal call)) = shapes.Alone
 shape_of (heads.Own own) = own_shape own
+
+-- the name of each
+abbrev pub head_name : Head → List ℕ
+head_name (heads.Insn m) = name_of m
+head_name (heads.Own own) = own_name own

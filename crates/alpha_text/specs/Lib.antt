@@ -1,10 +1,8 @@
+pub mod Behind
 pub mod Bounds
 pub mod Canon
 pub mod Grammar
 pub mod Heads
-pub mod Listed
-pub mod Quick
 pub mod Reading
-pub mod Statements
 pub mod References
-pub mod Words
+pub mod Statements

@@ -2,38 +2,63 @@ ghost use Rattle.std.specs.Prelude.{◌≡◌, find};
 ghost use Rattle.std.specs.Str.{bytes_eq};
 ghost use Rattle.alpha_text.specs.Heads.{own_name, own_shape, every_own, own_at, shape_of, head_of};
 
-use crate::rows::{key_of, own_named, row_named};
 use alpha_operands::Shape;
 use alpha_table::{BranchOp, JumpKind, Mnemonic, OperandRule};
 
 /// A pseudo-operation, a directive, or `call_pal`: a name that isn't in the instruction table.
 #[derive(Clone, Copy, Debug, PartialEq, Eq)]
-pub(crate) enum Own {
+pub enum Own {
+    /// `.byte`.
     Byte,
+    /// `.word`.
     Word,
+    /// `.long`.
     Long,
+    /// `.quad`.
     Quad,
+    /// `.ascii`.
     Ascii,
+    /// `.zero`.
     Zero,
+    /// `.align`.
     Align,
+    /// `.code`.
     Code,
+    /// `.data`.
     Data,
+    /// `.segment`.
     Segment,
+    /// `.codebase`.
     CodeBase,
+    /// `.database`.
     DataBase,
+    /// `.stack`.
     Stack,
+    /// `.entry`.
     Entry,
+    /// `.level`.
     Level,
+    /// `mov`.
     Mov,
+    /// `clr`.
     Clr,
+    /// `nop`.
     Nop,
+    /// `unop`.
     Unop,
+    /// `not`.
     Not,
+    /// `negl`.
     Negl,
+    /// `negq`.
     Negq,
+    /// `negl/v`.
     NeglV,
+    /// `negq/v`.
     NegqV,
+    /// `sextl`.
     Sextl,
+    /// `call_pal`.
     CallPal,
 }
 
@@ -94,11 +119,11 @@ macro_rules! shape {
     };
 }
 
-pub(crate) const EVERY: [Own; 26] = own_rows!(every);
+const EVERY: [Own; 26] = own_rows!(every);
 
 impl Own {
     /// Its name.
-    pub(crate) fn name(self) -> &'static [u8]
+    pub fn name(self) -> &'static [u8]
         ensures { result.now ≡ own_name self }
     {
         own_rows!(name self)
@@ -133,7 +158,7 @@ fn named(owns: &[Own], name: &[u8]) -> Option<Own>
 
 /// What the name of a statement stands for.
 #[derive(Clone, Copy, Debug, PartialEq, Eq)]
-pub(crate) enum Head {
+pub enum Head {
     /// A row of the instruction table.
     Insn(Mnemonic),
     /// A name beside the table.
@@ -143,20 +168,6 @@ pub(crate) enum Head {
 impl Head {
     /// What a name stands for, `None` exactly where it is in no table.
     pub(crate) fn of(name: &[u8]) -> Option<Head>
-        ensures { result ≡ head_of name.now }
-    {
-        let key = key_of(name);
-        match row_named(name, key) {
-            Some(row) => Some(Head::Insn(row)),
-            None => match own_named(name, key) {
-                Some(own) => Some(Head::Own(own)),
-                None => Head::sought(name),
-            },
-        }
-    }
-
-    // The same, sought in the tables.
-    fn sought(name: &[u8]) -> Option<Head>
         ensures { result ≡ head_of name.now }
     {
         match Mnemonic::of(name) {

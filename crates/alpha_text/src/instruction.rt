@@ -57,8 +57,8 @@ pub(crate) fn expr<'a>(label: &'a [u8], o: &Operands<'a>) -> Expr<'a>
     }
 }
 
-// An instruction with half of a label's address.
-pub(crate) fn halved(half: Option<Half>, insn: Insn, address: Expr<'_>) -> Statement<'_>
+/// A memory instruction with half of an address, or with none.
+pub fn halved(half: Option<Half>, insn: Insn, address: Expr<'_>) -> Statement<'_>
     ensures { said result ≡ half_said half insn address.entry.label.now address.entry.offset }
 {
     match half {
@@ -114,8 +114,8 @@ fn words(number: Option<Number>) -> i32
     }
 }
 
-// The register that a branch writes where none is written: `br` alone writes none, `bsr` R26.
-pub(crate) fn link(op: BranchOp) -> Reg
+/// The register that a branch writes where its line names none: R26 for `bsr`, and R31 for all others.
+pub fn link(op: BranchOp) -> Reg
     ensures { result ≡ link op }
 {
     match op {

@@ -3,6 +3,9 @@
 //! - [`read_line`] gives the [`Item`] of a line, a label and a [`Statement`], or its first
 //!   [`LineFault`]. [`write_line`] leaves the canonical line of an instruction in a [`LineBuf`].
 //! - [`next_value`] and [`next_byte`] read the values of a list and the bytes of a text.
+//! - For a reader that cuts a line up itself: [`Head`] is what a name stands for, [`with_operands`] gives the
+//!   statement of a head with the operands behind it; [`halved`], [`link`], [`move_number`] and [`list_in`]
+//!   are parts of statements.
 //! - [`laws_of_lines`] says that a line is read by its grammar, that the fault that is read is the
 //!   first, that the canonical line of an instruction reads back, and that different instructions
 //!   have different ones; [`laws_of_items`] that an item's list and text are read to their ends;
@@ -13,35 +16,26 @@
 //! directives, and the shape of what stands behind each, are the rows of `head.rt` and
 //! `specs/Heads.antt`. `statement.rt` and `specs/Statements.antt` say what a name and its operands
 //! stand for, `instruction.rt`, `pseudo.rt` and `directive.rt` each for one kind of names.
-//! `reader.rt` and `specs/Reading.antt` read a line, `writer.rt` and `specs/Canon.antt` write one.
-//! `quick.rt` reads lines as programs write them, in one pass, and `specs/Quick.antt` says what its
-//! parts give: `front.rt` cuts the name off, `rows.rt` finds its row, `words.rt` and `groups.rt` read
-//! the words behind it, which `specs/Words.antt` and `Listed.antt` define; `forms.rt` and `data.rt`
-//! have what a name says with them.
-//! `specs/Grammar.antt` has the line grammar and the faults apart from reading.
+//! `reader.rt` and `specs/Reading.antt` read a line along the patterns of its operands, `writer.rt`
+//! and `specs/Canon.antt` write one. `specs/Grammar.antt` has the line grammar and the faults apart
+//! from reading, `specs/Behind.antt` what stands behind a name apart from the name.
 #![tactic(auto)]
 
-mod data;
 mod directive;
-mod forms;
-mod front;
-mod groups;
 mod head;
 mod instruction;
 mod laws;
 mod pseudo;
-mod quick;
 mod reader;
-mod rows;
 mod statement;
-#[cfg(test)]
-mod tests;
-mod words;
 mod writer;
 
 pub use alpha_operands::{Expr, LineFaultKind, ListValue, next_value};
 pub use alpha_token::next_byte;
+pub use head::{Head, Own};
+pub use instruction::{halved, link};
 pub use laws::{laws_of_items, laws_of_lines, laws_of_references};
-pub use reader::{Item, LineFault, read_line};
+pub use pseudo::move_number;
+pub use reader::{Item, LineFault, list_in, read_line, with_operands};
 pub use statement::Statement;
 pub use writer::{LineBuf, write_line};

@@ -13,7 +13,7 @@ use alpha_table::{Form, Insn, MemOp, Op, Src};
 use alpha_words::{PalCall, Reg};
 
 // An operation whose first source is R31.
-pub(crate) fn of_zero(op: Op, src: Src, rc: Reg) -> Insn
+fn of_zero(op: Op, src: Src, rc: Reg) -> Insn
     requires rule { (op_row op).operands ≡ Any }
     requires source { IsSource src }
     ensures { result ≡ Operate op 31 src rc }
@@ -36,8 +36,8 @@ fn of_register(op: Op, o: &Operands<'_>) -> Insn
     of_zero(op, src, rc)
 }
 
-// `mov` of a number: the literal where it is one, and else an address.
-pub(crate) fn move_number(n: i16, rc: Reg) -> Insn
+/// The instruction that `mov` of a number stands for: that of a literal where it is one, and else of an address.
+pub fn move_number(n: i16, rc: Reg) -> Insn
     ensures { result ≡ move_number n rc }
 {
     match u8::try_from(n) {

@@ -7,9 +7,9 @@ ghost use Rattle.alpha_text.specs.Heads.{head_of, shape_of};
 ghost use Rattle.alpha_text.specs.Statements.{said};
 ghost use Rattle.alpha_text.specs.Reading.{item_said, list_in, with_operands, with_head, named, statement_of, is_labelled, labelled, behind_label, line_of, located, read};
 
+use crate::Statement;
 use crate::head::Head;
 use crate::statement::of_head;
-use crate::{Statement, quick};
 use alpha_operands::{LineFaultKind, OperandFault, is_label, stuck_at};
 use alpha_token::{Step, Token, TokenKind, next, without_blanks};
 
@@ -31,16 +31,16 @@ pub struct LineFault {
     pub column: u32,
 }
 
-/// What stands behind a name, from its first token to where so many bytes are left.
-pub(crate) fn list_in(behind: &[u8], left: usize) -> &[u8]
+/// What stands behind a name, from its first token to where so many bytes of the line are left.
+pub fn list_in(behind: &[u8], left: usize) -> &[u8]
     ensures { result.now ≡ list_in behind.now left }
 {
     let list = without_blanks(behind);
     list.get(..list.len().saturating_sub(left)).unwrap_or(list)
 }
 
-// The statement of a name with the operands behind it.
-fn with_operands(head: Head, behind: &[u8]) -> Result<Statement<'_>, OperandFault>
+/// The statement of a name with the operands behind it, or their first fault.
+pub fn with_operands(head: Head, behind: &[u8]) -> Result<Statement<'_>, OperandFault>
     ensures { Gives said result (with_operands head behind.now (operands (patterns (shape_of head)) (tokens behind.now))) }
 {
     match head.shape().operands(behind) {
@@ -129,8 +129,7 @@ fn unlabelled<'a>(token: &Token<'a>, left: usize) -> Result<Item<'a>, OperandFau
 }
 
 // An optional label, and then at most one statement.
-#[inline(never)]
-pub(crate) fn line_of(line: &[u8]) -> Result<Item<'_>, OperandFault>
+fn line_of(line: &[u8]) -> Result<Item<'_>, OperandFault>
     ensures { Gives item_said result (line_of (tokens line.now)) }
 {
     match next(line) {
@@ -156,14 +155,11 @@ pub(crate) fn line_of(line: &[u8]) -> Result<Item<'_>, OperandFault>
 /// The item of a line, or its first fault: the one at the least column, and at one column of the
 /// least kind.
 #[tactic(auto, unfolding(crate::specs::Reading::read))]
-#[inline(always)]
+#[inline(never)]
 pub fn read_line(line: &[u8]) -> Result<Item<'_>, LineFault>
     requires { length line.now ≤ 1024 }
     ensures value { Gives item_said result (read line.now) }
 {
-    if let Some(item) = quick::item(line) {
-        return Ok(item);
-    }
     match line_of(line) {
         Ok(item) => Ok(item),
         Err(fault) => Err(LineFault {

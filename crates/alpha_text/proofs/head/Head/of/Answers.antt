@@ -1,9 +1,12 @@
-use Rattle.std.proofs.Common.{sym}
-use Rattle.alpha_text.proofs.Names.{head_of-insn, head_of-own_name}
+use Rattle.std.proofs.Common.{Some, None, sym}
+use Rattle.alpha_text.proofs.Names.{head_of-insn, head_of-own}
 use Rattle.alpha_text.proofs.head.Head.of.Goals as goal
 
 pub returns-in-Some : goal.returns-in-Some
-returns-in-Some c = sym (head_of-insn c.args.name.now c.in-Some.row c.in-Some.ensures)
+returns-in-Some c = sym (head_of-insn c.args.name.now c.in-Some.found c.in-Some.ensures.found)
 
-pub returns-in-Some-own_named : goal.returns-in-Some-own_named
-returns-in-Some-own_named c = sym (head_of-own_name c.args.name.now c.in-Some-own_named.own c.in-Some-own_named.ensures)
+pub returns-in-Some-of : goal.returns-in-Some-of
+returns-in-Some-of c = sym (head_of-own c.args.name.now (Some c.in-Some-of.own) c.in-None.ensures.none (sym c.in-Some-of.ensures))
+
+pub returns-in-None-of : goal.returns-in-None-of
+returns-in-None-of c = sym (head_of-own c.args.name.now None c.in-None.ensures.none (sym c.in-None-of.ensures))

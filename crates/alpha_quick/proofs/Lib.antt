@@ -1,0 +1,5 @@
+mod Directives
+mod Forwards
+mod Joined
+mod Meanings
+mod Parts

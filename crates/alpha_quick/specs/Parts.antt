@@ -1,0 +1,70 @@
+-- What a line says, by its parts.
+use Rattle.std.specs.Prelude.{◌≡◌, ◌+◌, ℕ, List, [], ◌∷◌, Bool, true, Option, Some, None, Ok, ◌==◌, ◌&&◌, if◌then◌else◌}
+use Rattle.alpha_table.specs.declared.form.Form.{Form}
+use Rattle.alpha_table.specs.declared.form.Form.TheVariants.{Misc, Pal}
+use Rattle.alpha_table.specs.declared.names.Mnemonic.{Mnemonic}
+use Rattle.alpha_table.specs.declared.names.Mnemonic.TheVariants as mnemonics
+use Rattle.alpha_table.specs.declared.op.Op.{Op}
+use Rattle.alpha_table.specs.declared.op.Op.TheVariants.{Bis, Ornot, Subl, Subq, SublV, SubqV, Addl}
+use Rattle.alpha_token.specs.Tokens.{tokens}
+use Rattle.alpha_operands.specs.declared.piece.Piece.{Piece}
+use Rattle.alpha_operands.specs.declared.piece.Piece.TheVariants as pieces
+use Rattle.alpha_operands.specs.Shapes.{patterns}
+use Rattle.alpha_operands.specs.Operands.{Slots}
+use Rattle.alpha_operands.specs.Walk.{operands}
+use Rattle.alpha_text.specs.declared.head.Head.{Head}
+use Rattle.alpha_text.specs.declared.head.Own.{Own}
+use Rattle.alpha_text.specs.declared.head.Own.TheVariants as owns
+use Rattle.alpha_text.specs.Heads.{head_name, own_shape}
+use Rattle.alpha_text.specs.Statements.{Said, empty, pseudo_form}
+use Rattle.alpha_text.specs.Behind.{IsApart, SaysBy}
+use Rattle.alpha_text.specs.References.{goes_on_label}
+use Rattle.alpha_text.specs.Reading.{line_of}
+use Rattle.alpha_quick.specs.Words.{HasEnd}
+
+-- the instruction that a pseudo-operation stands for with the operands behind it
+abbrev pub StandsFor : Own → List ℕ → Form → Type 0
+StandsFor own behind i = (o : Slots) × (operands (patterns (own_shape own)) (tokens behind) ≡ Ok o) × (pseudo_form own o ≡ Some i)
+
+-- the operation that a pseudo-operation of two registers stands for
+abbrev pub operation_of : Own → Option Op
+operation_of owns.Mov = Some Bis
+operation_of owns.Not = Some Ornot
+operation_of owns.Negl = Some Subl
+operation_of owns.Negq = Some Subq
+operation_of owns.NeglV = Some SublV
+operation_of owns.NegqV = Some SubqV
+operation_of owns.Sextl = Some Addl
+operation_of own = None
+
+-- how many bytes a value of a directive has, and the piece of its numbers
+abbrev pub values_of : Own → Option (ℕ × Piece)
+values_of owns.Byte = Some (1, pieces.Byte)
+values_of owns.Word = Some (2, pieces.Word)
+values_of owns.Long = Some (4, pieces.Long)
+values_of owns.Quad = Some (8, pieces.Quad)
+values_of own = None
+
+-- an instruction that is its name alone
+abbrev pub IsAlone : Mnemonic → Form → Type 0
+IsAlone (mnemonics.Misc op) i = i ≡ Misc op
+IsAlone (mnemonics.Pal call) i = i ≡ Pal call
+IsAlone m i = ⊥
+
+-- the same behind a name, where the name ends there
+abbrev pub SaysNamed : List ℕ → List ℕ → Said → Type 0
+SaysNamed name behind s = (head : Head) × (head_name head ≡ name) × IsApart behind × SaysBy head behind s
+
+-- a line has this label, and behind it this name and more, whatever they say, or nothing
+abbrev pub IsParted : List ℕ → Option (List ℕ) → List ℕ → List ℕ → Type 0
+IsParted line label name behind =
+    ((s : Said) → SaysNamed name behind s → line_of (tokens line) ≡ Ok (record { label = label; statement = s }))
+    × (name ≡ [] → HasEnd behind → line_of (tokens line) ≡ Ok (record { label = label; statement = empty }))
+
+abbrev pub class_of : ℕ → ℕ
+class_of b = if goes_on_label b then 1 else 0
+
+-- the classes of the bytes from n on
+abbrev pub are_classes : ℕ → List ℕ → Bool
+are_classes n [] = true
+are_classes n (c ∷ cs) = c == class_of n && are_classes (n + 1) cs

@@ -1,0 +1,107 @@
+ghost use Rattle.std.specs.Prelude.{◌≡◌, ◌==◌, ◌<◌, ◌++◌, true, IsTrue, length};
+ghost use Rattle.std.specs.List.{list_all};
+ghost use Rattle.alpha_token.specs.Bytes.{goes_on_name};
+ghost use Rattle.alpha_text.specs.Behind.{Stops};
+ghost use Rattle.alpha_quick.specs.Parts.{class_of, are_classes};
+ghost use Rattle.alpha_text.specs.References.{goes_on_label, begins_label};
+
+// By each byte: 1 for those that go on a label, and 0.
+static CLASSES: [u8; 256] = [
+    0, 0, 0, 0, 0, 0, 0, 0, 0, 0, 0, 0, 0, 0, 0, 0, 0, 0, 0, 0, 0, 0, 0, 0, 0, 0, 0, 0, 0, 0, 0, 0,
+    0, 0, 0, 0, 0, 0, 0, 0, 0, 0, 0, 0, 0, 0, 1, 0, 1, 1, 1, 1, 1, 1, 1, 1, 1, 1, 0, 0, 0, 0, 0, 0,
+    0, 1, 1, 1, 1, 1, 1, 1, 1, 1, 1, 1, 1, 1, 1, 1, 1, 1, 1, 1, 1, 1, 1, 1, 1, 1, 1, 0, 0, 0, 0, 1,
+    0, 1, 1, 1, 1, 1, 1, 1, 1, 1, 1, 1, 1, 1, 1, 1, 1, 1, 1, 1, 1, 1, 1, 1, 1, 1, 1, 0, 0, 0, 0, 0,
+    0, 0, 0, 0, 0, 0, 0, 0, 0, 0, 0, 0, 0, 0, 0, 0, 0, 0, 0, 0, 0, 0, 0, 0, 0, 0, 0, 0, 0, 0, 0, 0,
+    0, 0, 0, 0, 0, 0, 0, 0, 0, 0, 0, 0, 0, 0, 0, 0, 0, 0, 0, 0, 0, 0, 0, 0, 0, 0, 0, 0, 0, 0, 0, 0,
+    0, 0, 0, 0, 0, 0, 0, 0, 0, 0, 0, 0, 0, 0, 0, 0, 0, 0, 0, 0, 0, 0, 0, 0, 0, 0, 0, 0, 0, 0, 0, 0,
+    0, 0, 0, 0, 0, 0, 0, 0, 0, 0, 0, 0, 0, 0, 0, 0, 0, 0, 0, 0, 0, 0, 0, 0, 0, 0, 0, 0, 0, 0, 0, 0,
+];
+
+// The class of a byte, by a table of the classes from that of 0 on.
+#[inline(always)]
+fn class_in(classes: &[u8], byte: u8) -> u8
+    requires classes { IsTrue (are_classes 0 classes.now) }
+    requires inside { byte < length classes.now }
+    ensures { result ≡ class_of byte }
+{
+    classes[usize::from(byte)]
+}
+
+// The class of a byte.
+#[inline(always)]
+fn class_of(byte: u8) -> u8
+    ensures { result ≡ class_of byte }
+{
+    class_in(&CLASSES, byte)
+}
+
+/// A line that is cut behind its first bytes.
+#[derive(Clone, Copy)]
+pub(crate) struct Front<'a> {
+    /// These bytes.
+    pub name: &'a [u8],
+    /// The last eight of them as one number.
+    pub key: u64,
+    /// What stands behind them.
+    pub behind: &'a [u8],
+}
+
+impl<'a> Front<'a> {
+    /// The line that is cut behind its first bytes that go on a label.
+    #[inline(always)]
+    pub(crate) fn of(line: &'a [u8]) -> Front<'a>
+        ensures line { line.now ≡ result.name.now ++ result.behind.now }
+        ensures name { list_all goes_on_label result.name.now ≡ true }
+    {
+        let mut n = 0;
+        let mut key: u64 = 0;
+        while n < line.len() {
+            let byte = line[n];
+            if class_of(byte) == 0 {
+                break;
+            }
+            key = key << 8 | u64::from(byte);
+            n += 1;
+        }
+        let (name, behind) = line.split_at(n);
+        Front { name, key, behind }
+    }
+
+    /// The front of a line with `/v`, if that stands behind it.
+    #[inline(always)]
+    pub(crate) fn with_trap(&self, line: &'a [u8]) -> Front<'a>
+        requires { line.now ≡ self.now.name.now ++ self.now.behind.now }
+        ensures { line.now ≡ result.name.now ++ result.behind.now }
+    {
+        match self.behind {
+            [b'/', b'v', ..] => {
+                let (name, behind) = line.split_at(self.name.len() + 2);
+                let key = self.key << 16 | 0x2f76;
+                Front { name, key, behind }
+            }
+            _ => *self,
+        }
+    }
+}
+
+/// Whether a name begins with a letter or `_`.
+#[inline(always)]
+pub(crate) fn begins_label(name: &[u8]) -> bool
+    ensures { result ≡ begins_label name.now }
+{
+    match name {
+        [first, ..] => first.is_ascii_alphabetic() || *first == b'_',
+        [] => false,
+    }
+}
+
+/// Whether nothing goes on a name here.
+#[inline(always)]
+pub(crate) fn ends_name(s: &[u8]) -> bool
+    ensures { IsTrue result → Stops goes_on_name s.now }
+{
+    match s {
+        [first, ..] => class_of(*first) == 0 && *first != b'/',
+        [] => true,
+    }
+}

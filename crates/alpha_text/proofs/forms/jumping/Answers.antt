@@ -1,9 +1,0 @@
-use Rattle.alpha_table.specs.declared.names.Mnemonic.TheVariants as mnemonics
-use Rattle.alpha_table.specs.declared.form.Form.TheVariants.{Jump}
-use Rattle.alpha_text.proofs.Meanings.{if-coded, says_jump}
-use Rattle.alpha_text.proofs.forms.jumping.Goals as goal
-
-pub returns : goal.returns
-returns c =
-    if-coded (mnemonics.Jump c.args.kind) c.args.words.now (Jump c.args.kind c.in_ok-to.to.ra c.in_ok-to.to.rb c.in_ok-to.to.hint) c.coded.result
-    (says_jump c.args.kind c.in_ok-to.to.ra c.in_ok-to.to.rb c.in_ok-to.to.hint c.args.words.now c.in_ok-to.ensures) c.coded.ensures

@@ -1,8 +1,0 @@
-use Rattle.std.proofs.Common.{sym, subst}
-use Rattle.alpha_text.specs.declared.head.Own.TheVariants as owns
-use Rattle.alpha_text.specs.Quick.{StandsFor}
-use Rattle.alpha_text.proofs.Meanings.{stands_nop}
-use Rattle.alpha_text.proofs.forms.nop.Goals as goal
-
-pub returns-then-is_end : goal.returns-then-is_end
-returns-then-is_end c = subst (StandsFor owns.Nop c.args.words.now) (sym c.of_zero.ensures) (stands_nop c.args.words.now (c.is_end.ensures c.if-is_end.true))
