@@ -19,7 +19,8 @@ use crate::line_kind::LineKinds;
 use crate::output::{Output, push_entry};
 use crate::place::Place;
 use crate::statement::{Coded, coded_in, is_statement};
-use alpha_text::{Item, Statement, read_line};
+use alpha_quick::read_line;
+use alpha_text::{Item, Statement};
 use std::alloc::{AllocError, Global};
 
 /// The most bytes of a line without its end.
