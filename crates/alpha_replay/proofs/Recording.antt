@@ -1,5 +1,5 @@
 -- A run with its journal between two steps, and one step more.
-use Rattle.std.proofs.Common.{◌≡◌, ℕ, suc, Bool, false, cond, List, [], ◌++◌, length, Option, Some, None, sym, ap, subst, ◌∙◌, append_assoc}
+use Rattle.std.proofs.Common.{◌≡◌, ℕ, suc, Bool, false, cond, List, [], ◌++◌, length, Some, sym, ap, ◌∙◌, append_assoc}
 use Rattle.std.proofs.lemmas.List.{length-append}
 use Rattle.alpha_io.specs.Sunk.{Sunk, Puts}
 use Rattle.alpha_io.proofs.Sinks.{Puts-then}
@@ -7,7 +7,7 @@ use Rattle.alpha_seq.specs.State.{Program}
 use Rattle.alpha_seq.specs.Machine.{program_of, state_of, class_here}
 use Rattle.alpha_seq.specs.Step.{next_class}
 use Rattle.alpha_seq.specs.Devices.{Drawn, Draws}
-use Rattle.alpha_seq.proofs.RunSteps.{Times, drawn_before, drawn_after, drawn_over, sunk_before, sunk_after, sunk_over}
+use Rattle.alpha_seq.proofs.RunSteps.{Times, drawn_before, drawn_after, drawn_over, sunk_before, sunk_after, sunk_over, joined}
 use Rattle.alpha_imprecise.specs.Moment.{Happening}
 use Rattle.alpha_imprecise.specs.Run.{WildRun, finished}
 use Rattle.alpha_imprecise.specs.Made.{Making, advance_making}
@@ -22,34 +22,6 @@ use Rattle.alpha_replay.specs.Gathered.{gathered_by, noted_at, noted}
 use Rattle.alpha_replay.specs.Journaled.{Journaled, unjournaled, has_stopped, journaled_more, advance_journaled, steps_journaled}
 use Rattle.alpha_replay.specs.Taped.{Taped}
 use Rattle.alpha_replay.specs.Turned.{taped_by}
-
-pub record Joined (input : Times) (taken rest taken' rest' : List ℕ) : Type 0 where
-  pub same : rest ≡ taken' ++ rest'
-  pub took : Draws (drawn_over input) (taken ++ taken') rest'
-
-joined_at : (xs : List ℕ) (mid last : Option (List ℕ)) (a b c : ℕ) (taken rest taken' rest' : List ℕ)
-    → Draws (record { old = Some xs; new = mid; before = a; now = b }) taken rest
-    → Draws (record { old = mid; new = last; before = b; now = c }) taken' rest'
-    → Joined (record { first = Some xs; mid = mid; last = last; faults_first = a; faults_mid = b; faults_last = c }) taken rest taken' rest'
-joined_at xs None last a b c taken rest taken' rest' one two = absurd (let e = one.took.1 in cc)
-joined_at xs (Some ys) last a b c taken rest taken' rest' one two =
-    let told : ys ≡ rest = (let e = one.took.1 in cc) in
-    let same : rest ≡ taken' ++ rest' = sym told ∙ two.took.0 in
-    record {
-      same = same;
-      took = record {
-        took = (one.took.0 ∙ ap (λ l. taken ++ l) same ∙ sym (append_assoc taken taken' rest'), two.took.1);
-        same = two.same ∙ one.same;
-      };
-    }
-
-pub joined : (xs : List ℕ) (input : Times) (taken rest taken' rest' : List ℕ) → input.first ≡ Some xs
-    → Draws (drawn_before input) taken rest → Draws (drawn_after input) taken' rest' → Joined input taken rest taken' rest'
-joined xs input taken rest taken' rest' told one two =
-    let P : Option (List ℕ) → Type 0 = λ first.
-    Draws (record { old = first; new = input.mid; before = input.faults_first; now = input.faults_mid }) taken rest
-    → Joined (record input { first = first }) taken rest taken' rest' in
-    subst P (sym told) (λ first. joined_at xs input.mid input.last input.faults_first input.faults_mid input.faults_last taken rest taken' rest' first two) one
 
 -- so many steps of such a run lead here
 pub record Reaches (n : ℕ) (run : WildRun) (t : Taped) (old new : WildState) (before after : Telling) (input : Drawn) (out : Sunk) : Type 0 where

@@ -20,7 +20,7 @@ use Rattle.alpha_seq.specs.Devices.{Idles}
 use Rattle.alpha_seq.specs.StepEffect.{InputFails, OutputFails}
 use Rattle.alpha_seq.proofs.Growing.{wrote_all}
 use Rattle.alpha_seq.proofs.OverRuns.{idle-part}
-use Rattle.alpha_seq.proofs.RunSteps.{Times, drawn_before, drawn_after, drawn_over, sunk_before, sunk_after, sunk_over}
+use Rattle.alpha_seq.proofs.RunSteps.{Times, drawn_before, drawn_after, drawn_over, sunk_before, sunk_after, sunk_over, joined}
 use Rattle.alpha_imprecise.specs.declared.pending.Pending.{Pending}
 use Rattle.alpha_imprecise.specs.declared.end.WildEnd.TheVariants as ends
 use Rattle.alpha_imprecise.specs.Moment.{Reported, Moment}
@@ -42,7 +42,7 @@ use Rattle.alpha_replay.specs.JournalEnd.{journaled, IsShort}
 use Rattle.alpha_replay.specs.Journaled.{Journaled, unjournaled, has_stopped, journaled_more, advance_journaled, steps_journaled, IsJournaled}
 use Rattle.alpha_replay.specs.Taped.{Taped}
 use Rattle.alpha_replay.proofs.JournaledRuns.{stays_stopped}
-use Rattle.alpha_replay.proofs.Recording.{Reaches, GoesOn, joined}
+use Rattle.alpha_replay.proofs.Recording.{Reaches, GoesOn}
 
 -- ---- a run that hasn't stopped goes on to where it stops
 

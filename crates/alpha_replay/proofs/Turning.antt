@@ -5,7 +5,6 @@ use Rattle.std.proofs.KnownBytes.{Appends-nil}
 use Rattle.std.specs.Io.KnownBytes.{Appends}
 use Rattle.alpha_io.specs.Sunk.{Sunk, Puts}
 use Rattle.alpha_io.proofs.Sinks.{Puts-none}
-use Rattle.alpha_pal.proofs.Serving.{rest_of, Takes-nothing}
 use Rattle.alpha_mem.specs.Block.{shapes, within}
 use Rattle.alpha_mem.specs.Intent.{Load}
 use Rattle.alpha_mem.specs.Memory.{bytes_at}
@@ -22,10 +21,10 @@ use Rattle.alpha_imprecise.specs.Moment.{Happening, Precisely, Moment}
 use Rattle.alpha_imprecise.specs.Chosen.{first_word, draw_at}
 use Rattle.alpha_imprecise.specs.Telling.{Telling}
 use Rattle.alpha_imprecise.specs.Wild.{WildState, bare, trap_in, waited_in}
-use Rattle.alpha_imprecise.specs.WildEffect.{IsChosen, WildSteps, CallFails, ReportFails, WildEffect, WildGoesOn}
+use Rattle.alpha_imprecise.specs.WildEffect.{WildSteps, CallFails, ReportFails, WildEffect, WildGoesOn}
 use Rattle.alpha_imprecise.specs.WildTurn.{WildTurnEffect}
 use Rattle.alpha_imprecise.proofs.Choosing.{Moves-none, triggers-told}
-use Rattle.alpha_imprecise.proofs.Joining.{resting, idle_sink}
+use Rattle.alpha_imprecise.proofs.Joining.{resting, idle_sink, quietly}
 use Rattle.alpha_replay.specs.declared.look.Look.{Look}
 use Rattle.alpha_replay.specs.declared.look.Look.TheVariants as looks
 use Rattle.alpha_replay.specs.declared.moves.Move.{Move}
@@ -173,20 +172,7 @@ module _ (look : Look) (first second : ℕ) (move : Move) (old : WildState) (bef
 module _ (old new : WildState) (t : Telling) (left written : Option (List ℕ)) (faults count : ℕ) (h : WildGoesOn old new) where
   -- the step by no word that takes nothing and puts nothing
   abbrev goes_steps : WildSteps (Precisely Went) old new t t (resting left faults) (idle_sink written count)
-  goes_steps = record {
-    words = [];
-    taken = [];
-    rest = rest_of left left;
-    bytes = [];
-    drew = Moves-none t;
-    took = record { took = Takes-nothing left; same = refl };
-    wrote = Puts-none written count;
-    is = λ coming output.
-        subst (λ (l : List ℕ). IsChosen (Precisely Went) old new (state_of old.machine (rest_of left left) output) (state_of new.machine (rest_of left left) l) [] coming)
-        (sym (append-nil output)) (h.step.is coming (rest_of left left) output);
-    waited = h.step.waited;
-    program = h.step.program;
-  }
+  goes_steps = quietly (Precisely Went) old new t t [] left written faults count (Moves-none t) h.step
 
   -- what is drawn, put and taken is nothing, and the move is One
   goes_noted : (input output coming : List ℕ) → noted_at (class_here old.machine) (state_of old.machine input output) (trap_in old.pending) (waited_in old.pending) coming ≡ One

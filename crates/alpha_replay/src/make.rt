@@ -73,8 +73,8 @@ pub fn make_journal<C: Chooser, S: Source, K: Sink, N: Sink>(
     outcome(tape, completion, stop)
 }
 
-// Makes the run, and notes it on the tape, until it is over, a device fails, or the tape is full, which is `None`. It
-// stands apart, as the loop of a run does.
+// Makes the run, and notes it on the tape, until it is over, a device fails or the tape is full. It answers how the run
+// ended, and `None` where the tape is full. It is never inlined, so that the loop of the run is compiled by itself.
 #[inline(never)]
 fn make_taped<C: Chooser, S: Source, K: Sink, N: Sink>(
     tape: &mut Tape,

@@ -57,8 +57,9 @@ pub(crate) fn turn<C: Chooser, S: Source, K: Sink, N: Sink>(
     turn_rarely(tape, wild, chooser, input, out, notes)
 }
 
-// The same for what is rare, and the words that only go on. What is put stands in memory before the step, and what is
-// taken behind it. It stands apart, so that the loop of the run is short.
+// Makes one step of any kind, and notes it. The bytes that the step puts are read from memory before it, and those that
+// it takes behind it. `turn` calls this where a step does more than go on, which is rare; it is never inlined there, so
+// that the loop of the run is short.
 #[inline(never)]
 fn turn_rarely<C: Chooser, S: Source, K: Sink, N: Sink>(
     tape: &mut Tape,
