@@ -157,8 +157,8 @@ module _ (code : List ℕ) (q e : ℕ) (s a : State) (h : Match code q e s a) wh
         (set_on (Some (load extension c ra)) ra (loaded extension c s) (loaded extension c a) is (λ f. cc) refl value))
 
     -- the registers behind a word that sets none
-    alike_kept : (o : Option Class) → class_at code q ≡ o → sets o ≡ None → Alike code (q + 1) e s.regs a.regs
-    alike_kept o is none =
+    alike_unset : (o : Option Class) → class_at code q ≡ o → sets o ≡ None → Alike code (q + 1) e s.regs a.regs
+    alike_unset o is none =
         alike_on code q e s.regs a.regs s.regs a.regs h.registers less h.registers.size h.registers.size_too (λ x n. refl) (λ x n. refl)
         (λ x f. let g : None ≡ Some x = sym none ∙ (ap sets (sym is) ∙ f) in cc)
 
@@ -185,7 +185,7 @@ module _ (code : List ℕ) (q e : ℕ) (s a : State) (h : Match code q e s a) wh
           pc = refl;
           pc_too = refl;
           matched = record {
-            registers = alike_kept (Some (store c ra)) is refl;
+            registers = alike_unset (Some (store c ra)) is refl;
             memory = subst (λ n. SameBytes code (q + 1) e s.regs (written_memory c ra s) n) (sym bytes)
                 (bytes_stored code q e s.regs s.mem a.mem c h.memory less accesses (low_bytes c.bytes (reg s.regs ra))
                 (mem.length-low_bytes c.bytes (reg s.regs ra)) kind_is);
@@ -205,7 +205,7 @@ module _ (code : List ℕ) (q e : ℕ) (s a : State) (h : Match code q e s a) wh
       pc = refl;
       pc_too = refl;
       matched = record {
-        registers = alike_kept (Some idle) is refl;
+        registers = alike_unset (Some idle) is refl;
         memory = bytes_on code q e e s.regs s.regs s.mem a.mem (λ f. let u : kind (Some idle) ≡ Some kinds.Store = ap kind (sym is) ∙ f in cc) (λ x n. refl) h.memory
             (omega arith) (λ i low high. high);
         lock = h.lock;

@@ -15,7 +15,7 @@ use Rattle.alpha_restart.specs.Safe.{IsSafe}
 use Rattle.alpha_restart.specs.Invariant.{Trail, Exact, Stopped, Together, exact, synced, window, stopping, stopped}
 use Rattle.alpha_restart.proofs.Safety.{safe}
 use Rattle.alpha_restart.proofs.Places.{trail_scan}
-use Rattle.alpha_restart.proofs.Keeping.{Follows, kept_all, follows_start}
+use Rattle.alpha_restart.proofs.Following.{Follows, follows_all, follows_start}
 use Rattle.alpha_restart.proofs.Starting.{ready_start}
 
 -- a run that goes on has no trap that was lost, and no end
@@ -116,7 +116,7 @@ module _ (g : Program) (good : IsImage g.image) (safety : IsSafe g.image.words) 
 
 -- from a state that is ready, whatever is chosen
 pub restarts_from : (g : Program) (s : State) → IsImage g.image → IsSafe g.image.words → Follows g s (started_wild s) → RestartsFrom g s
-restarts_from g s good safety h = λ choices. agrees g good safety s (run_wild g choices (started_wild s)) (kept_all g good safety s choices (started_wild s) h)
+restarts_from g s good safety h = λ choices. agrees g good safety s (run_wild g choices (started_wild s)) (follows_all g good safety s choices (started_wild s) h)
 
 pub accepted_restarts : (image : Parts) → IsImage image → IsAccepted image.words → IsRestartable image
 accepted_restarts image good accepted = λ how input.

@@ -36,14 +36,14 @@ pub alike_on : (code : List ℕ) (q e : ℕ) (s a t b : List ℕ) → Alike code
     → ((x : ℕ) → sets (class_at code q) ≢ Some x → reg b x ≡ reg a x)
     → ((x : ℕ) → sets (class_at code q) ≡ Some x → reg b x ≡ reg t x)
     → Alike code (q + 1) e t b
-alike_on code q e s a t b h less size also kept kept_too both = record {
+alike_on code q e s a t b h less size also same_unset same_unset_too both = record {
   order = omega arith;
   size = size;
   size_too = also;
   registers = λ r. ⊎_elim
       (λ (is : sets (class_at code q) ≡ Some r). inl (both r is))
       (λ (n : sets (class_at code q) ≢ Some r). ⊎_elim
-      (λ (same : reg a r ≡ reg s r). inl (kept_too r n ∙ (same ∙ sym (kept r n))))
+      (λ (same : reg a r ≡ reg s r). inl (same_unset_too r n ∙ (same ∙ sym (same_unset r n))))
       (λ (d : Dead code q e r). inr (dead_on code q e e r n d (omega arith)))
       (h.registers r))
       (has_cases (sets (class_at code q)) r);

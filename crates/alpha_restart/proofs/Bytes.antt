@@ -11,26 +11,26 @@ use Rattle.alpha_mem.specs.Memory.{byte_at, IsLayout}
 use Rattle.alpha_mem.proofs.LawLemmas as mem
 use Rattle.alpha_restart.specs.Match.{Reached, DeadByte, SameBytes, intent_of}
 
--- registers that differ only in what the word at a place sets
-abbrev pub Kept : List ℕ → ℕ → List ℕ → List ℕ → Type 0
-Kept code q old new = (x : ℕ) → sets (class_at code q) ≢ Some x → reg new x ≡ reg old x
+-- the registers that the word at a place does not set are the same
+abbrev pub SameUnset : List ℕ → ℕ → List ℕ → List ℕ → Type 0
+SameUnset code q old new = (x : ℕ) → sets (class_at code q) ≢ Some x → reg new x ≡ reg old x
 
 covers_moved : (c : MemAccess) (v w y : ℕ) → v ≡ w → Covers c v y → Covers c w y
 covers_moved c v w y e h = subst (λ n. Covers c n y) e h
 
 -- the words behind the one at q reach their accesses as before
-pub reached_on : (code : List ℕ) (q i : ℕ) (c : MemAccess) (old new : List ℕ) (m : List Block) → q < i → Kept code q old new
+pub reached_on : (code : List ℕ) (q i : ℕ) (c : MemAccess) (old new : List ℕ) (m : List Block) → q < i → SameUnset code q old new
     → Reached code q i c old (shapes m) → Reached code (q + 1) i c new (shapes m)
-reached_on code q i c old new m above kept h = record {
+reached_on code q i c old new m above same_unset h = record {
   base = λ k low high. h.base k (omega arith) high;
   granted = ap (λ v. fault_of (shapes m) (intent_of (kind (class_at code i))) (access_address c v) c.bytes)
-      (kept c.base (h.base q (omega arith) above)) ∙ h.granted;
+      (same_unset c.base (h.base q (omega arith) above)) ∙ h.granted;
 }
 
 -- a dead byte that no store at q writes is dead behind q
-pub dead_byte_on : (code : List ℕ) (q e f : ℕ) (old new : List ℕ) (m n : List Block) (y : ℕ) → Kept code q old new → SameBytes code q e old m n
+pub dead_byte_on : (code : List ℕ) (q e f : ℕ) (old new : List ℕ) (m n : List Block) (y : ℕ) → SameUnset code q old new → SameBytes code q e old m n
     → e ≤ f → (d : DeadByte code q e old y) → (d.at ≢ q) → DeadByte code (q + 1) f new y
-dead_byte_on code q e f old new m n y kept h more d apart =
+dead_byte_on code q e f old new m n y same_unset h more d apart =
     let low = d.above in
     let high = d.below in
     record {
@@ -41,24 +41,24 @@ dead_byte_on code q e f old new m n y kept h more d apart =
       accesses = d.accesses;
       store = d.store;
       written = covers_moved d.c (reg old d.c.base) (reg new d.c.base) y
-          (sym (kept d.c.base ((h.reached d.at d.c low high d.accesses).base q (omega arith) (omega arith)))) d.written;
+          (sym (same_unset d.c.base ((h.reached d.at d.c low high d.accesses).base q (omega arith) (omega arith)))) d.written;
       unread = λ j c above below load accesses covers. d.unread j c (omega arith) below load accesses
           (covers_moved c (reg new c.base) (reg old c.base) y
-          (kept c.base ((h.reached j c (omega arith) (omega arith) accesses).base q (omega arith) (omega arith))) covers);
+          (same_unset c.base ((h.reached j c (omega arith) (omega arith) accesses).base q (omega arith) (omega arith))) covers);
     }
 
 -- past a word that stores nothing
 pub bytes_on : (code : List ℕ) (q e f : ℕ) (old new : List ℕ) (m n : List Block) → kind (class_at code q) ≢ Some kinds.Store
-    → Kept code q old new → SameBytes code q e old m n → e ≤ f → ((i : ℕ) → q < i → i < f → i < e) → SameBytes code (q + 1) f new m n
-bytes_on code q e f old new m n plain kept h more few = record {
+    → SameUnset code q old new → SameBytes code q e old m n → e ≤ f → ((i : ℕ) → q < i → i < f → i < e) → SameBytes code (q + 1) f new m n
+bytes_on code q e f old new m n plain same_unset h more few = record {
   blocks = h.blocks;
   layout = h.layout;
   bytes = λ y. ⊎_elim
       (λ (same : byte_at n y ≡ byte_at m y). inl same)
-      (λ (d : DeadByte code q e old y). inr (dead_byte_on code q e f old new m n y kept h more d
+      (λ (d : DeadByte code q e old y). inr (dead_byte_on code q e f old new m n y same_unset h more d
       (λ is. plain (ap (λ k. kind (class_at code k)) (sym is) ∙ d.store))))
       (h.bytes y);
-  reached = λ i c low high accesses. reached_on code q i c old new m (omega arith) kept (h.reached i c (omega arith) (few i (omega arith) high) accesses);
+  reached = λ i c low high accesses. reached_on code q i c old new m (omega arith) same_unset (h.reached i c (omega arith) (few i (omega arith) high) accesses);
 }
 
 -- at the end no byte is dead

@@ -22,7 +22,7 @@ use Rattle.alpha_restart.proofs.Precise.{advance-going}
 use Rattle.alpha_restart.proofs.Together.{from_same}
 use Rattle.alpha_restart.proofs.Syncing.{from_synced}
 use Rattle.alpha_restart.proofs.Reporting.{Held, from_window, from_stopping}
-use Rattle.alpha_restart.proofs.Keeping.{unit_more}
+use Rattle.alpha_restart.proofs.Following.{unit_more}
 use Rattle.alpha_restart.proofs.Losing.{trail_over}
 
 -- ---- over another input
@@ -153,8 +153,8 @@ module _ (g : Program) (good : IsImage g.image) (safety : IsSafe g.image.words) 
         together = together_over g [] (run_at f.input r) next t.together;
       })
 
-  kept_free : (w : WildRun) (f : Free) → FollowsFree g s w → FollowsFree g s (advance_free g w f)
-  kept_free w f h = by (together_over g f.input (run_at [] (run_over g h.inputs (started s))) (wild_over [] w) h.together)
+  follows_free : (w : WildRun) (f : Free) → FollowsFree g s w → FollowsFree g s (advance_free g w f)
+  follows_free w f h = by (together_over g f.input (run_at [] (run_over g h.inputs (started s))) (wild_over [] w) h.together)
     where
       from_exact : Exact (run_at f.input (run_over g h.inputs (started s))) (wild_over f.input w)
           → (b : Bool) → is_over (run_over g h.inputs (started s)).last ≡ b → FollowsFree g s (advance_free g w f)
@@ -171,9 +171,9 @@ module _ (g : Program) (good : IsImage g.image) (safety : IsSafe g.image.words) 
       by (stopping x) = held_free w f h x.trail.going (from_stopping g good safety (run_at f.input (run_over g h.inputs (started s))) (wild_over f.input w) f.choice x)
       by (stopped x) = stays_free w f h (ap finished x.last_too)
 
-  kept_frees : (steps : List Free) (w : WildRun) → FollowsFree g s w → FollowsFree g s (run_free g steps w)
-  kept_frees [] w h = h
-  kept_frees (f ∷ steps) w h = kept_frees steps (advance_free g w f) (kept_free w f h)
+  follows_frees : (steps : List Free) (w : WildRun) → FollowsFree g s w → FollowsFree g s (run_free g steps w)
+  follows_frees [] w h = h
+  follows_frees (f ∷ steps) w h = follows_frees steps (advance_free g w f) (follows_free w f h)
 
   start_free : IsReady s → FollowsFree g s (started_wild s)
   start_free ready = record {
@@ -249,4 +249,4 @@ accepted_free image good accepted = λ how steps n used.
     let g : Program = record { image = image; how = how } in
     let s = start g [] in
     same_free n g s (run_free g steps (started_wild s)) used
-    (kept_frees g good (safe image.words accepted) s steps (started_wild s) (start_free g good (safe image.words accepted) s (ready_start g [] good)))
+    (follows_frees g good (safe image.words accepted) s steps (started_wild s) (start_free g good (safe image.words accepted) s (ready_start g [] good)))

@@ -15,7 +15,7 @@ pub mod Together
 pub mod Syncing
 pub mod Waiting
 pub mod Reporting
-pub mod Keeping
+pub mod Following
 pub mod Starting
 pub mod Agreeing
 pub mod Rows

@@ -37,8 +37,8 @@ module _ (g : Program) (good : IsImage g.image) (safe : IsSafe g.image.words) wh
   module _ (q e : ℕ) (t : Trigger) (r : Run) (w : WildRun) (c : Choice) (word : class_at g.image.words q ≡ trigger_word t) (h : Match g.image.words q e r.state w.state)
       (here : r.state.pc ≡ address_at g.image q) (here_too : w.state.pc ≡ r.state.pc) (trace : w.trace ≡ r.trace) where
     -- what the trigger sets is its destination
-    kept_by : (v x : ℕ) → sets (class_at g.image.words q) ≢ Some x → reg (put r.state.regs t.rc v) x ≡ reg r.state.regs x
-    kept_by v x n = reg-put_unset r.state.regs t.rc x v (λ f. n (ap sets word ∙ f))
+    same_unset_by : (v x : ℕ) → sets (class_at g.image.words q) ≢ Some x → reg (put r.state.regs t.rc v) x ≡ reg r.state.regs x
+    same_unset_by v x n = reg-put_unset r.state.regs t.rc x v (λ f. n (ap sets word ∙ f))
 
     opens : stops g.how ≡ false
         → Window g (extended_by r (stepped (logging r.state t.rc (trigger_value g.how t r.state.regs)) (Overflowed r.state.pc)))
@@ -56,7 +56,7 @@ module _ (g : Program) (good : IsImage g.image) (safe : IsSafe g.image.words) wh
       shadow = trigger_shadow g.image.words safe g.how q t word e c.value r.state.regs w.state.regs h.registers (counted g good safe q t word)
           (same_ra_at) (same_src_at);
       memory = bytes_on g.image.words q e (max e (q + 1)) r.state.regs (put r.state.regs t.rc (trigger_value g.how t r.state.regs)) r.state.mem w.state.mem
-          (λ f. let f' : kind (trigger_word t) ≡ Some kinds.Store = ap kind (sym word) ∙ f in cc) (kept_by (trigger_value g.how t r.state.regs)) h.memory
+          (λ f. let f' : kind (trigger_word t) ≡ Some kinds.Store = ap kind (sym word) ∙ f in cc) (same_unset_by (trigger_value g.how t r.state.regs)) h.memory
           (omega arith) (λ i low high. omega arith);
       lock = refl;
       count = ap (λ n. (n + 1) % 2 ^ 64) (sym h.count);

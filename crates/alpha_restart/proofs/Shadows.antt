@@ -22,7 +22,7 @@ use Rattle.alpha_restart.specs.Shadow.{Shadow}
 use Rattle.alpha_restart.proofs.Registers.{has_cases, reg-past, reg-put_other, reg-put_same, reg-put_unset, counted_set}
 use Rattle.alpha_restart.proofs.Reading.{counts_first, source_used, counts_source, set_not_31}
 use Rattle.alpha_restart.proofs.Alike.{dead_on, dead_more, steady_more}
-use Rattle.alpha_restart.proofs.Bytes.{Kept}
+use Rattle.alpha_restart.proofs.Bytes.{SameUnset}
 
 -- steady words run straight on
 steady_straight : (i : InsnKind) → steady_kind i ≡ true → (Some i ≢ Some kinds.Barrier) × (Some i ≢ Some kinds.Turn)
@@ -47,9 +47,9 @@ shadowed code p e t is order h = record { trigger_kind = ap kind is; order = ord
 
 module _ (code : List ℕ) (safe : IsSafe code) (how : Completion) (p : ℕ) (t : Trigger) (word : class_at code p ≡ trigger_word t) where
   -- what a word of the shadow changes is no source of the trigger
-  source_kept : (i x : ℕ) (a b : List ℕ) → Shadowed code p i → length a ≡ 32 → length b ≡ 32 → Kept code i a b
+  source_same : (i x : ℕ) (a b : List ℕ) → Shadowed code p i → length a ≡ 32 → length b ≡ 32 → SameUnset code i a b
       → (x < 31 → uses (trigger_word t) x ≡ true) → reg b x ≡ reg a x
-  source_kept i x a b h size also kept used = ⊎_elim
+  source_same i x a b h size also same_unset used = ⊎_elim
       (λ (set : sets (class_at code i) ≡ Some x). ⊎_elim
       (λ (low : x < 31). absurd (safe.source p i p x h (omega arith) h.order set (ap (λ o. uses o x) word ∙ used low) (λ k above below. absurd (omega arith))))
       (λ (high : 31 ≤ x). ⊎_elim
@@ -57,19 +57,19 @@ module _ (code : List ℕ) (safe : IsSafe code) (how : Completion) (p : ℕ) (t 
       (λ (past : x ≡ 31 → ⊥). reg-past b a x also size (omega arith))
       (cases_eq x 31))
       (cases_lt x 31))
-      (λ (n : sets (class_at code i) ≢ Some x). kept x n)
+      (λ (n : sets (class_at code i) ≢ Some x). same_unset x n)
       (has_cases (sets (class_at code i)) x)
 
-  second_kept : (i : ℕ) (src : Src) (a b : List ℕ) → t.src ≡ src → Shadowed code p i → length a ≡ 32 → length b ≡ 32 → Kept code i a b
+  second_same : (i : ℕ) (src : Src) (a b : List ℕ) → t.src ≡ src → Shadowed code p i → length a ≡ 32 → length b ≡ 32 → SameUnset code i a b
       → source_value b src ≡ source_value a src
-  second_kept i (Reg x) a b is h size also kept =
-      source_kept i x a b h size also kept (λ low. counts_source Plain t.ra t.rc x (source_registers t.src) low (source_used x t.src is))
-  second_kept i (Lit n) a b is h size also kept = refl
+  second_same i (Reg x) a b is h size also same_unset =
+      source_same i x a b h size also same_unset (λ low. counts_source Plain t.ra t.rc x (source_registers t.src) low (source_used x t.src is))
+  second_same i (Lit n) a b is h size also same_unset = refl
 
-  pub value_kept : (i : ℕ) (a b : List ℕ) → Shadowed code p i → length a ≡ 32 → length b ≡ 32 → Kept code i a b → trigger_value how t b ≡ trigger_value how t a
-  value_kept i a b h size also kept =
-      ap (λ x. completed_of t.op x (source_value b t.src) how) (source_kept i t.ra a b h size also kept (λ low. counts_first t.ra (source_registers t.src) low))
-      ∙ ap (λ y. completed_of t.op (reg a t.ra) y how) (second_kept i t.src a b refl h size also kept)
+  pub value_same : (i : ℕ) (a b : List ℕ) → Shadowed code p i → length a ≡ 32 → length b ≡ 32 → SameUnset code i a b → trigger_value how t b ≡ trigger_value how t a
+  value_same i a b h size also same_unset =
+      ap (λ x. completed_of t.op x (source_value b t.src) how) (source_same i t.ra a b h size also same_unset (λ low. counts_first t.ra (source_registers t.src) low))
+      ∙ ap (λ y. completed_of t.op (reg a t.ra) y how) (second_same i t.src a b refl h size also same_unset)
 
   -- ---- the first word behind the trigger that sets a register
 
@@ -130,7 +130,7 @@ module _ (code : List ℕ) (safe : IsSafe code) (how : Completion) (p : ℕ) (t 
   pub trigger_shadow : (e v : ℕ) (s a : List ℕ) → Alike code p e s a → t.rc < 31 → reg a t.ra ≡ reg s t.ra → source_value a t.src ≡ source_value s t.src
       → Shadow code how p (p + 1) (max e (p + 1)) t (put s t.rc (trigger_value how t s)) (put a t.rc v)
   trigger_shadow e v s a h low same same_too =
-      let kept : Kept code p a (put a t.rc v) = λ x n. reg-put_unset a t.rc x v (λ f. n (ap sets word ∙ f)) in
+      let same_unset : SameUnset code p a (put a t.rc v) = λ x n. reg-put_unset a t.rc x v (λ f. n (ap sets word ∙ f)) in
       let size : length (put s t.rc (trigger_value how t s)) ≡ 32 = length-put s t.rc (trigger_value how t s) ∙ h.size in
       let also : length (put a t.rc v) ≡ 32 = length-put a t.rc v ∙ h.size_too in
       record {
@@ -146,15 +146,15 @@ module _ (code : List ℕ) (safe : IsSafe code) (how : Completion) (p : ℕ) (t 
             (h.registers r);
         steady = steady_more code p p e h.steady h.order (ap is_steady word);
         value =
-            value_kept p a (put a t.rc v) (shadowed code p p t word (omega arith) (λ k above below. absurd (omega arith))) h.size_too also kept
+            value_same p a (put a t.rc v) (shadowed code p p t word (omega arith) (λ k above below. absurd (omega arith))) h.size_too also same_unset
             ∙ (ap (λ x. completed_of t.op x (source_value a t.src) how) same ∙ ap (λ y. completed_of t.op (reg s t.ra) y how) same_too)
             ∙ sym (reg-put_same s t.rc (trigger_value how t s) low h.size);
       }
 
   -- over a word that waits
-  pub wait_shadow : (i e : ℕ) (s a b : List ℕ) → is_steady (class_at code i) ≡ true → length b ≡ 32 → Kept code i a b
+  pub wait_shadow : (i e : ℕ) (s a b : List ℕ) → is_steady (class_at code i) ≡ true → length b ≡ 32 → SameUnset code i a b
       → Shadow code how p i e t s a → Shadow code how p (i + 1) (max e (i + 1)) t s b
-  wait_shadow i e s a b here also kept h =
+  wait_shadow i e s a b here also same_unset h =
       let more : Steady code p (max e (i + 1)) = steady_more code p i e h.steady h.order here in
       record {
         order = omega arith;
@@ -167,12 +167,12 @@ module _ (code : List ℕ) (safe : IsSafe code) (how : Completion) (p : ℕ) (t 
             (λ (set : sets (class_at code i) ≡ Some r). inr (new_dead i (max e (i + 1)) r h.above (omega arith) more
             (λ f. n (let f' : Some r ≡ Some t.rc = sym f ∙ own_set h.counted in cc)) set))
             (λ (unset : sets (class_at code i) ≢ Some r). ⊎_elim
-            (λ (same : reg a r ≡ reg s r). inl (kept r unset ∙ same))
+            (λ (same : reg a r ≡ reg s r). inl (same_unset r unset ∙ same))
             (λ (d : Dead code (p + 1) e r). inr (dead_more code (p + 1) e (max e (i + 1)) r d (omega arith)))
             (h.registers r n))
             (has_cases (sets (class_at code i)) r);
         steady = more;
-        value = value_kept i a b (shadowed code p i t word (let up = h.above in omega arith) (λ k low high. h.steady k low (let o = h.order in omega arith))) h.size_too also kept ∙ h.value;
+        value = value_same i a b (shadowed code p i t word (let up = h.above in omega arith) (λ k low high. h.steady k low (let o = h.order in omega arith))) h.size_too also same_unset ∙ h.value;
       }
 
   -- the base of an access in the window is the same in both machines

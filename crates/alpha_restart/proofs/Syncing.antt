@@ -1,4 +1,4 @@
--- A step with nothing pending, where the machines are matched, keeps them together.
+-- After a step with nothing pending machines that were matched are together.
 use Rattle.std.proofs.Common.{◌≡◌, ◌≢◌, ◌<◌, ◌≤◌, ◌+◌, ◌%◌, ◌^◌, ℕ, Bool, true, false, cond, List, [], ◌++◌, Option, Some, None, refl, sym, ap, subst, ◌∙◌, ⊎_elim, arith}
 use Rattle.std.proofs.lemmas.Bool.{cases_lt}
 use Rattle.alpha_words.specs.Regs.{reg}

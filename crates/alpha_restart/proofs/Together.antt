@@ -1,4 +1,4 @@
--- A step with nothing pending keeps the machines together.
+-- After a step with nothing pending the machines are still together.
 use Rattle.std.proofs.Common.{◌≡◌, ℕ, Bool, true, false, cond, List, Option, Some, None, refl, sym, ap, subst, ◌∙◌, option_and_then}
 use Rattle.alpha_words.specs.declared.Completion.{Completion}
 use Rattle.alpha_words.specs.Regs.{reg}

@@ -20,8 +20,8 @@ use Rattle.alpha_restart.proofs.Places.{place_within, next_address, steady_withi
 
 -- ---- masks
 
-pub with_keeps : (mask r x : ℕ) → Has mask x → Has (with_register mask r) x
-with_keeps mask r x h = by (eqb r 31)
+pub still_has : (mask r x : ℕ) → Has mask x → Has (with_register mask r) x
+still_has mask r x h = by (eqb r 31)
   where
     by : (b : Bool) → Has (cond b mask (bit_or mask (2 ^ r))) x
     by true = h
@@ -117,7 +117,7 @@ module _ (g : Program) (good : IsImage g.image) (safe : IsSafe g.image.words) wh
       }
     where
       has_by : (b : Bool) → Has (mask_after (class_at g.image.words i) h.mask b) h.rc
-      has_by true = with_keeps h.mask (destination (class_at g.image.words i)) h.rc h.has
+      has_by true = still_has h.mask (destination (class_at g.image.words i)) h.rc h.has
       has_by false = h.has
 
       old : (r : ℕ) → r < 31 → Has h.mask r → (k : ℕ) × (p ≤ k) × (k < i + 1) × (trap_rc (class_at g.image.words k) ≡ Some r)

@@ -29,7 +29,7 @@ use Rattle.alpha_restart.specs.Shadow.{Shadow}
 use Rattle.alpha_restart.specs.Invariant.{Trail, Window, Stopping}
 use Rattle.alpha_restart.proofs.Registers.{reg-put_unset}
 use Rattle.alpha_restart.proofs.Reading.{counts_first, counts_second}
-use Rattle.alpha_restart.proofs.Bytes.{Kept}
+use Rattle.alpha_restart.proofs.Bytes.{SameUnset}
 use Rattle.alpha_restart.proofs.Shadows.{straight_on, shadowed, base_same, wait_shadow}
 use Rattle.alpha_restart.proofs.Spoiling.{bytes_more, bytes_spoilt}
 use Rattle.alpha_restart.proofs.Trails.{trail_on}
@@ -40,7 +40,7 @@ use Rattle.alpha_restart.proofs.Trails.{trail_on}
 pub record Spoils (code : List ℕ) (i : ℕ) (a b : State) : Type 0 where
   pub pc : b.pc ≡ (a.pc + 4) % 2 ^ 64
   pub size : length b.regs ≡ length a.regs
-  pub kept : Kept code i a.regs b.regs
+  pub same_unset : SameUnset code i a.regs b.regs
   pub count : b.count ≡ a.count
   pub outside : b.outside ≡ a.outside
 
@@ -51,7 +51,7 @@ module _ (code : List ℕ) (i : ℕ) (a : State) (c : Choice) where
   set_spoils o rc is set = record {
     pc = refl;
     size = length-put a.regs rc c.value;
-    kept = λ x n. reg-put_unset a.regs rc x c.value (λ f. n (ap sets is ∙ (set ∙ f)));
+    same_unset = λ x n. reg-put_unset a.regs rc x c.value (λ f. n (ap sets is ∙ (set ∙ f)));
     count = refl;
     outside = refl;
   }
@@ -62,13 +62,13 @@ module _ (code : List ℕ) (i : ℕ) (a : State) (c : Choice) where
   spoils (Some (trigger op ra src rc)) is steady = set_spoils _ rc is refl
   spoils (Some (address op ra rb disp)) is steady = set_spoils _ ra is refl
   spoils (Some (load extension at ra)) is steady = set_spoils _ ra is refl
-  spoils (Some (store at ra)) is steady = record { pc = refl; size = refl; kept = λ x n. refl; count = refl; outside = refl }
+  spoils (Some (store at ra)) is steady = record { pc = refl; size = refl; same_unset = λ x n. refl; count = refl; outside = refl }
   spoils (Some (load_locked extension at ra)) is steady = cc
   spoils (Some (store_conditional at ra)) is steady = cc
   spoils (Some (branch condition ra disp)) is steady = cc
   spoils (Some (jump ra rb)) is steady = cc
   spoils (Some (barrier call)) is steady = cc
-  spoils (Some idle) is steady = record { pc = refl; size = refl; kept = λ x n. refl; count = refl; outside = refl }
+  spoils (Some idle) is steady = record { pc = refl; size = refl; same_unset = λ x n. refl; count = refl; outside = refl }
 
 -- in a trigger's shadow a word that can wait is steady
 pub waits_steady : (code : List ℕ) (p i : ℕ) (a : State) → IsSafe code → Shadowed code p i → (o : Option Class) → class_at code i ≡ o → can_wait o a ≡ true
@@ -186,7 +186,7 @@ module _ (g : Program) (good : IsImage g.image) (safe : IsSafe g.image.words) wh
         trace = h.trace ∙ ap (λ (tr : List Mark). tr ++ Over (address_at g.image h.place) ∷ []) (sym (append-nil w.trace));
         going = h.going;
         shadow = wait_shadow g.image.words safe g.how h.place h.t h.shadow.word h.at h.to r.state.regs w.state.regs
-            (spoilt (class_at g.image.words h.at) w.state c).regs steady (leaves.size ∙ h.shadow.size_too) leaves.kept h.shadow;
+            (spoilt (class_at g.image.words h.at) w.state c).regs steady (leaves.size ∙ h.shadow.size_too) leaves.same_unset h.shadow;
         memory = spoilt_bytes g.image.words safe g.how h.place h.at h.to h.t r.state w.state c h.shadow h.memory (class_at g.image.words h.at) refl steady can;
         lock = h.lock;
         count = h.count ∙ ap (λ n. (n + 1) % 2 ^ 64) (sym leaves.count);

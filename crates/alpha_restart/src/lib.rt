@@ -23,7 +23,7 @@
 //! `Bytes.antt`, `Accesses.antt` and `Advancing.antt` (one precise step in both machines),
 //! `Shadows.antt`, `Spoiling.antt` and `Trails.antt` (registers, bytes and the mask while a trap is
 //! pending), `Precise.antt`, `Together.antt`, `Syncing.antt`, `Waiting.antt` and `Reporting.antt` (each
-//! kind of step keeps the invariant), `Keeping.antt` (so does every run), `Starting.antt` (the start)
+//! kind of step has the invariant hold), `Following.antt` (it holds after every run), `Starting.antt` (the start)
 //! and `Agreeing.antt` (the law). `Losing.antt` has that no trap is lost, and `FreeTogether.antt` the runs over
 //! inputs of their own. `Rows.antt` and `Walks.antt` have the table, `Fine.antt` a test for
 //! broken places and `Needed.antt` an image for each condition. What follows for runs is proved in

@@ -1,4 +1,4 @@
--- Every step keeps the machines together, and the precise run isn't over before the imprecise one.
+-- The machines are together after every step, and the precise run isn't over before the imprecise one.
 use Rattle.std.proofs.Common.{◌≡◌, ◌<◌, ◌+◌, ℕ, suc, Bool, true, false, cond, List, [], ◌∷◌, Option, None, refl, sym, ap, subst, ◌∙◌, ⊎_elim, arith, add-one}
 use Rattle.std.proofs.lemmas.Bool.{cases_eq}
 use Rattle.alpha_image.specs.Parts.{IsImage}
@@ -52,8 +52,8 @@ module _ (g : Program) (good : IsImage g.image) (safe : IsSafe g.image.words) (s
     early = λ n low. h.early n (let same = t.units in omega arith);
   }
 
-  pub kept : (w : WildRun) (c : Choice) → Follows g s w → Follows g s (advance_wild g w c)
-  kept w c h = by h.together
+  pub follows_step : (w : WildRun) (c : Choice) → Follows g s w → Follows g s (advance_wild g w c)
+  follows_step w c h = by h.together
     where
       from_exact : Exact (after g s w.units) w → (b : Bool) → is_over (after g s w.units).last ≡ b → Follows g s (advance_wild g w c)
       from_exact x true e = still w c h (ap finished x.last ∙ e)
@@ -68,9 +68,9 @@ module _ (g : Program) (good : IsImage g.image) (safe : IsSafe g.image.words) (s
       by (stopping x) = held_on w c h (from_stopping g good safe (after g s w.units) w c x)
       by (stopped x) = still w c h (ap finished x.last_too)
 
-  pub kept_all : (choices : List Choice) (w : WildRun) → Follows g s w → Follows g s (run_wild g choices w)
-  kept_all [] w h = h
-  kept_all (c ∷ choices) w h = kept_all choices (advance_wild g w c) (kept w c h)
+  pub follows_all : (choices : List Choice) (w : WildRun) → Follows g s w → Follows g s (run_wild g choices w)
+  follows_all [] w h = h
+  follows_all (c ∷ choices) w h = follows_all choices (advance_wild g w c) (follows_step w c h)
 
   pub follows_start : IsReady s → Follows g s (started_wild s)
   follows_start ready = record {
