@@ -10,6 +10,8 @@ mod asm;
 #[cfg(test)]
 mod cmd;
 #[cfg(test)]
+mod common;
+#[cfg(test)]
 mod debug;
 #[cfg(test)]
 mod dis;

@@ -1,17 +1,15 @@
 mod links;
 mod records;
 
-use alpha_request::{Choices, Refusal, Request, RunOptions, Words, request_of};
+use crate::common::words_of;
+use alpha_request::{Choices, Refusal, Request, RunOptions, request_of};
 use alpha_words::Completion;
 use std::alloc::Global;
 use std::test::Fail;
 
 // What the words ask for: a command and its file, or nothing.
 fn asked(alloc: Global, words: &[&str]) -> Result<Option<(&'static str, String)>, Fail> {
-    let mut given = Words::new(alloc);
-    for word in words {
-        given.push(word)?;
-    }
+    let given = words_of(alloc, words)?;
     match request_of(alloc, &given) {
         Ok(Request::Check { file }) => Ok(Some(("check", String::from_str(alloc, file)?))),
         Ok(Request::Dis { file }) => Ok(Some(("dis", String::from_str(alloc, file)?))),
@@ -78,13 +76,15 @@ fn a_check_has_one_file_by_the_rules_of_clap(rt: HostRuntime) -> Result<(), Fail
 #[test]
 fn a_listing_and_a_debugger_have_one_file(rt: HostRuntime) -> Result<(), Fail> {
     let alloc = rt.alloc();
-    match asked(alloc, &["dis", "--", "-a"])? {
-        Some((command, file)) => assert!(rt; command == "dis" && file.as_str() == "-a"),
-        None => return Err(Fail::from("no command")),
-    }
-    match asked(alloc, &["debug", "a"])? {
-        Some((command, file)) => assert!(rt; command == "debug" && file.as_str() == "a"),
-        None => return Err(Fail::from("no command")),
+    let rows: [(&[&str], (&str, &str)); 2] = [
+        (&["dis", "--", "-a"], ("dis", "-a")),
+        (&["debug", "a"], ("debug", "a")),
+    ];
+    for (words, (command, file)) in rows {
+        match asked(alloc, words)? {
+            Some(found) => assert!(rt; found.0 == command && found.1.as_str() == file),
+            None => return Err(Fail::from("no command")),
+        }
     }
     let refused: [&[&str]; 6] = [
         &["dis"],
@@ -100,52 +100,35 @@ fn a_listing_and_a_debugger_have_one_file(rt: HostRuntime) -> Result<(), Fail> {
     Ok(())
 }
 
-// The source and the name under which something is kept, if the words ask for that.
-fn made(alloc: Global, words: &[&str]) -> Result<Option<(String, String)>, Fail> {
-    let mut given = Words::new(alloc);
-    for word in words {
-        given.push(word)?;
-    }
+// Whether the words ask to make something of this source under this name, or for nothing of that kind.
+fn makes(alloc: Global, words: &[&str], wanted: Option<(&str, &str)>) -> Result<bool, Fail> {
+    let given = words_of(alloc, words)?;
     match request_of(alloc, &given) {
         Ok(
             Request::Asm { file, out } | Request::Fix { file, out } | Request::Module { file, out },
-        ) => Ok(Some((
-            String::from_str(alloc, file)?,
-            String::from_str(alloc, out)?,
-        ))),
-        Ok(_) | Err(Refusal::BadWords) => Ok(None),
+        ) => Ok(wanted == Some((file, out))),
+        Ok(_) | Err(Refusal::BadWords) => Ok(wanted.is_none()),
         Err(Refusal::NoMemory) => Err(Fail::from("no memory")),
     }
 }
 
 #[test]
 fn a_source_comes_before_the_name_of_what_is_made(rt: HostRuntime) -> Result<(), Fail> {
-    let alloc = rt.alloc();
-    let rows: [(&[&str], (&str, &str)); 5] = [
-        (&["asm", "a", "b"], ("a", "b")),
-        (&["fix", "a", "b"], ("a", "b")),
-        (&["module", "a", "b"], ("a", "b")),
-        (&["asm", "a", "--", "-b"], ("a", "-b")),
-        (&["asm", "a", "a"], ("a", "a")),
+    let rows: [(&[&str], Option<(&str, &str)>); 11] = [
+        (&["asm", "a", "b"], Some(("a", "b"))),
+        (&["fix", "a", "b"], Some(("a", "b"))),
+        (&["module", "a", "b"], Some(("a", "b"))),
+        (&["asm", "a", "--", "-b"], Some(("a", "-b"))),
+        (&["asm", "a", "a"], Some(("a", "a"))),
+        (&["fix", "a"], None),
+        (&["fix", "a", "b", "c"], None),
+        (&["asm"], None),
+        (&["asm", "a"], None),
+        (&["asm", "a", "b", "c"], None),
+        (&["asm", "-o", "b", "a"], None),
     ];
-    for (words, (file, out)) in rows {
-        match made(alloc, words)? {
-            Some(found) => {
-                assert!(rt; found.0.as_str() == file && found.1.as_str() == out);
-            }
-            None => return Err(Fail::from("nothing is made")),
-        }
-    }
-    let refused: [&[&str]; 6] = [
-        &["fix", "a"],
-        &["fix", "a", "b", "c"],
-        &["asm"],
-        &["asm", "a"],
-        &["asm", "a", "b", "c"],
-        &["asm", "-o", "b", "a"],
-    ];
-    for words in refused {
-        assert!(rt; made(alloc, words)?.is_none());
+    for (words, wanted) in rows {
+        assert!(rt; makes(rt.alloc(), words, wanted)?, "{words:?}");
     }
     Ok(())
 }
@@ -153,10 +136,7 @@ fn a_source_comes_before_the_name_of_what_is_made(rt: HostRuntime) -> Result<(),
 #[test]
 fn an_image_comes_before_its_journal(rt: HostRuntime) -> Result<(), Fail> {
     let alloc = rt.alloc();
-    let mut given = Words::new(alloc);
-    for word in ["replay", "a", "--", "-j"] {
-        given.push(word)?;
-    }
+    let given = words_of(alloc, &["replay", "a", "--", "-j"])?;
     match request_of(alloc, &given) {
         Ok(Request::Replay { file, journal }) => assert!(rt; file == "a" && journal == "-j"),
         _ => return Err(Fail::from("no replay")),
@@ -176,10 +156,7 @@ fn an_image_comes_before_its_journal(rt: HostRuntime) -> Result<(), Fail> {
 
 // The options of a run of the file `a`, if the words ask for that.
 fn options(alloc: Global, words: &[&str]) -> Result<Option<RunOptions>, Fail> {
-    let mut given = Words::new(alloc);
-    for word in words {
-        given.push(word)?;
-    }
+    let given = words_of(alloc, words)?;
     match request_of(alloc, &given) {
         Ok(Request::Run { options, file: "a" }) => Ok(Some(options)),
         Ok(_) | Err(Refusal::BadWords) => Ok(None),
@@ -274,10 +251,7 @@ fn words_of_a_run_are_refused_by_the_rules(rt: HostRuntime) -> Result<(), Fail> 
 
 // Whether the words ask for a run of the file `a` by the imprecise machine, with these choices.
 fn draws(alloc: Global, words: &[&str], wanted: Choices<'_>, forced: bool) -> Result<bool, Fail> {
-    let mut given = Words::new(alloc);
-    for word in words {
-        given.push(word)?;
-    }
+    let given = words_of(alloc, words)?;
     match request_of(alloc, &given) {
         Ok(
             Request::RunImprecise {
@@ -346,9 +320,7 @@ fn a_trial_has_1_to_20000_blocks(rt: HostRuntime) -> Result<(), Fail> {
         ("", None),
     ];
     for (number, wanted) in rows {
-        let mut given = Words::new(alloc);
-        given.push("trial")?;
-        given.push(number)?;
+        let given = words_of(alloc, &["trial", number])?;
         let blocks = match request_of(alloc, &given) {
             Ok(Request::Trial { blocks }) => Some(blocks),
             Ok(_) | Err(Refusal::BadWords) => None,

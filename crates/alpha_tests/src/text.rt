@@ -10,6 +10,14 @@ fn item(line: &[u8]) -> Result<Item<'_>, LineFault> {
     read_line(line)
 }
 
+// Whether a line has this fault, or none.
+fn has_fault(line: &[u8], want: Option<(LineFaultKind, u32)>) -> bool {
+    match item(line) {
+        Ok(_) => want.is_none(),
+        Err(found) => want == Some((found.kind, found.column)),
+    }
+}
+
 // Writes the canonical line of the instruction of a line, if it has one.
 fn rewrite(line: &[u8], to: &mut LineBuf) {
     match item(line) {
@@ -118,162 +126,75 @@ fn first_faults(rt: HostRuntime) {
         (b"$99", UnknownName, 1),
     ];
     for (line, kind, column) in lines {
-        match item(line) {
-            Ok(_) => assert!(rt; false, "{line:?}"),
-            Err(fault) => {
-                assert_eq!(rt; fault.kind, kind, "{line:?}");
-                assert_eq!(rt; fault.column, column, "{line:?}");
-            }
-        }
+        assert!(rt; has_fault(line, Some((kind, column))), "{line:?}");
     }
 }
 
-/// Each directive at its bounds, and labels as operands.
+// What a directive that names no label says: its kind, its number and its bytes.
+fn directive(line: &[u8]) -> Option<(&'static str, u64, &[u8])> {
+    let none = b"".as_slice();
+    match item(line) {
+        Ok(found) => match found.statement {
+            Statement::Level(level) => Some(("level", u64::from(level), none)),
+            Statement::Segment(base) => Some(("segment", base, none)),
+            Statement::CodeBase(base) => Some(("code base", base, none)),
+            Statement::DataBase(base) => Some(("data base", base, none)),
+            Statement::Stack(size) => Some(("stack", size, none)),
+            Statement::EntryAt(at) => Some(("entry", at, none)),
+            Statement::CodeSection => Some(("code", 0, none)),
+            Statement::DataSection => Some(("data", 0, none)),
+            Statement::Zero(count) => Some(("zero", u64::from(count), none)),
+            Statement::Align(power) => Some(("align", u64::from(power), none)),
+            Statement::Values { bytes, list } => Some(("values", u64::from(bytes), list)),
+            Statement::Text(text) => Some(("text", 0, text)),
+            _ => None,
+        },
+        Err(_) => None,
+    }
+}
+
+/// Each directive at its bounds.
 #[test]
 fn statements_of_directives(rt: HostRuntime) {
-    let start = b"start".as_slice();
-    assert!(rt;
-        matches!(
-            item(b""),
-            Ok(Item {
-                label: None,
-                statement: Statement::Empty
-            })
-        )
-    );
-    assert!(rt;
-        matches!(item(b" start: "), Ok(Item { label: Some(label), statement: Statement::Empty }) if label == start)
-    );
-    assert!(rt;
-        matches!(
-            item(b".level 2"),
-            Ok(Item {
-                statement: Statement::Level(2),
-                ..
-            })
-        )
-    );
-    assert!(rt;
-        matches!(
-            item(b".segment 0x10000000"),
-            Ok(Item {
-                statement: Statement::Segment(0x1000_0000),
-                ..
-            })
-        )
-    );
-    assert!(rt;
-        matches!(
-            item(b".codebase 18446744073709551615"),
-            Ok(Item {
-                statement: Statement::CodeBase(u64::MAX),
-                ..
-            })
-        )
-    );
-    assert!(rt;
-        matches!(
-            item(b".database 0"),
-            Ok(Item {
-                statement: Statement::DataBase(0),
-                ..
-            })
-        )
-    );
-    assert!(rt;
-        matches!(
-            item(b".stack 65536"),
-            Ok(Item {
-                statement: Statement::Stack(65536),
-                ..
-            })
-        )
-    );
-    assert!(rt;
-        matches!(
-            item(b".entry 4096"),
-            Ok(Item {
-                statement: Statement::EntryAt(4096),
-                ..
-            })
-        )
-    );
-    assert!(rt;
-        matches!(
-            item(b".code"),
-            Ok(Item {
-                statement: Statement::CodeSection,
-                ..
-            })
-        )
-    );
-    assert!(rt;
-        matches!(
-            item(b".data"),
-            Ok(Item {
-                statement: Statement::DataSection,
-                ..
-            })
-        )
-    );
-    assert!(rt;
-        matches!(
-            item(b".zero 16777216"),
-            Ok(Item {
-                statement: Statement::Zero(16_777_216),
-                ..
-            })
-        )
-    );
-    assert!(rt;
-        matches!(
-            item(b".align 13"),
-            Ok(Item {
-                statement: Statement::Align(13),
-                ..
-            })
-        )
-    );
-    assert!(rt;
-        matches!(
-            item(b".byte -128 , 0,255  # end"),
-            Ok(Item {
-                statement: Statement::Values {
-                    bytes: 1,
-                    list: b"-128 , 0,255"
+    let rows: [(&[u8], (&str, u64, &[u8])); 14] = [
+        (b".level 2", ("level", 2, b"")),
+        (b".segment 0x10000000", ("segment", 0x1000_0000, b"")),
+        (
+            b".codebase 18446744073709551615",
+            ("code base", u64::MAX, b""),
+        ),
+        (b".database 0", ("data base", 0, b"")),
+        (b".stack 65536", ("stack", 65_536, b"")),
+        (b".entry 4096", ("entry", 4096, b"")),
+        (b".code", ("code", 0, b"")),
+        (b".data", ("data", 0, b"")),
+        (b".zero 16777216", ("zero", 16_777_216, b"")),
+        (b".align 13", ("align", 13, b"")),
+        (b".byte -128 , 0,255  # end", ("values", 1, b"-128 , 0,255")),
+        (b".quad a+8,-1", ("values", 8, b"a+8,-1")),
+        (b".ascii \"a\\n#\"", ("text", 0, b"a\\n#")),
+        (b".ascii \"\"", ("text", 0, b"")),
+    ];
+    for (line, want) in rows {
+        assert!(rt; directive(line) == Some(want), "{line:?}");
+    }
+}
+
+/// A line may say nothing, and a label may stand alone.
+#[test]
+fn lines_without_a_statement(rt: HostRuntime) {
+    for (line, want) in [
+        (b"".as_slice(), None),
+        (b" start: ".as_slice(), Some(b"start".as_slice())),
+    ] {
+        match item(line) {
+            Ok(
+                Item {
+                    label,
+                    statement: Statement::Empty,
                 },
-                ..
-            })
-        )
-    );
-    assert!(rt;
-        matches!(
-            item(b".quad a+8,-1"),
-            Ok(Item {
-                statement: Statement::Values {
-                    bytes: 8,
-                    list: b"a+8,-1"
-                },
-                ..
-            })
-        )
-    );
-    assert!(rt;
-        matches!(
-            item(b".ascii \"a\\n#\""),
-            Ok(Item {
-                statement: Statement::Text(b"a\\n#"),
-                ..
-            })
-        )
-    );
-    assert!(rt;
-        matches!(
-            item(b".ascii \"\""),
-            Ok(Item {
-                statement: Statement::Text([]),
-                ..
-            })
-        )
-    );
+            ) => assert!(rt; label == want, "{line:?}"),
+            _ => assert!(rt; false, "{line:?}"),
+        }
+    }
 }

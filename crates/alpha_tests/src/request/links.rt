@@ -1,13 +1,11 @@
-use alpha_request::{Refusal, Request, Words, request_of};
+use crate::common::words_of;
+use alpha_request::{Refusal, Request, request_of};
 use std::alloc::Global;
 use std::test::Fail;
 
 // The entry, the name of what is kept and the files, if the words ask for a link.
 fn linked(alloc: Global, words: &[&str]) -> Result<Option<String>, Fail> {
-    let mut given = Words::new(alloc);
-    for word in words {
-        given.push(word)?;
-    }
+    let given = words_of(alloc, words)?;
     match request_of(alloc, &given) {
         Ok(Request::Link { entry, out, files }) => {
             let mut text = String::from_str(alloc, entry)?;
@@ -63,9 +61,7 @@ fn a_link_has_its_files_behind_the_name_of_what_is_kept(rt: HostRuntime) -> Resu
 #[test]
 fn a_link_has_64_files_at_most(rt: HostRuntime) -> Result<(), Fail> {
     let alloc = rt.alloc();
-    let mut words = Words::new(alloc);
-    words.push("link")?;
-    words.push("o")?;
+    let mut words = words_of(alloc, &["link", "o"])?;
     for _ in 0..64 {
         words.push("a")?;
     }

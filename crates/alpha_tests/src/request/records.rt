@@ -1,5 +1,6 @@
 use super::asked;
-use alpha_request::{Choices, Request, Words, request_of};
+use crate::common::words_of;
+use alpha_request::{Choices, Request, request_of};
 use alpha_words::Completion;
 use std::test::Fail;
 
@@ -30,10 +31,7 @@ fn a_journal_has_the_options_of_a_run_of_the_imprecise_machine(
         ),
     ];
     for (words, wanted, forced, steps) in rows {
-        let mut given = Words::new(alloc);
-        for word in words {
-            given.push(word)?;
-        }
+        let given = words_of(alloc, words)?;
         match request_of(alloc, &given) {
             Ok(
                 Request::Record {

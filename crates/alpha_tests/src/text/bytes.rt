@@ -1,14 +1,6 @@
-use super::item;
+use super::{has_fault, item};
 use LineFaultKind::{BadOperands, BadToken, UnknownName};
 use alpha_text::{Item, LineFaultKind, Statement};
-
-// Whether a line has this fault, or none.
-fn has_fault(line: &[u8], want: Option<(LineFaultKind, u32)>) -> bool {
-    match item(line) {
-        Ok(_) => want.is_none(),
-        Err(found) => want == Some((found.kind, found.column)),
-    }
-}
 
 // The fault of a line that is this byte alone.
 fn fault_alone(byte: u8) -> Option<(LineFaultKind, u32)> {
