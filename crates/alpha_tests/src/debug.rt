@@ -1,3 +1,4 @@
+use crate::common::OVERFLOWS;
 use alpha_debug::{DebugEnd, debug};
 use alpha_io::{MemorySink, MemorySource, SureSource};
 use alpha_samples::sample;
@@ -21,19 +22,6 @@ fn session(alloc: Global, words: &[u32], script: &[u8]) -> Result<Outcome, Fail>
         out: out.bytes().to_vec(alloc)?,
     })
 }
-
-// lda $1,-1($31); srl $1,1,$1; bis $31,1,$2; addq/v $1,$2,$3; addq/v $1,$1,$4; trapb; xor $3,$4,$16; lda $0,1($31); callsys
-const OVERFLOWS: [u32; 9] = [
-    0x203f_ffff,
-    0x4820_3681,
-    0x47e0_3402,
-    0x4022_0c03,
-    0x4021_0c04,
-    0x63ff_0000,
-    0x4464_0810,
-    0x201f_0001,
-    0x0000_0083,
-];
 
 #[test]
 fn answers_commands(rt: HostRuntime) -> Result<(), Fail> {

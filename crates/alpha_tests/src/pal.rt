@@ -1,20 +1,11 @@
-ghost use Rattle.std.specs.Prelude.{◌≡◌, ◌<◌};
-
+use crate::common::reg;
 use alpha_io::{MemorySink, MemorySource, NullSink, Sink, Source, TrickleSink};
 use alpha_mem::Memory;
 use alpha_pal::{Kernel, PalEnd, Summary};
-use alpha_words::{NoMemory, PalCall, Reg, RegFile, RegSet};
+use alpha_words::{NoMemory, PalCall, RegFile, RegSet};
 use bitflags::Flags;
 use std::alloc::Global;
 use std::test::Fail;
-
-// The register with this number.
-fn reg(number: u8) -> Reg
-    requires { number < 32 }
-    ensures { result ≡ number }
-{
-    Reg::new(number).unwrap()
-}
 
 // A kernel and a memory: sixteen bytes that may be read, and at once after them eight that may be
 // written too.

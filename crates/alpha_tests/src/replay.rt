@@ -1,3 +1,4 @@
+use crate::common::OVERFLOWS;
 use alpha_imprecise::{ListChooser, Wild};
 use alpha_io::{ReadSource, WriteSink};
 use alpha_replay::*;
@@ -92,21 +93,7 @@ fn the_first_fault_is_told(rt: HostRuntime) {
     }
 }
 
-// `lda $1,-1($31); srl $1,1,$1; bis $31,1,$2; addq/v $1,$2,$3; addq/v $1,$1,$4; trapb; xor $3,$4,$16; lda $0,1($31);
-// callsys`: two overflows before a barrier, and an exit with what they leave.
-const PROGRAM: [u32; 9] = [
-    0x203f_ffff,
-    0x4820_3681,
-    0x47e0_3402,
-    0x4022_0c03,
-    0x4021_0c04,
-    0x63ff_0000,
-    0x4464_0810,
-    0x201f_0001,
-    0x83,
-];
-
-// A run of it: three steps, the first overflow, the second one as a word that is executed while its trap is pending, a
+// A run of `OVERFLOWS`: three steps, the first overflow, the second one as a word that is executed while its trap is pending, a
 // report, the second overflow, a report, and four steps.
 const RUN: [u8; 78] = [
     0x41, 0x4c, 0x50, 0x48, 0x41, 0x4a, 0x52, 0x31, 0x00, 0x01, 0xfe, 0xff, 0xff, 0xff, 0xff, 0xff,
@@ -121,7 +108,7 @@ const RUN: [u8; 78] = [
 enum Told {
     // No journal.
     Bad(JournalFault),
-    // A journal that isn't a run of the program.
+    // A journal that isn't a run of `OVERFLOWS`.
     Other(ReplayFault),
     // A run of it.
     Run,
@@ -132,7 +119,7 @@ fn told_of(alloc: Global, bytes: &[u8]) -> Result<Told, Fail> {
         Ok(journal) => journal,
         Err(fault) => return Ok(Told::Bad(fault)),
     };
-    let image = sample(alloc, &PROGRAM, 0)?;
+    let image = sample(alloc, &OVERFLOWS, 0)?;
     Ok(match replay(alloc, image, &journal) {
         Ok(_) => Told::Run,
         Err(fault) => Told::Other(fault),
@@ -185,7 +172,7 @@ fn each_byte_of_a_run_is_looked_at(rt: HostRuntime) -> Result<(), Fail> {
 #[test]
 fn a_run_is_replayed(rt: HostRuntime) -> Result<(), Fail> {
     let journal = read_journal(rt.alloc(), &RUN)?;
-    let image = sample(rt.alloc(), &PROGRAM, 0)?;
+    let image = sample(rt.alloc(), &OVERFLOWS, 0)?;
     let replayed = replay(rt.alloc(), image, &journal);
     let wanted = Replayed {
         units: 9,
@@ -204,7 +191,7 @@ fn a_run_is_replayed(rt: HostRuntime) -> Result<(), Fail> {
 #[test]
 fn a_run_is_journaled(rt: HostRuntime) -> Result<(), Fail> {
     let alloc = rt.alloc();
-    let image = sample(alloc, &PROGRAM, 0)?;
+    let image = sample(alloc, &OVERFLOWS, 0)?;
     let machine = Machine::new(alloc, image, Completion::Wrap)
         .ok()
         .ok_or("memory")?;

@@ -1,25 +1,12 @@
 ghost use Rattle.std.specs.Prelude.{◌≡◌, false, IfOk};
 
+use crate::common::{OVERFLOWS, reg};
 use alpha_pal::Kernel;
 use alpha_samples::sample;
 use alpha_trap::{Lost, handle, scan_back};
-use alpha_words::{Completion, NoMemory, Reg, RegFile, RegSet};
+use alpha_words::{Completion, NoMemory, RegFile, RegSet};
 use std::alloc::Global;
 use std::test::Fail;
-
-// lda $1,-1($31); srl $1,1,$1; bis $31,1,$2; addq/v $1,$2,$3; addq/v $1,$1,$4; trapb; xor $3,$4,$16;
-// lda $0,1($31); callsys
-const SUMS: [u32; 9] = [
-    0x203f_ffff,
-    0x4820_3681,
-    0x47e0_3402,
-    0x4022_0c03,
-    0x4021_0c04,
-    0x63ff_0000,
-    0x4464_0810,
-    0x201f_0001,
-    0x0000_0083,
-];
 
 // addq/v $1,$2,$3; br $31,.+4; addq/v $1,$2,$4; addq/v $1,$2,$3; nop; addq/v $1,$2,$3
 const TURN: [u32; 6] = [
@@ -66,11 +53,6 @@ fn entered(alloc: Global, regs: &mut RegFile, pc: u64, mask: u32) -> Result<Kern
     Ok(kernel)
 }
 
-// The register with this number.
-fn reg(number: u8) -> Reg {
-    Reg::new(number).unwrap_or(Reg::ZERO)
-}
-
 // Rn has the value n + 100, but for these registers.
 fn registers(values: &[(u8, u64)]) -> RegFile {
     let mut regs = RegFile::zeroed();
@@ -90,7 +72,7 @@ fn are_same(left: &RegFile, right: &RegFile) -> bool {
 
 #[test]
 fn the_scan_finds_the_greatest_place_that_fits(rt: HostRuntime) -> Result<(), Fail> {
-    let sums = sample(rt.alloc(), &SUMS, 0)?;
+    let sums = sample(rt.alloc(), &OVERFLOWS, 0)?;
     for (pc, mask, want) in [
         (0x1_0014, 0b1_1000, Some(3)),
         (0x1_0014, 0b1_0000, Some(4)),
@@ -185,7 +167,7 @@ fn each_destination_gets_its_value_alone(rt: HostRuntime) -> Result<(), Fail> {
 
 #[test]
 fn a_return_after_a_lost_trap_gives_everything_back(rt: HostRuntime) -> Result<(), Fail> {
-    let sums = sample(rt.alloc(), &SUMS, 0)?;
+    let sums = sample(rt.alloc(), &OVERFLOWS, 0)?;
     for (pc, mask) in [(0x1_0014, 1 << 5), (0x1_0018, 1 << 4), (0x1_0014, 0)] {
         let old = registers(&[]);
         let mut new = old;
