@@ -2,9 +2,10 @@ mod bytes;
 mod near;
 
 use LineFaultKind::{BadOperands, BadToken, OutOfRange, UnknownName};
-use alpha_text::{Item, LineBuf, LineFault, LineFaultKind, Statement, read_line, write_line};
+use alpha_quick::read_line;
+use alpha_text::{Item, LineBuf, LineFault, LineFaultKind, Statement, write_line};
 
-// The item of a line that is no longer than a line may be.
+// The item of a line that is no longer than a line may be, by the quick reader.
 fn item(line: &[u8]) -> Result<Item<'_>, LineFault> {
     let line = line.get(..1024).unwrap_or(line);
     read_line(line)
@@ -18,9 +19,9 @@ fn has_fault(line: &[u8], want: Option<(LineFaultKind, u32)>) -> bool {
     }
 }
 
-// Writes the canonical line of the instruction of a line, if it has one.
-fn rewrite(line: &[u8], to: &mut LineBuf) {
-    match item(line) {
+// Writes the canonical line of the instruction that was read, if one was.
+fn rewrite(read: Result<Item<'_>, LineFault>, to: &mut LineBuf) {
+    match read {
         Ok(found) => match &found.statement {
             Statement::Code(insn) => write_line(insn, to),
             _ => {}
@@ -71,7 +72,7 @@ fn spellings_of_instructions(rt: HostRuntime) {
     ];
     for (line, want) in lines {
         let mut to = LineBuf::new();
-        rewrite(line, &mut to);
+        rewrite(item(line), &mut to);
         assert!(rt; to.bytes() == want, "{line:?}");
     }
 }
