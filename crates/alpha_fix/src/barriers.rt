@@ -17,8 +17,7 @@ use crate::FixFault;
 use crate::fixed_line::is_fixed;
 use crate::line::Line;
 use alpha_asm::{LineKind, Symbols};
-use alpha_quick::read_line;
-use alpha_text::Statement;
+use alpha_text::{Statement, read_line};
 use std::alloc::{AllocError, Global};
 
 /// The line of a barrier.
