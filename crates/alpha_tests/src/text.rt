@@ -19,9 +19,9 @@ fn has_fault(line: &[u8], want: Option<(LineFaultKind, u32)>) -> bool {
     }
 }
 
-// Writes the canonical line of the instruction that was read, if one was.
-fn rewrite(read: Result<Item<'_>, LineFault>, to: &mut LineBuf) {
-    match read {
+// Writes the canonical line of the instruction of a line, if it has one.
+fn rewrite(line: &[u8], to: &mut LineBuf) {
+    match item(line) {
         Ok(found) => match &found.statement {
             Statement::Code(insn) => write_line(insn, to),
             _ => {}
@@ -72,7 +72,7 @@ fn spellings_of_instructions(rt: HostRuntime) {
     ];
     for (line, want) in lines {
         let mut to = LineBuf::new();
-        rewrite(item(line), &mut to);
+        rewrite(line, &mut to);
         assert!(rt; to.bytes() == want, "{line:?}");
     }
 }
