@@ -97,12 +97,12 @@ token-within b s =
     choose (Within (length s)) (eqb b 37) _ _ (λ e. any-within (length s) (prefix_len is_ascii_alphabetic s) Operator (prefix_len-le-length is_ascii_alphabetic s)) (λ e.
     choose (Within (length s)) (eqb b 34) _ _ (λ e. text-within s) (λ e. mark-within (length s) (mark b))))))
 
--- a token that ends before n bytes is the same in a second text
-abbrev pub Kept : ℕ → Option (TokenKind × ℕ) → Option (TokenKind × ℕ) → Type 0
-Kept n whole cut = (v : TokenKind × ℕ) → whole ≡ Some v → v.1 ≤ n → cut ≡ Some v
+-- a token that ends within n bytes is the same in a second text
+abbrev pub SameWithin : ℕ → Option (TokenKind × ℕ) → Option (TokenKind × ℕ) → Type 0
+SameWithin n whole cut = (v : TokenKind × ℕ) → whole ≡ Some v → v.1 ≤ n → cut ≡ Some v
 
-found-kept : (n : ℕ) (kind : ℕ → TokenKind) (whole cut : ℕ) → (whole ≤ n → cut ≡ whole) → Kept n (Some (kind whole, whole)) (Some (kind cut, cut))
-found-kept n kind whole cut same v h l =
+found-same : (n : ℕ) (kind : ℕ → TokenKind) (whole cut : ℕ) → (whole ≤ n → cut ≡ whole) → SameWithin n (Some (kind whole, whole)) (Some (kind cut, cut))
+found-same n kind whole cut same v h l =
     let w : (let w : TokenKind × ℕ = (kind whole, whole) in w) ≡ v = cc in
     let e : whole ≡ v.1 = ap (λ (w : TokenKind × ℕ). w.1) w in
     ap (λ m. Some (kind m, m)) (same (omega arith)) ∙ h
@@ -110,23 +110,23 @@ found-kept n kind whole cut same v h l =
 any-size : (kind : TokenKind) (more : ℕ) (v : TokenKind × ℕ) → if_any kind more ≡ Some v → more ≡ v.1
 any-size kind more v h = choose (λ (r : Option (TokenKind × ℕ)). r ≡ Some v → more ≡ v.1) (eqb more 0) _ _ (λ e k. cc) (λ e k. let w : (let w : TokenKind × ℕ = (kind, more) in w) ≡ v = cc in ap (λ (w : TokenKind × ℕ). w.1) w) h
 
-any-kept : (n : ℕ) (kind : TokenKind) (whole cut : ℕ) → (whole ≤ n → cut ≡ whole) → Kept n (if_any kind whole) (if_any kind cut)
-any-kept n kind whole cut same v h l = let e : whole ≡ v.1 = any-size kind whole v h in ap (if_any kind) (same (omega arith)) ∙ h
+any-same : (n : ℕ) (kind : TokenKind) (whole cut : ℕ) → (whole ≤ n → cut ≡ whole) → SameWithin n (if_any kind whole) (if_any kind cut)
+any-same n kind whole cut same v h l = let e : whole ≡ v.1 = any-size kind whole v h in ap (if_any kind) (same (omega arith)) ∙ h
 
-text-kept : (a c : List ℕ) → Kept (length a) (option_map (λ n. (Text, suc n)) (quoted_len 0 (a ++ c))) (option_map (λ n. (Text, suc n)) (quoted_len 0 a))
-text-kept a c v h l =
+text-same : (a c : List ℕ) → SameWithin (length a) (option_map (λ n. (Text, suc n)) (quoted_len 0 (a ++ c))) (option_map (λ n. (Text, suc n)) (quoted_len 0 a))
+text-same a c v h l =
     let (n, f, same) = mapped (λ (n : ℕ). (Text, suc n)) (quoted_len 0 (a ++ c)) v h in
     let e : suc n ≡ v.1 = ap (λ (w : TokenKind × ℕ). w.1) same in
     rw (quoted_len-front 0 a c n f (omega arith)) (ap Some same)
 
-pub token-kept : (b : ℕ) (a c : List ℕ) → Kept (length a) (token_at b (a ++ c)) (token_at b a)
+pub token-same : (b : ℕ) (a c : List ℕ) → SameWithin (length a) (token_at b (a ++ c)) (token_at b a)
 unfolding token_at
-token-kept b a c =
-    choose_both (Kept (length a)) (begins_name b) _ _ _ _ (found-kept (length a) (name_kind b) (prefix_len goes_on_name (a ++ c)) (prefix_len goes_on_name a) (prefix_len-front goes_on_name a c)) (
-    choose_both (Kept (length a)) (is_ascii_digit b) _ _ _ _ (found-kept (length a) (λ n. Number) (number_more b (a ++ c)) (number_more b a) (number_more-front b a c)) (
-    choose_both (Kept (length a)) (eqb b 36) _ _ _ _ (any-kept (length a) Register (prefix_len is_ascii_alphanumeric (a ++ c)) (prefix_len is_ascii_alphanumeric a) (prefix_len-front is_ascii_alphanumeric a c)) (
-    choose_both (Kept (length a)) (eqb b 37) _ _ _ _ (any-kept (length a) Operator (prefix_len is_ascii_alphabetic (a ++ c)) (prefix_len is_ascii_alphabetic a) (prefix_len-front is_ascii_alphabetic a c)) (
-    choose_both (Kept (length a)) (eqb b 34) _ _ _ _ (text-kept a c) (λ v h l. h)))))
+token-same b a c =
+    choose_both (SameWithin (length a)) (begins_name b) _ _ _ _ (found-same (length a) (name_kind b) (prefix_len goes_on_name (a ++ c)) (prefix_len goes_on_name a) (prefix_len-front goes_on_name a c)) (
+    choose_both (SameWithin (length a)) (is_ascii_digit b) _ _ _ _ (found-same (length a) (λ n. Number) (number_more b (a ++ c)) (number_more b a) (number_more-front b a c)) (
+    choose_both (SameWithin (length a)) (eqb b 36) _ _ _ _ (any-same (length a) Register (prefix_len is_ascii_alphanumeric (a ++ c)) (prefix_len is_ascii_alphanumeric a) (prefix_len-front is_ascii_alphanumeric a c)) (
+    choose_both (SameWithin (length a)) (eqb b 37) _ _ _ _ (any-same (length a) Operator (prefix_len is_ascii_alphabetic (a ++ c)) (prefix_len is_ascii_alphabetic a) (prefix_len-front is_ascii_alphabetic a c)) (
+    choose_both (SameWithin (length a)) (eqb b 34) _ _ _ _ (text-same a c) (λ v h l. h)))))
 
 -- The tokens of a text and those of the same text with more bytes behind it: one by one alike. Each of the text's
 -- tokens has the tokens of its rest behind it.
@@ -144,18 +144,18 @@ ended c n (End left) f h = refl
 ended c n (Bad left) f h = h
 ended c n (Next t ts) (a, b, fall) h = let l : length c ≤ length t.rest = left-falls (length t.rest) ts (length c) fall h in omega arith
 
-put-alike : (b : ℕ) (a c : List ℕ) (n : ℕ) (whole cut : Option (TokenKind × ℕ)) → Within (length (a ++ c)) whole → Kept (length a) whole cut →
+put-alike : (b : ℕ) (a c : List ℕ) (n : ℕ) (whole cut : Option (TokenKind × ℕ)) → Within (length (a ++ c)) whole → SameWithin (length a) whole cut →
     ((k : ℕ) → Falls (length (drop k (a ++ c))) (tokens_after k (a ++ c))) →
     ((k : ℕ) → k ≤ length a → LeftBehind (length (drop k (a ++ c))) (tokens_after k (a ++ c)) (length c) → Alike c (tokens_after k a) (tokens_after k (a ++ c))) →
     LeftBehind n (put_before (b ∷ (a ++ c)) whole (λ more. tokens_after more (a ++ c)) b (a ++ c)) (length c) →
     Alike c (put_before (b ∷ a) cut (λ more. tokens_after more a) b a) (put_before (b ∷ (a ++ c)) whole (λ more. tokens_after more (a ++ c)) b (a ++ c))
 unfolding tokens
-put-alike b a c n None cut within kept fall behind h = absurd h
-put-alike b a c n (Some v) cut within kept fall behind h =
+put-alike b a c n None cut within same fall behind h = absurd h
+put-alike b a c n (Some v) cut within same fall behind h =
     let l : length c ≤ length (drop v.1 (a ++ c)) = left-falls (length (drop v.1 (a ++ c))) (tokens_after v.1 (a ++ c)) (length c) (fall v.1) h in
     let k : v.1 ≤ length (a ++ c) = within v refl in
     let m : v.1 ≤ length a = omega (arith, length-drop v.1 (a ++ c), length-append a c) in
-    rw (kept v refl m) (refl, ap (λ t. b ∷ t) (sym (take-append-le v.1 a c m)), tokens_after-skip v.1 a, behind v.1 m h)
+    rw (same v refl m) (refl, ap (λ t. b ∷ t) (sym (take-append-le v.1 a c m)), tokens_after-skip v.1 a, behind v.1 m h)
 
 tokens_after-fall : (k : ℕ) (s : List ℕ) → Falls (length (drop k s)) (tokens_after k s)
 unfolding tokens
@@ -168,7 +168,7 @@ cut (suc skip) (b ∷ a) c n l m h = cut skip a c n (omega arith) m h
 cut zero (b ∷ a) c n l m h =
     choose_both (λ r t. LeftBehind n r (length c) → Alike c t r) (is_blank b) _ _ _ _ (cut zero a c n (omega arith) (omega arith)) (
     choose_both (λ r t. LeftBehind n r (length c) → Alike c t r) (eqb b 35) _ _ _ _ (λ e. absurd (omega (arith, length-append a c))) (
-    put-alike b a c n (token_at b (a ++ c)) (token_at b a) (token-within b (a ++ c)) (token-kept b a c) (λ k. tokens_after-fall k (a ++ c)) (λ k f e. cut k a c (length (drop k (a ++ c))) f (omega arith) e))) h
+    put-alike b a c n (token_at b (a ++ c)) (token_at b a) (token-within b (a ++ c)) (token-same b a c) (λ k. tokens_after-fall k (a ++ c)) (λ k f e. cut k a c (length (drop k (a ++ c))) f (omega arith) e))) h
 
 pub tokens-cut : (a c : List ℕ) (n : ℕ) → length (a ++ c) ≤ n → LeftBehind n (tokens (a ++ c)) (length c) → Alike c (tokens a) (tokens (a ++ c))
 unfolding tokens

@@ -16,7 +16,7 @@ use Rattle.alpha_token.specs.Tokens.{Lexeme, Tokens, End, Bad, Next, mark, token
 use Rattle.alpha_token.proofs.Strings.{mapped}
 use Rattle.alpha_token.proofs.Choices.{choose, choose_both}
 use Rattle.alpha_token.proofs.Texts.{opened}
-use Rattle.alpha_token.proofs.Cutting.{Within, Kept, found-within, any-within, mark-within, token-kept}
+use Rattle.alpha_token.proofs.Cutting.{Within, SameWithin, found-within, any-within, mark-within, token-same}
 
 abbrev pub returned : List ℕ → List ℕ
 returned a = a ++ 13 ∷ []
@@ -96,13 +96,13 @@ bad-returned (End m) n = tt
 bad-returned (Bad m) n = tt
 bad-returned (Next t ts) n = tt
 
-put-returned : (b : ℕ) (a : List ℕ) (whole cut : Option (TokenKind × ℕ)) → Within (length a) whole → Kept (length a) whole cut
+put-returned : (b : ℕ) (a : List ℕ) (whole cut : Option (TokenKind × ℕ)) → Within (length a) whole → SameWithin (length a) whole cut
     → ((k : ℕ) → k ≤ length a → Returned (tokens_after k a) (tokens_after k (returned a)))
     → Returned (put_before (b ∷ a) cut (λ more. tokens_after more a) b a) (put_before (b ∷ returned a) whole (λ more. tokens_after more (returned a)) b (returned a))
-put-returned b a None cut within kept behind = bad-returned (put_before (b ∷ a) cut (λ more. tokens_after more a) b a) (length (b ∷ returned a))
-put-returned b a (Some v) cut within kept behind =
+put-returned b a None cut within same behind = bad-returned (put_before (b ∷ a) cut (λ more. tokens_after more a) b a) (length (b ∷ returned a))
+put-returned b a (Some v) cut within same behind =
     let m : v.1 ≤ length a = within v refl in
-    rw (kept v refl m) (
+    rw (same v refl m) (
       ap (λ (x : List ℕ). (let t : Lexeme = record { kind = v.0; text = b ∷ x; rest = drop v.1 (returned a) } in t)) (take-append-le v.1 a (13 ∷ []) m)
           ∙ ap (λ (x : List ℕ). (let t : Lexeme = record { kind = v.0; text = b ∷ take v.1 a; rest = x } in t)) (drop-append-le v.1 a (13 ∷ []) m),
       behind v.1 m,
@@ -119,7 +119,7 @@ after-returned (suc skip) (b ∷ a) l = after-returned skip a (omega arith)
 after-returned zero (b ∷ a) l =
     choose_both Returned (is_blank b) _ _ _ _ (after-returned zero a (omega arith)) (
     choose_both Returned (eqb b 35) _ _ _ _ tt (
-    put-returned b a (token_at b (returned a)) (token_at b a) (token-inside b a) (token-kept b a (13 ∷ [])) (λ k m. after-returned k a m)))
+    put-returned b a (token_at b (returned a)) (token_at b a) (token-inside b a) (token-same b a (13 ∷ [])) (λ k m. after-returned k a m)))
 
 pub tokens-returned : (a : List ℕ) → Returned (tokens a) (tokens (returned a))
 unfolding tokens

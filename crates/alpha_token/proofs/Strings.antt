@@ -20,14 +20,14 @@ grown : (k : ℕ) (o : Option ℕ) → option_map suc (option_map (λ n. n + k) 
 grown k None = refl
 grown k (Some n) = ap Some (omega arith)
 
-kept : (o : Option ℕ) → o ≡ option_map (λ n. n + 0) o
-kept None = refl
-kept (Some n) = ap Some (omega arith)
+grown-zero : (o : Option ℕ) → o ≡ option_map (λ n. n + 0) o
+grown-zero None = refl
+grown-zero (Some n) = ap Some (omega arith)
 
 pub quoted_len-skip : (k : ℕ) (s : List ℕ) → quoted_len k s ≡ option_map (λ n. n + k) (quoted_len 0 (drop k s))
 quoted_len-skip zero [] = refl
 quoted_len-skip (suc k) [] = refl
-quoted_len-skip zero (b ∷ s) = kept (quoted_len 0 (b ∷ s))
+quoted_len-skip zero (b ∷ s) = grown-zero (quoted_len 0 (b ∷ s))
 quoted_len-skip (suc k) (b ∷ s) = ap (option_map suc) (quoted_len-skip k s) ∙ grown k (quoted_len 0 (drop k s))
 
 -- behind the first byte of the text
