@@ -45,30 +45,30 @@ or_false true h = refl
 or_false false h = h
 
 -- a value stays one, and a piece that gives one leaves one
-value-kept : (bytes : ℕ) (p : Piece) (t : Lexeme) (sign : Sign) (o r : Slots) (seen : Bool) → is_listed bytes p ≡ true → (seen ≡ true → HasValue o) → filled p t sign o ≡ Ok r → (seen || is_valued p) ≡ true → HasValue r
+value-stays : (bytes : ℕ) (p : Piece) (t : Lexeme) (sign : Sign) (o r : Slots) (seen : Bool) → is_listed bytes p ≡ true → (seen ≡ true → HasValue o) → filled p t sign o ≡ Ok r → (seen || is_valued p) ≡ true → HasValue r
 unfolding filled is_listed is_valued number_of
-value-kept bytes pieces.Byte t sign o r seen l has h s =
+value-stays bytes pieces.Byte t sign o r seen l has h s =
     let (v, e, k) = a_value (number_of pieces.Byte sign (number_value t.text)) OutOfRange _ r h in
     rw (← k, ← (inside _ _ v e).1) (a_number _ o.offset o.label)
-value-kept bytes pieces.Word t sign o r seen l has h s =
+value-stays bytes pieces.Word t sign o r seen l has h s =
     let (v, e, k) = a_value (number_of pieces.Word sign (number_value t.text)) OutOfRange _ r h in
     rw (← k, ← (inside _ _ v e).1) (a_number _ o.offset o.label)
-value-kept bytes pieces.Long t sign o r seen l has h s =
+value-stays bytes pieces.Long t sign o r seen l has h s =
     let (v, e, k) = a_value (number_of pieces.Long sign (number_value t.text)) OutOfRange _ r h in
     rw (← k, ← (inside _ _ v e).1) (a_number _ o.offset o.label)
-value-kept bytes pieces.Quad t sign o r seen l has h s =
+value-stays bytes pieces.Quad t sign o r seen l has h s =
     let (v, e, k) = a_value (number_of pieces.Quad sign (number_value t.text)) OutOfRange _ r h in
     rw (← k, ← (inside _ _ v e).1) (a_number _ o.offset o.label)
-value-kept bytes pieces.Label t sign o r seen l has h s = let (b, k) = a_label (is_label t.text) _ r h in rw (← k) (label t.text o.offset, refl)
-value-kept bytes pieces.Offset t sign o r seen l has h s =
+value-stays bytes pieces.Label t sign o r seen l has h s = let (b, k) = a_label (is_label t.text) _ r h in rw (← k) (label t.text o.offset, refl)
+value-stays bytes pieces.Offset t sign o r seen l has h s =
     let (n, e, k) = a_value (offset_of sign (number_value t.text)) OutOfRange _ r h in
     let (v, is) = has (or_false seen s) in
     rw (← k) (moved o.number o.offset n o.label v is)
-value-kept bytes pieces.Plus t sign o r seen l has h s = rw (← a_given _ r h) (has (or_false seen s))
-value-kept bytes pieces.Less t sign o r seen l has h s = rw (← a_given _ r h) (has (or_false seen s))
-value-kept bytes pieces.Minus t sign o r seen l has h s = rw (← a_given _ r h) (has (or_false seen s))
-value-kept bytes pieces.Again t sign o r seen l has h s = rw (← a_given _ r h) (has (or_false seen s))
-value-kept bytes p t sign o r seen l has h s = cc
+value-stays bytes pieces.Plus t sign o r seen l has h s = rw (← a_given _ r h) (has (or_false seen s))
+value-stays bytes pieces.Less t sign o r seen l has h s = rw (← a_given _ r h) (has (or_false seen s))
+value-stays bytes pieces.Minus t sign o r seen l has h s = rw (← a_given _ r h) (has (or_false seen s))
+value-stays bytes pieces.Again t sign o r seen l has h s = rw (← a_given _ r h) (has (or_false seen s))
+value-stays bytes p t sign o r seen l has h s = cc
 
 given_too : {A : Type 0} (x y : Option A) (kind : LineFaultKind) (f g : A → Slots) (r : Slots) → y ≡ x → with_value x kind f ≡ Ok r → (n : Slots) × (with_value y kind g ≡ Ok n)
 given_too None y kind f g r e h = cc
@@ -158,7 +158,7 @@ listed bytes s shape c front sign (Next u us) (Next t ts) o n r (kind, text, beh
       | false ↦ λ e.
           let (new, too) = filled-too p t u sign o n next text ok in
           let first : FirstOf bytes (first_operands (patterns s) (front_after front p) (sign_after p) us new) =
-          listed bytes s shape c (front_after front p) (sign_after p) us ts next new r alike (λ x. value-kept bytes p u sign n new (seen_in false front) l has too (sym (seen_after front p e) ∙ x)) m in
+          listed bytes s shape c (front_after front p) (sign_after p) us ts next new r alike (λ x. value-stays bytes p u sign n new (seen_in false front) l has too (sym (seen_after front p e) ∙ x)) m in
           let same : up_to_comma u sign n (piece_behind (patterns s) front u.kind) more ≡ first_operands (patterns s) (front_after front p) (sign_after p) us new =
           ap (λ found. up_to_comma u sign n found more) here ∙ onward u sign n p more e ∙ ap (λ x. then_on x (more p)) too in
           subst (FirstOf bytes) (sym same) first

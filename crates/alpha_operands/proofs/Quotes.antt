@@ -23,8 +23,8 @@ between-is string text e =
 string-text : (string : List ℕ) → IsString string → IsText (between_quotes string)
 string-text string (text, e, is) = rw (between-is string text e) is
 
-text-kept : (p : Piece) (t : Lexeme) (sign : Sign) (o r : Slots) → IfSome o.text IsText → kind_of p ≡ t.kind → (t.kind ≡ kinds.Text → IsString t.text) → filled p t sign o ≡ Ok r → IfSome r.text IsText
-text-kept p t sign o r good k string h =
+text-stays : (p : Piece) (t : Lexeme) (sign : Sign) (o r : Slots) → IfSome o.text IsText → kind_of p ≡ t.kind → (t.kind ≡ kinds.Text → IsString t.text) → filled p t sign o ≡ Ok r → IfSome r.text IsText
+text-stays p t sign o r good k string h =
     elim (filled-changes p t sign o r h).1 [
       | inl e ↦ rw e good
       | inr (piece, e) ↦ rw e (string-text t.text (string (sym k ∙ ap kind_of piece)))
@@ -36,7 +36,7 @@ follow-text all front sign (Bad left) o r strings good h = cc
 follow-text all front sign (Next t ts) o r (string, strings) good h =
     let (p, found, g) = took t sign o (piece_behind all front t.kind) (λ p filled. follow all (front_after front p) (sign_after p) ts filled) r h in
     let (next, ok, m) = went (left_of t) (filled p t sign o) (λ filled. follow all (front_after front p) (sign_after p) ts filled) r g in
-    follow-text all (front_after front p) (sign_after p) ts next r strings (text-kept p t sign o next good (piece_behind-is all front t.kind p found).1 string ok) m
+    follow-text all (front_after front p) (sign_after p) ts next r strings (text-stays p t sign o next good (piece_behind-is all front t.kind p found).1 string ok) m
 
 pub text-read : (all : List Pattern) (line text : List ℕ) (o : Slots) → operands all (tokens line) ≡ Ok o → o.text ≡ Some text → IsText text
 unfolding operands
