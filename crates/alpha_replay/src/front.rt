@@ -1,6 +1,6 @@
 //! What stands before the input of a journal.
 
-ghost use Rattle.std.specs.Prelude.{◌≡◌, ◌≢◌, ◌≤◌, length, IfOk, IfErr, IfNone};
+ghost use Rattle.std.specs.Prelude.{◌≡◌, ◌≢◌, ◌≤◌, length, IfOk, IfErr};
 ghost use Rattle.alpha_replay.specs.Endings.{unused_are_zero, ending_in};
 ghost use Rattle.alpha_replay.specs.Reading.{numbers_in, completion_in, items_at};
 ghost use Rattle.alpha_replay.specs.JournalFault.{Tells, bad_field, front_fault};

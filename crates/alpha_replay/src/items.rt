@@ -1,6 +1,6 @@
 //! The items of a journal, read in two passes: the first one finds what is wrong, and takes no memory.
 
-ghost use Rattle.std.specs.Prelude.{◌≤◌, false, length, IfOk};
+ghost use Rattle.std.specs.Prelude.{false, IfOk};
 ghost use Rattle.alpha_replay.specs.Items.{parsed};
 ghost use Rattle.alpha_replay.specs.Scanned.{Scans, Gives, GivesItems};
 

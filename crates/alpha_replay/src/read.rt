@@ -1,11 +1,10 @@
 //! Journals that are read from their bytes.
 
-ghost use Rattle.std.specs.Prelude.{◌≡◌, ◌≢◌, ◌≤◌, length, IfOk, IfErr, OnOk, None};
+ghost use Rattle.std.specs.Prelude.{◌≡◌, ◌≢◌, ◌≤◌, length, IfOk, IfErr};
 ghost use Rattle.alpha_replay.specs.Front.{front_numbers};
-ghost use Rattle.alpha_replay.specs.Items.{Parsed};
 ghost use Rattle.alpha_replay.specs.Journal.{IsJournal, spelling};
 ghost use Rattle.alpha_replay.specs.Reading.{numbers_in, items_at, items_in};
-ghost use Rattle.alpha_replay.specs.JournalFault.{Tells, bad_field, items_fault, front_fault, first_fault};
+ghost use Rattle.alpha_replay.specs.JournalFault.{Tells, items_fault, first_fault};
 
 use crate::front::{FRONT_BYTES, Front};
 use crate::items::{read_items, scan_items};

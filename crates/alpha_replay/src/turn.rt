@@ -1,6 +1,6 @@
 //! A step of the machine, with what is noted of it.
 
-ghost use Rattle.std.specs.Prelude.{◌≡◌, ◌++◌, ◌&&◌, length, nat_le, false, true};
+ghost use Rattle.std.specs.Prelude.{◌≡◌, ◌&&◌, false};
 ghost use Rattle.alpha_io.specs.Sunk.{sunk};
 ghost use Rattle.alpha_seq.specs.Devices.{drawn};
 ghost use Rattle.alpha_seq.specs.Machine.{Stays};
@@ -9,7 +9,6 @@ ghost use Rattle.alpha_imprecise.specs.WildEffect.{Framed};
 ghost use Rattle.alpha_imprecise.specs.WildTurn.{WildTurnEffect};
 ghost use Rattle.alpha_replay.specs.Turned.{LookPut, LookTaken, TurnTapes};
 
-use crate::Move;
 use crate::look::{Look, look_ahead, register};
 use crate::tape::Tape;
 use crate::words::{Drawn, draw};

@@ -4,7 +4,6 @@ use Rattle.alpha_pal.specs.Call.{Outside, outside}
 use Rattle.alpha_image.specs.Parts.{Parts, IsImage}
 use Rattle.alpha_shadow.specs.Broken.{IsAccepted}
 use Rattle.alpha_seq.specs.State.{Program, State, Event, Went, Barriered, Overflowed, Ends}
-use Rattle.alpha_seq.specs.Step.{step}
 use Rattle.alpha_seq.specs.Start.{start}
 use Rattle.alpha_seq.specs.Run.{Run, started, end_of, is_over, advance}
 use Rattle.alpha_seq.specs.Inputs.{over_input, advance_over, run_over}
