@@ -178,7 +178,7 @@ told-large d text b begun rest line =
     ap (λ (ls : List (List ℕ)). closed 0 (b ∷ rest) (answers (setting_of d) (session_of d text) ls)) (within-over b begun rest line)
     ∙ ap (λ (t : Bool). record { text = text; end = cond (t && true) TooLarge Done }) (lt-some (length rest))
 
--- ---- the bytes of a line that are kept
+-- ---- the bytes of a line that are held
 
 strip-by : (b : Bool) (l : List ℕ) → length l ≤ length (cond b (take (length l - 1) l) l) + 1
 strip-by true l = omega (arith, length-take (length l - 1) l)
@@ -191,9 +191,9 @@ strip-length l = strip-by _ l
 long-line : (line : List ℕ) → 1024 < length line → command_of line ≡ Unknown
 long-line line l = ap (λ (t : Bool). cond t Unknown (command_in (words line))) (lt-above 1024 (length line) l)
 
--- the line is answered alike where only its front is kept
-pub kept-line : (begun : List ℕ) → command_of (strip_carriage_return (take 1026 begun)) ≡ command_of (strip_carriage_return begun)
-kept-line begun =
+-- the line is answered alike where only its front is held
+pub held-line : (begun : List ℕ) → command_of (strip_carriage_return (take 1026 begun)) ≡ command_of (strip_carriage_return begun)
+held-line begun =
     ⊎_elim
     (λ (short : length begun < 1026). ap (λ (l : List ℕ). command_of (strip_carriage_return l)) (take_all 1026 begun (omega (arith, short))))
     (λ (long : 1026 ≤ length begun).
@@ -202,8 +202,8 @@ kept-line begun =
     ∙ sym (long-line (strip_carriage_return begun) (omega (arith, strip-length begun))))
     (cases_lt (length begun) 1026)
 
-pub kept-last : (begun : List ℕ) → command_of (take 1026 begun) ≡ command_of begun
-kept-last begun =
+pub held-last : (begun : List ℕ) → command_of (take 1026 begun) ≡ command_of begun
+held-last begun =
     ⊎_elim
     (λ (short : length begun < 1026). ap command_of (take_all 1026 begun (omega (arith, short))))
     (λ (long : 1026 ≤ length begun).

@@ -15,7 +15,7 @@ use Rattle.alpha_debug.specs.Session.{Setting, Session, text_of, answer}
 use Rattle.alpha_debug.specs.Script.{Transcript, lines_within, answers, closed}
 use Rattle.alpha_debug.specs.Effects.{Breaks, session_of, setting_of, left_by, Answers, AnswerFails, IsHeld, told_from, told_after, Hears, HearFails}
 use Rattle.alpha_debug.proofs.Sinks.{Breaks-more, Breaks-after, Puts-both}
-use Rattle.alpha_debug.proofs.Hearing.{NoFeed, told-other, told-feed, told-over, kept-line, answers-grows}
+use Rattle.alpha_debug.proofs.Hearing.{NoFeed, told-other, told-feed, told-over, held-line, answers-grows}
 
 -- ---- no bytes
 
@@ -40,7 +40,7 @@ after-feed Quits old new text n rest same = told-over (setting_of old) n rest (l
 -- the line that is handed on is answered as the line in hand
 line-command : (begun held line : List ℕ) → IsHeld begun held → line ≡ strip_carriage_return held → command_of line ≡ command_of (strip_carriage_return begun)
 line-command begun held line is_held e =
-    ap command_of e ∙ (ap (λ (l : List ℕ). command_of (strip_carriage_return l)) is_held.front ∙ kept-line begun)
+    ap command_of e ∙ (ap (λ (l : List ℕ). command_of (strip_carriage_return l)) is_held.front ∙ held-line begun)
 
 pub hears_feed : (begun held line : List ℕ) (talk : Talk) (old new : Debugger) (out : Sunk) → IsHeld begun held → line ≡ strip_carriage_return held → setting_of new ≡ setting_of old
     → Answers (command_of line) talk old new out → Hears (10 ∷ []) begun talk old new [] out
@@ -80,11 +80,11 @@ all-one b other = All-cons (λ x. (x == 10) ≡ false) b [] other (λ k d l. abs
 
 pub hears_other : (b : ℕ) (begun held : List ℕ) (d : Debugger) (out : Sunk) → (b == 10) ≡ false → NoFeed begun → held ≡ take 1026 (begun ++ b ∷ []) → Puts out []
     → Hears (b ∷ []) begun GoesOn d d held out
-hears_other b begun held d out other line kept none = record {
+hears_other b begun held d out other line front none = record {
   put = [];
   line = begun ++ b ∷ [];
   wrote = none;
-  held_is = record { front = kept; line = All-append (λ x. (x == 10) ≡ false) begun (b ∷ []) line (all-one b other) };
+  held_is = record { front = front; line = All-append (λ x. (x == 10) ≡ false) begun (b ∷ []) line (all-one b other) };
   is = λ text most rest l.
       let n : ℕ = most - 1 in
       let next : most ≡ suc n = omega arith in
@@ -93,16 +93,16 @@ hears_other b begun held d out other line kept none = record {
       ∙ ap (λ (t : List ℕ). told_from d t n (begun ++ b ∷ []) rest) (sym (append-nil text)));
 }
 
--- the front of a line with a byte more, which is kept where there is room
-pub kept_more : (b : ℕ) (begun held more : List ℕ) → held ≡ take 1026 begun → length held < 1026 → more ≡ held ++ b ∷ [] → more ≡ take 1026 (begun ++ b ∷ [])
-kept_more b begun held more front room e =
+-- the front of a line with a byte more, which is held where there is room
+pub held_more : (b : ℕ) (begun held more : List ℕ) → held ≡ take 1026 begun → length held < 1026 → more ≡ held ++ b ∷ [] → more ≡ take 1026 (begun ++ b ∷ [])
+held_more b begun held more front room e =
     let size : length (take 1026 begun) < 1026 = subst (λ (l : List ℕ). length l < 1026) front room in
     let short : length begun < 1026 = omega (arith, size, length-take 1026 begun) in
     let all : held ≡ begun = front ∙ take_all 1026 begun (omega (arith, short)) in
     e ∙ (ap (λ (l : List ℕ). l ++ b ∷ []) all ∙ sym (take_all 1026 (begun ++ b ∷ []) (omega (arith, short, length-append begun (b ∷ [])))))
 
-pub kept_full : (b : ℕ) (begun held : List ℕ) → held ≡ take 1026 begun → length held ≡ 1026 → held ≡ take 1026 (begun ++ b ∷ [])
-kept_full b begun held front full =
+pub held_full : (b : ℕ) (begun held : List ℕ) → held ≡ take 1026 begun → length held ≡ 1026 → held ≡ take 1026 (begun ++ b ∷ [])
+held_full b begun held front full =
     let size : length (take 1026 begun) ≡ 1026 = ap length (sym front) ∙ full in
     let long : 1026 ≤ length begun = omega (arith, size, length-take 1026 begun) in
     front ∙ sym (take-append-le 1026 begun (b ∷ []) long)

@@ -19,7 +19,7 @@ use Rattle.alpha_debug.specs.Session.{Session, text_of, answer}
 use Rattle.alpha_debug.specs.Script.{Transcript}
 use Rattle.alpha_debug.specs.Effects.{Grows, Breaks, session_of, setting_of, Remains, left_by, Answers, AnswerFails, IsHeld, told_from, Hears, HearFails, Closes, CloseFails, CloseEffect, Reads, Tells, ReadingFails, TellingFails, TellEffect}
 use Rattle.alpha_debug.proofs.Sinks.{Breaks-after, Puts-both}
-use Rattle.alpha_debug.proofs.Hearing.{told-end, told-large, told-grows, kept-last}
+use Rattle.alpha_debug.proofs.Hearing.{told-end, told-large, told-grows, held-last}
 
 -- ---- the end of a script
 
@@ -32,7 +32,7 @@ Closes-answered begun held talk old new out is_held answers = record {
   put = answers.bytes;
   wrote = answers.wrote;
   is = λ text most.
-      let line : command_of begun ≡ command_of held = sym (ap command_of is_held.front ∙ kept-last begun) in
+      let line : command_of begun ≡ command_of held = sym (ap command_of is_held.front ∙ held-last begun) in
       told-end old text most begun is_held.line
       ∙ (ap (λ (c : Command). record { text = text_of (answer (setting_of old) c (session_of old text)); end = Done }) line
       ∙ ap (λ (s : Session). record { text = text_of s; end = Done }) (answers.is text));
@@ -40,7 +40,7 @@ Closes-answered begun held talk old new out is_held answers = record {
 
 pub Closes-failed : (begun held : List ℕ) (old : Debugger) (out : Sunk) → IsHeld begun held → AnswerFails (command_of held) old out → CloseFails begun old out
 Closes-failed begun held old out is_held fails text most =
-    let line : command_of begun ≡ command_of held = sym (ap command_of is_held.front ∙ kept-last begun) in
+    let line : command_of begun ≡ command_of held = sym (ap command_of is_held.front ∙ held-last begun) in
     let whole : told_from old text most begun [] ≡ record { text = text_of (answer (setting_of old) (command_of held) (session_of old text)); end = Done } =
     told-end old text most begun is_held.line
     ∙ ap (λ (c : Command). record { text = text_of (answer (setting_of old) c (session_of old text)); end = Done }) line in
@@ -160,8 +160,8 @@ module _ {S K : Type 0} (left : S → Option (List ℕ)) (counts : S → ℕ) (w
 
   -- the script failed
   pub underway_unread : Keeps (left s) (left t) → counts s ≤ counts t → Rose (counts s) (counts t) → ReadingFails first (drawn_by left counts r t) (sunk_by written faults o p)
-  underway_unread kept later cause =
-      let took : Consumes (left r) (left t) u.taken = Consumes-kept (left r) (left s) (left t) u.taken u.took kept in
+  underway_unread stays later cause =
+      let took : Consumes (left r) (left t) u.taken = Consumes-kept (left r) (left s) (left t) u.taken u.took stays in
       let l = left_of (left r) (left t) u.taken took in
       record {
         taken = u.taken;

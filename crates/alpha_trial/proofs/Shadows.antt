@@ -109,22 +109,22 @@ unused code q p r (at_five e c) (inr f) = ap (λ o. uses o r) c ∙ ap (λ n. us
 same_some : (a b : ℕ) → Some a ≡ Some b → b ≡ a
 same_some a b e = cc
 
-keeps : (code : List ℕ) (q t at : ℕ) → Block code q → q + 2 ≤ t → t ≤ at → at ≤ q + 5 → In code q at → LosesSource code t at → ⊥
-keeps code q t at b low order high (at_two e c) h =
+source_stays : (code : List ℕ) (q t at : ℕ) → Block code q → q + 2 ≤ t → t ≤ at → at ≤ q + 5 → In code q at → LosesSource code t at → ⊥
+source_stays code q t at b low order high (at_two e c) h =
     let r : h.register ≡ 3 = same_some 3 h.register (ap sets (sym c) ∙ h.sets) in
     let here : h.source.place ≡ at = (let above = h.source.above in let below = h.source.below in omega arith) in
     let used : uses (class_at code h.source.place) h.register ≡ false =
     ap (λ k. uses (class_at code k) h.register) here ∙ (ap (λ o. uses o h.register) c ∙ ap (λ n. uses (Some first_trigger) n) r) in
     false_true (sym used ∙ h.source.uses)
-keeps code q t at b low order high (at_three e c) h =
+source_stays code q t at b low order high (at_three e c) h =
     let above = h.source.above in
     let below = h.source.below in
     false_true (sym (unused code q h.source.place h.register (within code q h.source.place b (omega arith) (omega arith)) (inl (same_some 4 h.register (ap sets (sym c) ∙ h.sets)))) ∙ h.source.uses)
-keeps code q t at b low order high (at_four e c) h =
+source_stays code q t at b low order high (at_four e c) h =
     let above = h.source.above in
     let below = h.source.below in
     false_true (sym (unused code q h.source.place h.register (within code q h.source.place b (omega arith) (omega arith)) (inr (same_some 5 h.register (ap sets (sym c) ∙ h.sets)))) ∙ h.source.uses)
-keeps code q t at b low order high (at_five e c) h = let none : None ≡ Some h.register = ap sets (sym c) ∙ h.sets in cc
+source_stays code q t at b low order high (at_five e c) h = let none : None ≡ Some h.register = ap sets (sym c) ∙ h.sets in cc
 
 -- ---- destinations
 
@@ -166,7 +166,7 @@ module _ (code : List ℕ) (q t at : ℕ) (b : Block code q) (low : q + 2 ≤ t)
 
   fails : (c : Condition) → Holds code t at c → ⊥
   fails ZeroDestination h = not_zero code q t by h.1
-  fails SourceLost h = keeps code q t at b low order high here h
+  fails SourceLost h = source_stays code q t at b low order high here h
   fails SameDestination h = differ code q t at by (trigger_in code q at here h.1) h.0 h.2
   fails WildBase h = let base = h.1 in let f : None ≡ Some base.access = sym plain.access ∙ base.accesses in cc
   fails LoadThenStore h = plain.store h.store

@@ -7,7 +7,7 @@ use Rattle.alpha_io.specs.Sunk.{sunk}
 use Rattle.alpha_io.proofs.Sinks.{Puts-none}
 use Rattle.alpha_debug.specs.Effects.{Hears, HearFails}
 use Rattle.alpha_debug.proofs.Sinks.{OnErr-any}
-use Rattle.alpha_debug.proofs.Scripts.{hears_feed, hear_feed_fails, hears_other, kept_more, kept_full}
+use Rattle.alpha_debug.proofs.Scripts.{hears_feed, hear_feed_fails, hears_other, held_more, held_full}
 use Rattle.alpha_debug.proofs.script.hear_byte.Goals as goal
 
 pub returns-in_err-talk-clause-refused : goal.returns-in_err-talk-clause-refused
@@ -43,7 +43,7 @@ returns-then-not-is_full-clause-ok g c =
     let room : length held < 1026 = grind (arith, nat_tests) in
     λ begun is_held.
     hears_other c.args.byte begun c.push.new.self.items c.args.debugger.now out other is_held.line
-    (kept_more c.args.byte begun held c.push.new.self.items is_held.front room c.push.ensures.items)
+    (held_more c.args.byte begun held c.push.new.self.items is_held.front room c.push.ensures.items)
     (Puts-none (g.K.Sink.written c.args.out.now) (g.K.Sink.faults c.args.out.now))
 
 pub returns-else-not-is_full-clause-ok : goal.returns-else-not-is_full-clause-ok
@@ -54,5 +54,5 @@ returns-else-not-is_full-clause-ok g c =
     let full : length held ≡ 1026 = grind (arith, nat_tests) in
     λ begun is_held.
     hears_other c.args.byte begun held c.args.debugger.now out other is_held.line
-    (kept_full c.args.byte begun held is_held.front full)
+    (held_full c.args.byte begun held is_held.front full)
     (Puts-none (g.K.Sink.written c.args.out.now) (g.K.Sink.faults c.args.out.now))

@@ -32,13 +32,13 @@ loop-rest-preserved c =
     let more : 16 ≤ l.rest = c.loop-rest-test.true in
     let some = second_digit l.at l.rest more l.invariant.within in
     let back : l.at ≡ at + 1 = omega arith in
-    let kept : drop (at + 1) (set l.out at x) ≡ drop l.at l.out = drop-set-lt (at + 1) l.out at x (omega arith) ∙ ap (λ (k : ℕ). drop k l.out) (sym back) in
+    let behind : drop (at + 1) (set l.out at x) ≡ drop l.at l.out = drop-set-lt (at + 1) l.out at x (omega arith) ∙ ap (λ (k : ℕ). drop k l.out) (sym back) in
     record {
       place = omega arith;
       within = subst (λ (k : ℕ). rest < 16 ^ k) back (fewer_digits l.at l.rest l.invariant.within);
       last = written_at l.out at x (digit_glyph false (rest % 16)) (omega arith) c.digit-in-loop-rest.ensures;
       written =
-          ap (onto (at + 1) rest) kept
+          ap (onto (at + 1) rest) behind
           ∙ (ap (λ (k : ℕ). onto k rest (drop l.at l.out)) (sym back)
           ∙ (ap (onto l.at rest) l.invariant.last
           ∙ (sym (onto-more l.at l.rest (drop (l.at + 1) l.out) more)
