@@ -1,6 +1,6 @@
 ghost use Rattle.std.specs.Prelude.{◌≡◌, find};
 ghost use Rattle.std.specs.Str.{bytes_eq};
-ghost use Rattle.alpha_text.specs.Heads.{own_name, own_shape, every_own, own_at, shape_of, head_of};
+ghost use Rattle.alpha_text.specs.Heads.{own_name, own_shape, own_at, shape_of, head_of};
 
 use alpha_operands::Shape;
 use alpha_table::{BranchOp, JumpKind, Mnemonic, OperandRule};

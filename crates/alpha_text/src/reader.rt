@@ -1,11 +1,11 @@
-ghost use Rattle.std.specs.Prelude.{◌≡◌, ◌≤◌, length, slice_index, ◌==◌, None};
+ghost use Rattle.std.specs.Prelude.{◌≡◌, ◌≤◌, length, ◌==◌, None};
 ghost use Rattle.alpha_token.specs.Tokens.{tokens, lexeme, left_of};
 ghost use Rattle.alpha_operands.specs.Operands.{Gives};
 ghost use Rattle.alpha_operands.specs.Shapes.{patterns};
 ghost use Rattle.alpha_operands.specs.Walk.{operands};
-ghost use Rattle.alpha_text.specs.Heads.{head_of, shape_of};
+ghost use Rattle.alpha_text.specs.Heads.{shape_of};
 ghost use Rattle.alpha_text.specs.Statements.{said};
-ghost use Rattle.alpha_text.specs.Reading.{item_said, list_in, with_operands, with_head, named, statement_of, is_labelled, labelled, behind_label, line_of, located, read};
+ghost use Rattle.alpha_text.specs.Reading.{item_said, list_in, with_operands, named, statement_of, is_labelled, labelled, behind_label, line_of, read};
 
 use crate::Statement;
 use crate::head::Head;
