@@ -4,7 +4,7 @@
     bench/instructions.py [PROGRAM]     the page is what the table's rows make, and each worked value is the program's
     bench/instructions.py --write       writes the page
 
-The page's tables are made here; what stands before the first of them is kept as it is. Names, opcodes, functions and
+The page's tables are made here; what stands before the first of them stays as it is. Names, opcodes, functions and
 levels are read from the table's rows, in crates/alpha_table/src. What each instruction gives is said in bench/worked.py,
 in words and as a function of Python, which is held against the measured results of
 crates/alpha_vectors/data/values.tsv. The worked values are those of these functions.
@@ -16,10 +16,10 @@ import subprocess
 import sys
 import tempfile
 
+from measure import TOP, the_program
 from worked import (BRANCHES, COUNTING, FEATURES, JUMPS, MEMORY, MISC, OPERATES, OPERATE_WORDS, PAL, PLACE, SECTIONS,
                     number_text)
 
-TOP = os.path.dirname(os.path.dirname(os.path.abspath(__file__)))
 PAGE = os.path.join(TOP, "docs/instructions.md")
 LEVELS = {"One": 1, "Two": 2}
 
@@ -219,9 +219,7 @@ def main():
         with open(PAGE, "w") as file:
             file.write(made)
         return
-    program = sys.argv[1] if len(sys.argv) > 1 else os.path.join(TOP, "crates/alpha_tool/out/alpha_tool")
-    if not os.access(program, os.X_OK):
-        sys.exit(f"{program} is not built: run ./alpha once")
+    program = the_program()
     faults = list(measured_faults())
     with open(PAGE) as file:
         text = file.read()

@@ -10,7 +10,7 @@
 
 Blocks that can't be run, as builds, have another language (`sh`, or none).
 
-    bench/pages.py [PROGRAM] [PAGE ..]    ./alpha, and all pages, where they are left out
+    bench/pages.py [PROGRAM] [PAGE ..]    crates/alpha_tool/out/alpha_tool, and all pages, where they are left out
 """
 import glob
 import os
@@ -21,7 +21,8 @@ import subprocess
 import sys
 import tempfile
 
-TOP = os.path.dirname(os.path.dirname(os.path.abspath(__file__)))
+from measure import TOP, the_program
+
 SECONDS = 60
 # How the last line that a command writes tells its status; other lines tell 0.
 TOLD = [
@@ -201,10 +202,8 @@ def crates_in():
 
 def main():
     words = sys.argv[1:]
-    program = os.path.abspath(words.pop(0)) if words and not words[0].endswith(".md") else f"{TOP}/alpha"
-    if not os.access(program, os.X_OK):
-        sys.exit(f"{program} is no program")
-    # Where it isn't built yet, this builds it.
+    program = os.path.abspath(the_program([words.pop(0)] if words and not words[0].endswith(".md") else []))
+    # A program that builds itself, as ./alpha, does so here, before a command is timed.
     subprocess.run([program, "trial", "1"], stdin=subprocess.DEVNULL, stdout=subprocess.DEVNULL, check=False)
     paths = sorted(os.path.relpath(it, TOP) for part in ("*.md", "docs/**/*.md", "examples/**/*.md")
                    for it in glob.glob(f"{TOP}/{part}", recursive=True))
