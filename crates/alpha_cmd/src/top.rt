@@ -58,7 +58,7 @@ use std::alloc::Global;
 /// - `asm FILE OUT` assembles the source of the file, and keeps its image as OUT.
 /// - `fix FILE OUT` keeps the source with the barriers that it needs as OUT.
 /// - `module FILE OUT` keeps the module of the source as OUT, if its code is accepted.
-/// - `link OUT FILE...` links modules, and keeps their image as OUT.
+/// - `link [--entry NAME] OUT FILE...` links modules, and keeps their image as OUT.
 /// - `run FILE` runs an image's program over the input: what it puts goes to the output, and the lines
 ///   of the run to the notes.
 /// - `run --imprecise FILE` does so by the imprecise machine: an image that `check` refuses is refused,

@@ -1,5 +1,5 @@
--- What it means that a program can be restarted after each late trap: whatever the imprecise machine chooses, the
--- precise run can be told from its run.
+-- What it means that a program can be restarted after each late trap: whatever the imprecise machine chooses, no trap is
+-- lost, and its run agrees with the precise one behind each barrier, at its end, and wherever no trap is pending.
 use Rattle.std.specs.Prelude.{◌≡◌, ◌≢◌, ◌<◌, ℕ, false, List, Some, None}
 use Rattle.alpha_words.specs.declared.Completion.{Completion}
 use Rattle.alpha_image.specs.Parts.{Parts}
