@@ -12,7 +12,8 @@ use std::{fs, io};
 /// file too. A clause sees the count of faults.
 ///
 /// A file that is read piece by piece is opened once: it stays open where a piece was read of it, until
-/// its end was read or another piece or a `keep` is asked for.
+/// its end was read or another piece or a `keep` is asked for. So a pipe is read too, from its start
+/// to its end, and once.
 #[derive(Drop)]
 pub struct DiskShelf<R: Files + AllocGlobal> {
     files: R,
@@ -57,7 +58,10 @@ impl<R: Files + AllocGlobal> DiskShelf<R> {
             Some(begun) if begun.at == at && begun.name.as_deref() == Some(name) => Ok(begun),
             _ => {
                 let mut file = fs::open(&self.files, name)?;
-                file.seek(SeekFrom::Start(at))?;
+                // An open file stands at its start, and a pipe can be moved nowhere, not even there.
+                if at > 0 {
+                    file.seek(SeekFrom::Start(at))?;
+                }
                 let name = String::from_str(self.files.alloc(), name).ok();
                 Ok(Begun { file, at, name })
             }
