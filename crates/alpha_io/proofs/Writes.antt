@@ -4,15 +4,9 @@ use Rattle.std.specs.Io.KnownBytes.{Appends, Keeps}
 use Rattle.std.proofs.KnownBytes.{Appends-nil, Appends-trans, Appends-kept}
 use Rattle.alpha_io.specs.Written.{WritesPrefix}
 
-Appends-after_kept : (a b c : Option (List ℕ)) (bytes : List ℕ) → Keeps a b → Appends b c bytes → Appends a c bytes
-Appends-after_kept None b c bytes p q = tt
-Appends-after_kept (Some x) None c bytes p q = absurd p
-Appends-after_kept (Some x) (Some y) None bytes p q = absurd q
-Appends-after_kept (Some x) (Some y) (Some z) bytes p q = q ∙ ap (λ l. l ++ bytes) p
-
 -- nothing is a prefix
 pub WritesPrefix-none : (old new : Option (List ℕ)) (bytes : List ℕ) → Keeps old new → WritesPrefix old new bytes
-WritesPrefix-none old new bytes kept = record { done = []; rest = bytes; whole = refl; written = Appends-kept old old new [] (Appends-nil old) kept }
+WritesPrefix-none old new bytes stays = record { done = []; rest = bytes; whole = refl; written = Appends-kept old old new [] (Appends-nil old) stays }
 
 -- all of the bytes are a prefix
 pub WritesPrefix-all : (old new : Option (List ℕ)) (bytes : List ℕ) → Appends old new bytes → WritesPrefix old new bytes
@@ -36,12 +30,6 @@ WritesPrefix-more a b xs ys first = record {
   written = first.written;
 }
 
-pub WritesPrefix-kept : (a b c : Option (List ℕ)) (bytes : List ℕ) → WritesPrefix a b bytes → Keeps b c → WritesPrefix a c bytes
-WritesPrefix-kept a b c bytes first kept = record { done = first.done; rest = first.rest; whole = first.whole; written = Appends-kept a b c first.done first.written kept }
-
-pub WritesPrefix-after_kept : (a b c : Option (List ℕ)) (bytes : List ℕ) → Keeps a b → WritesPrefix b c bytes → WritesPrefix a c bytes
-WritesPrefix-after_kept a b c bytes kept second = record { done = second.done; rest = second.rest; whole = second.whole; written = Appends-after_kept a b c second.done kept second.written }
-
 -- the front of the bytes was written, and this is the rest
 pub record WritesFront (old new : Option (List ℕ)) (bytes rest : List ℕ) : Type 0 where
   pub done : List ℕ
@@ -59,7 +47,7 @@ WritesFront-more a b c bytes rest n front more = record {
 }
 
 pub WritesFront-prefix : (a b c : Option (List ℕ)) (bytes rest : List ℕ) → WritesFront a b bytes rest → Keeps b c → WritesPrefix a c bytes
-WritesFront-prefix a b c bytes rest front kept = record { done = front.done; rest = rest; whole = front.whole; written = Appends-kept a b c front.done front.written kept }
+WritesFront-prefix a b c bytes rest front stays = record { done = front.done; rest = rest; whole = front.whole; written = Appends-kept a b c front.done front.written stays }
 
 pub WritesFront-end : (a b : Option (List ℕ)) (bytes rest : List ℕ) → WritesFront a b bytes rest → rest ≡ [] → Appends a b bytes
 WritesFront-end a b bytes rest front none =
@@ -70,10 +58,6 @@ WritesFront-end a b bytes rest front none =
 pub Appends-told : (xs : List ℕ) (new : Option (List ℕ)) (bytes : List ℕ) → Appends (Some xs) new bytes → new ≡ Some (xs ++ bytes)
 Appends-told xs None bytes p = absurd p
 Appends-told xs (Some ys) bytes p = ap Some p
-
-pub Keeps-told : (xs : List ℕ) (new : Option (List ℕ)) → Keeps (Some xs) new → new ≡ Some xs
-Keeps-told xs None p = absurd p
-Keeps-told xs (Some ys) p = ap Some p
 
 pub WritesPrefix-told : (xs : List ℕ) (new : Option (List ℕ)) (bytes : List ℕ) (p : WritesPrefix (Some xs) new bytes) → new ≡ Some (xs ++ p.done)
 WritesPrefix-told xs new bytes p = Appends-told xs new p.done p.written

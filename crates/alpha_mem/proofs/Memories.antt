@@ -66,7 +66,7 @@ length-block : (first : ℕ) (xs : List ℕ) (zeroed : ℕ) (writable : Bool) �
 length-block first xs zeroed writable =
     length-append xs (replicate zeroed 0) ∙ ap (λ n. length xs + n) (length-replicate {A = ℕ} zeroed 0)
 
--- a new block at free addresses keeps a memory one
+-- with a new block at free addresses a memory is still one
 pub IsMemory-push : (m : List Block) (first : ℕ) (bytes : List ℕ) (zeroed : ℕ) (writable : Bool) → IsMemory m → first % 16 ≡ 0 → first + length bytes + zeroed ≤ 2 ^ 30 → IsFree (shapes m) first (length bytes + zeroed) → ((k : ℕ) → get_or bytes k 0 < 256) → IsMemory (m ++ block first bytes zeroed writable ∷ [])
 IsMemory-push m first bytes zeroed writable memory start end free small =
     let b = block first bytes zeroed writable in

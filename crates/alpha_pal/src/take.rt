@@ -1,5 +1,5 @@
-ghost use Rattle.std.specs.Prelude.{◌≡◌, ◌<◌, ◌≤◌, true, IsTrue, length, IfOk, OnErr};
-ghost use Rattle.std.specs.Io.KnownBytes.{Keeps, IsAtEnd};
+ghost use Rattle.std.specs.Prelude.{◌≡◌, ◌<◌, ◌≤◌, [], true, IsTrue, length, IfOk, OnErr};
+ghost use Rattle.std.specs.Io.KnownBytes.{Consumes, IsAtEnd};
 ghost use Rattle.alpha_io.specs.Faults.{HasCause};
 ghost use Rattle.alpha_mem.specs.Intent.{Store};
 ghost use Rattle.alpha_mem.specs.Block.{shapes, within};
@@ -56,7 +56,7 @@ fn take_piece<S: Source>(
     ensures bound { IfOk result (λ n. n ≤ length piece.old) }
     ensures ends { IfOk result (λ n. n ≡ 0 → IsAtEnd (S.left input.old)) }
     ensures same { OnErr result (mem.new ≡ mem.old) }
-    ensures input { OnErr result (Keeps (S.left input.old) (S.left input.new)) }
+    ensures input { OnErr result (Consumes (S.left input.old) (S.left input.new) []) }
     ensures shapes { shapes mem.new ≡ shapes mem.old }
     ensures good { IsMemory mem.new }
     ensures cause { HasCause (S.faults input.old) (S.faults input.new) result }
