@@ -44,6 +44,8 @@
 //!   that is one image. [`laws_of_fields`]: the tests of the fields decide their rules.
 //!   [`laws_of_places`]: where the code words stand. [`laws_of_pieces`]: the data bytes are those of the
 //!   segments.
+//! - [`longword_at`], [`quadword_at`], [`push_longword`] and [`push_quadword`] read and write a number,
+//!   for the other kinds of files too.
 //! - [`Image::insn`], [`code_word`] and [`Image::place_of`] answer `None` exactly outside the code, with
 //!   constant work and no memory.
 //!
@@ -77,6 +79,7 @@ pub use fault::ImageFault;
 pub use fields::{Fields, LevelFields};
 pub use image::{Image, code_word};
 pub use laws::{laws_of_fields, laws_of_pieces, laws_of_places, laws_of_spelling};
+pub use number::{longword_at, push_longword, push_quadword, quadword_at};
 pub use read::{read_image, take_image};
 pub use segment::Segment;
 pub use version::Version;

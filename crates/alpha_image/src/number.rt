@@ -1,4 +1,4 @@
-//! Little-endian numbers.
+//! Little-endian numbers, of images and of the other files of this project.
 
 ghost use Rattle.std.specs.Prelude.{◌≡◌, ◌+◌, ◌≤◌, ◌++◌, length, OnOk};
 ghost use Rattle.alpha_image.specs.Layout.{quadword, longword, quadword_at, longword_at};
@@ -8,7 +8,7 @@ use std::alloc::AllocError;
 
 /// The number in the eight bytes at an offset.
 #[tactic(auto, unfolding(crate::specs::Layout::quadword_at))]
-pub(crate) fn quadword_at(bytes: &[u8], offset: usize) -> u64
+pub fn quadword_at(bytes: &[u8], offset: usize) -> u64
     requires { offset + 8 ≤ length bytes.now }
     ensures value { result ≡ quadword_at offset bytes.now }
 {
@@ -17,7 +17,7 @@ pub(crate) fn quadword_at(bytes: &[u8], offset: usize) -> u64
 
 /// The number in the four bytes at an offset.
 #[tactic(auto, unfolding(crate::specs::Layout::longword_at))]
-pub(crate) fn longword_at(bytes: &[u8], offset: usize) -> u32
+pub fn longword_at(bytes: &[u8], offset: usize) -> u32
     requires { offset + 4 ≤ length bytes.now }
     ensures value { result ≡ longword_at offset bytes.now }
 {
@@ -26,7 +26,7 @@ pub(crate) fn longword_at(bytes: &[u8], offset: usize) -> u32
 
 /// Appends the eight bytes of a number.
 #[tactic(auto, unfolding(crate::specs::Layout::quadword))]
-pub(crate) fn push_quadword(out: &mut Vec<u8>, number: u64) -> Result<(), AllocError>
+pub fn push_quadword(out: &mut Vec<u8>, number: u64) -> Result<(), AllocError>
     ensures ok { OnOk result (out.new.items ≡ out.old.items ++ quadword number) }
 {
     let mut bytes = [0; 8];
@@ -36,7 +36,7 @@ pub(crate) fn push_quadword(out: &mut Vec<u8>, number: u64) -> Result<(), AllocE
 
 /// Appends the four bytes of a number.
 #[tactic(auto, unfolding(crate::specs::Layout::longword))]
-pub(crate) fn push_longword(out: &mut Vec<u8>, number: u32) -> Result<(), AllocError>
+pub fn push_longword(out: &mut Vec<u8>, number: u32) -> Result<(), AllocError>
     ensures ok { OnOk result (out.new.items ≡ out.old.items ++ longword number) }
 {
     let mut bytes = [0; 4];

@@ -6,8 +6,8 @@ ghost use Rattle.alpha_replay.specs.Reading.{numbers_in, completion_in, items_at
 ghost use Rattle.alpha_replay.specs.JournalFault.{Tells, bad_field, front_fault};
 ghost use Rattle.alpha_replay.specs.Front.{front_numbers};
 
-use crate::number::{longword_at, quadword_at};
 use crate::{Ending, JournalFault};
+use alpha_image::{longword_at, quadword_at};
 use alpha_words::Completion;
 
 /// The first eight bytes of a journal.

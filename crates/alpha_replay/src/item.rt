@@ -3,7 +3,7 @@
 ghost use Rattle.std.specs.Prelude.{◌≡◌, ◌≤◌};
 ghost use Rattle.alpha_replay.specs.Items.{item_size, item_units, is_units, item_in};
 
-use crate::number::{longword_at, quadword_at};
+use alpha_image::{longword_at, quadword_at};
 
 /// Steps of the imprecise machine, as a journal has them.
 #[derive(Clone, Copy, Debug, PartialEq, Eq)]

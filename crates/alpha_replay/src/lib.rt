@@ -68,7 +68,6 @@ mod laws;
 mod look;
 mod make;
 mod moves;
-mod number;
 mod play;
 mod read;
 mod replay_fault;

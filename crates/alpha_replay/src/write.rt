@@ -6,8 +6,8 @@ ghost use Rattle.alpha_replay.specs.Items.{item_bytes};
 ghost use Rattle.alpha_replay.specs.Journal.{IsJournal, completion_number, numbers, front, spelling, most_items};
 
 use crate::front::{FRONT_BYTES, MAGIC};
-use crate::number::{push_longword, push_quadword};
 use crate::{Item, Journal};
+use alpha_image::{push_longword, push_quadword};
 use alpha_words::{Completion, NoMemory};
 use std::alloc::{AllocError, Global};
 
