@@ -220,13 +220,12 @@ fn no_source(op: Op, words: &[u8]) -> Option<Statement<'_>>
     coded(Form::Operate { op, ra, src, rc })
 }
 
-// An operate instruction.
-#[inline(always)]
-fn operate(op: Op, words: &[u8]) -> Option<Statement<'_>>
+// An operate instruction that doesn't have two sources.
+fn fewer_sources(op: Op, words: &[u8]) -> Option<Statement<'_>>
     ensures { IfSome result (λ s. Says (mnemonics.Operate op) words.now (said s)) }
 {
     match op.row().operands {
-        OperandRule::Any => two_sources(op, words),
+        OperandRule::Any => None,
         OperandRule::Unary => one_source(op, words),
         OperandRule::UnaryRegister => one_register(op, words),
         OperandRule::Version => no_source(op, words),
@@ -255,6 +254,24 @@ fn alone<'a>(row: Mnemonic, form: Form, words: &'a [u8]) -> Option<Statement<'a>
     if is_end(words) { coded(form) } else { None }
 }
 
+// What a row's name says with the words behind it, where few lines have it.
+#[inline(never)]
+fn of_rare_row(row: Mnemonic, words: &[u8]) -> Option<Statement<'_>>
+    ensures { IfSome result (λ s. Says row words.now (said s)) }
+{
+    match row {
+        Mnemonic::Mem(_) | Mnemonic::Branch(_) => None,
+        Mnemonic::Operate(op) => fewer_sources(op, words),
+        Mnemonic::Jump(kind) => match words {
+            [b'$', ..] => jumping(kind, words),
+            _ => bare(kind, words),
+        },
+        Mnemonic::Fetch { modify } => prefetch(modify, words),
+        Mnemonic::Misc(op) => alone(row, Form::Misc(op), words),
+        Mnemonic::Pal(call) => alone(row, Form::Pal(call), words),
+    }
+}
+
 /// What a row's name says with the words behind it.
 #[inline(always)]
 pub(crate) fn of_row(row: Mnemonic, words: &[u8]) -> Option<Statement<'_>>
@@ -263,14 +280,8 @@ pub(crate) fn of_row(row: Mnemonic, words: &[u8]) -> Option<Statement<'_>>
     match row {
         Mnemonic::Mem(op) => memory(op, words),
         Mnemonic::Branch(op) => branch(op, words),
-        Mnemonic::Operate(op) => operate(op, words),
-        Mnemonic::Jump(kind) => match words {
-            [b'$', ..] => jumping(kind, words),
-            _ => bare(kind, words),
-        },
-        Mnemonic::Fetch { modify } => prefetch(modify, words),
-        Mnemonic::Misc(op) => alone(row, Form::Misc(op), words),
-        Mnemonic::Pal(call) => alone(row, Form::Pal(call), words),
+        Mnemonic::Operate(op) if op.row().operands == OperandRule::Any => two_sources(op, words),
+        _ => of_rare_row(row, words),
     }
 }
 
