@@ -3,13 +3,15 @@ use Rattle.std.proofs.Common.{◌≡◌, ℕ, ◌+◌, ◌<◌, ◌≤◌, List,
 use Rattle.std.proofs.lemmas.Bool.Decides.{nat_tests}
 use Rattle.alpha_text.specs.declared.reader.LineFault.{LineFault}
 use Rattle.alpha_text.specs.Reading.{LineSaid, read}
+use Rattle.alpha_table.specs.declared.form.Form.{Form}
 use Rattle.alpha_asm.specs.declared.kind.SourceKind.{SourceKind}
+use Rattle.alpha_asm.specs.declared.kind.SourceKind.TheVariants as kinds
 use Rattle.alpha_asm.specs.declared.place.Spot.{Spot}
 use Rattle.alpha_asm.specs.declared.fault.AsmFault.TheVariants.{Line, Section, Duplicate, LongLine}
 use Rattle.alpha_asm.specs.declared.pass.Pass.{Pass}
-use Rattle.alpha_asm.specs.Layout.{layout, fields, spot_of, is_misplaced, is_barred, is_misplaced_in, repeats_field, repeats_label}
+use Rattle.alpha_asm.specs.Layout.{layout, fields, spot_of, is_misplaced, is_misplaced_insn, is_barred, is_misplaced_in, repeats_field, repeats_label}
 use Rattle.alpha_asm.specs.Assembled.{item_at, refused_read, refused}
-use Rattle.alpha_asm.specs.Pass.{place_of, spot_at, fields_read, refused_here, AddsItem, Stands}
+use Rattle.alpha_asm.specs.Pass.{place_of, spot_at, fields_read, refused_here, unlabelled, AddsItem, Stands}
 use Rattle.alpha_asm.proofs.Growing.{grow}
 
 pub long_line : (kind : SourceKind) (is : List LineSaid) (line : List ℕ) (p : Pass) → Stands is p → 1024 < length line → refused kind is line ≡ Some (LongLine (p.line + 1))
@@ -34,6 +36,11 @@ item_line kind is line i p s h e =
     ∙ (ap (λ f. cond (is_misplaced_in kind (place_of p) i.statement) (Some (Section (length is + 1))) (cond (repeats_field f i.statement || repeats_label (spot_of (layout is)) i.label) (Some (Duplicate (length is + 1))) None)) (sym s.fields)
     ∙ (ap (λ b. cond (is_misplaced_in kind (place_of p) i.statement) (Some (Section (length is + 1))) (cond (repeats_field (fields_read p.fields) i.statement || b) (Some (Duplicate (length is + 1))) None)) (same_label (spot_at p) (spot_of (layout is)) i.label s.labels)
     ∙ ap (λ (n : ℕ). cond (is_misplaced_in kind (place_of p) i.statement) (Some (Section (n + 1))) (cond (repeats_field (fields_read p.fields) i.statement || repeats_label (spot_at p) i.label) (Some (Duplicate (n + 1))) None)) (sym s.line)))))
+
+-- an instruction without a label is refused where it may not stand, in a source of either kind
+pub code_here : (kind : SourceKind) (p : Pass) (insn : Form) (misplaced : Bool) → is_misplaced_insn (place_of p) insn ≡ misplaced → refused_here kind p (unlabelled insn) ≡ cond misplaced (Some (Section (p.line + 1))) None
+code_here kinds.Program p insn misplaced h = rw h refl
+code_here kinds.Module p insn misplaced h = rw h refl
 
 -- an item that is not refused has a new label
 new_label : (kind : SourceKind) (p : Pass) (i : LineSaid) → refused_here kind p i ≡ None → repeats_label (spot_at p) i.label ≡ false

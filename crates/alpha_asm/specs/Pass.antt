@@ -3,6 +3,8 @@ use Rattle.std.specs.Prelude.{◌≡◌, ℕ, true, ◌+◌, ◌*◌, ◌^◌, �
 use Rattle.std.specs.Option.{option_map}
 use Rattle.std.specs.List.{flat_map}
 use Rattle.std.specs.Str.{bytes_eq}
+use Rattle.alpha_table.specs.declared.form.Form.{Form}
+use Rattle.alpha_text.specs.Statements.{code}
 use Rattle.alpha_text.specs.Reading.{LineSaid}
 use Rattle.alpha_asm.specs.declared.kind.SourceKind.{SourceKind}
 use Rattle.alpha_asm.specs.declared.fault.AsmFault.{AsmFault}
@@ -52,6 +54,10 @@ pub record IsBounded (p : Pass) : Type 0 where
 -- the item as it stands here
 abbrev pub here : Pass → LineSaid → Placed
 here p i = record { place = place_of p; line = p.line + 1; item = i }
+
+-- an instruction without a label
+abbrev pub unlabelled : Form → LineSaid
+unlabelled insn = record { label = None; statement = code insn }
 
 -- why an item of a source of this kind is refused here
 abbrev pub refused_here : SourceKind → Pass → LineSaid → Option AsmFault

@@ -1,15 +1,15 @@
-ghost use Rattle.std.specs.Prelude.{◌≡◌, ◌+◌, ◌≤◌, ◌++◌, ◌∷◌, [], length, map, OnOk};
+ghost use Rattle.std.specs.Prelude.{◌≡◌, ◌++◌, ◌∷◌, [], length, map, OnOk};
 ghost use Rattle.alpha_operands.specs.Values.{view};
 ghost use Rattle.alpha_text.specs.Statements.{said};
 ghost use Rattle.alpha_asm.specs.Statement.{cell_of, values_up_to, bytes_up_to};
 ghost use Rattle.alpha_asm.specs.Statement.{number as cell, address};
-ghost use Rattle.alpha_asm.specs.Program.{name, list_of, insn_name, insn_names, entry_names};
-ghost use Rattle.alpha_asm.specs.Patches.{fix, fix_of, need_of, offset_of, reference_of, coded_of, raw_insns, AddsCells};
+ghost use Rattle.alpha_asm.specs.Program.{name, list_of, insn_name, entry_names};
+ghost use Rattle.alpha_asm.specs.Patches.{fix, fix_of, need_of, offset_of, reference_of, coded_of, AddsCells};
 
 use crate::data::Data;
 use crate::fields::{Entry, entry_in};
 use crate::patch::{Need, Patch};
-use crate::statement::{Coded, coded_in};
+use crate::statement::Coded;
 use alpha_table::Insn;
 use alpha_text::{Expr, ListValue, Statement, next_byte, next_value};
 use std::alloc::{AllocError, Global};
@@ -95,24 +95,6 @@ impl<'a> Output<'a> {
         push_reach(&mut self.patches, line, self.code.len(), coded)?;
         self.code.push(coded.insn)?;
         Ok(())
-    }
-
-    /// Adds the instruction of a statement.
-    pub(crate) fn push_insn(
-        &mut self,
-        line: u32,
-        statement: &Statement<'a>,
-    ) -> Result<(), AllocError>
-        ensures code { OnOk result (self.new.code.items ≡ self.old.code.items ++ raw_insns (said statement.now)) }
-        ensures bound { OnOk result (length self.new.code.items ≤ length self.old.code.items + 1) }
-        ensures bytes { self.new.bytes ≡ self.old.bytes }
-        ensures patches { OnOk result (map fix_of self.new.patches.items ≡ map fix_of self.old.patches.items
-            ++ map (fix 0) (insn_names line (length self.old.code.items) (said statement.now))) }
-    {
-        match coded_in(statement) {
-            Some(coded) => self.push_coded(line, &coded),
-            None => Ok(()),
-        }
     }
 
     /// Adds the values of a list. There are no more of them than it has bytes.

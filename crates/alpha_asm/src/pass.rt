@@ -3,12 +3,13 @@ ghost use Rattle.std.specs.Option.{option_map};
 ghost use Rattle.alpha_text.specs.Statements.{said};
 ghost use Rattle.alpha_text.specs.Bounds.{IsWithin};
 ghost use Rattle.alpha_text.specs.Reading.{item_said};
-ghost use Rattle.alpha_asm.specs.Statement.{cells};
+ghost use Rattle.alpha_asm.specs.Statement.{cells, coded};
 ghost use Rattle.alpha_asm.specs.LineKinds.{line_kind};
 ghost use Rattle.alpha_asm.specs.Layout.{spot, repeats_label};
 ghost use Rattle.alpha_asm.specs.Assembled.{item_at, refused};
 ghost use Rattle.alpha_asm.specs.Patches.{coded_of, AddsCells};
-ghost use Rattle.alpha_asm.specs.Pass.{place_of, spot_at, with_label, refused_here, IsBounded, AddsInsn, AddsStatement, AddsItem, Stands};
+ghost use Rattle.alpha_asm.specs.Pass.{place_of, spot_at, with_label, refused_here, unlabelled, IsBounded, AddsInsn, AddsStatement, AddsItem, Stands};
+ghost use Rattle.alpha_asm.specs.declared.kind.SourceKind.{SourceKind};
 ghost use Rattle.alpha_asm.specs.declared.fault.AsmFault.TheVariants as faults;
 
 use crate::AsmFault;
@@ -20,6 +21,7 @@ use crate::output::{Output, push_entry};
 use crate::place::Place;
 use crate::statement::{Coded, coded_in, is_statement};
 use alpha_quick::read_line;
+use alpha_table::Insn;
 use alpha_text::{Item, Statement};
 use std::alloc::{AllocError, Global};
 
@@ -88,7 +90,7 @@ impl<'a> Pass<'a> {
         }
     }
 
-    // Goes over the item of the next line.
+    // Goes over the item of the next line, which mostly is an instruction without a label.
     fn take_item(&mut self, kind: SourceKind, item: &Item<'a>) -> Result<(), AsmFault>
         requires bounded { IsBounded self.old }
         requires lines { self.old.line + 1 < 2 ^ 32 }
@@ -99,6 +101,13 @@ impl<'a> Pass<'a> {
             refused_here kind self.old (item_said item.now) ≡ Some fault) }
         ensures bounded { OnOk result (IsBounded self.new) }
     {
+        if let Item {
+            label: None,
+            statement: Statement::Code(insn),
+        } = item
+        {
+            return self.take_code(insn);
+        }
         if kind.bars(&item.statement) || self.place.is_misplaced(&item.statement) {
             return Err(AsmFault::Section(self.line + 1));
         }
@@ -110,6 +119,26 @@ impl<'a> Pass<'a> {
         }
         self.add(item)?;
         Ok(())
+    }
+
+    // Goes over an instruction without a label.
+    fn take_code(&mut self, insn: &Insn) -> Result<(), AsmFault>
+        requires bounded { IsBounded self.old }
+        requires lines { self.old.line + 1 < 2 ^ 32 }
+        ensures ok { OnOk result (AddsItem (unlabelled insn.now) self.old self.new) }
+        ensures taken { OnOk result ((kind : SourceKind) → refused_here kind self.old (unlabelled insn.now) ≡ None) }
+        ensures refused { IfErr result (λ fault. fault ≢ faults.NoMemory →
+            (kind : SourceKind) → refused_here kind self.old (unlabelled insn.now) ≡ Some fault) }
+        ensures bounded { OnOk result (IsBounded self.new) }
+    {
+        if self.place.is_misplaced_insn(insn) {
+            Err(AsmFault::Section(self.line + 1))
+        } else {
+            self.output.code.push(*insn)?;
+            self.place.begun = true;
+            self.line += 1;
+            Ok(())
+        }
     }
 
     // Defines a label here. Whether it was defined before.
@@ -163,11 +192,12 @@ impl<'a> Pass<'a> {
         Ok(())
     }
 
-    // Adds another statement.
+    // Adds a statement that has no instruction.
     fn add_other(&mut self, item: &Item<'a>) -> Result<(), AllocError>
         requires bounded { IsBounded self.old }
         requires lines { self.old.line + 1 < 2 ^ 32 }
         requires within { IsWithin (said item.now.statement) }
+        requires plain { coded (said item.now.statement) ≡ None }
         ensures ok { OnOk result (AddsStatement (item_said item.now) self.old self.new) }
         ensures labels { self.new.labels ≡ self.old.labels }
         ensures bounded { OnOk result (IsBounded self.new) }
@@ -175,7 +205,6 @@ impl<'a> Pass<'a> {
         let line = self.line + 1;
         let statement = &item.statement;
         let filled = self.output.bytes.len();
-        self.output.push_insn(line, statement)?;
         push_data(&mut self.output, line, statement)?;
         self.output
             .bytes

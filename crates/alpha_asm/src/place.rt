@@ -105,8 +105,8 @@ impl Place {
         }
     }
 
-    // Whether an instruction may not stand here.
-    fn is_misplaced_insn(&self, insn: &Insn) -> bool
+    /// Whether an instruction may not stand here.
+    pub(crate) fn is_misplaced_insn(&self, insn: &Insn) -> bool
         ensures { (words : ℕ) → result ≡ is_misplaced_insn (seen words self.now) insn.now }
     {
         self.section == Section::Data || self.level.unwrap_or(1) < level_of(insn).number()

@@ -1,6 +1,4 @@
-use Rattle.std.proofs.Common.{length, sym, ap, ◌∙◌}
 use Rattle.alpha_text.specs.Statements.{said}
-use Rattle.alpha_asm.specs.Data.{DataBytes}
 use Rattle.alpha_asm.specs.Statement.{cells}
 use Rattle.alpha_asm.proofs.Growing.{added_size}
 use Rattle.alpha_asm.proofs.pass.Pass.add_other.Goals as goal
@@ -9,4 +7,4 @@ pub go_on-requires-clause-added : goal.go_on-requires-clause-added
 go_on-requires-clause-added c =
     added_size _ _ _ (cells (said c.args.item.now.statement)) c.filled_pad.result _ c.len.result c.len-filled.result
     c.in_ok-push_data.ensures.bytes c.in_ok-push_zeros.ensures c.len.ensures.value
-    (c.len-filled.ensures.value ∙ ap (λ (d : DataBytes). length d.items) (sym c.in_ok-push_insn.ensures.bytes)) (c.filled_pad.ensures 0)
+    c.len-filled.ensures.value (c.filled_pad.ensures 0)
