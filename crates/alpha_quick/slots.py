@@ -4,8 +4,9 @@ slot, and the place of the name with each slot. The number that stands there is 
 
     crates/alpha_quick/slots.py [--check]
 
-With `--check` it prints what is wrong there, and ends with 1 if anything is: a name of the instruction table, or of
-those beside it, that has no row or has two, a row that has no name, or places that don't fit.
+With `--check` it prints what is wrong there, and ends with 1 if anything is: a name of eight bytes at most of the
+instruction table, or one of those beside it, that has no row, a name that has two, a row that has no name, or places
+that don't fit. That each row has its name's number is proved.
 """
 import collections
 import pathlib
@@ -56,7 +57,7 @@ def places_of(ordered, multiplier):
 def faults():
     known = names()
     rows, multiplier, places = written()
-    yield from (f"{name} has no row" for row, name in known.items() if row not in rows)
+    yield from (f"{name} has no row" for row, name in known.items() if row not in rows and (len(name) <= 8 or row.startswith("Own::")))
     yield from (f"{row} stands {times} times" for row, times in collections.Counter(rows).items() if times > 1)
     yield from (f"{row} has no name" for row in rows if row not in known)
     ordered = [known.get(row, "") for row in rows]

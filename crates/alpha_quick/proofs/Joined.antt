@@ -1,7 +1,6 @@
 -- The words of canonical lines, one behind the other.
-use Rattle.std.proofs.Common.{◌≡◌, ℕ, List, [], ◌∷◌, ◌++◌, ◌+◌, ◌*◌, ◌/◌, ◌%◌, ◌<◌, ◌^◌, decimal, refl, sym, ◌∙◌, append_assoc, arith}
+use Rattle.std.proofs.Common.{◌≡◌, ℕ, List, [], ◌∷◌, ◌++◌, ◌+◌, ◌*◌, ◌/◌, ◌%◌, ◌<◌, ◌^◌, decimal, refl, ◌∙◌, append_assoc, arith}
 use Rattle.std.proofs.lemmas.Fmt.{decimal_step}
-use Rattle.alpha_text.specs.Canon.{Word, spell, spelled}
 
 -- a further digit
 pub decimal-more : (n d : ℕ) → 0 < n → 10 * n + d < 2 ^ 64 → d < 10 → decimal (10 * n + d) ≡ decimal n ++ ((48 + d) ∷ [])

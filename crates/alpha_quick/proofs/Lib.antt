@@ -1,5 +1,6 @@
 mod Directives
 mod Forwards
 mod Joined
+mod Keys
 mod Meanings
 mod Parts

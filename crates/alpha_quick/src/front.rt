@@ -2,6 +2,7 @@ ghost use Rattle.std.specs.Prelude.{◌≡◌, ◌==◌, ◌<◌, ◌++◌, true
 ghost use Rattle.std.specs.List.{list_all};
 ghost use Rattle.alpha_token.specs.Bytes.{goes_on_name};
 ghost use Rattle.alpha_text.specs.Behind.{Stops};
+ghost use Rattle.alpha_quick.specs.Keys.{with_byte, key_of, IsKeyed};
 ghost use Rattle.alpha_quick.specs.Parts.{class_of, are_classes};
 ghost use Rattle.alpha_text.specs.References.{goes_on_label, begins_label};
 
@@ -35,6 +36,14 @@ fn class_of(byte: u8) -> u8
     class_in(&CLASSES, byte)
 }
 
+// A number with a further byte, of which the last eight are kept.
+#[inline(always)]
+fn with_byte(key: u64, byte: u8) -> u64
+    ensures { result ≡ with_byte key byte }
+{
+    key.wrapping_mul(256).wrapping_add(u64::from(byte))
+}
+
 /// A line that is cut behind its first bytes.
 #[derive(Clone, Copy)]
 pub(crate) struct Front<'a> {
@@ -52,6 +61,7 @@ impl<'a> Front<'a> {
     pub(crate) fn of(line: &'a [u8]) -> Front<'a>
         ensures line { line.now ≡ result.name.now ++ result.behind.now }
         ensures name { list_all goes_on_label result.name.now ≡ true }
+        ensures key { result.key ≡ key_of result.name.now }
     {
         let mut n = 0;
         let mut key: u64 = 0;
@@ -60,7 +70,7 @@ impl<'a> Front<'a> {
             if class_of(byte) == 0 {
                 break;
             }
-            key = key << 8 | u64::from(byte);
+            key = with_byte(key, byte);
             n += 1;
         }
         let (name, behind) = line.split_at(n);
@@ -70,13 +80,15 @@ impl<'a> Front<'a> {
     /// The front of a line with `/v`, if that stands behind it.
     #[inline(always)]
     pub(crate) fn with_trap(&self, line: &'a [u8]) -> Front<'a>
-        requires { line.now ≡ self.now.name.now ++ self.now.behind.now }
-        ensures { line.now ≡ result.name.now ++ result.behind.now }
+        requires line { line.now ≡ self.now.name.now ++ self.now.behind.now }
+        requires key { IsKeyed self.now.name.now self.now.key }
+        ensures line { line.now ≡ result.name.now ++ result.behind.now }
+        ensures key { IsKeyed result.name.now result.key }
     {
         match self.behind {
             [b'/', b'v', ..] => {
                 let (name, behind) = line.split_at(self.name.len() + 2);
-                let key = self.key << 16 | 0x2f76;
+                let key = with_byte(with_byte(self.key, b'/'), b'v');
                 Front { name, key, behind }
             }
             _ => *self,

@@ -6,7 +6,7 @@
 //! `line.rt` cuts a line into a label, a name and the words behind it, by `front.rt`; `rows.rt` finds what the
 //! name stands for; `words.rt` and `groups.rt` read the words, and `forms.rt` and `data.rt` have what a name
 //! says with them. `specs/Words.antt` and `Listed.antt` define the words, `specs/Parts.antt` what a line says by
-//! its parts.
+//! its parts, `specs/Keys.antt` names as numbers.
 #![tactic(auto)]
 
 mod data;

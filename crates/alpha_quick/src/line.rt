@@ -9,6 +9,7 @@ ghost use Rattle.alpha_text.specs.Behind.{IsApart};
 ghost use Rattle.alpha_text.specs.References.{goes_on_label};
 ghost use Rattle.alpha_text.specs.Statements.{said};
 ghost use Rattle.alpha_text.specs.Reading.{item_said, line_of, read};
+ghost use Rattle.alpha_quick.specs.Keys.{IsKeyed};
 ghost use Rattle.alpha_quick.specs.Parts.{SaysNamed, IsParted};
 
 use crate::data::of_directive;
@@ -58,6 +59,7 @@ fn of_own_name<'a>(front: &Front<'a>, words: &'a [u8]) -> Option<Statement<'a>>
 // The statement of a name with what stands behind it.
 #[inline(always)]
 fn of_name<'a>(front: &Front<'a>) -> Option<Statement<'a>>
+    requires { IsKeyed front.now.name.now front.now.key }
     ensures { IfSome result (λ s. SaysNamed front.now.name.now front.now.behind.now (said s)) }
 {
     let words = apart(front.behind)?;
@@ -77,7 +79,8 @@ struct Parted<'a> {
 // The front of a line without a label, with `/v` if that ends it.
 #[inline(always)]
 fn whole_front(line: &[u8]) -> Front<'_>
-    ensures { line.now ≡ result.name.now ++ result.behind.now }
+    ensures line { line.now ≡ result.name.now ++ result.behind.now }
+    ensures key { IsKeyed result.name.now result.key }
 {
     let front = Front::of(line);
     front.with_trap(line)
@@ -87,7 +90,8 @@ fn whole_front(line: &[u8]) -> Front<'_>
 #[inline(always)]
 fn part_behind<'a>(label: &'a [u8], rest: &'a [u8]) -> Option<Parted<'a>>
     requires { list_all goes_on_label label.now ≡ true }
-    ensures { IfSome result (λ p. IsParted (label.now ++ 58 ∷ rest.now) (option_map (λ l. l.now) p.label) p.front.name.now p.front.behind.now) }
+    ensures key { IfSome result (λ p. IsKeyed p.front.name.now p.front.key) }
+    ensures parts { IfSome result (λ p. IsParted (label.now ++ 58 ∷ rest.now) (option_map (λ l. l.now) p.label) p.front.name.now p.front.behind.now) }
 {
     if !begins_label(label) {
         return None;
@@ -102,7 +106,8 @@ fn part_behind<'a>(label: &'a [u8], rest: &'a [u8]) -> Option<Parted<'a>>
 // A line that begins with no blank in two.
 #[inline(always)]
 fn part(line: &[u8]) -> Option<Parted<'_>>
-    ensures { IfSome result (λ p. IsParted line.now (option_map (λ l. l.now) p.label) p.front.name.now p.front.behind.now) }
+    ensures key { IfSome result (λ p. IsKeyed p.front.name.now p.front.key) }
+    ensures parts { IfSome result (λ p. IsParted line.now (option_map (λ l. l.now) p.label) p.front.name.now p.front.behind.now) }
 {
     let front = Front::of(line);
     match behind_byte(b':', front.behind) {
@@ -117,6 +122,7 @@ fn part(line: &[u8]) -> Option<Parted<'_>>
 // The item of a line in two.
 #[inline(always)]
 fn of_parts<'a>(parted: &Parted<'a>) -> Option<Item<'a>>
+    requires { IsKeyed parted.now.front.name.now parted.now.front.key }
     ensures { IfSome result (λ i. (line : List ℕ) → IsParted line (option_map (λ l. l.now) parted.now.label) parted.now.front.name.now parted.now.front.behind.now → line_of (tokens line) ≡ Ok (item_said i)) }
 {
     let label = parted.label;

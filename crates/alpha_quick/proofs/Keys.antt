@@ -1,0 +1,116 @@
+-- A name of eight bytes at most is told by its number.
+use Rattle.std.proofs.Common.{◌≡◌, ◌<◌, ◌≤◌, ◌+◌, ◌*◌, ◌%◌, ◌^◌, ℕ, List, [], ◌∷◌, ◌++◌, length, true, eqb, nat_le, refl, sym, ◌∙◌, ap, arith}
+use Prim.Native.Nat.{zero, suc}
+use mathlib.Core.List.{reverse, reverse_aux}
+use Rattle.std.specs.Prelude.{get_or, take}
+use Rattle.std.specs.List.{fold, list_all}
+use Rattle.std.proofs.lemmas.Bool.Decides.{nat_tests}
+use Rattle.std.proofs.lemmas.List.{reverse-reverse}
+use Rattle.std.proofs.lemmas.List.Folds.{list_all-append}
+use Rattle.std.proofs.lemmas.List.Sums.{fold-append}
+use Rattle.alpha_table.specs.declared.names.Mnemonic.{Mnemonic}
+use Rattle.alpha_table.specs.Names.{name_of}
+use Rattle.alpha_token.specs.Bytes.{goes_on_name}
+use Rattle.alpha_token.proofs.Choices.{both}
+use Rattle.alpha_quick.specs.Keys.{with_byte, key_of, is_named, are_named, IsKeyed}
+
+-- how many numbers so many bytes give
+abbrev lim : ℕ → ℕ
+lim zero = 1
+lim (suc n) = lim n * 256
+
+abbrev plain : ℕ → ℕ → ℕ
+plain key byte = key * 256 + byte
+
+lim_bound : (n : ℕ) → n < 8 → lim n * 256 ≤ 2 ^ 64
+lim_bound zero h = omega arith
+lim_bound (suc zero) h = omega arith
+lim_bound (suc (suc zero)) h = omega arith
+lim_bound (suc (suc (suc zero))) h = omega arith
+lim_bound (suc (suc (suc (suc zero)))) h = omega arith
+lim_bound (suc (suc (suc (suc (suc zero))))) h = omega arith
+lim_bound (suc (suc (suc (suc (suc (suc zero)))))) h = omega arith
+lim_bound (suc (suc (suc (suc (suc (suc (suc zero))))))) h = omega arith
+lim_bound (suc (suc (suc (suc (suc (suc (suc (suc n)))))))) h = absurd (omega arith)
+
+byte_bounds : (b : ℕ) → goes_on_name b ≡ true → (0 < b) × (b < 256)
+byte_bounds b h = (grind (arith, nat_tests), grind (arith, nat_tests))
+
+-- nothing is dropped of eight bytes
+fold_plain : (name : List ℕ) (n key : ℕ) → key < lim n → n + length name ≤ 8 → list_all goes_on_name name ≡ true → fold with_byte key name ≡ fold plain key name
+fold_plain [] n key h room all = refl
+fold_plain (b ∷ bs) n key h room all =
+    let (here, more) = both (goes_on_name b) (list_all goes_on_name bs) all in
+    let (some, byte) = byte_bounds b here in
+    let top : lim n * 256 ≤ 2 ^ 64 = lim_bound n (omega arith) in
+    let same : (key * 256 % 2 ^ 64 + b) % 2 ^ 64 ≡ key * 256 + b = omega arith in
+    let below : key * 256 + b < lim n * 256 = omega arith in
+    ap (λ k. fold with_byte k bs) same ∙ fold_plain bs (suc n) (plain key b) below (omega arith) more
+
+-- the number of bytes, the last one first
+abbrev number : List ℕ → ℕ
+number [] = 0
+number (b ∷ bs) = b + number bs * 256
+
+fold_number : (name bs : List ℕ) → fold plain (number bs) name ≡ number (reverse_aux name bs)
+fold_number [] bs = refl
+fold_number (b ∷ name) bs =
+    let same : number bs * 256 + b ≡ b + number bs * 256 = omega arith in
+    ap (λ k. fold plain k name) same ∙ fold_number name (b ∷ bs)
+
+all_reversed : (name bs : List ℕ) → list_all goes_on_name name ≡ true → list_all goes_on_name bs ≡ true → list_all goes_on_name (reverse_aux name bs) ≡ true
+all_reversed [] bs h all = all
+all_reversed (b ∷ name) bs h all =
+    let (here, more) = both (goes_on_name b) (list_all goes_on_name name) h in
+    all_reversed name (b ∷ bs) more (rw (here, all) refl)
+
+one_number : (a b : List ℕ) → list_all goes_on_name a ≡ true → list_all goes_on_name b ≡ true → number a ≡ number b → a ≡ b
+one_number [] [] f g e = refl
+one_number [] (y ∷ ys) f g e =
+    let some : (0 < y) × (y < 256) = byte_bounds y (both (goes_on_name y) (list_all goes_on_name ys) g).0 in
+    let sum : 0 ≡ y + number ys * 256 = e in
+    absurd (omega (arith, some.0))
+one_number (x ∷ xs) [] f g e =
+    let some : (0 < x) × (x < 256) = byte_bounds x (both (goes_on_name x) (list_all goes_on_name xs) f).0 in
+    let sum : x + number xs * 256 ≡ 0 = e in
+    absurd (omega (arith, some.0))
+one_number (x ∷ xs) (y ∷ ys) f g e =
+    let (p, ps) = both (goes_on_name x) (list_all goes_on_name xs) f in
+    let (q, qs) = both (goes_on_name y) (list_all goes_on_name ys) g in
+    let (some, left) = byte_bounds x p in
+    let (any, right) = byte_bounds y q in
+    let sums : x + number xs * 256 ≡ y + number ys * 256 = e in
+    let first : x ≡ y = omega arith in
+    let others : number xs ≡ number ys = omega arith in
+    ap (λ z. z ∷ xs) first ∙ ap (λ zs. y ∷ zs) (one_number xs ys ps qs others)
+
+key_number : (name : List ℕ) → length name ≤ 8 → list_all goes_on_name name ≡ true → key_of name ≡ number (reverse name)
+key_number name short all = fold_plain name 0 0 (omega arith) (omega arith) all ∙ fold_number name []
+
+-- names of one number are one
+pub one_name : (row name : List ℕ) (key : ℕ) → is_named row key ≡ true → IsKeyed name key → length name ≤ 8 → row ≡ name
+one_name row name key has (all, is) short =
+    let (same, others) = both (eqb (key_of row) key) _ has in
+    let (few, each) = both (nat_le (length row) 8) (list_all goes_on_name row) others in
+    let e : key_of row ≡ key = grind (arith, nat_tests) in
+    let n : length row ≤ 8 = grind (arith, nat_tests) in
+    let r : reverse row ≡ reverse name =
+    one_number (reverse row) (reverse name) (all_reversed row [] each refl) (all_reversed name [] all refl)
+    (sym (key_number row n each) ∙ e ∙ is ∙ key_number name short all) in
+    sym (reverse-reverse row) ∙ ap reverse r ∙ reverse-reverse name
+
+-- the row at a place has its number
+pub named_at : (rows : List (ℕ × Mnemonic)) (place : ℕ) (d : ℕ × Mnemonic) → are_named rows ≡ true → place < length rows → is_named (name_of (get_or rows place d).1) (get_or rows place d).0 ≡ true
+named_at [] place d all within = absurd (omega arith)
+named_at (r ∷ rs) zero d all within = (both (is_named (name_of r.1) r.0) (are_named rs) all).0
+named_at (r ∷ rs) (suc place) d all within = named_at rs place d (both (is_named (name_of r.1) r.0) (are_named rs) all).1 (omega arith)
+
+take_two : (name r : List ℕ) → take (length name + 2) (name ++ (47 ∷ (118 ∷ r))) ≡ name ++ (47 ∷ (118 ∷ []))
+take_two [] r = refl
+take_two (b ∷ name) r = let e : length (b ∷ name) + 2 ≡ suc (length name + 2) = omega arith in rw e (ap (λ l. b ∷ l) (take_two name r))
+
+-- a name with `/v` behind it
+pub trap_keyed : (line name r longer : List ℕ) (key : ℕ) → line ≡ name ++ (47 ∷ (118 ∷ r)) → longer ≡ take (length name + 2) line → IsKeyed name key → IsKeyed longer (with_byte (with_byte key 47) 118)
+trap_keyed line name r longer key e front (all, is) =
+    let same : longer ≡ name ++ (47 ∷ (118 ∷ [])) = front ∙ ap (λ l. take (length name + 2) l) e ∙ take_two name r in
+    rw same (list_all-append goes_on_name name (47 ∷ (118 ∷ [])) ∙ rw all refl, ap (λ k. with_byte (with_byte k 47) 118) is ∙ sym (fold-append with_byte 0 name (47 ∷ (118 ∷ []))))

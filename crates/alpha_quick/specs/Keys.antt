@@ -1,0 +1,27 @@
+-- Names as numbers.
+use Rattle.std.specs.Prelude.{◌≡◌, ◌+◌, ◌*◌, ◌%◌, ◌^◌, ℕ, List, [], ◌∷◌, length, Bool, true, nat_le, ◌==◌, ◌&&◌}
+use Rattle.std.specs.List.{fold, list_all}
+use Rattle.alpha_token.specs.Bytes.{goes_on_name}
+use Rattle.alpha_table.specs.declared.names.Mnemonic.{Mnemonic}
+use Rattle.alpha_table.specs.Names.{name_of}
+
+-- a number with a further byte, of which the last eight are kept
+abbrev pub with_byte : ℕ → ℕ → ℕ
+with_byte key byte = (key * 256 % 2 ^ 64 + byte) % 2 ^ 64
+
+-- the last eight bytes of a name as one number
+abbrev pub key_of : List ℕ → ℕ
+key_of name = fold with_byte 0 name
+
+-- a name and its number
+abbrev pub IsKeyed : List ℕ → ℕ → Type 0
+IsKeyed name key = (list_all goes_on_name name ≡ true) × (key ≡ key_of name)
+
+-- a name has eight bytes at most, and is this number
+abbrev pub is_named : List ℕ → ℕ → Bool
+is_named name key = key_of name == key && (nat_le (length name) 8 && list_all goes_on_name name)
+
+-- rows, each with its name as a number
+abbrev pub are_named : List (ℕ × Mnemonic) → Bool
+are_named [] = true
+are_named (r ∷ rs) = is_named (name_of r.1) r.0 && are_named rs
