@@ -158,13 +158,13 @@ pub(crate) fn close(s: &[u8]) -> Option<&[u8]>
     }
 }
 
-// Whether the line ends behind blanks.
+// Whether the line ends behind blanks, or its comment begins there.
 #[inline(never)]
 fn ends_behind(s: &[u8]) -> bool
     ensures { IsTrue result → HasEnd s.now }
 {
-    match next(s) {
-        Step::End(_) => true,
+    match without_blanks(s) {
+        [] | [b'#', ..] => true,
         _ => false,
     }
 }
