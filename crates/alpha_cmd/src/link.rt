@@ -1,6 +1,7 @@
 //! `link [--entry NAME] OUT FILE...`: the image that the modules of files link to, kept as a file.
 
 ghost use Rattle.std.specs.Prelude.{◌≡◌, ◌≢◌, ◌⊎◌, ◌<◌, ◌≤◌, Err, IfOk, IfErr, length, map};
+ghost use Rattle.alpha_image.specs.Parts as images;
 ghost use Rattle.alpha_io.specs.Faults.{Rose};
 ghost use Rattle.alpha_io.specs.Shelved.{shelved, OnlyReads};
 ghost use Rattle.alpha_seq.specs.Devices.{Drawn};
@@ -18,7 +19,7 @@ use crate::Status;
 use crate::decision::Decision;
 use crate::image::read_file;
 use crate::keep::keep_as;
-use alpha_image::image_bytes;
+use alpha_image::{Image, image_bytes};
 use alpha_io::Shelf;
 use alpha_link::{LinkFault, Module, ModuleFault, read_module};
 use std::alloc::Global;
@@ -105,8 +106,8 @@ fn read_files<H: Shelf>(
     Ok(all)
 }
 
-// The spelling of the image that the modules of files link to, by the bytes of the files. These are let
-// go as soon as the modules are read.
+// The spelling of the image that the modules of files link to, by the bytes of the files. These and the
+// modules are let go before the image is spelled.
 fn linked(alloc: Global, entry: &str, files: Vec<Vec<u8>>) -> Result<Vec<u8>, Status>
     requires { length files.items ≤ 64 }
     ensures ok { IfOk result (λ bytes. Then (ModulesOf (map (λ file. file.items) files.items))
@@ -115,19 +116,34 @@ fn linked(alloc: Global, entry: &str, files: Vec<Vec<u8>>) -> Result<Vec<u8>, St
         (Links entry.now) (stops status (status_line status))
         ⊎ (status ≡ Status.NoMemory)) }
 {
-    match modules_of(alloc, files) {
-        Ok(modules) => spelled_image(alloc, entry, modules.as_slice()),
+    match image_of(alloc, entry, files) {
+        Ok(image) => spelled(alloc, &image),
+        Err(status) => Err(status),
+    }
+}
+
+// The image that the modules of files link to.
+fn image_of(alloc: Global, entry: &str, files: Vec<Vec<u8>>) -> Result<Image, Status>
+    requires { length files.items ≤ 64 }
+    ensures ok { IfOk result (λ image. Then (ModulesOf (map (λ file. file.items) files.items))
+        (Links entry.now) (goes (images.spelling image))) }
+    ensures refused { IfErr result (λ status. Then (ModulesOf (map (λ file. file.items) files.items))
+        (Links entry.now) (stops status (status_line status))
+        ⊎ (status ≡ Status.NoMemory)) }
+{
+    match modules_of(alloc, files.as_slice()) {
+        Ok(modules) => joined(alloc, entry, modules.as_slice()),
         Err(status) => Err(status),
     }
 }
 
 // The modules that the bytes of files spell.
-fn modules_of(alloc: Global, files: Vec<Vec<u8>>) -> Result<Vec<Module>, Status>
-    requires { length files.items ≤ 64 }
-    ensures ok { IfOk result (λ all. ModulesOf (map (λ file. file.items) files.items) (goes all.items)) }
-    ensures count { IfOk result (λ all. length all.items ≡ length files.items) }
+fn modules_of<'a>(alloc: Global, files: &'a [Vec<u8>]) -> Result<Vec<Module<'a>>, Status>
+    requires { length files.now ≤ 64 }
+    ensures ok { IfOk result (λ all. ModulesOf (map (λ file. file.items) files.now) (goes all.items)) }
+    ensures count { IfOk result (λ all. length all.items ≡ length files.now) }
     ensures refused { IfErr result (λ status.
-        ModulesOf (map (λ file. file.items) files.items) (stops status (status_line status))
+        ModulesOf (map (λ file. file.items) files.now) (stops status (status_line status))
         ⊎ (status ≡ Status.NoMemory)) }
 {
     let mut all = Vec::new(alloc);
@@ -145,7 +161,7 @@ fn modules_of(alloc: Global, files: Vec<Vec<u8>>) -> Result<Vec<Module>, Status>
 }
 
 // The module that the bytes of a file spell, by the number of the file.
-fn module_of(alloc: Global, number: u32, bytes: &[u8]) -> Result<Module, Status>
+fn module_of<'a>(alloc: Global, number: u32, bytes: &'a [u8]) -> Result<Module<'a>, Status>
     ensures ok { IfOk result (λ m. ModuleOf number bytes.now (goes m)) }
     ensures refused { IfErr result (λ status.
         ModuleOf number bytes.now (stops status (status_line status))
@@ -158,20 +174,28 @@ fn module_of(alloc: Global, number: u32, bytes: &[u8]) -> Result<Module, Status>
     }
 }
 
-// The spelling of the image that modules link to.
-fn spelled_image(alloc: Global, entry: &str, modules: &[Module]) -> Result<Vec<u8>, Status>
+// The image that modules link to.
+fn joined(alloc: Global, entry: &str, modules: &[Module<'_>]) -> Result<Image, Status>
     requires { length modules.now ≤ 64 }
-    ensures ok { IfOk result (λ bytes. Links entry.now modules.now (goes bytes.items)) }
+    ensures ok { IfOk result (λ image. Links entry.now modules.now (goes (images.spelling image))) }
     ensures refused { IfErr result (λ status.
         Links entry.now modules.now (stops status (status_line status))
         ⊎ (status ≡ Status.NoMemory)) }
 {
     match alpha_link::link(alloc, modules, entry.as_bytes()) {
-        Ok(image) => match image_bytes(alloc, &image) {
-            Ok(bytes) => Ok(bytes),
-            Err(_) => Err(Status::NoMemory),
-        },
+        Ok(image) => Ok(image),
         Err(LinkFault::NoMemory) => Err(Status::NoMemory),
         Err(fault) => Err(Status::BadLink(fault)),
+    }
+}
+
+// The spelling of an image.
+fn spelled(alloc: Global, image: &Image) -> Result<Vec<u8>, Status>
+    ensures ok { IfOk result (λ bytes. bytes.items ≡ images.spelling image.now) }
+    ensures refused { IfErr result (λ status. status ≡ Status.NoMemory) }
+{
+    match image_bytes(alloc, image) {
+        Ok(bytes) => Ok(bytes),
+        Err(_) => Err(Status::NoMemory),
     }
 }

@@ -79,7 +79,7 @@ fn module_of(alloc: Global, source: &[u8]) -> Result<Vec<u8>, Decision>
 }
 
 // The spelling of a module whose code is accepted.
-fn spelled(alloc: Global, module: &Module) -> Result<Vec<u8>, Decision>
+fn spelled(alloc: Global, module: &Module<'_>) -> Result<Vec<u8>, Decision>
     ensures ok { IfOk result (λ bytes. Spells «module».now (goes bytes.items)) }
     ensures refused { IfErr result (SaysBy (λ status line. Spells «module».now (stops status line)
         ⊎ ((status ≡ Status.NoMemory) × (line ≡ status_line Status.NoMemory)))) }

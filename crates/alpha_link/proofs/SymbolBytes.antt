@@ -139,7 +139,7 @@ pub symbol_format : (total : ℕ) (z : Sizes) → IsFormat (symbol_at total z) s
 symbol_format total z = record { takes = symbol_takes total z; again = symbol_again total z }
 
 -- the names of good symbols are short
-pub short_names : (z : Sizes) (before : List Named) (xs : List Symbol) → AreGood (IsSymbol z) before (map named xs) → All (λ (s : Symbol). length s.name.items ≤ 1024) xs
-short_names z before [] good = All-nil (λ (s : Symbol). length s.name.items ≤ 1024)
+pub short_names : (z : Sizes) (before : List Named) (xs : List Symbol) → AreGood (IsSymbol z) before (map named xs) → All (λ (s : Symbol). length s.name.now ≤ 1024) xs
+short_names z before [] good = All-nil (λ (s : Symbol). length s.name.now ≤ 1024)
 short_names z before (s ∷ xs) good =
-    All-cons (λ (s : Symbol). length s.name.items ≤ 1024) s xs (short_name z before (named s) good.0.fits) (short_names z (before ++ named s ∷ []) xs good.1)
+    All-cons (λ (s : Symbol). length s.name.now ≤ 1024) s xs (short_name z before (named s) good.0.fits) (short_names z (before ++ named s ∷ []) xs good.1)

@@ -23,7 +23,7 @@ pub record Named : Type 0 where
   pub name : List ℕ
 
 abbrev pub named : own.Symbol → Named
-named s = record { section = s.section; offset = s.offset; name = s.name.items }
+named s = record { section = s.section; offset = s.offset; name = s.name.now }
 
 abbrev pub section_of : ℕ → Option SymbolSection
 section_of zero = Some Code

@@ -8,7 +8,7 @@ use alpha_shadow::{Broken, ImageCode, judge};
 
 /// Whether a trap that is reported late leaves the module's own code restartable: `Ok` exactly where no
 /// place of its words is broken, else the least broken place. It takes no memory.
-pub fn verdict(module: &Module) -> Result<(), Broken>
+pub fn verdict(module: &Module<'_>) -> Result<(), Broken>
     ensures accepted { OnOk result (IsAccepted «module».now.words) }
     ensures broken { IfErr result (IsLeastBroken «module».now.words) }
 {

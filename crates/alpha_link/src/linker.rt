@@ -172,7 +172,11 @@ fn linked_at<'m>(
 /// The first refusal in the order of [`LinkFault`], with the least numbers. `NoMemory` may come in place
 /// of any answer.
 #[tactic(auto, unfolding(crate::specs::Linked::linked))]
-pub fn link<'m>(alloc: Global, modules: &'m [Module], entry: &'m [u8]) -> Result<Image, LinkFault>
+pub fn link<'m>(
+    alloc: Global,
+    modules: &'m [Module<'m>],
+    entry: &'m [u8],
+) -> Result<Image, LinkFault>
     requires { length modules.now ≤ 64 }
     ensures ok { IfOk result (λ image. linked modules.now entry.now ≡ Ok (program_of image)) }
     ensures refused { IfErr result (λ fault. fault ≢ faults.NoMemory → linked modules.now entry.now ≡ Err fault) }

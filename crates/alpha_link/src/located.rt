@@ -29,7 +29,7 @@ pub(crate) struct Located<'m> {
     /// How many data bytes of the image stand before its own.
     pub filled: u32,
     /// The module.
-    pub module: &'m Module,
+    pub module: &'m Module<'m>,
 }
 
 impl<'m> Model for Located<'m> {
@@ -48,7 +48,7 @@ impl<'m> Model for Located<'m> {
     ghost invariant = { λ l. (l.number < 64) × (l.words ≤ 64 * 262144) × (l.filled ≤ 64 * 16785407) };
 }
 
-impl Module {
+impl Module<'_> {
     /// How many code words it has.
     pub(crate) fn words(&self) -> u32
         ensures value { result ≡ length self.now.words }
@@ -69,7 +69,7 @@ impl Module {
 
 impl Located<'_> {
     /// The address of one of its symbols, which an undefined one has none of.
-    pub(crate) fn address(&self, symbol: &Symbol) -> Option<u64>
+    pub(crate) fn address(&self, symbol: &Symbol<'_>) -> Option<u64>
         ensures { result ≡ section_address self.now symbol.now.section symbol.now.offset }
     {
         let offset = u64::from(symbol.offset);
@@ -82,7 +82,10 @@ impl Located<'_> {
 }
 
 /// The modules in their order, the first one at both bases.
-pub(crate) fn places(alloc: Global, modules: &[Module]) -> Result<Vec<Located<'_>>, AllocError>
+pub(crate) fn places<'m>(
+    alloc: Global,
+    modules: &'m [Module<'m>],
+) -> Result<Vec<Located<'m>>, AllocError>
     requires { length modules.now ≤ 64 }
     ensures { IfOk result (λ all. all.items ≡ places modules.now) }
 {

@@ -48,7 +48,7 @@ fn bytes_fit(bytes: &[u8])
 
 // The module of what was read. An instruction of level 2 was refused with its line, so each is of the
 // first.
-fn module_of(alloc: Global, unlinked: Unlinked<'_>) -> Result<Module, NoMemory>
+fn module_of<'a>(alloc: Global, unlinked: Unlinked<'a>) -> Result<Module<'a>, NoMemory>
     requires words { length unlinked.code.items ≤ 262144 }
     requires filled { unlinked.filled ≤ 16777216 }
     requires data { length unlinked.bytes.items + unlinked.zeroed ≤ 16777216 }
@@ -78,7 +78,7 @@ fn module_of(alloc: Global, unlinked: Unlinked<'_>) -> Result<Module, NoMemory>
 }
 
 // The module of what was read, unless its sizes are too great.
-fn sized(alloc: Global, unlinked: Unlinked<'_>) -> Result<Module, AsmFault>
+fn sized<'a>(alloc: Global, unlinked: Unlinked<'a>) -> Result<Module<'a>, AsmFault>
     requires few { length unlinked.bytes.items ≤ unlinked.filled }
     requires lines { IsOfLines unlinked }
     ensures ok { IfOk result (λ m. (is : _) → Makes is unlinked.entry → sized (module_of is) ≡ Ok m) }
@@ -104,7 +104,7 @@ fn sized(alloc: Global, unlinked: Unlinked<'_>) -> Result<Module, AsmFault>
 /// `ImageField` 3, 4 or 5, where there are more than 262,144 code words, more than 16,777,216 data bytes,
 /// or more than that of data and zeroed bytes together. `NoMemory` may come in place of any answer.
 #[tactic(auto, unfolding(crate::specs::Made::made_module))]
-pub fn make_module(alloc: Global, source: &[u8]) -> Result<Module, AsmFault>
+pub fn make_module<'a>(alloc: Global, source: &'a [u8]) -> Result<Module<'a>, AsmFault>
     requires { length source.now < 2 ^ 32 }
     ensures ok { IfOk result (λ m. made_module source.now ≡ Ok m) }
     ensures refused { IfErr result (λ fault. fault ≢ faults.NoMemory → made_module source.now ≡ Err fault) }

@@ -27,16 +27,16 @@ fn section_and_offset(spot: Option<Spot>) -> (SymbolSection, u32)
 }
 
 // The symbol of a label that is defined there, or nowhere.
-fn symbol_at_spot(alloc: Global, name: &[u8], spot: Option<Spot>) -> Result<Symbol, NoMemory>
+fn symbol_at_spot<'a>(name: &'a [u8], spot: Option<Spot>) -> Symbol<'a>
     requires { IfSome spot IsNear }
-    ensures { IfOk result (λ symbol. named symbol ≡ symbol_at_spot name.now spot) }
+    ensures { named result ≡ symbol_at_spot name.entry.now spot }
 {
     let (section, offset) = section_and_offset(spot);
-    Ok(Symbol {
+    Symbol {
         section,
         offset,
-        name: Vec::from_slice(alloc, name)?,
-    })
+        name,
+    }
 }
 
 /// The symbols of sorted names, by the labels that are defined, which aren't needed any more.
@@ -44,7 +44,7 @@ pub(crate) fn symbols_of<'a>(
     alloc: Global,
     labels: Labels<'a>,
     sorted: &SortedNames<'a>,
-) -> Result<Vec<Symbol>, NoMemory>
+) -> Result<Vec<Symbol<'a>>, NoMemory>
     requires { (name : List ℕ) → IfSome (spot_named labels name) IsNear }
     ensures { IfOk result (λ symbols. map named symbols.items
         ≡ map (λ n. symbol_at_spot n.now (spot_named labels.entry n.now)) sorted.now.names.items) }
@@ -52,8 +52,7 @@ pub(crate) fn symbols_of<'a>(
     let mut symbols = Vec::with_capacity(alloc, sorted.names.len())?;
     for name in &sorted.names {
         let spot = sorted.spot(symbols.len(), name, &labels);
-        let symbol = symbol_at_spot(alloc, name, spot)?;
-        symbols.push(symbol)?;
+        symbols.push(symbol_at_spot(name, spot))?;
     }
     Ok(symbols)
 }

@@ -6,17 +6,18 @@ use alpha_table::Insn;
 use std::marker::Model;
 
 /// A module: code and data that were assembled apart, with the labels that they define and name. A
-/// clause sees its parts. The code is held as its instructions, each of which has one word.
+/// clause sees its parts. The code is held as its instructions, each of which has one word. The names of
+/// its labels stand in the bytes that it was read from, or in the source that it was made of.
 #[derive(Debug, Drop)]
-pub struct Module {
+pub struct Module<'a> {
     pub(crate) insns: Vec<Insn>,
     pub(crate) bytes: Vec<u8>,
     pub(crate) zeroed: u32,
-    pub(crate) symbols: Vec<Symbol>,
+    pub(crate) symbols: Vec<Symbol<'a>>,
     pub(crate) relocations: Vec<Relocation>,
 }
 
-impl Model for Module {
+impl<'a> Model for Module<'a> {
     ghost use Rattle.alpha_link.specs.Parts.{ModuleParts};
 
     ghost Value = { ModuleParts };

@@ -28,7 +28,7 @@ fn seeded(places: &[Located<'_>]) -> Seeded {
     for located in places {
         let module = located.module;
         for symbol in &module.symbols {
-            whole.write(&symbol.name);
+            whole.write(symbol.name);
         }
     }
     Seeded::behind(whole)
@@ -96,19 +96,19 @@ impl<'m> Names<'m> {
         let module = located.module;
         for symbol in &module.symbols {
             if let Some(address) = located.address(symbol) {
-                self.define(&symbol.name, address)?;
+                self.define(symbol.name, address)?;
             }
         }
         Ok(())
     }
 
     // The least of some symbols that is defined and whose name has an address.
-    fn least_repeated(&self, symbols: &'m [Symbol]) -> Option<usize>
-        ensures value { result ≡ position (λ s. is_defined s.section && is_some (found_in self.now s.name.items))
+    fn least_repeated(&self, symbols: &'m [Symbol<'m>]) -> Option<usize>
+        ensures value { result ≡ position (λ s. is_defined s.section && is_some (found_in self.now s.name.now))
             symbols.entry.now }
         ensures bound { IfSome result (λ number. number < length symbols.entry.now) }
     {
-        symbols.iter().position(|s| s.section.is_defined() && self.address(&s.name).is_some())
+        symbols.iter().position(|s| s.section.is_defined() && self.address(s.name).is_some())
     }
 
     // The least symbol that a module defines and whose name has an address.
@@ -125,11 +125,11 @@ impl<'m> Names<'m> {
     }
 
     // The least of some symbols whose name has no address.
-    fn least_missing(&self, symbols: &'m [Symbol]) -> Option<usize>
-        ensures value { result ≡ position (λ s. is_none (found_in self.now s.name.items)) symbols.entry.now }
+    fn least_missing(&self, symbols: &'m [Symbol<'m>]) -> Option<usize>
+        ensures value { result ≡ position (λ s. is_none (found_in self.now s.name.now)) symbols.entry.now }
         ensures bound { IfSome result (λ number. number < length symbols.entry.now) }
     {
-        symbols.iter().position(|s| self.address(&s.name).is_none())
+        symbols.iter().position(|s| self.address(s.name).is_none())
     }
 
     /// The least symbol of a module whose name has no address.
@@ -148,11 +148,11 @@ impl<'m> Names<'m> {
     fn addresses_of(
         &self,
         alloc: Global,
-        symbols: &'m [Symbol],
+        symbols: &'m [Symbol<'m>],
     ) -> Result<Vec<Option<u64>>, AllocError>
-        ensures { IfOk result (λ all. all.items ≡ map (λ s. found_in self.now s.name.items) symbols.entry.now) }
+        ensures { IfOk result (λ all. all.items ≡ map (λ s. found_in self.now s.name.now) symbols.entry.now) }
     {
-        symbols.iter().map(|s| self.address(&s.name)).collect(alloc)
+        symbols.iter().map(|s| self.address(s.name)).collect(alloc)
     }
 
     /// The addresses of a module's symbols.

@@ -68,7 +68,7 @@ fn fault_of_words(fault: ImageFault) -> ModuleFault
 ///
 /// The first fault of the bytes, in the order that [`ModuleFault`] has. `NoMemory` may come in place of
 /// any answer.
-pub fn read_module(alloc: Global, bytes: &[u8]) -> Result<Module, ModuleFault>
+pub fn read_module<'a>(alloc: Global, bytes: &'a [u8]) -> Result<Module<'a>, ModuleFault>
     ensures value { Gives (λ m. m) result (module_at bytes.now) }
     ensures good { IfOk result IsModule }
     ensures spelled { IfOk result (λ m. bytes.now ≡ spelling m) }

@@ -40,15 +40,15 @@ impl SymbolSection {
     }
 }
 
-/// A label of a module.
-#[derive(Debug, Drop)]
-pub struct Symbol {
+/// A label of a module. Its name stands in the bytes that the module was read from, or in its source.
+#[derive(Clone, Copy, Debug)]
+pub struct Symbol<'a> {
     /// Where it stands.
     pub section: SymbolSection,
     /// How many bytes of its section stand before it, 0 where it is undefined.
     pub offset: u32,
     /// Its name, a label of at most 1,024 bytes.
-    pub name: Vec<u8>,
+    pub name: &'a [u8],
 }
 
 /// What stands before a symbol's name in a module's bytes.

@@ -47,11 +47,11 @@ fn offset_fits(sizes: &Sizes, section: SymbolSection, offset: u32) -> bool
 }
 
 // Whether a name is above that of the last symbol before it.
-fn comes_behind(before: &[Symbol], name: &[u8]) -> bool
+fn comes_behind(before: &[Symbol<'_>], name: &[u8]) -> bool
     ensures { result ≡ comes_behind (map named before.now) name.now }
 {
     match before.last() {
-        Some(last) => last.name.as_slice().cmp(&name).is_lt(),
+        Some(last) => last.name.cmp(name).is_lt(),
         None => true,
     }
 }
@@ -60,7 +60,7 @@ fn comes_behind(before: &[Symbol], name: &[u8]) -> bool
 #[tactic(auto, unfolding(crate::specs::Symbols::symbol_fits))]
 pub(crate) fn symbol_fits(
     sizes: &Sizes,
-    before: &[Symbol],
+    before: &[Symbol<'_>],
     section: SymbolSection,
     offset: u32,
     name: &[u8],
@@ -78,12 +78,11 @@ pub(crate) fn symbol_fits(
 // The symbol that stands behind so many others, and the bytes behind it.
 #[tactic(auto, unfolding(crate::specs::Symbols::symbol_at))]
 fn symbol_at<'a>(
-    alloc: Global,
     total: u64,
     sizes: &Sizes,
-    before: &[Symbol],
+    before: &[Symbol<'_>],
     bytes: &'a [u8],
-) -> Result<(Symbol, &'a [u8]), ModuleFault>
+) -> Result<(Symbol<'a>, &'a [u8]), ModuleFault>
     requires words { sizes.now.words ≤ 262144 }
     requires number { length before.now < 2 ^ 32 }
     ensures { Gives (λ x. (named x.0, x.1.now)) result
@@ -101,7 +100,7 @@ fn symbol_at<'a>(
     let symbol = Symbol {
         section,
         offset: front.offset,
-        name: Vec::from_slice(alloc, name)?,
+        name,
     };
     Ok((symbol, rest))
 }
@@ -112,7 +111,7 @@ pub(crate) fn read_symbols<'a>(
     total: u64,
     sizes: &Sizes,
     bytes: &'a [u8],
-) -> Result<(Vec<Symbol>, &'a [u8]), ModuleFault>
+) -> Result<(Vec<Symbol<'a>>, &'a [u8]), ModuleFault>
     requires { sizes.now.words ≤ 262144 }
     ensures { Gives (λ x. (map named x.0.items, x.1.now)) result
         (items_at (symbol_at total sizes.now) sizes.now.symbols [] bytes.now) }
@@ -120,7 +119,7 @@ pub(crate) fn read_symbols<'a>(
     let mut symbols = Vec::new(alloc);
     let mut rest = bytes;
     for _number in 0..sizes.symbols {
-        let (symbol, behind) = symbol_at(alloc, total, sizes, &symbols, rest)?;
+        let (symbol, behind) = symbol_at(total, sizes, &symbols, rest)?;
         symbols.push(symbol)?;
         rest = behind;
     }
@@ -128,7 +127,7 @@ pub(crate) fn read_symbols<'a>(
 }
 
 /// How many bytes the symbols have, or the last number of a usize.
-pub(crate) fn size_of_symbols(symbols: &[Symbol]) -> usize {
+pub(crate) fn size_of_symbols(symbols: &[Symbol<'_>]) -> usize {
     let mut size = 0usize;
     for symbol in symbols {
         size = size
@@ -140,19 +139,19 @@ pub(crate) fn size_of_symbols(symbols: &[Symbol]) -> usize {
 
 // Appends the bytes of a symbol.
 #[tactic(auto, unfolding(crate::specs::Symbols::symbol_bytes))]
-fn push_symbol(out: &mut Vec<u8>, symbol: &Symbol) -> Result<(), AllocError>
-    requires { length symbol.now.name.items ≤ 1024 }
+fn push_symbol(out: &mut Vec<u8>, symbol: &Symbol<'_>) -> Result<(), AllocError>
+    requires { length symbol.now.name.now ≤ 1024 }
     ensures ok { OnOk result (out.new.items ≡ out.old.items ++ symbol_bytes (named symbol.now)) }
 {
     out.push(symbol.section.number())?;
     push_halfword(out, symbol.name.len() as u16)?;
     push_longword(out, symbol.offset)?;
-    out.extend_from_slice(&symbol.name)
+    out.extend_from_slice(symbol.name)
 }
 
 /// Appends the bytes of the symbols.
-pub(crate) fn push_symbols(out: &mut Vec<u8>, symbols: &[Symbol]) -> Result<(), AllocError>
-    requires { All (λ s. length s.name.items ≤ 1024) symbols.now }
+pub(crate) fn push_symbols(out: &mut Vec<u8>, symbols: &[Symbol<'_>]) -> Result<(), AllocError>
+    requires { All (λ s. length s.name.now ≤ 1024) symbols.now }
     ensures ok { OnOk result
         (out.new.items ≡ out.old.items ++ flat_map symbol_bytes (map named symbols.now)) }
 {

@@ -12,7 +12,7 @@ use alpha_image::push_words;
 use alpha_words::NoMemory;
 use std::alloc::Global;
 
-impl Module {
+impl Module<'_> {
     // How many items of each sort it has.
     fn sizes(&self) -> Sizes
         ensures value { result ≡ sizes_of self.now }
@@ -38,7 +38,7 @@ impl Module {
 }
 
 /// The one spelling of a module. Memory taken is that of these bytes.
-pub fn module_bytes(alloc: Global, module: &Module) -> Result<Vec<u8>, NoMemory>
+pub fn module_bytes(alloc: Global, module: &Module<'_>) -> Result<Vec<u8>, NoMemory>
     ensures value { IfOk result (λ bytes. bytes.items ≡ spelling «module».now) }
 {
     let mut out = Vec::with_capacity(alloc, module.size())?;

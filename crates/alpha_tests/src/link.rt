@@ -2,7 +2,9 @@
 
 use alpha_asm::AsmFault;
 use alpha_image::{Image, code_word};
-use alpha_link::{LinkFault, ModuleFault, link, make_module, module_bytes, read_module, verdict};
+use alpha_link::{
+    LinkFault, Module, ModuleFault, link, make_module, module_bytes, read_module, verdict,
+};
 use alpha_shadow::{Broken, Condition};
 use std::alloc::Global;
 use std::test::Fail;
@@ -139,19 +141,28 @@ const SUM: [u8; 50] = [
 ];
 
 // What the modules that bytes spell link to.
-fn linked<'m>(
+fn linked(
     alloc: Global,
     spellings: &[&[u8]],
-    entry: &'m [u8],
+    entry: &[u8],
 ) -> Result<Result<Image, LinkFault>, Fail> {
     let mut modules = Vec::new(alloc);
     for bytes in spellings {
         modules.push(read_module(alloc, bytes)?)?;
     }
+    image_of(alloc, &modules, entry)
+}
+
+// What modules link to.
+fn image_of(
+    alloc: Global,
+    modules: &[Module<'_>],
+    entry: &[u8],
+) -> Result<Result<Image, LinkFault>, Fail> {
     if modules.len() > 64 {
         return Err(Fail::from("too many modules"));
     }
-    Ok(link(alloc, &modules, entry))
+    Ok(link(alloc, modules, entry))
 }
 
 #[test]

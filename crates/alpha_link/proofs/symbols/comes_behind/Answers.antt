@@ -1,5 +1,4 @@
-use Rattle.std.proofs.Common.{◌≡◌, ◌-◌, ℕ, length, map, slice_get, List, Some, is_lt, nat_cmp, ap, sym, ◌∙◌}
-use Rattle.std.specs.Cmp.Lexicographic.{slice_cmp}
+use Rattle.std.proofs.Common.{◌≡◌, ◌-◌, ℕ, length, map, slice_get, Some, is_lt, ap, sym, ◌∙◌}
 use Rattle.std.specs.Option.{option_map}
 use Rattle.std.proofs.lemmas.List.{length-map}
 use Rattle.std.proofs.lemmas.Option.{slice_get-map}
@@ -11,4 +10,4 @@ returns-in-Some c =
     let before = c.args.before.now in
     let at : slice_get (map named before) (length (map named before) - 1) ≡ Some (named c.in-Some.last.now) =
     ap (λ (n : ℕ). slice_get (map named before) (n - 1)) (length-map before named) ∙ (slice_get-map named before (length before - 1) ∙ ap (option_map named) (sym c.in-Some.ensures.value)) in
-    rw at (c.is_lt.ensures ∙ ap is_lt (c.cmp.ensures ∙ ap (λ (name : List ℕ). slice_cmp nat_cmp name c.args.name.now) c.as_slice.ensures.value))
+    rw at (c.is_lt.ensures ∙ ap is_lt c.cmp.ensures)

@@ -19,7 +19,7 @@ pub push_symbols-requires : goal.push_symbols-requires
 push_symbols-requires c =
     let i = c.module.inside in
     let short = short_names (sizes_of (parts_in i)) [] i.symbols.items c.module.invariant.good.symbols in
-    subst (λ (xs : List Symbol). (k : ℕ) → (d : Symbol) → k < length xs → length (slice_index_or xs k d).name.items ≤ 1024) (sym c.deref-3.ensures.value) short
+    subst (λ (xs : List Symbol). (k : ℕ) → (d : Symbol) → k < length xs → length (slice_index_or xs k d).name.now ≤ 1024) (sym c.deref-3.ensures.value) short
 
 joined : (a b c d e f h w k s r : List ℕ) → a ≡ [] → b ≡ a ++ h → c ≡ b ++ w → d ≡ c ++ k → e ≡ d ++ s → f ≡ e ++ r → f ≡ h ++ (w ++ (k ++ (s ++ r)))
 joined a b c d e f h w k s r p q t u v x = rw (x, v, u, t, q, p) (simp append_assoc)
