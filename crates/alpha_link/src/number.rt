@@ -2,7 +2,7 @@
 
 ghost use Rattle.std.specs.Prelude.{◌≡◌, ◌+◌, ◌≤◌, ◌++◌, length, OnOk};
 ghost use Rattle.alpha_image.specs.Layout.{longword, longword_at};
-ghost use Rattle.alpha_link.specs.Bytes.{halfword, halfword_at};
+ghost use Rattle.alpha_link.specs.Bytes.{halfword_at};
 
 use byteorder::{ByteOrder, LittleEndian};
 use std::alloc::AllocError;
@@ -23,16 +23,6 @@ pub(crate) fn longword_at(bytes: &[u8], offset: usize) -> u32
     ensures value { result ≡ longword_at offset bytes.now }
 {
     LittleEndian::read_u32(&bytes[offset..])
-}
-
-/// Appends the two bytes of a number.
-#[tactic(auto, unfolding(crate::specs::Bytes::halfword))]
-pub(crate) fn push_halfword(out: &mut Vec<u8>, number: u16) -> Result<(), AllocError>
-    ensures ok { OnOk result (out.new.items ≡ out.old.items ++ halfword number) }
-{
-    let mut bytes = [0; 2];
-    LittleEndian::write_u16(&mut bytes, number);
-    out.extend_from_slice(&bytes)
 }
 
 /// Appends the four bytes of a number.

@@ -11,7 +11,7 @@ ghost use Rattle.alpha_link.specs.Spelled.{body};
 
 use crate::ModuleFault;
 use crate::header::Sizes;
-use crate::number::{longword_at, push_longword};
+use crate::number::longword_at;
 use crate::relocation::{Relocation, RelocationKind};
 use alpha_table::{Form, Insn, MemOp};
 use std::alloc::{AllocError, Global};
@@ -218,15 +218,29 @@ pub(crate) fn read_relocations<'a>(
     Ok((relocations, rest))
 }
 
-// Appends the bytes of a relocation.
-#[tactic(auto, unfolding(crate::specs::Relocations::relocation_bytes))]
-fn push_relocation(out: &mut Vec<u8>, relocation: &Relocation) -> Result<(), AllocError>
-    ensures ok { OnOk result (out.new.items ≡ out.old.items ++ relocation_bytes relocation.now) }
+// The bytes of a relocation.
+#[tactic(auto, unfolding(crate::specs::Relocations::relocation_bytes, alpha_image::specs::Layout::longword))]
+fn relocation_bytes(relocation: &Relocation) -> [u8; RELOCATION_BYTES]
+    ensures { result ≡ relocation_bytes relocation.now }
 {
-    out.push(relocation.kind.number())?;
-    push_longword(out, relocation.offset)?;
-    push_longword(out, relocation.symbol)?;
-    push_longword(out, relocation.addend.cast_unsigned())
+    let offset = relocation.offset.to_le_bytes();
+    let symbol = relocation.symbol.to_le_bytes();
+    let addend = relocation.addend.cast_unsigned().to_le_bytes();
+    [
+        relocation.kind.number(),
+        offset[0],
+        offset[1],
+        offset[2],
+        offset[3],
+        symbol[0],
+        symbol[1],
+        symbol[2],
+        symbol[3],
+        addend[0],
+        addend[1],
+        addend[2],
+        addend[3],
+    ]
 }
 
 /// Appends the bytes of the relocations.
@@ -238,7 +252,7 @@ pub(crate) fn push_relocations(
         (out.new.items ≡ out.old.items ++ flat_map relocation_bytes relocations.now) }
 {
     for relocation in relocations {
-        push_relocation(out, relocation)?;
+        out.extend_from_slice(&relocation_bytes(relocation))?;
     }
     Ok(())
 }
