@@ -30,55 +30,57 @@ fn rewrite(line: &[u8], to: &mut LineBuf) {
     }
 }
 
-/// Further spellings, each with the canonical line of its instruction.
+// Further spellings, each with the canonical line of its instruction.
+static SPELLINGS: [(&[u8], &[u8]); 35] = [
+    (b"nop", b"bis $31,$31,$31"),
+    (b"unop", b"ldq_u $31,0($30)"),
+    (b"mov $1,$2", b"bis $31,$1,$2"),
+    (b"mov 255,$2", b"bis $31,255,$2"),
+    (b"mov 256,$2", b"lda $2,256($31)"),
+    (b"mov -1,$2", b"lda $2,-1($31)"),
+    (b"mov -0,$1", b"bis $31,0,$1"),
+    (b"clr $3", b"bis $31,$31,$3"),
+    (b"not $1,$2", b"ornot $31,$1,$2"),
+    (b"negl $1,$2", b"subl $31,$1,$2"),
+    (b"negq $1,$2", b"subq $31,$1,$2"),
+    (b"negl/v $1,$2", b"subl/v $31,$1,$2"),
+    (b"negq/v $1,$2", b"subq/v $31,$1,$2"),
+    (b"sextl $1,$2", b"addl $31,$1,$2"),
+    (b"ret", b"ret $31,($26),1"),
+    (b"ret $31,($26)", b"ret $31,($26),0"),
+    (b"br .+8", b"br $31,.+8"),
+    (b"bsr .-4", b"bsr $26,.-4"),
+    (b"beq $t8,.-0", b"beq $22,.+0"),
+    (b"beq $1,.+0x8", b"beq $1,.+8"),
+    (b"beq $1,.+08", b"beq $1,.+8"),
+    (b"beq $1,.+4194304", b"beq $1,.+4194304"),
+    (b"beq $1,.-4194300", b"beq $1,.-4194300"),
+    (b"lda $1,5", b"lda $1,5($31)"),
+    (b"ldq $1,($30)", b"ldq $1,0($30)"),
+    (b"ldq $v0,-8($sp)", b"ldq $0,-8($30)"),
+    (b"jmp $31,($27)", b"jmp $31,($27),0"),
+    (b"fetch ($1)", b"fetch 0($1)"),
+    (b"call_pal 0x83", b"callsys"),
+    (b"x: \ttrapb # label", b"trapb"),
+    (b"addq/v $1 , 0xff , $3", b"addq/v $1,255,$3"),
+    (b"sextb 255,$2", b"sextb 255,$2"),
+    (b"implver $0", b"implver $0"),
+    (b"ctpop $1,$2", b"ctpop $1,$2"),
+    (b"lda $1,-32768($2)", b"lda $1,-32768($2)"),
+];
+
+/// Instructions are read in each of their spellings.
 #[test]
 fn spellings_of_instructions(rt: HostRuntime) {
-    let lines: [(&[u8], &[u8]); 35] = [
-        (b"nop", b"bis $31,$31,$31"),
-        (b"unop", b"ldq_u $31,0($30)"),
-        (b"mov $1,$2", b"bis $31,$1,$2"),
-        (b"mov 255,$2", b"bis $31,255,$2"),
-        (b"mov 256,$2", b"lda $2,256($31)"),
-        (b"mov -1,$2", b"lda $2,-1($31)"),
-        (b"mov -0,$1", b"bis $31,0,$1"),
-        (b"clr $3", b"bis $31,$31,$3"),
-        (b"not $1,$2", b"ornot $31,$1,$2"),
-        (b"negl $1,$2", b"subl $31,$1,$2"),
-        (b"negq $1,$2", b"subq $31,$1,$2"),
-        (b"negl/v $1,$2", b"subl/v $31,$1,$2"),
-        (b"negq/v $1,$2", b"subq/v $31,$1,$2"),
-        (b"sextl $1,$2", b"addl $31,$1,$2"),
-        (b"ret", b"ret $31,($26),1"),
-        (b"ret $31,($26)", b"ret $31,($26),0"),
-        (b"br .+8", b"br $31,.+8"),
-        (b"bsr .-4", b"bsr $26,.-4"),
-        (b"beq $t8,.-0", b"beq $22,.+0"),
-        (b"beq $1,.+0x8", b"beq $1,.+8"),
-        (b"beq $1,.+08", b"beq $1,.+8"),
-        (b"beq $1,.+4194304", b"beq $1,.+4194304"),
-        (b"beq $1,.-4194300", b"beq $1,.-4194300"),
-        (b"lda $1,5", b"lda $1,5($31)"),
-        (b"ldq $1,($30)", b"ldq $1,0($30)"),
-        (b"ldq $v0,-8($sp)", b"ldq $0,-8($30)"),
-        (b"jmp $31,($27)", b"jmp $31,($27),0"),
-        (b"fetch ($1)", b"fetch 0($1)"),
-        (b"call_pal 0x83", b"callsys"),
-        (b"x: \ttrapb # label", b"trapb"),
-        (b"addq/v $1 , 0xff , $3", b"addq/v $1,255,$3"),
-        (b"sextb 255,$2", b"sextb 255,$2"),
-        (b"implver $0", b"implver $0"),
-        (b"ctpop $1,$2", b"ctpop $1,$2"),
-        (b"lda $1,-32768($2)", b"lda $1,-32768($2)"),
-    ];
-    for (line, want) in lines {
+    for (line, want) in &SPELLINGS {
         let mut to = LineBuf::new();
         rewrite(line, &mut to);
-        assert!(rt; to.bytes() == want, "{line:?}");
+        assert!(rt; to.bytes() == *want, "{line:?}");
     }
 }
 
 // Lines, each with the kind and the column of its first fault.
-const FAULTS: [(&[u8], LineFaultKind, u32); 44] = [
+static FAULTS: [(&[u8], LineFaultKind, u32); 44] = [
     (b"addq $1,256,$2", OutOfRange, 9),
     (b"addq $1,$2  # x", BadOperands, 13),
     (b"addq $1 ? $99", BadToken, 9),
@@ -128,7 +130,7 @@ const FAULTS: [(&[u8], LineFaultKind, u32); 44] = [
 /// Lines with a fault, each with its kind and its column.
 #[test]
 fn first_faults(rt: HostRuntime) {
-    for (line, kind, column) in FAULTS {
+    for &(line, kind, column) in &FAULTS {
         assert!(rt; has_fault(line, Some((kind, column))), "{line:?}");
     }
 }
