@@ -23,75 +23,77 @@ fn session(alloc: Global, words: &[u32], script: &[u8]) -> Result<Outcome, Fail>
     })
 }
 
+// Scripts over `OVERFLOWS`, each with what the session writes.
+static SESSIONS: [(&[u8], &[u8]); 24] = [
+    (
+        b"step 3\ngo\nlog\ngo\n",
+        b"pc 000000000001000c\nexit 9223372036854775806\n\
+          overflows 2 last 0000000000010010\nexit 9223372036854775806\n",
+    ),
+    // a step is made before the breakpoints are looked at
+    (
+        b"break 0x10004\ngo\ngo\nstep\n",
+        b"ok\npc 0000000000010004\nexit 9223372036854775806\nexit 9223372036854775806\n",
+    ),
+    (
+        b"break 65540\nclear 0x10004\nclear 3\ngo",
+        b"ok\nok\nok\nexit 9223372036854775806\n",
+    ),
+    (
+        b"barrier\nbarrier\n",
+        b"pc 0000000000010018\nexit 9223372036854775806\n",
+    ),
+    (b"", b""),
+    (b" \t \n\n\r\n", b""),
+    (b"log", b"overflows 0 last 0000000000000000\n"),
+    (b"log\r", b"?\n"),
+    (b"log\r\n", b"overflows 0 last 0000000000000000\n"),
+    (b"log\r\r\n", b"?\n"),
+    (b" log \t\n", b"overflows 0 last 0000000000000000\n"),
+    (b"quit\nlog\n", b""),
+    (b"quit x\nlog\n", b"?\noverflows 0 last 0000000000000000\n"),
+    (
+        b"step 0\nstep 1000001\nstep 1000000\n",
+        b"?\n?\nexit 9223372036854775806\n",
+    ),
+    (
+        b"step 0x1\nstep 002\nstep 0x\n",
+        b"pc 0000000000010004\npc 000000000001000c\n?\n",
+    ),
+    (
+        b"Step\ngo 1\nregs 1\nbreak\nstep 1 1\nstep -1\n",
+        b"?\n?\n?\n?\n?\n?\n",
+    ),
+    (b"step 1#\nstep 0xg\nlog log\n", b"?\n?\n?\n"),
+    (
+        b"break 18446744073709551615\nbreak 18446744073709551616\nclear 0x1ffffffffffffffff\n",
+        b"ok\n?\n?\n",
+    ),
+    (
+        b"mem 0x10000 1\nmem 0x10000 17\n",
+        b"0000000000010000 ff\n\
+          0000000000010000 ffff3f20813620480234e047030c2240\n0000000000010010 04\n",
+    ),
+    (
+        b"mem 0xffff 2\nmem 0x10023 2\nmem 0x10023 1\nmem 0x10000000 33\nmem 0 1\nmem 0x3ffffff0 17\n",
+        b"bad range\nbad range\n0000000000010023 00\nbad range\nbad range\nbad range\n",
+    ),
+    (b"mem 0x3fffff00 0\nmem 0x3fffff00 257\n", b"?\n?\n"),
+    (
+        b"dis 0x10018 256\ndis 0x10000 1\n",
+        b"0000000000010018 xor $3,$4,$16\n000000000001001c lda $0,1($31)\n0000000000010020 callsys\n\
+          0000000000010000 lda $1,-1($31)\n",
+    ),
+    (
+        b"dis 0x10024 1\ndis 0x10001 1\ndis 0 1\ndis 0x10000 0\ndis 0x10000 257\n",
+        b"bad range\nbad range\nbad range\n?\n?\n",
+    ),
+    (b"shadow\n", b"accepted\n"),
+];
+
 #[test]
 fn answers_commands(rt: HostRuntime) -> Result<(), Fail> {
-    let rows: [(&[u8], &[u8]); 24] = [
-        (
-            b"step 3\ngo\nlog\ngo\n",
-            b"pc 000000000001000c\nexit 9223372036854775806\n\
-              overflows 2 last 0000000000010010\nexit 9223372036854775806\n",
-        ),
-        // a step is made before the breakpoints are looked at
-        (
-            b"break 0x10004\ngo\ngo\nstep\n",
-            b"ok\npc 0000000000010004\nexit 9223372036854775806\nexit 9223372036854775806\n",
-        ),
-        (
-            b"break 65540\nclear 0x10004\nclear 3\ngo",
-            b"ok\nok\nok\nexit 9223372036854775806\n",
-        ),
-        (
-            b"barrier\nbarrier\n",
-            b"pc 0000000000010018\nexit 9223372036854775806\n",
-        ),
-        (b"", b""),
-        (b" \t \n\n\r\n", b""),
-        (b"log", b"overflows 0 last 0000000000000000\n"),
-        (b"log\r", b"?\n"),
-        (b"log\r\n", b"overflows 0 last 0000000000000000\n"),
-        (b"log\r\r\n", b"?\n"),
-        (b" log \t\n", b"overflows 0 last 0000000000000000\n"),
-        (b"quit\nlog\n", b""),
-        (b"quit x\nlog\n", b"?\noverflows 0 last 0000000000000000\n"),
-        (
-            b"step 0\nstep 1000001\nstep 1000000\n",
-            b"?\n?\nexit 9223372036854775806\n",
-        ),
-        (
-            b"step 0x1\nstep 002\nstep 0x\n",
-            b"pc 0000000000010004\npc 000000000001000c\n?\n",
-        ),
-        (
-            b"Step\ngo 1\nregs 1\nbreak\nstep 1 1\nstep -1\n",
-            b"?\n?\n?\n?\n?\n?\n",
-        ),
-        (b"step 1#\nstep 0xg\nlog log\n", b"?\n?\n?\n"),
-        (
-            b"break 18446744073709551615\nbreak 18446744073709551616\nclear 0x1ffffffffffffffff\n",
-            b"ok\n?\n?\n",
-        ),
-        (
-            b"mem 0x10000 1\nmem 0x10000 17\n",
-            b"0000000000010000 ff\n\
-              0000000000010000 ffff3f20813620480234e047030c2240\n0000000000010010 04\n",
-        ),
-        (
-            b"mem 0xffff 2\nmem 0x10023 2\nmem 0x10023 1\nmem 0x10000000 33\nmem 0 1\nmem 0x3ffffff0 17\n",
-            b"bad range\nbad range\n0000000000010023 00\nbad range\nbad range\nbad range\n",
-        ),
-        (b"mem 0x3fffff00 0\nmem 0x3fffff00 257\n", b"?\n?\n"),
-        (
-            b"dis 0x10018 256\ndis 0x10000 1\n",
-            b"0000000000010018 xor $3,$4,$16\n000000000001001c lda $0,1($31)\n0000000000010020 callsys\n\
-              0000000000010000 lda $1,-1($31)\n",
-        ),
-        (
-            b"dis 0x10024 1\ndis 0x10001 1\ndis 0 1\ndis 0x10000 0\ndis 0x10000 257\n",
-            b"bad range\nbad range\nbad range\n?\n?\n",
-        ),
-        (b"shadow\n", b"accepted\n"),
-    ];
-    for (script, want) in rows {
+    for &(script, want) in &SESSIONS {
         let found = session(rt.alloc(), &OVERFLOWS, script)?;
         assert_eq!(rt; found.end, DebugEnd::Done);
         assert_eq!(rt; found.out.as_slice(), want);
@@ -99,43 +101,45 @@ fn answers_commands(rt: HostRuntime) -> Result<(), Fail> {
     Ok(())
 }
 
+// Words of programs, each with a script and what the session writes.
+static OTHERS: [(&[u32], &[u8], &[u8]); 5] = [
+    // a broken place
+    (
+        &[0x4022_0c01, 0x63ff_0000],
+        b"shadow\n",
+        b"broken trigger 0000000000010000 at 0000000000010000 condition C2\n",
+    ),
+    // a branch to itself
+    (&[0xc3ff_ffff], b"step 1000\n", b"pc 0000000000010000\n"),
+    // behind the code
+    (
+        &[0x47ff_041f],
+        b"step 2\nstep\n",
+        b"fetch 0000000000010004\nfetch 0000000000010004\n",
+    ),
+    // a store into the code
+    (
+        &[0xb43b_0000],
+        b"go\nmem 0x10000 4\n",
+        b"access 0000000000010000 address 0000000000010000\n0000000000010000 00003bb4\n",
+    ),
+    // lda $0,4($31); lda $16,1($31); bis $31,$27,$17; lda $18,4($31); callsys: the output comes before the place
+    (
+        &[
+            0x201f_0004,
+            0x221f_0001,
+            0x47fb_0411,
+            0x225f_0004,
+            0x0000_0083,
+        ],
+        b"barrier\n",
+        b"\x04\x00\x1f\x20pc 0000000000010014\n",
+    ),
+];
+
 #[test]
 fn answers_for_other_programs(rt: HostRuntime) -> Result<(), Fail> {
-    let rows: [(&[u32], &[u8], &[u8]); 5] = [
-        // a broken place
-        (
-            &[0x4022_0c01, 0x63ff_0000],
-            b"shadow\n",
-            b"broken trigger 0000000000010000 at 0000000000010000 condition C2\n",
-        ),
-        // a branch to itself
-        (&[0xc3ff_ffff], b"step 1000\n", b"pc 0000000000010000\n"),
-        // behind the code
-        (
-            &[0x47ff_041f],
-            b"step 2\nstep\n",
-            b"fetch 0000000000010004\nfetch 0000000000010004\n",
-        ),
-        // a store into the code
-        (
-            &[0xb43b_0000],
-            b"go\nmem 0x10000 4\n",
-            b"access 0000000000010000 address 0000000000010000\n0000000000010000 00003bb4\n",
-        ),
-        // lda $0,4($31); lda $16,1($31); bis $31,$27,$17; lda $18,4($31); callsys: the output comes before the place
-        (
-            &[
-                0x201f_0004,
-                0x221f_0001,
-                0x47fb_0411,
-                0x225f_0004,
-                0x0000_0083,
-            ],
-            b"barrier\n",
-            b"\x04\x00\x1f\x20pc 0000000000010014\n",
-        ),
-    ];
-    for (words, script, want) in rows {
+    for &(words, script, want) in &OTHERS {
         let found = session(rt.alloc(), words, script)?;
         assert_eq!(rt; found.end, DebugEnd::Done);
         assert_eq!(rt; found.out.as_slice(), want);

@@ -27,62 +27,64 @@ fn long(
     Ok(source)
 }
 
+// Sources, each with the fixed one.
+static BROKEN: [(&[u8], &[u8]); 11] = [
+    (
+        b"start: addq/v $1,$2,$3\nldq $4,0($3)\naddq/v $4,$2,$5\nnop\n.entry start\n",
+        b"start: addq/v $1,$2,$3\ntrapb\nldq $4,0($3)\naddq/v $4,$2,$5\nnop\ntrapb\n.entry start\n",
+    ),
+    // Labels before the cut word, on its line, and behind it.
+    (
+        b"s: addq/v $1,$2,$3\nbefore:\non: ldq $4,0($3)\nbehind: trapb\n.entry s",
+        b"s: addq/v $1,$2,$3\nbefore:\ntrapb\non: ldq $4,0($3)\nbehind: trapb\n.entry s",
+    ),
+    // Data between two parts of the code.
+    (
+        b".entry s\ns: addq/v $1,$2,$3\n.data\n.quad on\n.code\non: ldq $4,0($3)\ntrapb",
+        b".entry s\ns: addq/v $1,$2,$3\n.data\n.quad on\n.code\ntrapb\non: ldq $4,0($3)\ntrapb",
+    ),
+    // Data behind the last word.
+    (
+        b".entry s\ns: addq/v $1,$2,$3\n\n.data\n.byte 1",
+        b".entry s\ns: addq/v $1,$2,$3\ntrapb\n\n.data\n.byte 1",
+    ),
+    (
+        b".entry s\r\ns: addq/v $1,$2,$3\r\nldq $4,0($3)\r\ntrapb\r\n",
+        b".entry s\r\ns: addq/v $1,$2,$3\r\ntrapb\nldq $4,0($3)\r\ntrapb\r\n",
+    ),
+    (
+        b".entry s\ns: addq/v $1,$2,$3",
+        b".entry s\ns: addq/v $1,$2,$3\ntrapb\n",
+    ),
+    (
+        b".entry s\ns: addq/v $1,$2,$3 # the last\r",
+        b".entry s\ns: addq/v $1,$2,$3 # the last\r\ntrapb\n",
+    ),
+    // The same trigger is cut at its end and before it.
+    (
+        b".entry s\ns: addq/v $1,$2,$3\naddq/v $1,$2,$3",
+        b".entry s\ns: addq/v $1,$2,$3\ntrapb\naddq/v $1,$2,$3\ntrapb\n",
+    ),
+    // Halves of an address of the code in LDA and LDAH, of one of the data anywhere.
+    (
+        b".entry s\ns: ldah $4,%hi(s)($31)\nlda $4,%lo(s)($4)\nldq $5,%lo(d+8)($6)\naddq/v $1,$2,$3\n.data\nd: .quad s, d+8\n",
+        b".entry s\ns: ldah $4,%hi(s)($31)\nlda $4,%lo(s)($4)\nldq $5,%lo(d+8)($6)\naddq/v $1,$2,$3\ntrapb\n.data\nd: .quad s, d+8\n",
+    ),
+    // A branch to a label, over a barrier.
+    (
+        b".entry 0x10000\ns: beq $1,e\naddq/v $1,$2,$3\ne: br s",
+        b".entry 0x10000\ns: beq $1,e\naddq/v $1,$2,$3\ntrapb\ne: br s",
+    ),
+    // Accepted, though a line is fixed.
+    (
+        b"nop\nbr .-4\n.entry 0x10004",
+        b"nop\nbr .-4\n.entry 0x10004",
+    ),
+];
+
 #[test]
 fn barriers_stand_where_places_are_broken(rt: HostRuntime) {
-    let rows: [(&[u8], &[u8]); 11] = [
-        (
-            b"start: addq/v $1,$2,$3\nldq $4,0($3)\naddq/v $4,$2,$5\nnop\n.entry start\n",
-            b"start: addq/v $1,$2,$3\ntrapb\nldq $4,0($3)\naddq/v $4,$2,$5\nnop\ntrapb\n.entry start\n",
-        ),
-        // Labels before the cut word, on its line, and behind it.
-        (
-            b"s: addq/v $1,$2,$3\nbefore:\non: ldq $4,0($3)\nbehind: trapb\n.entry s",
-            b"s: addq/v $1,$2,$3\nbefore:\ntrapb\non: ldq $4,0($3)\nbehind: trapb\n.entry s",
-        ),
-        // Data between two parts of the code.
-        (
-            b".entry s\ns: addq/v $1,$2,$3\n.data\n.quad on\n.code\non: ldq $4,0($3)\ntrapb",
-            b".entry s\ns: addq/v $1,$2,$3\n.data\n.quad on\n.code\ntrapb\non: ldq $4,0($3)\ntrapb",
-        ),
-        // Data behind the last word.
-        (
-            b".entry s\ns: addq/v $1,$2,$3\n\n.data\n.byte 1",
-            b".entry s\ns: addq/v $1,$2,$3\ntrapb\n\n.data\n.byte 1",
-        ),
-        (
-            b".entry s\r\ns: addq/v $1,$2,$3\r\nldq $4,0($3)\r\ntrapb\r\n",
-            b".entry s\r\ns: addq/v $1,$2,$3\r\ntrapb\nldq $4,0($3)\r\ntrapb\r\n",
-        ),
-        (
-            b".entry s\ns: addq/v $1,$2,$3",
-            b".entry s\ns: addq/v $1,$2,$3\ntrapb\n",
-        ),
-        (
-            b".entry s\ns: addq/v $1,$2,$3 # the last\r",
-            b".entry s\ns: addq/v $1,$2,$3 # the last\r\ntrapb\n",
-        ),
-        // The same trigger is cut at its end and before it.
-        (
-            b".entry s\ns: addq/v $1,$2,$3\naddq/v $1,$2,$3",
-            b".entry s\ns: addq/v $1,$2,$3\ntrapb\naddq/v $1,$2,$3\ntrapb\n",
-        ),
-        // Halves of an address of the code in LDA and LDAH, of one of the data anywhere.
-        (
-            b".entry s\ns: ldah $4,%hi(s)($31)\nlda $4,%lo(s)($4)\nldq $5,%lo(d+8)($6)\naddq/v $1,$2,$3\n.data\nd: .quad s, d+8\n",
-            b".entry s\ns: ldah $4,%hi(s)($31)\nlda $4,%lo(s)($4)\nldq $5,%lo(d+8)($6)\naddq/v $1,$2,$3\ntrapb\n.data\nd: .quad s, d+8\n",
-        ),
-        // A branch to a label, over a barrier.
-        (
-            b".entry 0x10000\ns: beq $1,e\naddq/v $1,$2,$3\ne: br s",
-            b".entry 0x10000\ns: beq $1,e\naddq/v $1,$2,$3\ntrapb\ne: br s",
-        ),
-        // Accepted, though a line is fixed.
-        (
-            b"nop\nbr .-4\n.entry 0x10004",
-            b"nop\nbr .-4\n.entry 0x10004",
-        ),
-    ];
-    for (source, want) in rows {
+    for &(source, want) in &BROKEN {
         match text_of(rt.alloc(), source) {
             Ok(text) => assert!(rt; text.as_slice() == want, "of {source:?}"),
             Err(fault) => assert!(rt; false, "{source:?} has {fault:?}"),

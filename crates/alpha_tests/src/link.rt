@@ -19,7 +19,7 @@ const START: [u8; 75] = [
 ];
 
 // Each with one byte of `START` changed: its offset, the byte, and the fault, if there is one.
-const CHANGES: [(usize, u8, Option<ModuleFault>); 24] = [
+static CHANGES: [(usize, u8, Option<ModuleFault>); 24] = [
     (0, 0x40, Some(ModuleFault::Header)),
     (7, 0x32, Some(ModuleFault::Header)),
     (10, 0x04, Some(ModuleFault::Size(1))),
@@ -57,7 +57,7 @@ fn a_module_is_written_as_it_was_read(rt: HostRuntime) -> Result<(), Fail> {
 
 #[test]
 fn a_byte_that_is_changed_is_refused_or_read(rt: HostRuntime) {
-    for (offset, byte, fault) in CHANGES {
+    for &(offset, byte, fault) in &CHANGES {
         let mut bytes = START;
         if let Some(changed) = bytes.get_mut(offset) {
             *changed = byte;

@@ -44,7 +44,7 @@ fn a_journal_is_read_and_written(rt: HostRuntime) -> Result<(), Fail> {
 }
 
 // How many bytes of the journal are given, with another byte at one place, and the first fault.
-const FAULTS: [(usize, usize, u8, Option<JournalFault>); 34] = [
+static FAULTS: [(usize, usize, u8, Option<JournalFault>); 34] = [
     (37, 0, 0, Some(JournalFault::Short(37))),
     (73, 7, 0x32, Some(JournalFault::Magic)),
     (73, 8, 2, None),
@@ -83,7 +83,7 @@ const FAULTS: [(usize, usize, u8, Option<JournalFault>); 34] = [
 
 #[test]
 fn the_first_fault_is_told(rt: HostRuntime) {
-    for (given, at, byte, fault) in FAULTS {
+    for &(given, at, byte, fault) in &FAULTS {
         let mut bytes = JOURNAL;
         if at < 73 {
             bytes[at] = byte;
@@ -127,7 +127,7 @@ fn told_of(alloc: Global, bytes: &[u8]) -> Result<Told, Fail> {
 }
 
 // The bytes from the first number to the second: what is told where one of them is one more.
-const CHANGED: [(usize, usize, Told); 24] = [
+static CHANGED: [(usize, usize, Told); 24] = [
     (0, 8, Told::Bad(JournalFault::Magic)),
     (8, 18, Told::Other(ReplayFault::End)),
     (18, 26, Told::Bad(JournalFault::Field(3))),
@@ -156,7 +156,7 @@ const CHANGED: [(usize, usize, Told); 24] = [
 
 #[test]
 fn each_byte_of_a_run_is_looked_at(rt: HostRuntime) -> Result<(), Fail> {
-    for (first, end, wanted) in CHANGED {
+    for &(first, end, wanted) in &CHANGED {
         for at in first..end {
             let mut bytes = RUN;
             if at < 78 {

@@ -2,100 +2,85 @@ mod links;
 mod records;
 
 use crate::common::words_of;
+use Completion::{Saturate, Stop, Wrap};
 use alpha_request::{Choices, Refusal, Request, RunOptions, request_of};
 use alpha_words::Completion;
 use std::alloc::Global;
 use std::test::Fail;
 
-// What the words ask for: a command and its file, or nothing.
-fn asked(alloc: Global, words: &[&str]) -> Result<Option<(&'static str, String)>, Fail> {
+// Whether the words ask for this command of this file, or for nothing.
+fn asks(alloc: Global, words: &[&str], wanted: Option<(&str, &str)>) -> Result<bool, Fail> {
     let given = words_of(alloc, words)?;
-    match request_of(alloc, &given) {
-        Ok(Request::Check { file }) => Ok(Some(("check", String::from_str(alloc, file)?))),
-        Ok(Request::Dis { file }) => Ok(Some(("dis", String::from_str(alloc, file)?))),
-        Ok(Request::Debug { file }) => Ok(Some(("debug", String::from_str(alloc, file)?))),
-        Ok(Request::Asm { file, .. }) => Ok(Some(("asm", String::from_str(alloc, file)?))),
-        Ok(Request::Fix { file, .. }) => Ok(Some(("fix", String::from_str(alloc, file)?))),
-        Ok(Request::Module { file, .. }) => Ok(Some(("module", String::from_str(alloc, file)?))),
-        Ok(Request::Link { out, .. }) => Ok(Some(("link", String::from_str(alloc, out)?))),
-        Ok(Request::Replay { file, .. }) => Ok(Some(("replay", String::from_str(alloc, file)?))),
-        Ok(Request::Record { file, .. }) => Ok(Some(("record", String::from_str(alloc, file)?))),
-        Ok(Request::Run { file, .. } | Request::RunImprecise { file, .. }) => Ok(Some((
-            "run",
-            String::from_str(alloc, file)?,
-        ))),
-        Ok(Request::Trial { .. }) => Ok(Some(("trial", String::new(alloc)))),
-        Err(Refusal::BadWords) => Ok(None),
-        Err(Refusal::NoMemory) => Err(Fail::from("no memory")),
-    }
+    let found = match request_of(alloc, &given) {
+        Ok(Request::Check { file }) => Some(("check", file)),
+        Ok(Request::Dis { file }) => Some(("dis", file)),
+        Ok(Request::Debug { file }) => Some(("debug", file)),
+        Ok(Request::Asm { file, .. }) => Some(("asm", file)),
+        Ok(Request::Fix { file, .. }) => Some(("fix", file)),
+        Ok(Request::Module { file, .. }) => Some(("module", file)),
+        Ok(Request::Link { out, .. }) => Some(("link", out)),
+        Ok(Request::Replay { file, .. }) => Some(("replay", file)),
+        Ok(Request::Record { file, .. }) => Some(("record", file)),
+        Ok(Request::Run { file, .. } | Request::RunImprecise { file, .. }) => Some(("run", file)),
+        Ok(Request::Trial { .. }) => Some(("trial", "")),
+        Err(Refusal::BadWords) => None,
+        Err(Refusal::NoMemory) => return Err(Fail::from("no memory")),
+    };
+    Ok(found == wanted)
 }
+
+// Words, each with the check and its file, if they ask for one.
+static CHECKS: [(&[&str], Option<(&str, &str)>); 21] = [
+    (&["check", "a"], Some(("check", "a"))),
+    (&["check", "a b"], Some(("check", "a b"))),
+    (&["check", "--", "a"], Some(("check", "a"))),
+    (&["check", "a", "--"], Some(("check", "a"))),
+    // after `--` a word is no option
+    (&["check", "--", "-a"], Some(("check", "-a"))),
+    (&["check", "--", "--"], Some(("check", "--"))),
+    // a lone `-` and an empty word are values
+    (&["check", "-"], Some(("check", "-"))),
+    (&["check", ""], Some(("check", ""))),
+    // a command's name is a file too
+    (&["check", "check"], Some(("check", "check"))),
+    (&[], None),
+    (&["check"], None),
+    (&["check", "--"], None),
+    (&["check", "-a"], None),
+    (&["check", "--file=a"], None),
+    (&["check", "a", "b"], None),
+    (&["check", "--", "a", "b"], None),
+    // no help and no version
+    (&["check", "--help"], None),
+    (&["check", "-h", "a"], None),
+    (&["check", "--version"], None),
+    // the name, letter by letter
+    (&["Check", "a"], None),
+    (&["chec", "a"], None),
+];
 
 #[test]
 fn a_check_has_one_file_by_the_rules_of_clap(rt: HostRuntime) -> Result<(), Fail> {
-    let alloc = rt.alloc();
-    let rows: [(&[&str], Option<&str>); 21] = [
-        (&["check", "a"], Some("a")),
-        (&["check", "a b"], Some("a b")),
-        (&["check", "--", "a"], Some("a")),
-        (&["check", "a", "--"], Some("a")),
-        // after `--` a word is no option
-        (&["check", "--", "-a"], Some("-a")),
-        (&["check", "--", "--"], Some("--")),
-        // a lone `-` and an empty word are values
-        (&["check", "-"], Some("-")),
-        (&["check", ""], Some("")),
-        // a command's name is a file too
-        (&["check", "check"], Some("check")),
-        (&[], None),
-        (&["check"], None),
-        (&["check", "--"], None),
-        (&["check", "-a"], None),
-        (&["check", "--file=a"], None),
-        (&["check", "a", "b"], None),
-        (&["check", "--", "a", "b"], None),
-        // no help and no version
-        (&["check", "--help"], None),
-        (&["check", "-h", "a"], None),
-        (&["check", "--version"], None),
-        // the name, letter by letter
-        (&["Check", "a"], None),
-        (&["chec", "a"], None),
-    ];
-    for (words, file) in rows {
-        match (asked(alloc, words)?, file) {
-            (Some((command, found)), Some(file)) => {
-                assert!(rt; command == "check" && found.as_str() == file);
-            }
-            (None, None) => {}
-            _ => return Err(Fail::from("another answer")),
-        }
+    for &(words, wanted) in &CHECKS {
+        assert!(rt; asks(rt.alloc(), words, wanted)?, "{words:?}");
     }
     Ok(())
 }
 
 #[test]
 fn a_listing_and_a_debugger_have_one_file(rt: HostRuntime) -> Result<(), Fail> {
-    let alloc = rt.alloc();
-    let rows: [(&[&str], (&str, &str)); 2] = [
-        (&["dis", "--", "-a"], ("dis", "-a")),
-        (&["debug", "a"], ("debug", "a")),
+    let rows: [(&[&str], Option<(&str, &str)>); 8] = [
+        (&["dis", "--", "-a"], Some(("dis", "-a"))),
+        (&["debug", "a"], Some(("debug", "a"))),
+        (&["dis"], None),
+        (&["dis", "a", "b"], None),
+        (&["dis", "-a"], None),
+        (&["dism", "a"], None),
+        (&["debug"], None),
+        (&["debug", "a", "b"], None),
     ];
-    for (words, (command, file)) in rows {
-        match asked(alloc, words)? {
-            Some(found) => assert!(rt; found.0 == command && found.1.as_str() == file),
-            None => return Err(Fail::from("no command")),
-        }
-    }
-    let refused: [&[&str]; 6] = [
-        &["dis"],
-        &["dis", "a", "b"],
-        &["dis", "-a"],
-        &["dism", "a"],
-        &["debug"],
-        &["debug", "a", "b"],
-    ];
-    for words in refused {
-        assert!(rt; asked(alloc, words)?.is_none());
+    for (words, wanted) in rows {
+        assert!(rt; asks(rt.alloc(), words, wanted)?, "{words:?}");
     }
     Ok(())
 }
@@ -149,7 +134,7 @@ fn an_image_comes_before_its_journal(rt: HostRuntime) -> Result<(), Fail> {
         &["replays", "a", "b"],
     ];
     for words in refused {
-        assert!(rt; asked(alloc, words)?.is_none());
+        assert!(rt; asks(alloc, words, None)?);
     }
     Ok(())
 }
@@ -164,42 +149,43 @@ fn options(alloc: Global, words: &[&str]) -> Result<Option<RunOptions>, Fail> {
     }
 }
 
+// Words of a run of `a`, each with its completion, its steps and whether it is watched.
+static RUNS: [(&[&str], (Completion, u64, bool)); 11] = [
+    (&["run", "a"], (Wrap, 100_000_000, false)),
+    (&["run", "--watch", "a"], (Wrap, 100_000_000, true)),
+    (&["run", "a", "--watch"], (Wrap, 100_000_000, true)),
+    (&["run", "--steps", "0", "a"], (Wrap, 0, false)),
+    (&["run", "--steps=007", "a"], (Wrap, 7, false)),
+    (
+        &["run", "a", "--steps", "18446744073709551615"],
+        (Wrap, u64::MAX, false),
+    ),
+    (
+        &["run", "--steps=00000000000000000012", "a"],
+        (Wrap, 12, false),
+    ),
+    (
+        &["run", "--complete", "wrap", "a"],
+        (Wrap, 100_000_000, false),
+    ),
+    (
+        &["run", "--complete=saturate", "--", "a"],
+        (Saturate, 100_000_000, false),
+    ),
+    (
+        &["run", "--watch", "--complete", "stop", "a", "--steps", "9"],
+        (Stop, 9, true),
+    ),
+    (
+        &["run", "--steps", "9", "--watch", "--complete=stop", "a"],
+        (Stop, 9, true),
+    ),
+];
+
 #[test]
 fn a_run_has_its_options_in_any_order(rt: HostRuntime) -> Result<(), Fail> {
     let alloc = rt.alloc();
-    let wrap = Completion::Wrap;
-    let rows: [(&[&str], (Completion, u64, bool)); 11] = [
-        (&["run", "a"], (wrap, 100_000_000, false)),
-        (&["run", "--watch", "a"], (wrap, 100_000_000, true)),
-        (&["run", "a", "--watch"], (wrap, 100_000_000, true)),
-        (&["run", "--steps", "0", "a"], (wrap, 0, false)),
-        (&["run", "--steps=007", "a"], (wrap, 7, false)),
-        (
-            &["run", "a", "--steps", "18446744073709551615"],
-            (wrap, u64::MAX, false),
-        ),
-        (
-            &["run", "--steps=00000000000000000012", "a"],
-            (wrap, 12, false),
-        ),
-        (
-            &["run", "--complete", "wrap", "a"],
-            (wrap, 100_000_000, false),
-        ),
-        (
-            &["run", "--complete=saturate", "--", "a"],
-            (Completion::Saturate, 100_000_000, false),
-        ),
-        (
-            &["run", "--watch", "--complete", "stop", "a", "--steps", "9"],
-            (Completion::Stop, 9, true),
-        ),
-        (
-            &["run", "--steps", "9", "--watch", "--complete=stop", "a"],
-            (Completion::Stop, 9, true),
-        ),
-    ];
-    for (words, (complete, steps, watch)) in rows {
+    for &(words, (complete, steps, watch)) in &RUNS {
         match options(alloc, words)? {
             Some(found) => assert!(rt;
                 found.complete == complete && found.steps == steps && found.watch == watch
@@ -210,40 +196,42 @@ fn a_run_has_its_options_in_any_order(rt: HostRuntime) -> Result<(), Fail> {
     Ok(())
 }
 
+// Words that ask for no run of `a`, or for none by the precise machine.
+static NO_RUNS: [&[&str]; 23] = [
+    &["run"],
+    &["run", "a", "b"],
+    // each option once, with its value
+    &["run", "--watch", "--watch", "a"],
+    &["run", "--steps", "1", "--steps", "1", "a"],
+    &["run", "--complete=wrap", "--complete=wrap", "a"],
+    &["run", "a", "--steps"],
+    &["run", "--steps", "--watch", "a"],
+    &["run", "--steps", "--", "a"],
+    &["run", "--watch=", "a"],
+    // a number has 1 to 20 digits, and is below 2^64
+    &["run", "--steps", "-3", "a"],
+    &["run", "--steps", "+3", "a"],
+    &["run", "--steps=", "a"],
+    &["run", "--steps", "0x3", "a"],
+    &["run", "--steps", "3 ", "a"],
+    &["run", "--steps", "18446744073709551616", "a"],
+    &["run", "--steps", "000000000000000000012", "a"],
+    // the text of a completion, letter by letter
+    &["run", "--complete", "Wrap", "a"],
+    &["run", "--complete", "", "a"],
+    // no option is shortened, and there are no others
+    &["run", "--step", "3", "a"],
+    &["run", "-w", "a"],
+    // the choices and the verdict are those of the imprecise machine
+    &["run", "--force", "a"],
+    &["run", "--seed", "5", "a"],
+    &["run", "--choices", "c", "a"],
+];
+
 #[test]
 fn words_of_a_run_are_refused_by_the_rules(rt: HostRuntime) -> Result<(), Fail> {
     let alloc = rt.alloc();
-    let refused: [&[&str]; 23] = [
-        &["run"],
-        &["run", "a", "b"],
-        // each option once, with its value
-        &["run", "--watch", "--watch", "a"],
-        &["run", "--steps", "1", "--steps", "1", "a"],
-        &["run", "--complete=wrap", "--complete=wrap", "a"],
-        &["run", "a", "--steps"],
-        &["run", "--steps", "--watch", "a"],
-        &["run", "--steps", "--", "a"],
-        &["run", "--watch=", "a"],
-        // a number has 1 to 20 digits, and is below 2^64
-        &["run", "--steps", "-3", "a"],
-        &["run", "--steps", "+3", "a"],
-        &["run", "--steps=", "a"],
-        &["run", "--steps", "0x3", "a"],
-        &["run", "--steps", "3 ", "a"],
-        &["run", "--steps", "18446744073709551616", "a"],
-        &["run", "--steps", "000000000000000000012", "a"],
-        // the text of a completion, letter by letter
-        &["run", "--complete", "Wrap", "a"],
-        &["run", "--complete", "", "a"],
-        // no option is shortened, and there are no others
-        &["run", "--step", "3", "a"],
-        &["run", "-w", "a"],
-        // the choices and the verdict are those of the imprecise machine
-        &["run", "--force", "a"],
-        &["run", "--seed", "5", "a"],
-        &["run", "--choices", "c", "a"],
-    ];
-    for words in refused {
+    for &words in &NO_RUNS {
         assert!(rt; options(alloc, words)?.is_none());
     }
     Ok(())
@@ -302,7 +290,7 @@ fn the_choices_have_a_seed_or_a_file(rt: HostRuntime) -> Result<(), Fail> {
         &["run", "--imprecise", "--imprecise", "a"],
     ];
     for words in refused {
-        assert!(rt; asked(alloc, words)?.is_none());
+        assert!(rt; asks(alloc, words, None)?);
     }
     Ok(())
 }

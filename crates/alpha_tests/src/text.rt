@@ -158,29 +158,31 @@ fn directive(line: &[u8]) -> Option<(&'static str, u64, &[u8])> {
     }
 }
 
+// Directives at their bounds, each with what it says.
+static DIRECTIVES: [(&[u8], (&str, u64, &[u8])); 14] = [
+    (b".level 2", ("level", 2, b"")),
+    (b".segment 0x10000000", ("segment", 0x1000_0000, b"")),
+    (
+        b".codebase 18446744073709551615",
+        ("code base", u64::MAX, b""),
+    ),
+    (b".database 0", ("data base", 0, b"")),
+    (b".stack 65536", ("stack", 65_536, b"")),
+    (b".entry 4096", ("entry", 4096, b"")),
+    (b".code", ("code", 0, b"")),
+    (b".data", ("data", 0, b"")),
+    (b".zero 16777216", ("zero", 16_777_216, b"")),
+    (b".align 13", ("align", 13, b"")),
+    (b".byte -128 , 0,255  # end", ("values", 1, b"-128 , 0,255")),
+    (b".quad a+8,-1", ("values", 8, b"a+8,-1")),
+    (b".ascii \"a\\n#\"", ("text", 0, b"a\\n#")),
+    (b".ascii \"\"", ("text", 0, b"")),
+];
+
 /// Each directive at its bounds.
 #[test]
 fn statements_of_directives(rt: HostRuntime) {
-    let rows: [(&[u8], (&str, u64, &[u8])); 14] = [
-        (b".level 2", ("level", 2, b"")),
-        (b".segment 0x10000000", ("segment", 0x1000_0000, b"")),
-        (
-            b".codebase 18446744073709551615",
-            ("code base", u64::MAX, b""),
-        ),
-        (b".database 0", ("data base", 0, b"")),
-        (b".stack 65536", ("stack", 65_536, b"")),
-        (b".entry 4096", ("entry", 4096, b"")),
-        (b".code", ("code", 0, b"")),
-        (b".data", ("data", 0, b"")),
-        (b".zero 16777216", ("zero", 16_777_216, b"")),
-        (b".align 13", ("align", 13, b"")),
-        (b".byte -128 , 0,255  # end", ("values", 1, b"-128 , 0,255")),
-        (b".quad a+8,-1", ("values", 8, b"a+8,-1")),
-        (b".ascii \"a\\n#\"", ("text", 0, b"a\\n#")),
-        (b".ascii \"\"", ("text", 0, b"")),
-    ];
-    for (line, want) in rows {
+    for &(line, want) in &DIRECTIVES {
         assert!(rt; directive(line) == Some(want), "{line:?}");
     }
 }

@@ -1,59 +1,78 @@
+use super::asks;
 use crate::common::words_of;
 use alpha_request::{Refusal, Request, request_of};
 use std::alloc::Global;
 use std::test::Fail;
 
-// The entry, the name of what is kept and the files, if the words ask for a link.
-fn linked(alloc: Global, words: &[&str]) -> Result<Option<String>, Fail> {
+fn are_same(left: &[&str], right: &[&str]) -> bool {
+    left.len() == right.len() && left.iter().zip(right).all(|(left, right)| left == right)
+}
+
+// Whether the words ask for a link with this entry, this name of what is kept and these files.
+fn links(
+    alloc: Global,
+    words: &[&str],
+    start: &str,
+    name: &str,
+    names: &[&str],
+) -> Result<bool, Fail> {
     let given = words_of(alloc, words)?;
     match request_of(alloc, &given) {
         Ok(Request::Link { entry, out, files }) => {
-            let mut text = String::from_str(alloc, entry)?;
-            text.push(' ')?;
-            text.push_str(out)?;
-            for file in files.as_slice() {
-                text.push(' ')?;
-                text.push_str(file)?;
-            }
-            Ok(Some(text))
+            Ok(entry == start && out == name && are_same(files.as_slice(), names))
         }
-        Ok(_) | Err(Refusal::BadWords) => Ok(None),
+        Ok(_) | Err(Refusal::BadWords) => Ok(false),
         Err(Refusal::NoMemory) => Err(Fail::from("no memory")),
     }
 }
 
+// Words, each with the entry, the name of what is kept and the files of the link that they ask for.
+static LINKS: [(&[&str], &str, &str, &[&str]); 9] = [
+    (&["link", "o", "a"], "start", "o", &["a"]),
+    (
+        &["link", "o", "a", "b", "c"],
+        "start",
+        "o",
+        &["a", "b", "c"],
+    ),
+    (&["link", "o", "a", "a"], "start", "o", &["a", "a"]),
+    (&["link", "o", "o"], "start", "o", &["o"]),
+    (&["link", "--entry", "m", "o", "a"], "m", "o", &["a"]),
+    (&["link", "--entry=", "o", "a"], "", "o", &["a"]),
+    // an option may stand between the files and behind them
+    (
+        &["link", "o", "a", "--entry", "m", "b"],
+        "m",
+        "o",
+        &["a", "b"],
+    ),
+    (&["link", "o", "a", "--entry=m"], "m", "o", &["a"]),
+    (
+        &["link", "o", "--", "a", "--entry"],
+        "start",
+        "o",
+        &["a", "--entry"],
+    ),
+];
+
+// Words that ask for nothing.
+static REFUSED: [&[&str]; 7] = [
+    &["link"],
+    &["link", "o"],
+    &["link", "--entry", "m", "o"],
+    &["link", "o", "a", "--entry"],
+    &["link", "--entry", "m", "--entry", "m", "o", "a"],
+    &["link", "-o", "o", "a"],
+    &["links", "o", "a"],
+];
+
 #[test]
 fn a_link_has_its_files_behind_the_name_of_what_is_kept(rt: HostRuntime) -> Result<(), Fail> {
-    let alloc = rt.alloc();
-    let rows: [(&[&str], &str); 9] = [
-        (&["link", "o", "a"], "start o a"),
-        (&["link", "o", "a", "b", "c"], "start o a b c"),
-        (&["link", "o", "a", "a"], "start o a a"),
-        (&["link", "o", "o"], "start o o"),
-        (&["link", "--entry", "m", "o", "a"], "m o a"),
-        (&["link", "--entry=", "o", "a"], " o a"),
-        // an option may stand between the files and behind them
-        (&["link", "o", "a", "--entry", "m", "b"], "m o a b"),
-        (&["link", "o", "a", "--entry=m"], "m o a"),
-        (&["link", "o", "--", "a", "--entry"], "start o a --entry"),
-    ];
-    for (words, wanted) in rows {
-        match linked(alloc, words)? {
-            Some(found) => assert!(rt; found.as_str() == wanted),
-            None => return Err(Fail::from("no link")),
-        }
+    for &(words, start, name, names) in &LINKS {
+        assert!(rt; links(rt.alloc(), words, start, name, names)?, "{words:?}");
     }
-    let refused: [&[&str]; 7] = [
-        &["link"],
-        &["link", "o"],
-        &["link", "--entry", "m", "o"],
-        &["link", "o", "a", "--entry"],
-        &["link", "--entry", "m", "--entry", "m", "o", "a"],
-        &["link", "-o", "o", "a"],
-        &["links", "o", "a"],
-    ];
-    for words in refused {
-        assert!(rt; linked(alloc, words)?.is_none());
+    for words in &REFUSED {
+        assert!(rt; asks(rt.alloc(), words, None)?, "{words:?}");
     }
     Ok(())
 }

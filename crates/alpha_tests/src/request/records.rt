@@ -1,4 +1,4 @@
-use super::asked;
+use super::asks;
 use crate::common::words_of;
 use alpha_request::{Choices, Request, request_of};
 use alpha_words::Completion;
@@ -60,7 +60,7 @@ fn a_journal_has_the_options_of_a_run_of_the_imprecise_machine(
         &["record", "--complete", "none", "a", "j"],
     ];
     for words in refused {
-        assert!(rt; asked(alloc, words)?.is_none());
+        assert!(rt; asks(alloc, words, None)?);
     }
     Ok(())
 }
