@@ -5,7 +5,7 @@ ghost use Rattle.alpha_link.specs.Header.{bad_size, header_at, header_bytes};
 ghost use Rattle.alpha_link.specs.Reading.{Gives};
 
 use crate::ModuleFault;
-use crate::number::{longword_at, push_longword};
+use alpha_image::{longword_at, push_longword};
 use std::alloc::AllocError;
 
 // What a module's bytes begin with.

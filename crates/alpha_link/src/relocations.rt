@@ -11,8 +11,8 @@ ghost use Rattle.alpha_link.specs.Spelled.{body};
 
 use crate::ModuleFault;
 use crate::header::Sizes;
-use crate::number::longword_at;
 use crate::relocation::{Relocation, RelocationKind};
+use alpha_image::longword_at;
 use alpha_table::{Form, Insn, MemOp};
 use std::alloc::{AllocError, Global};
 

@@ -9,9 +9,10 @@ ghost use Rattle.alpha_link.specs.Symbols.{named, offset_fits, comes_behind, sym
 
 use crate::ModuleFault;
 use crate::header::Sizes;
-use crate::number::{halfword_at, longword_at};
+use crate::number::halfword_at;
 use crate::read::taken;
 use crate::symbol::{Front, Symbol, SymbolSection, is_label_name};
+use alpha_image::longword_at;
 use std::alloc::{AllocError, Global};
 
 /// The most bytes of a symbol's name.
