@@ -75,7 +75,8 @@ def no_triggers():
     return repeated([NOP, load(0), operate(0x10, 0x20, 3, 4, 5), store(8), NOP, branch(0)])
 
 
-def the_program(words=sys.argv[1:]):
+def the_program(words=None):
+    words = sys.argv[1:] if words is None else words
     program = words[0] if words else os.path.join(TOP, "crates/alpha_tool/out/alpha_tool")
     if not os.access(program, os.X_OK):
         sys.exit(f"{program} is not built: run ./alpha once")

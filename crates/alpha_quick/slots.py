@@ -57,7 +57,8 @@ def places_of(ordered, multiplier):
 def faults():
     known = names()
     rows, multiplier, places = written()
-    yield from (f"{name} has no row" for row, name in known.items() if row not in rows and (len(name) <= 8 or row.startswith("Own::")))
+    needed = {row: name for row, name in known.items() if len(name) <= 8 or row.startswith("Own::")}
+    yield from (f"{name} has no row" for row, name in needed.items() if row not in rows)
     yield from (f"{row} stands {times} times" for row, times in collections.Counter(rows).items() if times > 1)
     yield from (f"{row} has no name" for row in rows if row not in known)
     ordered = [known.get(row, "") for row in rows]

@@ -1,4 +1,4 @@
-ghost use Rattle.std.specs.Prelude.{◌≡◌, ◌≢◌, ◌+◌, ◌^◌, ◌<◌, ◌++◌, ◌∷◌, ℕ, true, false, List, [], length, map, Some, None, OnOk, IfOk, IfErr};
+ghost use Rattle.std.specs.Prelude.{◌≡◌, ◌≢◌, ◌+◌, ◌^◌, ◌<◌, ◌++◌, ◌∷◌, ℕ, true, false, List, [], Some, None, OnOk, IfOk, IfErr};
 ghost use Rattle.std.specs.Option.{option_map};
 ghost use Rattle.alpha_text.specs.Statements.{said};
 ghost use Rattle.alpha_text.specs.Bounds.{IsWithin};
@@ -126,7 +126,8 @@ impl<'a> Pass<'a> {
         requires bounded { IsBounded self.old }
         requires lines { self.old.line + 1 < 2 ^ 32 }
         ensures ok { OnOk result (AddsItem (unlabelled insn.now) self.old self.new) }
-        ensures taken { OnOk result ((kind : SourceKind) → refused_here kind self.old (unlabelled insn.now) ≡ None) }
+        ensures taken { OnOk result
+            ((kind : SourceKind) → refused_here kind self.old (unlabelled insn.now) ≡ None) }
         ensures refused { IfErr result (λ fault. fault ≢ faults.NoMemory →
             (kind : SourceKind) → refused_here kind self.old (unlabelled insn.now) ≡ Some fault) }
         ensures bounded { OnOk result (IsBounded self.new) }

@@ -24,8 +24,8 @@
 //!   offsets rise. What a relocation stands at has displacement 0, or is eight zero bytes, which no other
 //!   relocation shares. The addend lies from -(2^31 - 1) to 2^31 - 1.
 //!
-//! [`Module`] is a good module, whose parts a clause sees; the code is held as instructions. [`ModuleFault`]
-//! says why bytes are none.
+//! [`Module`] is a good module, whose parts a clause sees; the code is held as instructions, and the names of
+//! symbols stand in the bytes or the source that it was made of. [`ModuleFault`] says why bytes are none.
 //!
 //! The laws, each with the call that carries it:
 //!
@@ -43,8 +43,8 @@
 //!   is accepted.
 //!
 //! `header.rt` has the sizes at the front, `symbol.rt` and `relocation.rt` have what symbols and
-//! relocations are, `symbols.rt` and `relocations.rt` read and write them, `number.rt` little-endian
-//! numbers; `read.rt` and `write.rt` are the ways in and out, and `judged.rt` has the verdict.
+//! relocations are, `symbols.rt` and `relocations.rt` read and write them, `number.rt` reads a number of two
+//! bytes; `read.rt` and `write.rt` are the ways in and out, and `judged.rt` has the verdict.
 //! A module of a source is `made.rt`, on `labels.rt` with the labels in rising order, `made_symbols.rt`
 //! and `made_relocations.rt`.
 //!

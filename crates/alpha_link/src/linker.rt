@@ -1,13 +1,11 @@
 //! The image that modules link to.
 
-ghost use Rattle.std.specs.Prelude.{◌≡◌, ◌≢◌, ◌≤◌, ℕ, List, length, [], ◌∷◌, None, Some, Ok, Err, OnOk, IfOk, IfErr};
-ghost use Rattle.std.specs.List.{flat_map};
-ghost use Rattle.std.specs.Option.{option_map, option_map_or};
+ghost use Rattle.std.specs.Prelude.{◌≡◌, ◌≢◌, ◌≤◌, ℕ, List, length, [], ◌∷◌, Some, Ok, Err, IfOk, IfErr};
+ghost use Rattle.std.specs.Option.{option_map};
 ghost use Rattle.alpha_image.specs.Numbers.{level_numbers};
 ghost use Rattle.alpha_asm.specs.Program.{program_of, program_with};
 ghost use Rattle.alpha_link.specs.declared.fault.LinkFault.TheVariants as faults;
-ghost use Rattle.alpha_link.specs.Parts.{ModuleParts};
-ghost use Rattle.alpha_link.specs.Linked.{Located, places, address_of, missing, unmet, entry_of, last_of, words_in, filled_in, zeroed_in, code_of, data_in, linked_at, linked};
+ghost use Rattle.alpha_link.specs.Linked.{places, address_of, missing, unmet, entry_of, words_in, filled_in, zeroed_in, linked_at, linked};
 ghost use Rattle.alpha_link.specs.Names.{found_in};
 ghost use Rattle.alpha_link.specs.Output.{StandBehind, JoinsAll};
 ghost use Rattle.alpha_image.specs.Rules.{FieldsFit};

@@ -1,7 +1,6 @@
 //! Modules where they stand among those that are linked.
 
-ghost use Rattle.std.specs.Prelude.{◌≡◌, ◌+◌, ◌≤◌, length, IfOk};
-ghost use Rattle.alpha_link.specs.Symbols.{named};
+ghost use Rattle.std.specs.Prelude.{◌≡◌, ◌≤◌, length, IfOk};
 ghost use Rattle.alpha_link.specs.Linked.{places, room, section_address};
 
 use crate::module::Module;
@@ -33,7 +32,7 @@ pub(crate) struct Located<'m> {
 }
 
 impl<'m> Model for Located<'m> {
-    ghost use Rattle.std.specs.Prelude.{◌<◌, ◌≤◌, ◌^◌, ◌*◌};
+    ghost use Rattle.std.specs.Prelude.{◌<◌, ◌≤◌, ◌*◌};
     ghost use Rattle.alpha_link.specs.Linked.{Located as LocatedThere};
 
     ghost Value = { LocatedThere };

@@ -1,12 +1,11 @@
 //! The names that modules define, with their addresses.
 
-ghost use Rattle.std.specs.Prelude.{◌≡◌, ◌≢◌, ◌&&◌, ◌<◌, ◌^◌, length, ℕ, List, [], None, Some, OnOk, IfOk, IfErr, IfSome, is_some, is_none, map, position, if◌then◌else◌};
+ghost use Rattle.std.specs.Prelude.{◌≡◌, ◌≢◌, ◌&&◌, ◌<◌, length, ℕ, List, [], None, Some, OnOk, IfOk, IfErr, IfSome, is_some, is_none, map, position, if◌then◌else◌};
 ghost use Rattle.std.specs.Option.{option_map, option_or};
 ghost use Rattle.std.specs.Str.{bytes_eq};
 ghost use Rattle.alpha_link.specs.declared.fault.LinkFault.TheVariants as faults;
 ghost use Rattle.alpha_link.specs.Linked.{address_in, address_of, is_defined, repeated};
 ghost use Rattle.alpha_link.specs.Names.{found_in};
-ghost use Rattle.alpha_link.specs.Symbols.{named};
 
 use crate::LinkFault;
 use crate::located::Located;

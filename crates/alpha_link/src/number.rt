@@ -1,4 +1,4 @@
-//! Little-endian numbers of two bytes; those of four are read and written by `alpha_image`.
+//! The little-endian number of two bytes that is read; those of four are read by `alpha_image`.
 
 ghost use Rattle.std.specs.Prelude.{◌≡◌, ◌+◌, ◌≤◌, length};
 ghost use Rattle.alpha_link.specs.Bytes.{halfword_at};

@@ -1,6 +1,6 @@
 //! Modules that are read from their bytes.
 
-ghost use Rattle.std.specs.Prelude.{◌≡◌, ◌<◌, ◌≤◌, ◌^◌, length, map, Some, IfOk};
+ghost use Rattle.std.specs.Prelude.{◌≡◌, ◌≤◌, map, Some, IfOk};
 ghost use Rattle.alpha_table.specs.Decoded.{decoded};
 ghost use Rattle.alpha_table.specs.Encoded.{encoded};
 ghost use Rattle.alpha_link.specs.Reading.{Gives, taken};

@@ -1,6 +1,6 @@
 //! The bytes of a module.
 
-ghost use Rattle.std.specs.Prelude.{◌≡◌, length, All, IfOk};
+ghost use Rattle.std.specs.Prelude.{◌≡◌, IfOk};
 ghost use Rattle.alpha_link.specs.Parts.{sizes_of, IsModule};
 ghost use Rattle.alpha_link.specs.Spelled.{spelling};
 

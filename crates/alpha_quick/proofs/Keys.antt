@@ -15,36 +15,36 @@ use Rattle.alpha_token.proofs.Choices.{both}
 use Rattle.alpha_quick.specs.Keys.{with_byte, key_of, is_named, are_named, IsKeyed}
 
 -- how many numbers so many bytes give
-abbrev lim : ℕ → ℕ
-lim zero = 1
-lim (suc n) = lim n * 256
+abbrev limit : ℕ → ℕ
+limit zero = 1
+limit (suc n) = limit n * 256
 
 abbrev plain : ℕ → ℕ → ℕ
 plain key byte = key * 256 + byte
 
-lim_bound : (n : ℕ) → n < 8 → lim n * 256 ≤ 2 ^ 64
-lim_bound zero h = omega arith
-lim_bound (suc zero) h = omega arith
-lim_bound (suc (suc zero)) h = omega arith
-lim_bound (suc (suc (suc zero))) h = omega arith
-lim_bound (suc (suc (suc (suc zero)))) h = omega arith
-lim_bound (suc (suc (suc (suc (suc zero))))) h = omega arith
-lim_bound (suc (suc (suc (suc (suc (suc zero)))))) h = omega arith
-lim_bound (suc (suc (suc (suc (suc (suc (suc zero))))))) h = omega arith
-lim_bound (suc (suc (suc (suc (suc (suc (suc (suc n)))))))) h = absurd (omega arith)
+limit_bound : (n : ℕ) → n < 8 → limit n * 256 ≤ 2 ^ 64
+limit_bound zero h = omega arith
+limit_bound (suc zero) h = omega arith
+limit_bound (suc (suc zero)) h = omega arith
+limit_bound (suc (suc (suc zero))) h = omega arith
+limit_bound (suc (suc (suc (suc zero)))) h = omega arith
+limit_bound (suc (suc (suc (suc (suc zero))))) h = omega arith
+limit_bound (suc (suc (suc (suc (suc (suc zero)))))) h = omega arith
+limit_bound (suc (suc (suc (suc (suc (suc (suc zero))))))) h = omega arith
+limit_bound (suc (suc (suc (suc (suc (suc (suc (suc n)))))))) h = absurd (omega arith)
 
 byte_bounds : (b : ℕ) → goes_on_name b ≡ true → (0 < b) × (b < 256)
 byte_bounds b h = (grind (arith, nat_tests), grind (arith, nat_tests))
 
 -- nothing is dropped of eight bytes
-fold_plain : (name : List ℕ) (n key : ℕ) → key < lim n → n + length name ≤ 8 → list_all goes_on_name name ≡ true → fold with_byte key name ≡ fold plain key name
+fold_plain : (name : List ℕ) (n key : ℕ) → key < limit n → n + length name ≤ 8 → list_all goes_on_name name ≡ true → fold with_byte key name ≡ fold plain key name
 fold_plain [] n key h room all = refl
 fold_plain (b ∷ bs) n key h room all =
     let (here, more) = both (goes_on_name b) (list_all goes_on_name bs) all in
     let (some, byte) = byte_bounds b here in
-    let top : lim n * 256 ≤ 2 ^ 64 = lim_bound n (omega arith) in
+    let top : limit n * 256 ≤ 2 ^ 64 = limit_bound n (omega arith) in
     let same : (key * 256 % 2 ^ 64 + b) % 2 ^ 64 ≡ key * 256 + b = omega arith in
-    let below : key * 256 + b < lim n * 256 = omega arith in
+    let below : key * 256 + b < limit n * 256 = omega arith in
     ap (λ k. fold with_byte k bs) same ∙ fold_plain bs (suc n) (plain key b) below (omega arith) more
 
 -- the number of bytes, the last one first

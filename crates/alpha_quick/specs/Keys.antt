@@ -5,7 +5,7 @@ use Rattle.alpha_token.specs.Bytes.{goes_on_name}
 use Rattle.alpha_table.specs.declared.names.Mnemonic.{Mnemonic}
 use Rattle.alpha_table.specs.Names.{name_of}
 
--- a number with a further byte, of which the last eight are kept
+-- a number with a further byte, of which the last eight bytes are left
 abbrev pub with_byte : ℕ → ℕ → ℕ
 with_byte key byte = (key * 256 % 2 ^ 64 + byte) % 2 ^ 64
 

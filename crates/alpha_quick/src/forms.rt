@@ -254,7 +254,8 @@ fn alone<'a>(row: Mnemonic, form: Form, words: &'a [u8]) -> Option<Statement<'a>
     if is_end(words) { coded(form) } else { None }
 }
 
-// What a row's name says with the words behind it, where few lines have it.
+// What a row's name says with the words behind it, for rows that few lines have. Those of the others are
+// read in `of_row`.
 #[inline(never)]
 fn of_rare_row(row: Mnemonic, words: &[u8]) -> Option<Statement<'_>>
     ensures { IfSome result (λ s. Says row words.now (said s)) }

@@ -1,4 +1,4 @@
-ghost use Rattle.std.specs.Prelude.{◌≡◌, ◌==◌, ◌<◌, ◌++◌, true, IsTrue, length};
+ghost use Rattle.std.specs.Prelude.{◌≡◌, ◌<◌, ◌++◌, true, IsTrue, length};
 ghost use Rattle.std.specs.List.{list_all};
 ghost use Rattle.alpha_token.specs.Bytes.{goes_on_name};
 ghost use Rattle.alpha_text.specs.Behind.{Stops};
@@ -36,7 +36,7 @@ fn class_of(byte: u8) -> u8
     class_in(&CLASSES, byte)
 }
 
-// A number with a further byte, of which the last eight are kept.
+// A number with a further byte, of which the last eight bytes are left.
 #[inline(always)]
 fn with_byte(key: u64, byte: u8) -> u64
     ensures { result ≡ with_byte key byte }

@@ -252,7 +252,7 @@ pub(crate) fn row_named(name: &[u8], key: u64) -> Option<Mnemonic>
     if name.len() <= 8 { Some(row) } else { None }
 }
 
-/// The same of the names beside the table.
+/// The row of a name beside the table, which is compared byte by byte.
 pub(crate) fn own_named(name: &[u8], key: u64) -> Option<Own>
     ensures { IfSome result (λ own. own_name own ≡ name.now) }
 {

@@ -196,7 +196,7 @@ fn a_run_has_its_options_in_any_order(rt: HostRuntime) -> Result<(), Fail> {
     Ok(())
 }
 
-// Words that ask for no run of `a`, or for none by the precise machine.
+// Words of a run that are refused.
 static NO_RUNS: [&[&str]; 23] = [
     &["run"],
     &["run", "a", "b"],

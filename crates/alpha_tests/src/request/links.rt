@@ -4,6 +4,7 @@ use alpha_request::{Refusal, Request, request_of};
 use std::alloc::Global;
 use std::test::Fail;
 
+// Whether two lists have the same words.
 fn are_same(left: &[&str], right: &[&str]) -> bool {
     left.len() == right.len() && left.iter().zip(right).all(|(left, right)| left == right)
 }

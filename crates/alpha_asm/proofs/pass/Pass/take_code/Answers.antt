@@ -1,6 +1,5 @@
-use Rattle.std.proofs.Common.{length, map, true, false, None, refl, sym, ◌∙◌, ap}
+use Rattle.std.proofs.Common.{length, map, true, false, None, refl, sym, ◌∙◌}
 use Rattle.std.proofs.lemmas.List.{append-nil}
-use Rattle.alpha_asm.specs.Labels.{spot_named}
 use Rattle.alpha_asm.specs.Patches.{fix_of}
 use Rattle.alpha_asm.specs.Pass.{unlabelled}
 use Rattle.alpha_asm.proofs.Adding.{adds_insn}
