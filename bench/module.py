@@ -7,7 +7,7 @@ memory a byte of the source, and how the time grows with the number of lines, of
 import os
 import tempfile
 
-from asm import FEW, byte_lists, canonical, comments, label_lists, labels, paddings
+from asm import BY_HAND, COMPILED, FEW, byte_lists, canonical, comments, label_lists, labels, paddings, repeated
 from measure import WORDS, best, counts_instructions, file_of, instructions, most_memory, print_times, the_program
 
 
@@ -44,9 +44,10 @@ def compare(program, name, make, count, out):
         return
     each = []
     for command, behind in (("module", ""), ("asm", ".entry 0x10000\n")):
-        with file_of((make(count) + behind).encode()) as file, file_of((make(FEW) + behind).encode()) as small:
+        contents, few = (make(count) + behind).encode(), (make(FEW) + behind).encode()
+        with file_of(contents) as file, file_of(few) as small:
             more = instructions([program, command, file.name, out]) - instructions([program, command, small.name, out])
-            each.append(more / (count - FEW))
+            each.append(more / (contents.count(b"\n") - few.count(b"\n")))
     print(f"{name}: {each[0]:.1f} instructions a line by module, {each[1]:.1f} by asm, {each[0] / each[1]:.2f} times")
 
 
@@ -54,6 +55,8 @@ def main():
     program = the_program()
     with tempfile.TemporaryDirectory() as folder:
         out = os.path.join(folder, "out")
+        for make, kind in ((repeated(BY_HAND), "mixed lines by hand"), (repeated(COMPILED), "lines of a compiler")):
+            compare(program, kind, make, 5 * FEW, out)
         for make, kind in ((canonical, "canonical lines"), (labels, "labels")):
             compare(program, f"{WORDS} {kind}", make, WORDS, out)
             for count in (WORDS // 16, WORDS // 4, WORDS):
