@@ -51,8 +51,9 @@
 //!
 //! The tests of the front come before the first memory is taken, and memory runs out only where each
 //! code word has an instruction. `src/header.rt` reads what stands before the code, `src/rules.rt` tests
-//! the fields, `src/words.rt` makes words instructions; `src/read.rt`, `src/build.rt` and `src/write.rt`
-//! are the ways in and out, and `src/image.rt` is what there is between.
+//! the fields, `src/words.rt` makes words instructions, `src/number.rt` reads and writes numbers;
+//! `src/read.rt`, `src/build.rt` and `src/write.rt` are the ways in and out, and `src/image.rt` is what
+//! there is between.
 //!
 //! `specs/Layout.antt` has the layout of the bytes, `specs/Rules.antt` the rules of the fields over the
 //! `specs/Numbers.antt` of either version, `specs/Parts.antt` what an image is and its spelling,

@@ -1,4 +1,4 @@
-//! Little-endian numbers, of images and of the other files of this project.
+//! Little-endian numbers, in images and in the other files that consist of such fields.
 
 ghost use Rattle.std.specs.Prelude.{◌≡◌, ◌+◌, ◌≤◌, ◌++◌, length, OnOk};
 ghost use Rattle.alpha_image.specs.Layout.{quadword, longword, quadword_at, longword_at};

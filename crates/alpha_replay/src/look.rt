@@ -1,6 +1,6 @@
 //! What the next step would do, before it is made.
 
-ghost use Rattle.std.specs.Prelude.{◌≡◌, ◌<◌, IfSome, IfNone, None, Some, true, false};
+ghost use Rattle.std.specs.Prelude.{◌≡◌, ◌<◌, IfSome, IfNone, None, Some, true};
 ghost use Rattle.alpha_table.specs.Class.{class_of, barrier};
 ghost use Rattle.alpha_words.specs.declared.PalCall.TheVariants.{Callsys};
 ghost use Rattle.alpha_imprecise.specs.Chosen.{must_report};

@@ -1,6 +1,6 @@
 //! The bytes of a journal.
 
-ghost use Rattle.std.specs.Prelude.{◌≡◌, ◌≤◌, ◌+◌, ◌*◌, ◌++◌, length, OnOk, IfOk};
+ghost use Rattle.std.specs.Prelude.{◌≡◌, ◌≤◌, ◌*◌, ◌++◌, length, OnOk, IfOk};
 ghost use Rattle.std.specs.List.{flat_map};
 ghost use Rattle.alpha_replay.specs.Items.{item_bytes};
 ghost use Rattle.alpha_replay.specs.Journal.{IsJournal, completion_number, numbers, front, spelling, most_items};

@@ -1,4 +1,4 @@
-ghost use Rattle.std.specs.Prelude.{◌≡◌, ◌≤◌, length, ◌==◌, None};
+ghost use Rattle.std.specs.Prelude.{◌≡◌, ◌≤◌, length, None};
 ghost use Rattle.alpha_token.specs.Tokens.{tokens, lexeme, left_of};
 ghost use Rattle.alpha_operands.specs.Operands.{Gives};
 ghost use Rattle.alpha_operands.specs.Shapes.{patterns};

@@ -1,4 +1,4 @@
-use Rattle.std.proofs.Common.{◌≡◌, ℕ, ◌+◌, ◌-◌, ◌/◌, ◌%◌, ◌^◌, ◌<◌, ◌≤◌, ◌∷◌, List, [], false, length, drop, set, suc, sym, ap, subst, ◌∙◌, add-one, arith}
+use Rattle.std.proofs.Common.{◌≡◌, ℕ, ◌+◌, ◌-◌, ◌/◌, ◌%◌, ◌^◌, ◌<◌, ◌≤◌, ◌∷◌, List, [], false, length, drop, set, sym, ap, subst, ◌∙◌, add-one, arith}
 use Rattle.std.specs.Fmt.{digit_glyph}
 use Rattle.std.proofs.lemmas.List.{drop_all, drop-set, drop-set-lt, length-set}
 use Rattle.alpha_dis.proofs.Hexadecimal.{onto, onto-none, onto-more, onto-last, second_digit, fewer_digits}
