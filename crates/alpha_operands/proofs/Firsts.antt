@@ -4,10 +4,10 @@ use Rattle.std.specs.Option.{option_and_then}
 use Rattle.alpha_token.specs.Numeral.{number_value}
 use Rattle.alpha_token.specs.declared.token.TokenKind.TheVariants as kinds
 use Rattle.alpha_token.specs.Tokens.{Lexeme, Next, token_at, tokens}
+use Rattle.alpha_operands.specs.declared.number.Number.{Number}
 use Rattle.alpha_operands.specs.declared.number.Number.TheVariants as numbers
 use Rattle.alpha_operands.specs.declared.number.Sign.{Sign}
 use Rattle.alpha_operands.specs.declared.number.Sign.TheVariants as signs
-use Rattle.alpha_operands.specs.declared.piece.Piece.TheVariants as pieces
 use Rattle.alpha_operands.specs.declared.shape.Shape.{Shape}
 use Rattle.alpha_operands.specs.declared.shape.Shape.TheVariants as shapes
 use Rattle.alpha_operands.specs.Ranges.{number_of}
@@ -19,12 +19,11 @@ pub token-comma : (s : List ℕ) → tokens (44 ∷ s) ≡ Next (record { kind =
 unfolding tokens token_at
 token-comma s = refl
 
--- a register is no number
-no_number : (sign : Sign) (n v : ℕ) → number_of pieces.Ra sign n ≡ Some (numbers.Value v) → ⊥
-unfolding number_of
-no_number sign n v h = cc
+-- the value of a number in a list of a shape, where it has one
+abbrev pub number_in : Shape → Sign → ℕ → Option Number
+number_in shape sign n = option_and_then (λ piece. number_of piece sign n) (number_piece shape)
 
-pub first-number : (shape : Shape) (sign : Sign) (t : Lexeme) (v : ℕ) (list rest : List ℕ) → HasNumber list sign t → number_of (number_piece shape) sign (number_value t.text) ≡ Some (numbers.Value v) → IsPast t.rest rest →
+pub first-number : (shape : Shape) (sign : Sign) (t : Lexeme) (v : ℕ) (list rest : List ℕ) → HasNumber list sign t → number_in shape sign (number_value t.text) ≡ Some (numbers.Value v) → IsPast t.rest rest →
     first_value shape list ≡ Some (number v, rest)
 unfolding first_value patterns filled
 first-number shapes.Bytes signs.Plus t v list rest (k, e) is (inl (p, z)) = rw (e, k, is, p, z) refl
@@ -43,7 +42,7 @@ first-number shapes.Quads signs.Plus t v list rest (k, e) is (inl (p, z)) = rw (
 first-number shapes.Quads signs.Plus t v list rest (k, e) is (inr p) = rw (e, k, is, p) refl
 first-number shapes.Quads signs.Minus t v list rest (m, (l, f), (k, e)) is (inl (p, z)) = rw (f, l, e, k, is, p, z) refl
 first-number shapes.Quads signs.Minus t v list rest (m, (l, f), (k, e)) is (inr p) = rw (f, l, e, k, is, p) refl
-first-number shape sign t v list rest has is past = absurd (no_number sign (number_value t.text) v is)
+first-number shape sign t v list rest has is past = cc
 
 pub first-label : (t : Lexeme) (list rest : List ℕ) → HasLabel list t → is_label t.text ≡ true → IsPast t.rest rest → first_value shapes.Quads list ≡ Some (label t.text (pos 0), rest)
 unfolding first_value patterns filled

@@ -68,12 +68,12 @@ first_value shape list =
     option_and_then (λ found. option_map (λ v. (v, found.1)) (value_of found.0)) (first_operands (patterns shape) [] signs.Plus (tokens list) nothing)
 
 -- the piece of the numbers of a list; other shapes have none
-abbrev pub number_piece : Shape → Piece
-number_piece shapes.Bytes = pieces.Byte
-number_piece shapes.Words = pieces.Word
-number_piece shapes.Longs = pieces.Long
-number_piece shapes.Quads = pieces.Quad
-number_piece _ = pieces.Ra
+abbrev pub number_piece : Shape → Option Piece
+number_piece shapes.Bytes = Some pieces.Byte
+number_piece shapes.Words = Some pieces.Word
+number_piece shapes.Longs = Some pieces.Long
+number_piece shapes.Quads = Some pieces.Quad
+number_piece _ = None
 
 -- a token of a form stands at the front of a list
 abbrev pub HasToken : List ℕ → TokenKind → Lexeme → Type 0

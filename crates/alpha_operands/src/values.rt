@@ -118,15 +118,15 @@ fn sought_value(shape: Shape, list: &[u8]) -> Option<(ListValue<'_>, &[u8])>
 
 // The piece of the numbers of a list. Other shapes have none.
 #[inline(always)]
-fn number_piece(shape: Shape) -> Piece
+fn number_piece(shape: Shape) -> Option<Piece>
     ensures { result ≡ number_piece shape }
 {
     match shape {
-        Shape::Bytes => Piece::Byte,
-        Shape::Words => Piece::Word,
-        Shape::Longs => Piece::Long,
-        Shape::Quads => Piece::Quad,
-        _ => Piece::Ra,
+        Shape::Bytes => Some(Piece::Byte),
+        Shape::Words => Some(Piece::Word),
+        Shape::Longs => Some(Piece::Long),
+        Shape::Quads => Some(Piece::Quad),
+        _ => None,
     }
 }
 
@@ -173,7 +173,7 @@ fn past_value(behind: &[u8]) -> Option<&[u8]>
 fn numbered<'a>(shape: Shape, sign: Sign, token: &Token<'a>) -> Option<(u64, &'a [u8])>
     ensures { IfSome result (λ v. (list : List ℕ) → HasNumber list sign (lexeme token.now) → first_value shape list ≡ Some (value v.0, v.1.now)) }
 {
-    let piece = number_piece(shape);
+    let piece = number_piece(shape)?;
     let Some(Number::Value(n)) = number_of(piece, sign, token.text) else {
         return None;
     };
