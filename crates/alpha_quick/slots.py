@@ -35,10 +35,11 @@ def names():
 def written():
     """The rows, the number and the places, as they stand in src/rows.rt."""
     text = (CRATES / "alpha_quick" / "src" / "rows.rt").read_text()
-    lists = [re.search(rf"static {name}: .*? = \[(.*?)\];", text, re.S).group(1) for name in ("ROWS", "OWNS")]
+    keyed = re.search(r"static ROWS: .*? = keyed_rows! \{(.*?)\};", text, re.S).group(1)
+    beside = re.search(r"static OWNS: .*? = \[(.*?)\];", text, re.S).group(1)
     multiplier = int(re.search(r"const MULTIPLIER: u64 = (\d+);", text).group(1))
     places = re.search(r"static PLACES: .*? = \[(.*?)\];", text, re.S).group(1)
-    rows = [re.search(r"(\w+::\w+|modify: \w+)\W*$", line).group(1) for line in "".join(lists).split(",\n")[:-1]]
+    rows = [re.search(r"(\w+::\w+|modify: \w+)\W*$", line).group(1) for line in (keyed + beside).split(",\n")[:-1]]
     return rows, multiplier, [int(place) for place in re.findall(r"\d+", places)]
 
 

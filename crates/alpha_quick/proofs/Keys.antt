@@ -8,10 +8,10 @@ use Rattle.std.proofs.lemmas.Bool.Decides.{nat_tests}
 use Rattle.std.proofs.lemmas.List.{reverse-reverse}
 use Rattle.std.proofs.lemmas.List.Folds.{list_all-append}
 use Rattle.std.proofs.lemmas.List.Sums.{fold-append}
-use Rattle.alpha_table.specs.declared.names.Mnemonic.{Mnemonic}
 use Rattle.alpha_table.specs.Names.{name_of}
 use Rattle.alpha_token.specs.Bytes.{goes_on_name}
 use Rattle.alpha_token.proofs.Choices.{both}
+use Rattle.alpha_quick.specs.declared.rows.KeyedRow.{KeyedRow}
 use Rattle.alpha_quick.specs.Keys.{with_byte, key_of, is_named, are_named, IsKeyed}
 
 -- how many numbers so many bytes give
@@ -99,11 +99,11 @@ one_name row name key has (all, is) short =
     (sym (key_number row n each) ∙ e ∙ is ∙ key_number name short all) in
     sym (reverse-reverse row) ∙ ap reverse r ∙ reverse-reverse name
 
--- the row at a place has its number
-pub named_at : (rows : List (ℕ × Mnemonic)) (place : ℕ) (d : ℕ × Mnemonic) → are_named rows ≡ true → place < length rows → is_named (name_of (get_or rows place d).1) (get_or rows place d).0 ≡ true
+-- the row at a place has its name's key
+pub named_at : (rows : List KeyedRow) (place : ℕ) (d : KeyedRow) → are_named rows ≡ true → place < length rows → is_named (name_of (get_or rows place d).row) (get_or rows place d).key.0 ≡ true
 named_at [] place d all within = absurd (omega arith)
-named_at (r ∷ rs) zero d all within = (both (is_named (name_of r.1) r.0) (are_named rs) all).0
-named_at (r ∷ rs) (suc place) d all within = named_at rs place d (both (is_named (name_of r.1) r.0) (are_named rs) all).1 (omega arith)
+named_at (r ∷ rs) zero d all within = (both (is_named (name_of r.row) r.key.0) (are_named rs) all).0
+named_at (r ∷ rs) (suc place) d all within = named_at rs place d (both (is_named (name_of r.row) r.key.0) (are_named rs) all).1 (omega arith)
 
 take_two : (name r : List ℕ) → take (length name + 2) (name ++ (47 ∷ (118 ∷ r))) ≡ name ++ (47 ∷ (118 ∷ []))
 take_two [] r = refl

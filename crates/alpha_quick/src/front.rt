@@ -2,11 +2,13 @@ ghost use Rattle.std.specs.Prelude.{◌≡◌, ◌<◌, ◌++◌, true, IsTrue, 
 ghost use Rattle.std.specs.List.{list_all};
 ghost use Rattle.alpha_token.specs.Bytes.{goes_on_name};
 ghost use Rattle.alpha_text.specs.Behind.{Stops};
-ghost use Rattle.alpha_quick.specs.Keys.{with_byte, key_of, IsKeyed};
+ghost use Rattle.alpha_quick.specs.Keys.{key_of, IsKeyed};
 ghost use Rattle.alpha_quick.specs.Parts.{class_of, are_classes};
 ghost use Rattle.alpha_text.specs.References.{goes_on_label, begins_label};
 
-// By each byte: 1 for those that go on a label, and 0.
+use crate::key::NameKey;
+
+// For each byte, 1 where it goes on a label, and otherwise 0.
 static CLASSES: [u8; 256] = [
     0, 0, 0, 0, 0, 0, 0, 0, 0, 0, 0, 0, 0, 0, 0, 0, 0, 0, 0, 0, 0, 0, 0, 0, 0, 0, 0, 0, 0, 0, 0, 0,
     0, 0, 0, 0, 0, 0, 0, 0, 0, 0, 0, 0, 0, 0, 1, 0, 1, 1, 1, 1, 1, 1, 1, 1, 1, 1, 0, 0, 0, 0, 0, 0,
@@ -36,21 +38,13 @@ fn class_of(byte: u8) -> u8
     class_in(&CLASSES, byte)
 }
 
-// A number with a further byte, of which the last eight bytes are left.
-#[inline(always)]
-fn with_byte(key: u64, byte: u8) -> u64
-    ensures { result ≡ with_byte key byte }
-{
-    key.wrapping_mul(256).wrapping_add(u64::from(byte))
-}
-
 /// A line that is cut behind its first bytes.
 #[derive(Clone, Copy)]
 pub(crate) struct Front<'a> {
     /// These bytes.
     pub name: &'a [u8],
-    /// The last eight of them as one number.
-    pub key: u64,
+    /// Their key.
+    pub key: NameKey,
     /// What stands behind them.
     pub behind: &'a [u8],
 }
@@ -61,16 +55,16 @@ impl<'a> Front<'a> {
     pub(crate) fn of(line: &'a [u8]) -> Front<'a>
         ensures line { line.now ≡ result.name.now ++ result.behind.now }
         ensures name { list_all goes_on_label result.name.now ≡ true }
-        ensures key { result.key ≡ key_of result.name.now }
+        ensures key { result.key.0 ≡ key_of result.name.now }
     {
         let mut n = 0;
-        let mut key: u64 = 0;
+        let mut key = NameKey::EMPTY;
         while n < line.len() {
             let byte = line[n];
             if class_of(byte) == 0 {
                 break;
             }
-            key = with_byte(key, byte);
+            key = key.with_byte(byte);
             n += 1;
         }
         let (name, behind) = line.split_at(n);
@@ -81,14 +75,14 @@ impl<'a> Front<'a> {
     #[inline(always)]
     pub(crate) fn with_trap(&self, line: &'a [u8]) -> Front<'a>
         requires line { line.now ≡ self.now.name.now ++ self.now.behind.now }
-        requires key { IsKeyed self.now.name.now self.now.key }
+        requires key { IsKeyed self.now.name.now self.now.key.0 }
         ensures line { line.now ≡ result.name.now ++ result.behind.now }
-        ensures key { IsKeyed result.name.now result.key }
+        ensures key { IsKeyed result.name.now result.key.0 }
     {
         match self.behind {
             [b'/', b'v', ..] => {
                 let (name, behind) = line.split_at(self.name.len() + 2);
-                let key = with_byte(with_byte(self.key, b'/'), b'v');
+                let key = self.key.with_byte(b'/').with_byte(b'v');
                 Front { name, key, behind }
             }
             _ => *self,

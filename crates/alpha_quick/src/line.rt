@@ -59,7 +59,7 @@ fn of_own_name<'a>(front: &Front<'a>, words: &'a [u8]) -> Option<Statement<'a>>
 // The statement of a name with what stands behind it.
 #[inline(always)]
 fn of_name<'a>(front: &Front<'a>) -> Option<Statement<'a>>
-    requires { IsKeyed front.now.name.now front.now.key }
+    requires { IsKeyed front.now.name.now front.now.key.0 }
     ensures { IfSome result (λ s. SaysNamed front.now.name.now front.now.behind.now (said s)) }
 {
     let words = apart(front.behind)?;
@@ -80,7 +80,7 @@ struct Parted<'a> {
 #[inline(always)]
 fn whole_front(line: &[u8]) -> Front<'_>
     ensures line { line.now ≡ result.name.now ++ result.behind.now }
-    ensures key { IsKeyed result.name.now result.key }
+    ensures key { IsKeyed result.name.now result.key.0 }
 {
     let front = Front::of(line);
     front.with_trap(line)
@@ -90,7 +90,7 @@ fn whole_front(line: &[u8]) -> Front<'_>
 #[inline(always)]
 fn part_behind<'a>(label: &'a [u8], rest: &'a [u8]) -> Option<Parted<'a>>
     requires { list_all goes_on_label label.now ≡ true }
-    ensures key { IfSome result (λ p. IsKeyed p.front.name.now p.front.key) }
+    ensures key { IfSome result (λ p. IsKeyed p.front.name.now p.front.key.0) }
     ensures parts { IfSome result (λ p. IsParted (label.now ++ 58 ∷ rest.now) (option_map (λ l. l.now) p.label) p.front.name.now p.front.behind.now) }
 {
     if !begins_label(label) {
@@ -106,7 +106,7 @@ fn part_behind<'a>(label: &'a [u8], rest: &'a [u8]) -> Option<Parted<'a>>
 // A line that begins with no blank in two.
 #[inline(always)]
 fn part(line: &[u8]) -> Option<Parted<'_>>
-    ensures key { IfSome result (λ p. IsKeyed p.front.name.now p.front.key) }
+    ensures key { IfSome result (λ p. IsKeyed p.front.name.now p.front.key.0) }
     ensures parts { IfSome result (λ p. IsParted line.now (option_map (λ l. l.now) p.label) p.front.name.now p.front.behind.now) }
 {
     let front = Front::of(line);
@@ -122,7 +122,7 @@ fn part(line: &[u8]) -> Option<Parted<'_>>
 // The item of a line in two.
 #[inline(always)]
 fn of_parts<'a>(parted: &Parted<'a>) -> Option<Item<'a>>
-    requires { IsKeyed parted.now.front.name.now parted.now.front.key }
+    requires { IsKeyed parted.now.front.name.now parted.now.front.key.0 }
     ensures { IfSome result (λ i. (line : List ℕ) → IsParted line (option_map (λ l. l.now) parted.now.label) parted.now.front.name.now parted.now.front.behind.now → line_of (tokens line) ≡ Ok (item_said i)) }
 {
     let label = parted.label;

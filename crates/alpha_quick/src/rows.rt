@@ -3,131 +3,171 @@ ghost use Rattle.alpha_table.specs.Names.{name_of};
 ghost use Rattle.alpha_text.specs.Heads.{own_name};
 ghost use Rattle.alpha_quick.specs.Keys.{are_named, is_named, IsKeyed};
 
+use crate::key::NameKey;
 use alpha_table::Mnemonic::{self, Branch, Fetch, Jump, Mem, Misc, Operate, Pal};
 use alpha_table::{BranchOp, JumpKind, MemOp, MiscOp, Op};
 use alpha_text::Own;
 use alpha_words::PalCall;
 
-// The rows of the instruction table whose names have eight bytes at most, in the order of their names, each with
-// the bytes of its name as one number.
-static ROWS: [(u64, Mnemonic); 116] = [
-    (0x6164646c, Operate(Op::Addl)),
-    (0x6164646c2f76, Operate(Op::AddlV)),
-    (0x61646471, Operate(Op::Addq)),
-    (0x616464712f76, Operate(Op::AddqV)),
-    (0x616d61736b, Operate(Op::Amask)),
-    (0x616e64, Operate(Op::And)),
-    (0x626571, Branch(BranchOp::Beq)),
-    (0x626765, Branch(BranchOp::Bge)),
-    (0x626774, Branch(BranchOp::Bgt)),
-    (0x626963, Operate(Op::Bic)),
-    (0x626973, Operate(Op::Bis)),
-    (0x626c6263, Branch(BranchOp::Blbc)),
-    (0x626c6273, Branch(BranchOp::Blbs)),
-    (0x626c65, Branch(BranchOp::Ble)),
-    (0x626c74, Branch(BranchOp::Blt)),
-    (0x626e65, Branch(BranchOp::Bne)),
-    (0x627074, Pal(PalCall::Bpt)),
-    (0x6272, Branch(BranchOp::Br)),
-    (0x627372, Branch(BranchOp::Bsr)),
-    (0x62756763686b, Pal(PalCall::Bugchk)),
-    (0x63616c6c737973, Pal(PalCall::Callsys)),
-    (0x636d6f766571, Operate(Op::Cmoveq)),
-    (0x636d6f766765, Operate(Op::Cmovge)),
-    (0x636d6f766774, Operate(Op::Cmovgt)),
-    (0x636d6f766c6263, Operate(Op::Cmovlbc)),
-    (0x636d6f766c6273, Operate(Op::Cmovlbs)),
-    (0x636d6f766c65, Operate(Op::Cmovle)),
-    (0x636d6f766c74, Operate(Op::Cmovlt)),
-    (0x636d6f766e65, Operate(Op::Cmovne)),
-    (0x636d70626765, Operate(Op::Cmpbge)),
-    (0x636d706571, Operate(Op::Cmpeq)),
-    (0x636d706c65, Operate(Op::Cmple)),
-    (0x636d706c74, Operate(Op::Cmplt)),
-    (0x636d70756c65, Operate(Op::Cmpule)),
-    (0x636d70756c74, Operate(Op::Cmpult)),
-    (0x63746c7a, Operate(Op::Ctlz)),
-    (0x6374706f70, Operate(Op::Ctpop)),
-    (0x6374747a, Operate(Op::Cttz)),
-    (0x657176, Operate(Op::Eqv)),
-    (0x65786362, Misc(MiscOp::Excb)),
-    (0x657874626c, Operate(Op::Extbl)),
-    (0x6578746c68, Operate(Op::Extlh)),
-    (0x6578746c6c, Operate(Op::Extll)),
-    (0x6578747168, Operate(Op::Extqh)),
-    (0x657874716c, Operate(Op::Extql)),
-    (0x6578747768, Operate(Op::Extwh)),
-    (0x657874776c, Operate(Op::Extwl)),
-    (0x6665746368, Fetch { modify: false }),
-    (0x66657463685f6d, Fetch { modify: true }),
-    (0x67656e74726170, Pal(PalCall::Gentrap)),
-    (0x696d62, Pal(PalCall::Imb)),
-    (0x696d706c766572, Operate(Op::Implver)),
-    (0x696e73626c, Operate(Op::Insbl)),
-    (0x696e736c68, Operate(Op::Inslh)),
-    (0x696e736c6c, Operate(Op::Insll)),
-    (0x696e737168, Operate(Op::Insqh)),
-    (0x696e73716c, Operate(Op::Insql)),
-    (0x696e737768, Operate(Op::Inswh)),
-    (0x696e73776c, Operate(Op::Inswl)),
-    (0x6a6d70, Jump(JumpKind::Jmp)),
-    (0x6a7372, Jump(JumpKind::Jsr)),
-    (0x6c6461, Mem(MemOp::Lda)),
-    (0x6c646168, Mem(MemOp::Ldah)),
-    (0x6c646275, Mem(MemOp::Ldbu)),
-    (0x6c646c, Mem(MemOp::Ldl)),
-    (0x6c646c5f6c, Mem(MemOp::LdlL)),
-    (0x6c6471, Mem(MemOp::Ldq)),
-    (0x6c64715f6c, Mem(MemOp::LdqL)),
-    (0x6c64715f75, Mem(MemOp::LdqU)),
-    (0x6c647775, Mem(MemOp::Ldwu)),
-    (0x6d62, Misc(MiscOp::Mb)),
-    (0x6d736b626c, Operate(Op::Mskbl)),
-    (0x6d736b6c68, Operate(Op::Msklh)),
-    (0x6d736b6c6c, Operate(Op::Mskll)),
-    (0x6d736b7168, Operate(Op::Mskqh)),
-    (0x6d736b716c, Operate(Op::Mskql)),
-    (0x6d736b7768, Operate(Op::Mskwh)),
-    (0x6d736b776c, Operate(Op::Mskwl)),
-    (0x6d756c6c, Operate(Op::Mull)),
-    (0x6d756c6c2f76, Operate(Op::MullV)),
-    (0x6d756c71, Operate(Op::Mulq)),
-    (0x6d756c712f76, Operate(Op::MulqV)),
-    (0x6f726e6f74, Operate(Op::Ornot)),
-    (0x7264756e69717565, Pal(PalCall::Rdunique)),
-    (0x726574, Jump(JumpKind::Ret)),
-    (0x73346164646c, Operate(Op::S4addl)),
-    (0x733461646471, Operate(Op::S4addq)),
-    (0x73347375626c, Operate(Op::S4subl)),
-    (0x733473756271, Operate(Op::S4subq)),
-    (0x73386164646c, Operate(Op::S8addl)),
-    (0x733861646471, Operate(Op::S8addq)),
-    (0x73387375626c, Operate(Op::S8subl)),
-    (0x733873756271, Operate(Op::S8subq)),
-    (0x7365787462, Operate(Op::Sextb)),
-    (0x7365787477, Operate(Op::Sextw)),
-    (0x736c6c, Operate(Op::Sll)),
-    (0x737261, Operate(Op::Sra)),
-    (0x73726c, Operate(Op::Srl)),
-    (0x737462, Mem(MemOp::Stb)),
-    (0x73746c, Mem(MemOp::Stl)),
-    (0x73746c5f63, Mem(MemOp::StlC)),
-    (0x737471, Mem(MemOp::Stq)),
-    (0x7374715f63, Mem(MemOp::StqC)),
-    (0x7374715f75, Mem(MemOp::StqU)),
-    (0x737477, Mem(MemOp::Stw)),
-    (0x7375626c, Operate(Op::Subl)),
-    (0x7375626c2f76, Operate(Op::SublV)),
-    (0x73756271, Operate(Op::Subq)),
-    (0x737562712f76, Operate(Op::SubqV)),
-    (0x7472617062, Misc(MiscOp::Trapb)),
-    (0x756d756c68, Operate(Op::Umulh)),
-    (0x776d62, Misc(MiscOp::Wmb)),
-    (0x7772756e69717565, Pal(PalCall::Wrunique)),
-    (0x786f72, Operate(Op::Xor)),
-    (0x7a6170, Operate(Op::Zap)),
-    (0x7a61706e6f74, Operate(Op::Zapnot)),
-];
+// A row of the instruction table with the key of its name.
+#[derive(Clone, Copy)]
+struct KeyedRow {
+    key: NameKey,
+    row: Mnemonic,
+}
+
+// The byte of a name with so many behind it, 0 where the name has none there.
+macro_rules! byte_before {
+    ($name:literal $behind:literal) => {
+        if $name.len() > $behind {
+            $name[$name.len() - 1 - $behind] as u64
+        } else {
+            0
+        }
+    };
+}
+
+// The key of a name. It is a constant, so nothing is left of this for when the program runs.
+macro_rules! key_of {
+    ($name:literal) => {
+        NameKey(
+            byte_before!($name 0)
+                | byte_before!($name 1) << 8
+                | byte_before!($name 2) << 16
+                | byte_before!($name 3) << 24
+                | byte_before!($name 4) << 32
+                | byte_before!($name 5) << 40
+                | byte_before!($name 6) << 48
+                | byte_before!($name 7) << 56,
+        )
+    };
+}
+
+macro_rules! keyed_rows {
+    ($($name:literal $row:expr,)*) => {
+        [$(KeyedRow { key: key_of!($name), row: $row },)*]
+    };
+}
+
+// The rows of the instruction table whose names have eight bytes at most, in the order of their names.
+static ROWS: [KeyedRow; 116] = keyed_rows! {
+    b"addl" Operate(Op::Addl),
+    b"addl/v" Operate(Op::AddlV),
+    b"addq" Operate(Op::Addq),
+    b"addq/v" Operate(Op::AddqV),
+    b"amask" Operate(Op::Amask),
+    b"and" Operate(Op::And),
+    b"beq" Branch(BranchOp::Beq),
+    b"bge" Branch(BranchOp::Bge),
+    b"bgt" Branch(BranchOp::Bgt),
+    b"bic" Operate(Op::Bic),
+    b"bis" Operate(Op::Bis),
+    b"blbc" Branch(BranchOp::Blbc),
+    b"blbs" Branch(BranchOp::Blbs),
+    b"ble" Branch(BranchOp::Ble),
+    b"blt" Branch(BranchOp::Blt),
+    b"bne" Branch(BranchOp::Bne),
+    b"bpt" Pal(PalCall::Bpt),
+    b"br" Branch(BranchOp::Br),
+    b"bsr" Branch(BranchOp::Bsr),
+    b"bugchk" Pal(PalCall::Bugchk),
+    b"callsys" Pal(PalCall::Callsys),
+    b"cmoveq" Operate(Op::Cmoveq),
+    b"cmovge" Operate(Op::Cmovge),
+    b"cmovgt" Operate(Op::Cmovgt),
+    b"cmovlbc" Operate(Op::Cmovlbc),
+    b"cmovlbs" Operate(Op::Cmovlbs),
+    b"cmovle" Operate(Op::Cmovle),
+    b"cmovlt" Operate(Op::Cmovlt),
+    b"cmovne" Operate(Op::Cmovne),
+    b"cmpbge" Operate(Op::Cmpbge),
+    b"cmpeq" Operate(Op::Cmpeq),
+    b"cmple" Operate(Op::Cmple),
+    b"cmplt" Operate(Op::Cmplt),
+    b"cmpule" Operate(Op::Cmpule),
+    b"cmpult" Operate(Op::Cmpult),
+    b"ctlz" Operate(Op::Ctlz),
+    b"ctpop" Operate(Op::Ctpop),
+    b"cttz" Operate(Op::Cttz),
+    b"eqv" Operate(Op::Eqv),
+    b"excb" Misc(MiscOp::Excb),
+    b"extbl" Operate(Op::Extbl),
+    b"extlh" Operate(Op::Extlh),
+    b"extll" Operate(Op::Extll),
+    b"extqh" Operate(Op::Extqh),
+    b"extql" Operate(Op::Extql),
+    b"extwh" Operate(Op::Extwh),
+    b"extwl" Operate(Op::Extwl),
+    b"fetch" Fetch { modify: false },
+    b"fetch_m" Fetch { modify: true },
+    b"gentrap" Pal(PalCall::Gentrap),
+    b"imb" Pal(PalCall::Imb),
+    b"implver" Operate(Op::Implver),
+    b"insbl" Operate(Op::Insbl),
+    b"inslh" Operate(Op::Inslh),
+    b"insll" Operate(Op::Insll),
+    b"insqh" Operate(Op::Insqh),
+    b"insql" Operate(Op::Insql),
+    b"inswh" Operate(Op::Inswh),
+    b"inswl" Operate(Op::Inswl),
+    b"jmp" Jump(JumpKind::Jmp),
+    b"jsr" Jump(JumpKind::Jsr),
+    b"lda" Mem(MemOp::Lda),
+    b"ldah" Mem(MemOp::Ldah),
+    b"ldbu" Mem(MemOp::Ldbu),
+    b"ldl" Mem(MemOp::Ldl),
+    b"ldl_l" Mem(MemOp::LdlL),
+    b"ldq" Mem(MemOp::Ldq),
+    b"ldq_l" Mem(MemOp::LdqL),
+    b"ldq_u" Mem(MemOp::LdqU),
+    b"ldwu" Mem(MemOp::Ldwu),
+    b"mb" Misc(MiscOp::Mb),
+    b"mskbl" Operate(Op::Mskbl),
+    b"msklh" Operate(Op::Msklh),
+    b"mskll" Operate(Op::Mskll),
+    b"mskqh" Operate(Op::Mskqh),
+    b"mskql" Operate(Op::Mskql),
+    b"mskwh" Operate(Op::Mskwh),
+    b"mskwl" Operate(Op::Mskwl),
+    b"mull" Operate(Op::Mull),
+    b"mull/v" Operate(Op::MullV),
+    b"mulq" Operate(Op::Mulq),
+    b"mulq/v" Operate(Op::MulqV),
+    b"ornot" Operate(Op::Ornot),
+    b"rdunique" Pal(PalCall::Rdunique),
+    b"ret" Jump(JumpKind::Ret),
+    b"s4addl" Operate(Op::S4addl),
+    b"s4addq" Operate(Op::S4addq),
+    b"s4subl" Operate(Op::S4subl),
+    b"s4subq" Operate(Op::S4subq),
+    b"s8addl" Operate(Op::S8addl),
+    b"s8addq" Operate(Op::S8addq),
+    b"s8subl" Operate(Op::S8subl),
+    b"s8subq" Operate(Op::S8subq),
+    b"sextb" Operate(Op::Sextb),
+    b"sextw" Operate(Op::Sextw),
+    b"sll" Operate(Op::Sll),
+    b"sra" Operate(Op::Sra),
+    b"srl" Operate(Op::Srl),
+    b"stb" Mem(MemOp::Stb),
+    b"stl" Mem(MemOp::Stl),
+    b"stl_c" Mem(MemOp::StlC),
+    b"stq" Mem(MemOp::Stq),
+    b"stq_c" Mem(MemOp::StqC),
+    b"stq_u" Mem(MemOp::StqU),
+    b"stw" Mem(MemOp::Stw),
+    b"subl" Operate(Op::Subl),
+    b"subl/v" Operate(Op::SublV),
+    b"subq" Operate(Op::Subq),
+    b"subq/v" Operate(Op::SubqV),
+    b"trapb" Misc(MiscOp::Trapb),
+    b"umulh" Operate(Op::Umulh),
+    b"wmb" Misc(MiscOp::Wmb),
+    b"wrunique" Pal(PalCall::Wrunique),
+    b"xor" Operate(Op::Xor),
+    b"zap" Operate(Op::Zap),
+    b"zapnot" Operate(Op::Zapnot),
+};
 
 // The names beside the table.
 static OWNS: [Own; 26] = [
@@ -159,9 +199,9 @@ static OWNS: [Own; 26] = [
     Own::CallPal,
 ];
 
-// By which the last eight bytes of a name are multiplied as one number. The upper ten bits of the
-// product are the name's slot, and no two names have one slot. The script slots.py beside src/ finds
-// this number and PLACES, and says where they don't fit the names.
+// A name's key is multiplied by this number, and the upper ten bits of the product are the name's slot. No two
+// names have one slot. The script slots.py beside src/ finds this number and PLACES, and says where they
+// don't fit the names.
 const MULTIPLIER: u64 = 6851595108746746257;
 
 // The place of the name with each slot, in ROWS and behind all of these in OWNS, 255 where there is
@@ -223,37 +263,41 @@ static PLACES: [u8; 1024] = [
     255, 255, 255, 255, 255, 255, 255, 29, 255,
 ];
 
-// The place of the name that can have these last eight bytes.
+// The place of the one name that can have this key.
 #[inline(always)]
-fn place_of(key: u64) -> Option<usize> {
-    let slot = key.wrapping_mul(MULTIPLIER) >> 54;
+fn place_of(key: NameKey) -> Option<usize> {
+    let slot = key.0.wrapping_mul(MULTIPLIER) >> 54;
     let place = *PLACES.get(slot as usize)?;
     Some(usize::from(place))
 }
 
-// The row at a place, where its name is this number.
+// The row at a place, where its name has this key.
 #[inline(always)]
-fn row_in(rows: &[(u64, Mnemonic)], place: usize, key: u64) -> Option<Mnemonic>
+fn row_in(rows: &[KeyedRow], place: usize, key: NameKey) -> Option<Mnemonic>
     requires { IsTrue (are_named rows.now) }
-    ensures { IfSome result (λ m. IsTrue (is_named (name_of m) key)) }
+    ensures { IfSome result (λ m. IsTrue (is_named (name_of m) key.0)) }
 {
-    let (number, row) = *rows.get(place)?;
-    if number == key { Some(row) } else { None }
+    let keyed = *rows.get(place)?;
+    if keyed.key == key {
+        Some(keyed.row)
+    } else {
+        None
+    }
 }
 
-/// The row of a name, by its last eight bytes as one number. `None` may also stand for a name that
-/// has one.
+/// The row of a name, by its key. `None` may also stand for a name that has one.
 #[inline(always)]
-pub(crate) fn row_named(name: &[u8], key: u64) -> Option<Mnemonic>
-    requires { IsKeyed name.now key }
+pub(crate) fn row_named(name: &[u8], key: NameKey) -> Option<Mnemonic>
+    requires { IsKeyed name.now key.0 }
     ensures { IfSome result (λ m. name_of m ≡ name.now) }
 {
     let row = row_in(&ROWS, place_of(key)?, key)?;
     if name.len() <= 8 { Some(row) } else { None }
 }
 
-/// The row of a name beside the table, which is compared byte by byte.
-pub(crate) fn own_named(name: &[u8], key: u64) -> Option<Own>
+/// Which of the names beside the table this is. Some of them have more than eight bytes, so a key doesn't tell
+/// them, and the name at the place of the key is compared byte by byte.
+pub(crate) fn own_named(name: &[u8], key: NameKey) -> Option<Own>
     ensures { IfSome result (λ own. own_name own ≡ name.now) }
 {
     let own = *OWNS.get(place_of(key)?.checked_sub(ROWS.len())?)?;

@@ -6,7 +6,7 @@ use Rattle.alpha_quick.proofs.front.Front.of.Given as goal
 
 -- the bytes so far go on a label, and are those of the key
 abbrev pub invariant-loop-n : goal.invariant-loop-n
-invariant-loop-n l = (l.n ≤ length l.line) × (list_all goes_on_label (take l.n l.line) ≡ true) × (l.key ≡ key_of (take l.n l.line))
+invariant-loop-n l = (l.n ≤ length l.line) × (list_all goes_on_label (take l.n l.line) ≡ true) × (l.key.0 ≡ key_of (take l.n l.line))
 
 abbrev pub decreases-loop-n : goal.decreases-loop-n
 decreases-loop-n l = length l.line - l.n
