@@ -150,8 +150,8 @@ fn branch(op: BranchOp, words: &[u8]) -> Option<Statement<'_>>
 fn jumping(kind: JumpKind, words: &[u8]) -> Option<Statement<'_>>
     ensures { IfSome result (λ s. Says (mnemonics.Jump kind) words.now (said s)) }
 {
-    let to = jump(words)?;
-    let (ra, rb, hint) = (to.ra, to.rb, to.hint);
+    let operands = jump(words)?;
+    let (ra, rb, hint) = (operands.ra, operands.rb, operands.hint);
     coded(Form::Jump { kind, ra, rb, hint })
 }
 
@@ -180,8 +180,8 @@ fn two_sources(op: Op, words: &[u8]) -> Option<Statement<'_>>
     requires { (op_row op).operands ≡ rules.Any }
     ensures { IfSome result (λ s. Says (mnemonics.Operate op) words.now (said s)) }
 {
-    let of = binary(words)?;
-    let (ra, src, rc) = (of.ra, of.src, of.rc);
+    let operands = binary(words)?;
+    let (ra, src, rc) = (operands.ra, operands.src, operands.rc);
     coded(Form::Operate { op, ra, src, rc })
 }
 
@@ -204,8 +204,8 @@ fn one_register(op: Op, words: &[u8]) -> Option<Statement<'_>>
     requires { (op_row op).operands ≡ rules.UnaryRegister }
     ensures { IfSome result (λ s. Says (mnemonics.Operate op) words.now (said s)) }
 {
-    let of = pair(words)?;
-    let (ra, src, rc) = (Reg::ZERO, Src::Reg(of.rb), of.rc);
+    let registers = pair(words)?;
+    let (ra, src, rc) = (Reg::ZERO, Src::Reg(registers.rb), registers.rc);
     coded(Form::Operate { op, ra, src, rc })
 }
 
@@ -323,8 +323,8 @@ fn paired(own: Own, words: &[u8]) -> Option<Insn>
     ensures { IfSome result (λ i. StandsFor own words.now i) }
 {
     let op = operation(own)?;
-    let of = pair(words)?;
-    let (ra, src, rc) = (Reg::ZERO, Src::Reg(of.rb), of.rc);
+    let registers = pair(words)?;
+    let (ra, src, rc) = (Reg::ZERO, Src::Reg(registers.rb), registers.rc);
     Insn::of(Form::Operate { op, ra, src, rc })
 }
 

@@ -20,7 +20,7 @@ pub(crate) fn first(s: &[u8]) -> Option<(Reg, &[u8])>
     Some((r, rest))
 }
 
-/// A register between parentheses at the front, and what stands behind it.
+// A register between parentheses at the front, and what stands behind it.
 #[inline(always)]
 fn base(s: &[u8]) -> Option<(Reg, &[u8])>
     ensures { IfSome result (λ r. HasBase s.now r.0 r.1.now) }
@@ -195,7 +195,7 @@ fn hint(s: &[u8]) -> Option<u16>
 
 /// The registers of a jump and its hint.
 #[derive(Clone, Copy)]
-pub(crate) struct Landing {
+pub(crate) struct JumpOperands {
     pub ra: Reg,
     pub rb: Reg,
     pub hint: u16,
@@ -203,7 +203,7 @@ pub(crate) struct Landing {
 
 /// The registers of a jump and its hint, 0 where none is written.
 #[inline(always)]
-pub(crate) fn jump(s: &[u8]) -> Option<Landing>
+pub(crate) fn jump(s: &[u8]) -> Option<JumpOperands>
     ensures { IfSome result (λ r. HasJump s.now r.ra r.rb r.hint) }
 {
     let Some((ra, rest)) = first(s) else {
@@ -213,7 +213,7 @@ pub(crate) fn jump(s: &[u8]) -> Option<Landing>
         return None;
     };
     let hint = hint(rest)?;
-    Some(Landing { ra, rb, hint })
+    Some(JumpOperands { ra, rb, hint })
 }
 
 /// A label with its offset, to the end.

@@ -20,7 +20,7 @@ use crate::words::{behind_blanks, behind_byte, is_end};
 use alpha_text::{Item, LineFault, Statement};
 use alpha_token::without_blanks;
 
-// What stands behind a name, where the name ends there and no space does.
+// What stands behind a name and its blanks, where the name ends there, but at no space.
 #[inline(always)]
 fn apart_otherwise(behind: &[u8]) -> Option<&[u8]>
     ensures { IfSome result (λ words. IsApart behind.now × (tokens behind.now ≡ tokens words.now)) }
@@ -32,7 +32,7 @@ fn apart_otherwise(behind: &[u8]) -> Option<&[u8]>
     }
 }
 
-// What stands behind a name, where the name ends there.
+// What stands behind a name and its blanks, where the name ends there.
 #[inline(always)]
 fn apart(behind: &[u8]) -> Option<&[u8]>
     ensures { IfSome result (λ words. IsApart behind.now × (tokens behind.now ≡ tokens words.now)) }
@@ -69,7 +69,7 @@ fn of_name<'a>(front: &Front<'a>) -> Option<Statement<'a>>
     }
 }
 
-// A line in two: its label, if it has one, and the front of what stands behind it.
+// A line that is cut in two: its label, if it has one, and the front of what stands behind it.
 #[derive(Clone, Copy)]
 struct Parted<'a> {
     label: Option<&'a [u8]>,
@@ -86,7 +86,7 @@ fn whole_front(line: &[u8]) -> Front<'_>
     front.with_trap(line)
 }
 
-// A line with a label in two.
+// A line that is cut in two behind this label and its colon.
 #[inline(always)]
 fn part_behind<'a>(label: &'a [u8], rest: &'a [u8]) -> Option<Parted<'a>>
     requires { list_all goes_on_label label.now ≡ true }
@@ -103,7 +103,7 @@ fn part_behind<'a>(label: &'a [u8], rest: &'a [u8]) -> Option<Parted<'a>>
     })
 }
 
-// A line that begins with no blank in two.
+// A line that begins with no blank, cut in two.
 #[inline(always)]
 fn part(line: &[u8]) -> Option<Parted<'_>>
     ensures key { IfSome result (λ p. IsKeyed p.front.name.now p.front.key.0) }
@@ -119,7 +119,7 @@ fn part(line: &[u8]) -> Option<Parted<'_>>
     }
 }
 
-// The item of a line in two.
+// The item of a line that was cut in two.
 #[inline(always)]
 fn of_parts<'a>(parted: &Parted<'a>) -> Option<Item<'a>>
     requires { IsKeyed parted.now.front.name.now parted.now.front.key.0 }
@@ -141,7 +141,7 @@ fn of_parts<'a>(parted: &Parted<'a>) -> Option<Item<'a>>
     }
 }
 
-// The item of a line that is written so, behind any blanks.
+// The item of a line as programs write them, behind any blanks.
 #[inline(always)]
 fn item(line: &[u8]) -> Option<Item<'_>>
     ensures { IfSome result (λ i. line_of (tokens line.now) ≡ Ok (item_said i)) }

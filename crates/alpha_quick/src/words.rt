@@ -96,7 +96,7 @@ fn decimal(s: &[u8]) -> Option<(u32, &[u8])>
 // A number of one digit or two at the front, and what stands behind it.
 #[tactic(auto, using(std::proofs::lemmas::Fmt::decimal_digit, crate::proofs::Joined::decimal_behind))]
 #[inline(always)]
-fn short_number(s: &[u8]) -> Option<(u32, &[u8])>
+fn register_number(s: &[u8]) -> Option<(u32, &[u8])>
     ensures { IfSome result (λ r. s.now ≡ decimal r.0 ++ r.1.now) }
 {
     let (first, rest) = digit(s)?;
@@ -183,7 +183,7 @@ fn numbered(s: &[u8]) -> Option<(Reg, &[u8])>
     ensures { IfSome result (λ r. HasRegister s.now r.0 r.1.now) }
 {
     let digits = behind_byte(b'$', s)?;
-    let (n, rest) = short_number(digits)?;
+    let (n, rest) = register_number(digits)?;
     if n < 32 && ends_word(rest) {
         let r = Reg::new(n as u8)?;
         Some((r, rest))
@@ -193,7 +193,7 @@ fn numbered(s: &[u8]) -> Option<(Reg, &[u8])>
 }
 
 // Any register, behind blanks, and what stands behind it.
-fn named(s: &[u8]) -> Option<(Reg, &[u8])>
+fn any_register(s: &[u8]) -> Option<(Reg, &[u8])>
     ensures { IfSome result (λ r. HasRegister s.now r.0 r.1.now) }
 {
     match next(s) {
@@ -242,7 +242,7 @@ fn other_register(s: &[u8]) -> Option<(Reg, &[u8])>
 {
     match lettered(s) {
         Some(found) => Some(found),
-        None => named(s),
+        None => any_register(s),
     }
 }
 
@@ -268,7 +268,7 @@ pub(crate) fn register(s: &[u8]) -> Option<(Reg, &[u8])>
 
 // A number of eight digits at most, with nothing before it.
 #[inline(always)]
-fn short(s: &[u8]) -> Option<(u64, &[u8])>
+fn short_number(s: &[u8]) -> Option<(u64, &[u8])>
     ensures { IfSome result (λ r. HasNumber s.now r.0 r.1.now) }
 {
     let (n, rest) = decimal(s)?;
@@ -281,7 +281,7 @@ fn short(s: &[u8]) -> Option<(u64, &[u8])>
 
 // Any number, behind blanks, and what stands behind it.
 #[inline(never)]
-fn long(s: &[u8]) -> Option<(u64, &[u8])>
+fn any_number(s: &[u8]) -> Option<(u64, &[u8])>
     ensures { IfSome result (λ r. HasNumber s.now r.0 r.1.now) }
 {
     match next(s) {
@@ -296,13 +296,13 @@ fn long(s: &[u8]) -> Option<(u64, &[u8])>
     }
 }
 
-// The same. The caller of `long` clears a place for the answer before the call; this function is inlined
+// The same. The caller of `any_number` clears a place for the answer before the call; this function is inlined
 // and has that place, so that short numbers don't wait for it.
 #[inline(always)]
 fn sought_number(s: &[u8]) -> Option<(u64, &[u8])>
     ensures { IfSome result (λ r. HasNumber s.now r.0 r.1.now) }
 {
-    long(s)
+    any_number(s)
 }
 
 /// A number at the front, and what stands behind it.
@@ -310,7 +310,7 @@ fn sought_number(s: &[u8]) -> Option<(u64, &[u8])>
 pub(crate) fn number(s: &[u8]) -> Option<(u64, &[u8])>
     ensures { IfSome result (λ r. HasNumber s.now r.0 r.1.now) }
 {
-    match short(s) {
+    match short_number(s) {
         Some(found) => Some(found),
         None => sought_number(s),
     }

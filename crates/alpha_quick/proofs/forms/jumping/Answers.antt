@@ -5,5 +5,5 @@ use Rattle.alpha_quick.proofs.forms.jumping.Goals as goal
 
 pub returns : goal.returns
 returns c =
-    if-coded (mnemonics.Jump c.args.kind) c.args.words.now (Jump c.args.kind c.in_ok-to.to.ra c.in_ok-to.to.rb c.in_ok-to.to.hint) c.coded.result
-    (says_jump c.args.kind c.in_ok-to.to.ra c.in_ok-to.to.rb c.in_ok-to.to.hint c.args.words.now c.in_ok-to.ensures) c.coded.ensures
+    if-coded (mnemonics.Jump c.args.kind) c.args.words.now (Jump c.args.kind c.in_ok-operands.operands.ra c.in_ok-operands.operands.rb c.in_ok-operands.operands.hint) c.coded.result
+    (says_jump c.args.kind c.in_ok-operands.operands.ra c.in_ok-operands.operands.rb c.in_ok-operands.operands.hint c.args.words.now c.in_ok-operands.ensures) c.coded.ensures

@@ -7,5 +7,5 @@ use Rattle.alpha_quick.proofs.forms.paired.Goals as goal
 
 pub returns : goal.returns
 returns c =
-    if-some (λ i. i ≡ Operate c.in_ok-op.op 31 (Reg c.in_ok-of.of.rb) c.in_ok-of.of.rc) (StandsFor c.args.own c.args.words.now) c.of.result
-    (λ i e. subst (StandsFor c.args.own c.args.words.now) (sym e) (stands_pair c.args.own c.in_ok-op.op c.in_ok-of.of.rb c.in_ok-of.of.rc c.args.words.now (sym c.in_ok-op.ensures) c.in_ok-of.ensures)) c.of.ensures.found
+    if-some (λ i. i ≡ Operate c.in_ok-op.op 31 (Reg c.in_ok-registers.registers.rb) c.in_ok-registers.registers.rc) (StandsFor c.args.own c.args.words.now) c.of.result
+    (λ i e. subst (StandsFor c.args.own c.args.words.now) (sym e) (stands_pair c.args.own c.in_ok-op.op c.in_ok-registers.registers.rb c.in_ok-registers.registers.rc c.args.words.now (sym c.in_ok-op.ensures) c.in_ok-registers.ensures)) c.of.ensures.found

@@ -1,7 +1,7 @@
 use Rattle.std.proofs.Common.{◌<◌, ◌^◌, ◌∙◌, decimal, sym, ap, rules}
 use Rattle.alpha_token.specs.Tokens.{tokens}
 use Rattle.alpha_text.proofs.Spelling.{token-num, number_value-decimal}
-use Rattle.alpha_quick.proofs.words.short.Goals as goal
+use Rattle.alpha_quick.proofs.words.short_number.Goals as goal
 
 pub returns-then-ends_word : goal.returns-then-ends_word
 returns-then-ends_word c =
