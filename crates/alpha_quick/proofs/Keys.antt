@@ -1,4 +1,4 @@
--- A name of eight bytes at most is told by its number.
+-- A name of eight bytes at most is told by its key.
 use Rattle.std.proofs.Common.{◌≡◌, ◌<◌, ◌≤◌, ◌+◌, ◌*◌, ◌%◌, ◌^◌, ℕ, List, [], ◌∷◌, ◌++◌, length, true, eqb, nat_le, refl, sym, ◌∙◌, ap, arith}
 use Prim.Native.Nat.{zero, suc}
 use mathlib.Core.List.{reverse, reverse_aux}
@@ -87,7 +87,7 @@ one_number (x ∷ xs) (y ∷ ys) f g e =
 key_number : (name : List ℕ) → length name ≤ 8 → list_all goes_on_name name ≡ true → key_of name ≡ number (reverse name)
 key_number name short all = fold_plain name 0 0 (omega arith) (omega arith) all ∙ fold_number name []
 
--- names of one number are one
+-- names of one key are one
 pub one_name : (row name : List ℕ) (key : ℕ) → is_named row key ≡ true → IsKeyed name key → length name ≤ 8 → row ≡ name
 one_name row name key has (all, is) short =
     let (same, others) = both (eqb (key_of row) key) _ has in

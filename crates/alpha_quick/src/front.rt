@@ -30,12 +30,12 @@ fn class_in(classes: &[u8], byte: u8) -> u8
     classes[usize::from(byte)]
 }
 
-// The class of a byte.
+// Whether a byte goes on a label.
 #[inline(always)]
-fn class_of(byte: u8) -> u8
-    ensures { result ≡ class_of byte }
+fn goes_on_label(byte: u8) -> bool
+    ensures { result ≡ goes_on_label byte }
 {
-    class_in(&CLASSES, byte)
+    class_in(&CLASSES, byte) != 0
 }
 
 /// A line that is cut behind its first bytes.
@@ -61,7 +61,7 @@ impl<'a> Front<'a> {
         let mut key = NameKey::EMPTY;
         while n < line.len() {
             let byte = line[n];
-            if class_of(byte) == 0 {
+            if !goes_on_label(byte) {
                 break;
             }
             key = key.with_byte(byte);
@@ -107,7 +107,7 @@ pub(crate) fn ends_name(s: &[u8]) -> bool
     ensures { IsTrue result → Stops goes_on_name s.now }
 {
     match s {
-        [first, ..] => class_of(*first) == 0 && *first != b'/',
+        [first, ..] => !goes_on_label(*first) && *first != b'/',
         [] => true,
     }
 }

@@ -76,7 +76,7 @@ struct Parted<'a> {
     front: Front<'a>,
 }
 
-// The front of a line without a label, with `/v` if that ends it.
+// The front of a line without a label, with `/v` if that stands behind it.
 #[inline(always)]
 fn whole_front(line: &[u8]) -> Front<'_>
     ensures line { line.now ≡ result.name.now ++ result.behind.now }
