@@ -10,6 +10,7 @@ pub mod Stages
 pub mod Joined
 pub mod Linked
 pub mod Rising
+pub mod NameKeys
 pub mod SourceNames
 pub mod MadeModules
 pub mod Lists

@@ -9,6 +9,7 @@ pub mod Module
 pub mod Alike
 pub mod Linked
 pub mod Rising
+pub mod NameKeys
 pub mod Made
 pub mod Names
 pub mod Output

@@ -37,7 +37,8 @@ fn bad_field(words: usize, filled: usize, zeroed: u64) -> Option<u8>
     None
 }
 
-// Data bytes are bytes, which a proof has where they are read.
+// Says of data bytes that each is below 256, which a proof has of a slice that a function is given. The call
+// is there for this clause alone.
 fn bytes_fit(bytes: &[u8])
     ensures { All IsByte bytes.now }
 {
