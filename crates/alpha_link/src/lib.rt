@@ -24,8 +24,9 @@
 //!   offsets rise. What a relocation stands at has displacement 0, or is eight zero bytes, which no other
 //!   relocation shares. The addend lies from -(2^31 - 1) to 2^31 - 1.
 //!
-//! [`Module`] is a good module, whose parts a clause sees; the code is held as instructions, and the names of
-//! symbols stand in the bytes or the source that it was made of. [`ModuleFault`] says why bytes are none.
+//! [`Module`] is a good module, whose parts a clause sees; [`Module::symbols`] and [`Module::relocations`] list
+//! what it defines and needs. The code is held as instructions, and the names of symbols stand in the bytes or
+//! the source that it was made of. [`ModuleFault`] says why bytes are none.
 //!
 //! The laws, each with the call that carries it:
 //!

@@ -1,5 +1,8 @@
 //! Modules.
 
+ghost use Rattle.std.specs.Prelude.{◌≡◌, map};
+ghost use Rattle.alpha_link.specs.Symbols.{named};
+
 use crate::relocation::Relocation;
 use crate::symbol::Symbol;
 use alpha_table::Insn;
@@ -27,4 +30,20 @@ impl<'a> Model for Module<'a> {
     ghost view = { parts_in };
 
     ghost invariant = { IsWhole };
+}
+
+impl<'a> Module<'a> {
+    /// Its symbols, whose names rise: the labels that it defines, and those that another module has to define.
+    pub fn symbols(&self) -> &[Symbol<'a>]
+        ensures { map named result.now ≡ self.now.symbols }
+    {
+        &self.symbols
+    }
+
+    /// Its relocations, those of the code first: the places that take the address of a symbol.
+    pub fn relocations(&self) -> &[Relocation]
+        ensures { result.now ≡ self.now.relocations }
+    {
+        &self.relocations
+    }
 }

@@ -3,7 +3,8 @@
 use alpha_asm::AsmFault;
 use alpha_image::{Image, code_word};
 use alpha_link::{
-    LinkFault, Module, ModuleFault, link, make_module, module_bytes, read_module, verdict,
+    LinkFault, Module, ModuleFault, RelocationKind, SymbolSection, link, make_module, module_bytes,
+    read_module, verdict,
 };
 use alpha_shadow::{Broken, Condition};
 use std::alloc::Global;
@@ -52,6 +53,23 @@ fn a_module_is_written_as_it_was_read(rt: HostRuntime) -> Result<(), Fail> {
     let bytes = module_bytes(rt.alloc(), &start)?;
     assert_eq!(rt; bytes.as_slice(), START.as_slice());
     assert_eq!(rt; verdict(&start), Ok(()));
+    Ok(())
+}
+
+#[test]
+fn a_module_lists_its_symbols_and_relocations(rt: HostRuntime) -> Result<(), Fail> {
+    let module = read_module(rt.alloc(), &START)?;
+    if let [start, sum] = module.symbols() {
+        assert_eq!(rt; (start.section, start.offset), (SymbolSection::Code, 0));
+        assert_eq!(rt; start.name, b"start".as_slice());
+        assert_eq!(rt; (sum.section, sum.offset), (SymbolSection::Undefined, 0));
+        assert_eq!(rt; sum.name, b"sum".as_slice());
+    }
+    if let [branch] = module.relocations() {
+        assert_eq!(rt; (branch.kind, branch.symbol), (RelocationKind::Branch, 1));
+        assert_eq!(rt; (branch.offset, branch.addend), (0, 0));
+    }
+    assert_eq!(rt; (module.symbols().len(), module.relocations().len()), (2, 1));
     Ok(())
 }
 
