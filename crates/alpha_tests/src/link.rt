@@ -47,6 +47,64 @@ static CHANGES: [(usize, u8, Option<ModuleFault>); 24] = [
     (74, 0x80, Some(ModuleFault::Relocation(0))),
 ];
 
+// Each other byte of `START` with its lowest bit changed: its offset, and the fault, if there is one.
+static LOW_BITS: [(usize, Option<ModuleFault>); 54] = [
+    (1, Some(ModuleFault::Header)),
+    (2, Some(ModuleFault::Header)),
+    (3, Some(ModuleFault::Header)),
+    (4, Some(ModuleFault::Header)),
+    (5, Some(ModuleFault::Header)),
+    (6, Some(ModuleFault::Header)),
+    (8, Some(ModuleFault::Symbol(0))),
+    (9, Some(ModuleFault::Word(3))),
+    (11, Some(ModuleFault::Size(1))),
+    (13, Some(ModuleFault::Cut(75))),
+    (14, Some(ModuleFault::Cut(75))),
+    (16, None),
+    (17, None),
+    (21, Some(ModuleFault::Symbol(2))),
+    (22, Some(ModuleFault::Symbol(2))),
+    (23, Some(ModuleFault::Symbol(2))),
+    (25, Some(ModuleFault::Cut(75))),
+    (26, Some(ModuleFault::Cut(75))),
+    (27, Some(ModuleFault::Cut(75))),
+    (29, Some(ModuleFault::Relocation(0))),
+    (30, Some(ModuleFault::Relocation(0))),
+    (32, None),
+    (33, None),
+    (34, None),
+    (35, None),
+    (37, Some(ModuleFault::Word(2))),
+    (38, Some(ModuleFault::Word(2))),
+    (39, Some(ModuleFault::Word(2))),
+    (42, Some(ModuleFault::Cut(75))),
+    (44, Some(ModuleFault::Symbol(0))),
+    (45, Some(ModuleFault::Symbol(0))),
+    (46, Some(ModuleFault::Symbol(0))),
+    (49, Some(ModuleFault::Symbol(0))),
+    (50, None),
+    (51, None),
+    (52, Some(ModuleFault::Symbol(1))),
+    (53, Some(ModuleFault::Relocation(0))),
+    (54, Some(ModuleFault::Cut(75))),
+    (56, Some(ModuleFault::Symbol(1))),
+    (57, Some(ModuleFault::Symbol(1))),
+    (58, Some(ModuleFault::Symbol(1))),
+    (59, Some(ModuleFault::Symbol(1))),
+    (60, None),
+    (61, None),
+    (63, Some(ModuleFault::Relocation(0))),
+    (64, Some(ModuleFault::Relocation(0))),
+    (65, Some(ModuleFault::Relocation(0))),
+    (66, Some(ModuleFault::Relocation(0))),
+    (68, Some(ModuleFault::Relocation(0))),
+    (69, Some(ModuleFault::Relocation(0))),
+    (70, Some(ModuleFault::Relocation(0))),
+    (71, None),
+    (72, None),
+    (73, None),
+];
+
 #[test]
 fn a_module_is_written_as_it_was_read(rt: HostRuntime) -> Result<(), Fail> {
     let start = read_module(rt.alloc(), &START)?;
@@ -69,7 +127,10 @@ fn a_module_lists_its_symbols_and_relocations(rt: HostRuntime) -> Result<(), Fai
         assert_eq!(rt; (branch.kind, branch.symbol), (RelocationKind::Branch, 1));
         assert_eq!(rt; (branch.offset, branch.addend), (0, 0));
     }
-    assert_eq!(rt; (module.symbols().len(), module.relocations().len()), (2, 1));
+    assert_eq!(rt;
+        (module.symbols().len(), module.relocations().len()),
+        (2, 1)
+    );
     Ok(())
 }
 
@@ -79,6 +140,17 @@ fn a_byte_that_is_changed_is_refused_or_read(rt: HostRuntime) {
         let mut bytes = START;
         if let Some(changed) = bytes.get_mut(offset) {
             *changed = byte;
+        }
+        assert_eq!(rt; read_module(rt.alloc(), &bytes).err(), fault, "at {offset}");
+    }
+}
+
+#[test]
+fn a_bit_that_is_changed_is_refused_or_read(rt: HostRuntime) {
+    for &(offset, fault) in &LOW_BITS {
+        let mut bytes = START;
+        if let Some(changed) = bytes.get_mut(offset) {
+            *changed ^= 1;
         }
         assert_eq!(rt; read_module(rt.alloc(), &bytes).err(), fault, "at {offset}");
     }
