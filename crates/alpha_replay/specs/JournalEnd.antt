@@ -130,13 +130,13 @@ pub record IsFreeMoment (n : ℕ) (old new : WildState) (before after : Telling)
   pub comes : ComesFree false run old new before after input out notes
   pub most : run.units ≤ n
 
--- what was made over any source
+-- what was made over any source; without memory the machine stays, and so does what the chooser tells
 abbrev pub FreeJournal : JournalEnd → ℕ → WildState → WildState → Telling → Telling → Drawn → Sunk → Sunk → Type 0
 FreeJournal (made.Made end journal) n old new before after input out notes = FreeEffect end n false old new before after input out notes
 FreeJournal made.InputFault n old new before after input out notes = FreeEffect runs.InputFault n false old new before after input out notes
 FreeJournal made.SinkFault n old new before after input out notes = FreeEffect runs.SinkFault n false old new before after input out notes
 FreeJournal made.Full n old new before after input out notes = IsFreeMoment n old new before after input out notes
-FreeJournal made.NoMemory n old new before after input out notes = ⊤
+FreeJournal made.NoMemory n old new before after input out notes = (new ≡ old) × (after ≡ before)
 
 -- which count of faults rose; without memory no device was touched
 abbrev pub JournalCause : JournalEnd → Drawn → Sunk → Sunk → Type 0
