@@ -14,18 +14,19 @@ pub enum Status {
     /// It did what was asked. The number is how many words a run of the imprecise machine drew,
     /// modulo 2^64, and 0 for all else.
     Done(u64),
-    /// A place of the image's code is broken: the least one. The program may still survive a late
-    /// trap.
+    /// A place of the code is broken, that of the image or by `module` of the module: the least one. The
+    /// program may still survive a late trap.
     NotRestartable(Broken),
     /// The words are no command.
     BadWords,
-    /// The source defines no image: its first refusal.
+    /// The source defines no image, or by `module` makes no module: its first refusal.
     BadSource(AsmFault),
     /// The bytes of the file are no image: their first fault.
     BadImage(ImageFault),
     /// The program ended otherwise than by the system call exit.
     Stopped(End),
-    /// The program was run for as many steps as it was given, and hasn't ended.
+    /// The program has used up the steps that it was given, and hasn't ended. On the imprecise machine
+    /// these are units: steps made while no trap is pending.
     StepsSpent,
     /// The imprecise machine reported a trap, and no instruction was found for it.
     Lost(Lost),
@@ -35,7 +36,8 @@ pub enum Status {
     InputFault,
     /// What was to be written could not be.
     SinkFault,
-    /// The file has more bytes than this limit.
+    /// A file has more bytes than this limit, or the script of `debug` has, and no `quit` whose line
+    /// ends within so many.
     TooLarge(u64),
     /// Memory ran out.
     NoMemory,

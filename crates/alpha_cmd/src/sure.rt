@@ -13,8 +13,8 @@ use alpha_io::{NullSink, SureShelf, SureSource};
 use alpha_request::Words;
 use std::alloc::Global;
 
-/// Does what the words ask over devices that never fail, with nothing kept of what is written: the
-/// status is that of the words' answer, or memory ran out.
+/// Does what the words ask over devices that never fail, whose output and notes drop what is written:
+/// the status is that of the words' answer, or memory ran out.
 pub fn alpha_sure(
     alloc: Global,
     words: &Words,

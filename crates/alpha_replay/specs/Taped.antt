@@ -16,7 +16,7 @@ pub record Taped : Type 0 where
 abbrev pub taped : List ℕ → List ℕ → Gathered → Taped
 taped taken put gathered = record { taken = taken; put = put; gathered = gathered }
 
--- whether moves have as few items and units as a journal may have
+-- whether moves have no more items and units than a journal may have
 abbrev pub has_room : Gathered → Bool
 has_room k = nat_le (length (closed k)) most_items && nat_le (units_of (closed k)) most_units
 

@@ -36,7 +36,7 @@ LookTaken _ m bytes = length bytes ≡ 0
 abbrev pub taped_by : Taped → List ℕ → List ℕ → Move → Taped
 taped_by t taken put move = taped (t.taken ++ taken) (t.put ++ put) (gathered_by t.gathered move)
 
--- whether that is as much as a journal may have
+-- whether that is no more than a journal may have
 abbrev pub tape_fits : Taped → Bool
 tape_fits t = nat_le (length t.taken) most_bytes && nat_le (length t.put) most_bytes && has_room t.gathered
 

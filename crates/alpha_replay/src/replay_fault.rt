@@ -16,7 +16,7 @@ pub enum ReplayFault {
     /// The first place at which the run's output and the journal's differ, or one of them ends.
     #[error("the output differs at byte {0}")]
     Output(u64),
-    /// The run ends otherwise. One that doesn't end has nothing pending.
+    /// The run ends otherwise than the journal says, or it doesn't end and a trap is pending.
     #[error("the run ends otherwise")]
     End,
     /// So many bytes of the input were not taken.

@@ -16,11 +16,11 @@ use alpha_imprecise::{Chooser, Wild, WildEnd};
 use alpha_io::{Sink, Source};
 use alpha_seq::Machine;
 
-/// How a step went, and whether what is gathered of the run is as much as a journal may have.
+/// How a step went, and whether what is gathered of the run is still no more than a journal may have.
 pub(crate) struct Turned {
     /// How the step went.
     pub end: WildEnd,
-    /// Whether the step could be noted.
+    /// Whether the step could be noted. Nothing is said of one in which a device failed.
     pub fits: bool,
 }
 

@@ -114,7 +114,7 @@ pub enum Refusal {
 ///
 /// # Errors
 ///
-/// `BadWords` exactly where they ask for nothing. Memory may run out on any words.
+/// `BadWords` only where they ask for nothing. `NoMemory` may come in place of any answer.
 pub fn request_of<'a>(alloc: Global, words: &'a Words) -> Result<Request<'a>, Refusal>
     ensures { Reads (asked words.now) result }
 {
