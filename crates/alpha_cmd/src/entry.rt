@@ -56,7 +56,7 @@ fn words_of(alloc: Global, arguments: &[String]) -> Result<Words, NoMemory>
     Ok(words)
 }
 
-// Appends words to none.
+// Appends these words, in their order, to a list that is still empty.
 fn push_all(words: &mut Words, rest: &[String]) -> Result<(), NoMemory>
     requires { words.old ≡ [] }
     ensures { OnOk result (words.new ≡ map (λ word. string_bytes word) rest.now) }

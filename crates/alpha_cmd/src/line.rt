@@ -17,7 +17,8 @@ use alpha_shadow::Broken;
 use alpha_text::{LineFault, LineFaultKind};
 use alpha_trap::Lost;
 
-/// The line of a status, empty where it has none of its own.
+/// The line of a status. It is empty where there is no line, and where the line says more than the
+/// status has: the value of an exit, or the addresses of a broken place.
 pub(crate) fn line_of(status: &Status) -> Line
     ensures { result ≡ status_line status.now }
 {

@@ -17,7 +17,7 @@ use alpha_text::{LineBuf, write_line};
 // How many bytes a line of `mem` has at most.
 const ROW: usize = 16;
 
-/// Appends bytes.
+/// Puts all of the bytes; where the output fails, a front of them.
 pub(crate) fn say<K: Sink>(bytes: &[u8], out: &mut K) -> Result<(), Failed>
     ensures ok { OnOk result (Puts (sunk K.Sink out.old out.new) bytes.now) }
     ensures refused { OnErr result (Stops (sunk K.Sink out.old out.new) bytes.now) }

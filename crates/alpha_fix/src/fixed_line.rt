@@ -62,7 +62,7 @@ fn is_off<'a>(symbols: &Symbols<'a>, reference: &Expr<'a>) -> bool
     reference.offset != 0 && symbols.names_code(reference.label)
 }
 
-// Whether a value of a list is.
+// Whether a value of a list is an address some way off a label that names code.
 fn is_value_off<'a>(symbols: &Symbols<'a>, bytes: u8, value: &ListValue<'a>) -> bool
     ensures { result ≡ list_any (is_off (names_code (items_of symbols.now)))
         (filter_map cell_reference (cell_of bytes (view value.now) ∷ [])) }
@@ -73,7 +73,7 @@ fn is_value_off<'a>(symbols: &Symbols<'a>, bytes: u8, value: &ListValue<'a>) -> 
     }
 }
 
-// Whether one of the values of a list is. There are no more of them than it has bytes.
+// Whether one of the values of a list is such an address. The list has no more values than bytes.
 fn is_any_off<'a>(symbols: &Symbols<'a>, bytes: u8, list: &'a [u8]) -> bool
     ensures { result ≡ list_any (is_off (names_code (items_of symbols.now)))
         (filter_map cell_reference (map (cell_of bytes) (values_up_to (length list.now) bytes list.now))) }

@@ -28,7 +28,7 @@ pub fn fix(alloc: Global, source: &[u8]) -> Result<Vec<u8>, FixFault>
     }
 }
 
-// The same for a source of an image.
+// The fixed source of a source with this image and these symbols.
 fn fix_image<'a>(
     alloc: Global,
     source: &'a [u8],
@@ -56,7 +56,7 @@ fn fix_image<'a>(
     }
 }
 
-// The same for cuts.
+// The fixed source of a source whose code has these cuts, one or more.
 fn fix_at<'a>(
     alloc: Global,
     source: &'a [u8],
@@ -79,7 +79,7 @@ fn fix_at<'a>(
     checked(alloc, text)
 }
 
-// A text that has an image.
+// Gives a text back where it has an image, and refuses it as far where it has none.
 fn checked(alloc: Global, text: Vec<u8>) -> Result<Vec<u8>, FixFault>
     requires { length text.items < 2 ^ 32 }
     ensures ok { IfOk result (λ same. same.items ≡ text.items) }
@@ -88,7 +88,8 @@ fn checked(alloc: Global, text: Vec<u8>) -> Result<Vec<u8>, FixFault>
 {
     match assemble(alloc, &text) {
         Ok(image) => {
-            // An image that tells how many words it has is a good one.
+            // The call says by its clause `good` that the rules of images hold of this one, as the clause
+            // `image` wants it. The number isn't used.
             let _words = image.words();
             Ok(text)
         }

@@ -54,7 +54,8 @@ impl Tape {
         })
     }
 
-    /// Notes bytes that were taken. Where that would be too many it notes none of them.
+    /// Notes bytes that were taken, and answers whether it did. Where that would be too many it notes
+    /// none of them.
     #[inline(always)]
     pub fn take(&mut self, bytes: &[u8]) -> bool
         ensures value { result ≡ nat_le (length (self.old.taken ++ bytes.now)) most_bytes }
@@ -67,7 +68,8 @@ impl Tape {
         self.input.extend_from_slice(bytes).is_ok()
     }
 
-    /// Notes bytes that are put. Where that would be too many it notes none of them.
+    /// Notes bytes that are put, and answers whether it did. Where that would be too many it notes none
+    /// of them.
     #[inline(always)]
     pub fn put(&mut self, bytes: &[u8]) -> bool
         ensures value { result ≡ nat_le (length (self.old.put ++ bytes.now)) most_bytes }
@@ -80,7 +82,8 @@ impl Tape {
         self.output.extend_from_slice(bytes).is_ok()
     }
 
-    /// Notes a move. Where that would be too many items or units it notes nothing of it.
+    /// Notes a move, and answers whether it did. Where that would be too many items or units it notes
+    /// nothing of it.
     #[inline(always)]
     pub fn note(&mut self, step: Move) -> bool
         ensures value { result ≡ has_room (gathered_by self.old.gathered step) }
@@ -95,7 +98,8 @@ impl Tape {
         }
     }
 
-    /// Notes a step with nothing pending that doesn't overflow.
+    /// Notes a step with nothing pending that doesn't overflow, and answers whether it did. It doesn't
+    /// where that would be too many items or units.
     #[inline(always)]
     pub fn note_one(&mut self) -> bool
         ensures taken { length self.old.taken ≤ most_bytes }
@@ -115,7 +119,8 @@ impl Tape {
 }
 
 impl Tape {
-    // Notes an item that is no Units, behind the steps that are no item yet.
+    // Notes an item that is no Units, behind the steps that are no item yet, and answers whether it did.
+    // It doesn't where that would be too many items or units.
     fn note_item(&mut self, item: Item) -> bool
         requires fits { FitsItem item }
         requires other { is_units item ≡ false }
@@ -151,7 +156,7 @@ impl Tape {
     }
 }
 
-// Makes an item of steps that are none yet.
+// Appends the steps that are no item yet as one Units, if there are any.
 #[inline(always)]
 fn close(items: &mut Vec<Item>, ones: u32)
     requires { length (closed_by items.old.items ones) ≤ vec_capacity items.old }
@@ -163,7 +168,7 @@ fn close(items: &mut Vec<Item>, ones: u32)
     }
 }
 
-// How many items there are with that one.
+// How many items there are once the steps that are no item yet are one.
 #[inline(always)]
 fn closed_len(items: &Vec<Item>, ones: u32) -> usize
     ensures { result ≡ length (closed_by items.now.items ones) }
