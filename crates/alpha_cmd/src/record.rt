@@ -212,6 +212,8 @@ fn decision_of(end: &RunEnd, drawn: u64) -> Decision
         RunEnd::Ended(end) => Decision::ended_by(&end, drawn),
         RunEnd::Lost(trap_pc, mask) => Decision::said(Status::Lost(Lost { trap_pc, mask })),
         RunEnd::Spent => Decision::said(Status::StepsSpent),
+        // These two are never reached: by the clause `cause` of `make_journal` no device failed in a run
+        // that has a journal.
         RunEnd::InputFault => Decision::said(Status::InputFault),
         RunEnd::SinkFault => Decision::said(Status::SinkFault),
     }
