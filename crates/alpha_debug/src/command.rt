@@ -8,10 +8,10 @@ use crate::word::{first_word, number_in};
 pub(crate) const MOST_STEPS: u64 = 1_000_000;
 
 // The most bytes of a `mem`, and words of a `dis`.
-const MOST_UNITS: u64 = 256;
+const MOST_SHOWN: u64 = 256;
 
 // The most bytes of a line that is a command.
-const LINE_LIMIT: usize = 1_024;
+pub(crate) const LINE_LIMIT: usize = 1_024;
 
 /// What a line asks for.
 #[derive(Clone, Copy, Debug, PartialEq, Eq)]
@@ -151,7 +151,7 @@ fn by_range(name: &[u8], at: Option<u64>, count: Option<u64>) -> Command
 fn with_range(name: &[u8], at: u64, count: u64) -> Command
     ensures { result ≡ with_range name.now at count }
 {
-    if !is_within(MOST_UNITS, count) {
+    if !is_within(MOST_SHOWN, count) {
         Command::Unknown
     } else if is(name, b"mem") {
         Command::Memory(at, count)

@@ -4,13 +4,13 @@ ghost use Rattle.alpha_io.specs.Sunk.{sunk};
 ghost use Rattle.alpha_debug.specs.Command.{command_of};
 ghost use Rattle.alpha_debug.specs.Effects.{Remains, Answers, AnswerFails, IsHeld, Hears, HearFails};
 
-use crate::command::command_of;
+use crate::command::{LINE_LIMIT, command_of};
 use crate::debugger::{Debugger, Talk};
 use alpha_io::{Failed, Sink};
 use arrayvec::ArrayVec;
 
 // How many bytes of a line are held: one that has so many is too long, whether or not its last is a carriage return.
-const HELD: usize = 1_026;
+const HELD: usize = LINE_LIMIT + 2;
 
 /// The front of the line in hand, without a line feed.
 pub(crate) type Held = ArrayVec<u8, HELD>;
