@@ -173,7 +173,8 @@ pub(crate) fn with_barriers<'a>(
     ensures free { OnOk result (fixed_line source.now ≡ None) }
     ensures refused { IfErr result (Hinders source.now) }
 {
-    let mut text = Vec::with_capacity(alloc, source.len() + 6 * cuts.len() + 1)?;
+    // The one byte more is the line feed of a last line that has none.
+    let mut text = Vec::with_capacity(alloc, source.len() + TRAPB.len() * cuts.len() + 1)?;
     let mut rest = source;
     let mut number: u32 = 1;
     let mut place: u32 = 0;
