@@ -55,10 +55,8 @@ fn made<H: Shelf>(alloc: Global, shelf: &mut H, name: &str) -> Result<Vec<u8>, S
     ensures shelf { OnlyReads (shelved H.Shelf shelf.old shelf.new)
         (result ≢ Err Status.ShelfFault) }
 {
-    match read_file(alloc, shelf, name, SOURCE_LIMIT) {
-        Ok(bytes) => assembled(alloc, bytes.as_slice()),
-        Err(status) => Err(status),
-    }
+    let bytes = read_file(alloc, shelf, name, SOURCE_LIMIT)?;
+    assembled(alloc, bytes.as_slice())
 }
 
 // The bytes of the image that a source defines.

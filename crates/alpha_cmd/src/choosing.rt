@@ -73,11 +73,9 @@ fn listed<H: Shelf>(alloc: Global, name: &str, shelf: &mut H) -> Result<Choosing
     ensures shelf { OnlyReads (shelved H.Shelf shelf.old shelf.new)
         (result ≢ Err Status.ShelfFault) }
 {
-    match read_file(alloc, shelf, name, CHOICES_LIMIT) {
-        Ok(bytes) => match ListChooser::new(alloc, bytes.as_slice()) {
-            Ok(chooser) => Ok(Choosing::Listed(chooser)),
-            Err(_) => Err(Status::NoMemory),
-        },
-        Err(status) => Err(status),
+    let bytes = read_file(alloc, shelf, name, CHOICES_LIMIT)?;
+    match ListChooser::new(alloc, bytes.as_slice()) {
+        Ok(chooser) => Ok(Choosing::Listed(chooser)),
+        Err(_) => Err(Status::NoMemory),
     }
 }

@@ -66,8 +66,6 @@ pub(crate) fn load<H: Shelf>(alloc: Global, shelf: &mut H, name: &str) -> Result
     ensures shelf { OnlyReads (shelved H.Shelf shelf.old shelf.new)
         (result ≢ Err Status.ShelfFault) }
 {
-    match read_file(alloc, shelf, name, IMAGE_LIMIT) {
-        Ok(bytes) => image_of(alloc, bytes),
-        Err(status) => Err(status),
-    }
+    let bytes = read_file(alloc, shelf, name, IMAGE_LIMIT)?;
+    image_of(alloc, bytes)
 }

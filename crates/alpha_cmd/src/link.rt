@@ -71,10 +71,8 @@ fn made<H: Shelf>(
     ensures shelf { OnlyReads (shelved H.Shelf shelf.old shelf.new)
         (result ≢ Err Status.ShelfFault) }
 {
-    match read_files(alloc, names, shelf) {
-        Ok(files) => linked(alloc, entry, files),
-        Err(status) => Err(status),
-    }
+    let files = read_files(alloc, names, shelf)?;
+    linked(alloc, entry, files)
 }
 
 // The bytes of files within the limit of modules, read in the order of their names.
@@ -116,10 +114,8 @@ fn linked(alloc: Global, entry: &str, files: Vec<Vec<u8>>) -> Result<Vec<u8>, St
         (Links entry.now) (stops status (status_line status))
         ⊎ (status ≡ Status.NoMemory)) }
 {
-    match image_of(alloc, entry, files) {
-        Ok(image) => spelled(alloc, &image),
-        Err(status) => Err(status),
-    }
+    let image = image_of(alloc, entry, files)?;
+    spelled(alloc, &image)
 }
 
 // The image that the modules of files link to.
@@ -131,10 +127,8 @@ fn image_of(alloc: Global, entry: &str, files: Vec<Vec<u8>>) -> Result<Image, St
         (Links entry.now) (stops status (status_line status))
         ⊎ (status ≡ Status.NoMemory)) }
 {
-    match modules_of(alloc, files.as_slice()) {
-        Ok(modules) => joined(alloc, entry, modules.as_slice()),
-        Err(status) => Err(status),
-    }
+    let modules = modules_of(alloc, files.as_slice())?;
+    joined(alloc, entry, modules.as_slice())
 }
 
 // The modules that the bytes of files spell.

@@ -72,10 +72,8 @@ fn load_journal<H: Shelf>(alloc: Global, shelf: &mut H, name: &str) -> Result<Jo
     ensures shelf { OnlyReads (shelved H.Shelf shelf.old shelf.new)
         (result ≢ Err Status.ShelfFault) }
 {
-    match read_file(alloc, shelf, name, JOURNAL_LIMIT) {
-        Ok(bytes) => journal_of(alloc, bytes.as_slice()),
-        Err(status) => Err(status),
-    }
+    let bytes = read_file(alloc, shelf, name, JOURNAL_LIMIT)?;
+    journal_of(alloc, bytes.as_slice())
 }
 
 // The journal that the bytes of a file spell.
