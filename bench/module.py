@@ -5,6 +5,7 @@ memory a byte of the source, and how the time grows with the number of lines, of
     bench/module.py [PROGRAM]
 """
 import os
+import random
 import tempfile
 
 from asm import BY_HAND, COMPILED, FEW, byte_lists, canonical, comments, label_lists, labels, paddings, repeated
@@ -19,6 +20,12 @@ def names(count):
 def many_names(count):
     """Names that nothing defines, each in a quadword."""
     return ".data\n" + "".join(f".quad name_{n}\n" for n in range(count))
+
+
+def unordered(count):
+    """A label on each line, in no order, which the line before names."""
+    numbers = random.Random(5).sample(range(1_000_000), count)
+    return "".join(f"label_{number}: br $31,label_{numbers[(n + 1) % count]}\n" for n, number in enumerate(numbers))
 
 
 def one_name(count):
@@ -57,6 +64,7 @@ def main():
         out = os.path.join(folder, "out")
         for make, kind in ((repeated(BY_HAND), "mixed lines by hand"), (repeated(COMPILED), "lines of a compiler")):
             compare(program, kind, make, 5 * FEW, out)
+        compare(program, "labels in no order", unordered, WORDS, out)
         for make, kind in ((canonical, "canonical lines"), (labels, "labels")):
             compare(program, f"{WORDS} {kind}", make, WORDS, out)
             for count in (WORDS // 16, WORDS // 4, WORDS):
