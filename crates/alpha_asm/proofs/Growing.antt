@@ -15,6 +15,7 @@ use Rattle.alpha_asm.specs.Patches.{raw_insns, raw_cell, raw_cells, raw_bytes, f
 use Rattle.alpha_asm.specs.Pass.{place_of, spot_at, with_label, here, AddsItem, Stands}
 use Rattle.alpha_asm.proofs.Pushing.{length-raw_cell}
 use Rattle.alpha_asm.proofs.Sound.{sound-behind}
+use Rattle.alpha_asm.proofs.Levels.{leveled-behind}
 
 abbrev pub item_behind : List LineSaid → LineSaid → Placed
 item_behind is i = record { place = end is; line = length is + 1; item = i }
@@ -112,6 +113,7 @@ grow is i old new s placed_so fresh a = record {
       let size : length new.output.bytes.items ≡ length old.output.bytes.items + (data_size i.statement + filled_pad (place_of old) i.statement) =
       ap length a.statement.bytes ∙ (length-append old.output.bytes.items (raw_bytes (here old i)) ∙ ap (λ n. length old.output.bytes.items + n) (length-raw_bytes (here old i))) in
       rw (a.statement.place, size) (sound-behind (place_of old) (length old.output.bytes.items) i.statement placed_so s.sound);
+  leveled = rw (a.statement.place, a.statement.code) (leveled-behind (place_of old) old.output.code.items i.statement placed_so s.leveled);
   fields = a.statement.fields ∙ (ap (λ f. with_fields f i.statement) s.fields ∙ sym (ap fields (layout-snoc is i) ∙ fields-snoc (layout is) (item_behind is i)));
 }
 

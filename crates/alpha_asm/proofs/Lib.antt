@@ -13,3 +13,4 @@ pub mod Spreading
 pub mod Cells
 pub mod Said
 pub mod ModuleLines
+pub mod Levels

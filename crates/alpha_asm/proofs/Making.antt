@@ -31,7 +31,8 @@ use Rattle.alpha_asm.specs.Layout.{Placed, layout, start, end, first, fields, fi
 use Rattle.alpha_asm.specs.Program.{Known, Name, name, Need, by_insn, by_cell, by_entry, cell_name, insn_names, entry_names, names_in, code_in, bytes_in, known, segments_of, code_base_of, data_base_of, based, own_segments, address_of, quadword_of, reached, displaced, undefined_line, unmet_line, numbers_of, Program, program, program_with, version_of}
 use Rattle.alpha_asm.specs.Assembled.{made, made_at, unless}
 use Rattle.alpha_asm.specs.Patches.{Fix, fix, fix_of, entry_view, cell_fixes, fixes_in, fixes, raw_insns, raw_bytes, names_of, overlaid, code_at, code_with, bytes_with, code_after, bytes_after}
-use Rattle.alpha_asm.specs.Pass.{place_of, spot_at, fields_read, Filled, Sound, Stands}
+use Rattle.alpha_asm.specs.Pass.{place_of, spot_at, fields_read, Filled, Sound, Leveled, Stands}
+use Rattle.alpha_asm.proofs.Levels.{insns-after}
 use Rattle.alpha_asm.proofs.Whole.{code_whole, bytes_whole}
 
 pub made_so : (is : List LineSaid) (p : Pass) → Stands is p → made is ≡ made_at is (option_map entry_view p.fields.entry)
@@ -227,16 +228,18 @@ finishes is p entry k base f s e defined unmet code bytes level fields segments 
       unmet = unmet ∙ unmet-so is p k s e;
     }
 
-pub whole : (p : Pass) (entry : Entry) (k : Known) (base : ℕ) (f : Finished) → Sound (place_of p) (length p.output.bytes.items)
+pub whole : (p : Pass) (entry : Entry) (k : Known) (base : ℕ) (f : Finished) → Sound (place_of p) (length p.output.bytes.items) → Leveled (place_of p) p.output.code.items
+    → f.code.items ≡ code_after k (map fix_of p.output.patches.items) p.output.code.items
     → (length p.output.bytes.items ≤ 16777216 → f.bytes.items ≡ bytes_after k (map fix_of p.output.patches.items) p.output.bytes.items)
     → f.level ≡ p.place.level → f.fields ≡ fields_of k (fields_read p.fields) p.place.level entry → f.segments.items ≡ based base (p.place.earlier.items ++ p.place.last ∷ []) → IsWhole f
-whole p entry k base f sound bytes level fields segments =
+whole p entry k base f sound leveled code bytes level fields segments =
     let (filled, single) = own-filled p.place.level p.place.section p.place.earlier.items p.place.last base (length p.output.bytes.items) sound.filled in
     record {
       filled = λ fit. ap length (bytes (few_bytes p base f sound level segments fit)) ∙ (length-bytes_after k (map fix_of p.output.patches.items) p.output.bytes.items ∙ (filled
           ∙ sym (ap (λ l. filled_size (own_segments l f.segments.items)) level ∙ ap (λ l. filled_size (own_segments p.place.level l)) segments)));
       single = λ none. ap length segments ∙ single (sym level ∙ none);
       level = ap (λ g. g.level) fields ∙ ap (λ l. unwrap_or l 1) (sym level);
+      insns = rw (level, code) (insns-after p.place.level k (map fix_of p.output.patches.items) p.output.code.items leveled.insns);
     }
 
 -- the program, or why it has no image

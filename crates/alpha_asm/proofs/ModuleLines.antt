@@ -1,6 +1,7 @@
 -- What the lines of a module's source say, where none is refused.
-use Rattle.std.proofs.Common.{◌≡◌, ℕ, ◌+◌, ◌≤◌, List, [], ◌∷◌, ◌++◌, length, map, Bool, true, false, cond, not, ◌||◌, nat_lt, Option, None, Some, Result, Ok, Err, refl, sym, subst, arith}
+use Rattle.std.proofs.Common.{◌≡◌, ℕ, ◌+◌, ◌≤◌, List, [], ◌∷◌, ◌++◌, length, map, Bool, true, false, cond, not, ◌||◌, nat_lt, Option, None, Some, Result, Ok, Err, refl, sym, ap, ◌∙◌, subst, arith}
 use Rattle.std.specs.Prelude.{IfSome}
+use Rattle.std.specs.Option.{option_or}
 use Rattle.std.specs.List.{AllByRecursion}
 use Rattle.std.proofs.lemmas.Bool.{ltb-false}
 use Rattle.alpha_operands.specs.Values.{Listed, IsWholeList}
@@ -14,8 +15,8 @@ use Rattle.alpha_text.proofs.Items.{list-whole}
 use Rattle.alpha_text.proofs.References.{read-well}
 use Rattle.alpha_asm.specs.declared.kind.SourceKind.TheVariants.{Module}
 use Rattle.alpha_asm.specs.declared.fault.AsmFault.TheVariants.{Duplicate, Section, LongLine}
-use Rattle.alpha_asm.specs.Statement.{coded, cells, cell_of, number, bytes_up_to, segment_in, entry_in}
-use Rattle.alpha_asm.specs.Layout.{layout, end, fields, spot_of, suits_module, is_misplaced, repeats_field, repeats_label}
+use Rattle.alpha_asm.specs.Statement.{coded, cells, cell_of, number, bytes_up_to, level_in, segment_in, entry_in}
+use Rattle.alpha_asm.specs.Layout.{Place, layout, start, behind, behind_all, end, fields, spot_of, suits_module, is_misplaced, repeats_field, repeats_label}
 use Rattle.alpha_asm.specs.Assembled.{item_at, refused_read, refused, first_refused}
 use Rattle.alpha_asm.specs.Unlinked.{IsReached, IsCell, IsUnlinked}
 use Rattle.alpha_asm.proofs.Cells.{values_cells}
@@ -71,6 +72,10 @@ no_entry (says.entry_at n) h = cc
 no_entry (says.entry_label label offset) h = cc
 no_entry _ h = refl
 
+no_level : (s : Said) → suits_module s ≡ true → level_in s ≡ None
+no_level (says.level n) h = cc
+no_level _ h = refl
+
 no_segment : (s : Said) → suits_module s ≡ true → segment_in s ≡ None
 no_segment (says.segment base) h = cc
 no_segment _ h = refl
@@ -84,6 +89,7 @@ read_unlinked line i short e suits =
       insn = insn_well i.statement refers suits;
       cells = cells_well i.statement refers (λ bytes list s. list-whole line i bytes list e s);
       entry = no_entry i.statement suits;
+      level = no_level i.statement suits;
       segment = no_segment i.statement suits;
     }
 
@@ -111,3 +117,12 @@ lines_unlinked is [] h = tt
 lines_unlinked is (line ∷ ls) h =
     let (here, there) = neither (refused Module is line) (first_refused Module (is ++ item_at line ∷ []) ls) h in
     (line_unlinked is line here, lines_unlinked (is ++ item_at line ∷ []) ls there)
+
+level_behind : (p : Place) (is : List LineSaid) → AllByRecursion IsUnlinked is → p.level ≡ None → (behind_all p is).level ≡ None
+level_behind p [] good h = h
+level_behind p (i ∷ is) (here, there) h = level_behind (behind p i.statement) is there (ap (λ l. option_or l p.level) here.level ∙ h)
+
+-- no line sets a level
+pub level_unset : (is : List LineSaid) → AllByRecursion IsUnlinked is → (end is).level ≡ None
+unfolding end
+level_unset is good = level_behind start is good refl

@@ -40,11 +40,11 @@ same p next more size added g z stays f = widens p.level p.section next p.earlie
 grows : (p : Place) (more : Segment) (size added : ℕ) → more.filled ≡ p.last.filled + added → (p.section ≡ Code → ⊥) → Filled p.level p.section p.earlier p.last size → Filled p.level p.section p.earlier more (size + added)
 grows p more size added g stands f = widens p.level p.section p.section p.earlier p.last more size added g (λ n e h c. absurd (stands c)) f
 
-ended : (b : Bool) → (b || true) ≡ false → ⊥
+pub ended : (b : Bool) → (b || true) ≡ false → ⊥
 ended true h = cc
 ended false h = cc
 
-still : (b : Bool) → (b || false) ≡ false → b ≡ false
+pub still : (b : Bool) → (b || false) ≡ false → b ≡ false
 still true h = cc
 still false h = refl
 

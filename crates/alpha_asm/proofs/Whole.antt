@@ -18,7 +18,7 @@ use Rattle.alpha_asm.specs.Program.{Known, list_of, insn_name, insn_names, entry
 use Rattle.alpha_asm.specs.Patches.{Fix, fix, raw_insns, raw_cells, raw_bytes, cell_fixes, fixes_in, fixes, code_at, code_with, overlaid, bytes_with, code_after, bytes_after}
 use Rattle.alpha_asm.proofs.Pushing.{length-low_bytes}
 
-slice_get-seam : {A : Type 0} (xs ys : List A) (y : A) → slice_get (xs ++ y ∷ ys) (length xs) ≡ Some y
+pub slice_get-seam : {A : Type 0} (xs ys : List A) (y : A) → slice_get (xs ++ y ∷ ys) (length xs) ≡ Some y
 slice_get-seam [] ys y = refl
 slice_get-seam (x ∷ xs) ys y = slice_get-seam xs ys y
 

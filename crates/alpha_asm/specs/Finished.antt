@@ -1,5 +1,5 @@
 -- A program with all addresses put in, as the code has it.
-use Rattle.std.specs.Prelude.{◌≡◌, ℕ, List, length, Option, None, Result, Ok}
+use Rattle.std.specs.Prelude.{◌≡◌, ℕ, List, length, All, Option, None, Result, Ok}
 use Rattle.std.specs.Option.{option_map, unwrap_or}
 use Rattle.std.specs.List.{flat_map}
 use Rattle.alpha_text.specs.Reading.{LineSaid}
@@ -14,6 +14,7 @@ use Rattle.alpha_asm.specs.Statement.{Entry}
 use Rattle.alpha_asm.specs.Layout.{Fields, layout, end, first}
 use Rattle.alpha_asm.specs.Program.{Program, Known, names_in, undefined_line, unmet_line, code_in, bytes_in, known, stack_of, entry_number, version_of, own_segments, numbers_of, program_with}
 use Rattle.alpha_asm.specs.Assembled.{unless}
+use Rattle.alpha_asm.specs.Pass.{IsAtLevel}
 
 -- the numbers of an image that its code, data bytes and segments don't give
 abbrev pub fields_of : Known → Fields → Option ℕ → Entry → LevelFields
@@ -38,11 +39,13 @@ finished_result f =
     (Ok (finished_program f)))
 
 -- Where no field is bad, the data bytes are those of the segments; else they may be missing, since there may be more of them
--- than an image may have. Without a level there is one segment, and the image has the first level.
+-- than an image may have. Without a level there is one segment, and the image has the first level. Each instruction is there
+-- at the level.
 pub record IsWhole (f : Finished) : Type 0 where
   pub filled : FieldsFit (finished_numbers f) → length f.bytes.items ≡ filled_size (own_segments f.level f.segments.items)
   pub single : f.level ≡ None → length f.segments.items ≡ 1
   pub level : f.fields.level ≡ unwrap_or f.level 1
+  pub insns : All (IsAtLevel f.level) f.code.items
 
 -- it is that of the items and an entry
 pub record Finishes (is : List LineSaid) (entry : Entry) (f : Finished) : Type 0 where

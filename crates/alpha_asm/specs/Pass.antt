@@ -1,9 +1,11 @@
 -- What the state of the pass is behind some lines.
-use Rattle.std.specs.Prelude.{◌≡◌, ℕ, true, ◌+◌, ◌*◌, ◌^◌, ◌<◌, ◌≤◌, ◌||◌, false, List, [], ◌∷◌, ◌++◌, length, map, Option, None, Some, if◌then◌else◌}
-use Rattle.std.specs.Option.{option_map}
+use Rattle.std.specs.Prelude.{◌≡◌, ℕ, true, ◌+◌, ◌*◌, ◌^◌, ◌<◌, ◌≤◌, ◌||◌, false, List, [], ◌∷◌, ◌++◌, length, map, All, Option, None, Some, if◌then◌else◌}
+use Rattle.std.specs.Option.{option_map, unwrap_or}
 use Rattle.std.specs.List.{flat_map}
 use Rattle.std.specs.Str.{bytes_eq}
+use Rattle.alpha_words.specs.Levels.{level_number}
 use Rattle.alpha_table.specs.declared.form.Form.{Form}
+use Rattle.alpha_table.specs.Columns.{level_of}
 use Rattle.alpha_text.specs.Statements.{code}
 use Rattle.alpha_text.specs.Reading.{LineSaid}
 use Rattle.alpha_asm.specs.declared.kind.SourceKind.{SourceKind}
@@ -101,6 +103,16 @@ pub record Sound (p : Place) (size : ℕ) : Type 0 where
   pub filled : Filled p.level p.section p.earlier p.last size
   pub fresh : p.begun ≡ false → (p.level ≡ None) × (p.section ≡ sections.Code) × (size ≡ 0)
 
+-- an instruction is there at the level of a `.level`, or at 1 without one
+abbrev pub IsAtLevel : Option ℕ → Form → Type 0
+IsAtLevel level i = level_number (level_of i) ≤ unwrap_or level 1
+
+-- The instructions before a place are there at its level. Before the first statement there are none, so that a `.level`
+-- finds none.
+pub record Leveled (p : Place) (code : List Form) : Type 0 where
+  pub insns : All (IsAtLevel p.level) code
+  pub fresh : p.begun ≡ false → code ≡ []
+
 -- the state is that behind the lines with these items
 pub record Stands (is : List LineSaid) (p : Pass) : Type 0 where
   pub line : p.line ≡ length is
@@ -111,3 +123,4 @@ pub record Stands (is : List LineSaid) (p : Pass) : Type 0 where
   pub labels : (name : List ℕ) → spot_at p name ≡ spot_of (layout is) name
   pub fields : fields_read p.fields ≡ fields (layout is)
   pub sound : Sound (place_of p) (length p.output.bytes.items)
+  pub leveled : Leveled (place_of p) p.output.code.items

@@ -7,7 +7,7 @@ use Rattle.alpha_text.specs.Reading.{LineSaid}
 use Rattle.alpha_asm.specs.declared.statement.Use.{Use}
 use Rattle.alpha_asm.specs.declared.statement.Use.TheVariants as uses
 use Rattle.alpha_asm.specs.declared.unlinked.Unlinked.{Unlinked}
-use Rattle.alpha_asm.specs.Statement.{Reference, Coded, coded, Cell, number, address, cells, segment_in, entry_in}
+use Rattle.alpha_asm.specs.Statement.{Reference, Coded, coded, Cell, number, address, cells, level_in, segment_in, entry_in}
 use Rattle.alpha_asm.specs.Layout.{is_ldah, is_lda, layout, end, spot_of}
 use Rattle.alpha_asm.specs.Patches.{fix_of, raw_insns, raw_bytes, fixes}
 use Rattle.alpha_asm.specs.Labels.{spot_named}
@@ -40,10 +40,11 @@ IsCell (number bytes value) = ⊤
 IsCell (address r) = IsAddress r
 
 -- What a line of a module's source says. Its label and those that it names are whole, an address goes into an instruction
--- that takes it, and there is neither an entry nor a further segment.
+-- that takes it, and there is neither an entry nor a level nor a further segment.
 pub record IsUnlinked (i : LineSaid) : Type 0 where
   pub label : IfSome i.label (IsLabel 1024)
   pub insn : IfSome (coded i.statement) IsReached
   pub cells : AllByRecursion IsCell (cells i.statement)
   pub entry : entry_in i.statement ≡ None
+  pub level : level_in i.statement ≡ None
   pub segment : segment_in i.statement ≡ None

@@ -1,9 +1,10 @@
-ghost use Rattle.std.specs.Prelude.{◌≡◌, ℕ, List, [], ◌∷◌, false, None, Some, is_some, map, IfOk, IfSome, if◌then◌else◌};
+ghost use Rattle.std.specs.Prelude.{◌≡◌, ℕ, List, [], ◌∷◌, false, None, Some, is_some, map, slice_get, IfOk, IfSome, if◌then◌else◌};
+ghost use Rattle.std.specs.Option.{option_and_then};
 ghost use Rattle.std.specs.Cmp.{on_per, on_equiv, partial_equiv_from_equiv};
 ghost use Rattle.std.specs.Cmp.Lexicographic.{nat_list_eq_equiv, bytes_decides};
 ghost use Rattle.std.specs.Hash.{on_Alike, same_Alike};
 ghost use Rattle.std.specs.Str.{bytes_eq};
-ghost use Rattle.alpha_asm.specs.Labels.{spot_named, are_among};
+ghost use Rattle.alpha_asm.specs.Labels.{spot_named, label_names, are_among};
 
 use crate::place::Spot;
 use indexmap::IndexMap;
@@ -77,8 +78,7 @@ impl BuildHasher for Seeded {
     }
 }
 
-/// The labels that a source defines. Each has a number, by which it is found without its hash. Which one
-/// that is no clause says, so the label that a number finds is compared with the one that is sought.
+/// The labels that a source defines. Each has a number from 0, by which it is found without its hash.
 #[derive(Drop)]
 pub struct Labels<'a> {
     spots: IndexMap<Label<'a>, Spot, Seeded>,
@@ -108,24 +108,28 @@ impl<'a> Labels<'a> {
         self.spots.get(&Label { name }).copied()
     }
 
-    /// A number of a label, which it has exactly where it is defined.
+    /// The number of a label, `None` exactly where it isn't defined.
     pub fn number(&self, name: &'a [u8]) -> Option<usize>
-        ensures { is_some result ≡ is_some (spot_named self.now name.now) }
+        ensures defined { is_some result ≡ is_some (spot_named self.now name.now) }
+        ensures number { IfSome result (λ number.
+            slice_get (label_names self.now) number ≡ Some name.now) }
     {
         self.spots.get_index_of(&Label { name })
     }
 
-    /// A label that is defined, and where, or `None`. It is the one with this number, but no clause says so.
-    pub fn numbered(&self, number: usize) -> Option<(&'a [u8], Spot)>
-        ensures { IfSome result (λ label. spot_named self.now label.0.now ≡ Some label.1) }
+    /// Where the label with a number is defined, `None` exactly where none has it.
+    pub fn numbered(&self, number: usize) -> Option<Spot>
+        ensures { result ≡ option_and_then (spot_named self.now) (slice_get (label_names self.now) number) }
     {
-        let (label, spot) = self.spots.get_index(number)?;
-        Some((label.name, *spot))
+        let (_label, spot) = self.spots.get_index(number)?;
+        Some(*spot)
     }
 
-    /// The names of all labels. They stand in the order of their numbers, but no clause says so.
+    /// The names of all labels, in the order of their numbers.
     pub fn names(&self, alloc: Global) -> Result<Vec<&'a [u8]>, AllocError>
-        ensures { IfOk result (λ names. (name : List ℕ) → are_among names.items name ≡ is_some (spot_named self.now name)) }
+        ensures names { IfOk result (λ names. map (λ n. n.now) names.items ≡ label_names self.now) }
+        ensures defined { IfOk result (λ names. (name : List ℕ) →
+            are_among names.items name ≡ is_some (spot_named self.now name)) }
     {
         names_of(alloc, self.spots.keys().as_slice())
     }

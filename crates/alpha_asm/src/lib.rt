@@ -24,9 +24,8 @@
 //!
 //! [`Section`], [`Spot`], [`Use`] and [`Displacement`] are what its definitions speak of, for crates that
 //! cite them, and [`Labels`], [`Patch`] and [`Need`] what [`Unlinked`] has. [`Use::displacement`],
-//! [`displaced`], [`put_quad`] and [`padding`] put addresses in and round sizes, [`are_within`] tests
-//! the level of code, and [`Label`] and [`Seeded`] are the keys and the hash of a map of labels, for a
-//! crate that links.
+//! [`displaced`], [`put_quad`] and [`padding`] put addresses in and round sizes, and [`Label`] and
+//! [`Seeded`] are the keys and the hash of a map of labels, for a crate that links.
 //!
 //! `specs/Statement.antt` has what a statement asks, `specs/Layout.antt` where each item stands,
 //! `specs/Program.antt` the program that the items make, and `specs/Assembled.antt` the image of a
@@ -62,7 +61,6 @@ pub use laws::laws_of_sources;
 pub use line_kind::LineKind;
 pub use patch::{Displacement, Need, Patch, displaced};
 pub use place::{Section, Spot, padding};
-pub use program::are_within;
 pub use statement::Use;
 pub use symbols::{Symbols, assemble_with_symbols};
 pub use unlinked::Unlinked;

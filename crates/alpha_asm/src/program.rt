@@ -1,13 +1,13 @@
-ghost use Rattle.std.specs.Prelude.{◌≡◌, ◌≢◌, ◌++◌, ◌∷◌, [], length, Some, Ok, Err, All, IsTrue, IfNone, IfOk, IfErr};
+ghost use Rattle.std.specs.Prelude.{◌≡◌, ◌≢◌, ◌++◌, ◌∷◌, [], length, Some, Ok, Err, All, IfNone, IfOk, IfErr};
 ghost use Rattle.std.specs.List.{flat_map};
 ghost use Rattle.std.specs.Option.{option_map, option_or};
-ghost use Rattle.alpha_image.specs.Parts.{IsCodeInsn, numbered_level};
+ghost use Rattle.alpha_table.specs.Row.{IsInsn};
 ghost use Rattle.alpha_image.specs.Rules.{FieldsFit, least_bad_field};
 ghost use Rattle.alpha_asm.specs.Layout.{first, layout};
 ghost use Rattle.alpha_asm.specs.Program.{program_of, version_of, based, own_segments, known, names_in, undefined_line};
 ghost use Rattle.alpha_asm.specs.Assembled.{made};
 ghost use Rattle.alpha_asm.specs.Patches.{entry_view};
-ghost use Rattle.alpha_asm.specs.Pass.{place_of, fields_read, Sound, Stands};
+ghost use Rattle.alpha_asm.specs.Pass.{place_of, fields_read, Sound, Leveled, Stands};
 ghost use Rattle.alpha_asm.specs.Bases.{known_of};
 ghost use Rattle.alpha_asm.specs.Finished.{fields_of, finished_numbers, finished_result, IsWhole, Finishes};
 ghost use Rattle.alpha_asm.specs.declared.fault.AsmFault.TheVariants as faults;
@@ -18,8 +18,7 @@ use crate::fields::{Entry, FieldsRead};
 use crate::label::Labels;
 use crate::pass::Pass;
 use alpha_image::{Image, LevelFields, Segment, Version};
-use alpha_table::{Insn, level_of};
-use alpha_words::Level;
+use alpha_table::Insn;
 use std::alloc::AllocError;
 
 /// Without a `.codebase`.
@@ -64,36 +63,14 @@ fn version_of(level: Option<u8>) -> Version
     }
 }
 
-// The level of the code.
-fn code_level(fields: &LevelFields) -> Level
-    ensures { result ≡ numbered_level fields.now.level }
-{
-    if fields.level == 2 {
-        Level::Two
-    } else {
-        Level::One
-    }
-}
-
-/// Whether each instruction is there at a level, where each is one of the table.
-pub fn are_within(level: Level, code: &[Insn]) -> bool
-    ensures { IsTrue result → All (IsCodeInsn level) code.now }
+/// Says of instructions that each is one of the table, which a proof knows of one whose form is asked
+/// for. The call is there for this clause alone: nothing is done with the forms.
+pub(crate) fn insns_fit(code: &[Insn])
+    ensures { All IsInsn code.now }
 {
     for insn in code {
-        if !is_within(level, insn) {
-            return false;
-        }
+        let _form = insn.form();
     }
-    true
-}
-
-// Whether an instruction is there at a level.
-fn is_within(level: Level, insn: &Insn) -> bool
-    ensures { IsTrue result → IsCodeInsn level insn.now }
-{
-    // The instruction is one of the table: so its form says.
-    let _form = insn.form();
-    level == Level::Two || level_of(insn) == Level::One
 }
 
 /// A program with all addresses put in.
@@ -127,8 +104,8 @@ impl Finished {
         }
     }
 
-    // The image, if it has one. An instruction above the level was refused with its line, so each is
-    // within.
+    // The image, if it has one. Each instruction is there at the level: one above it was refused with
+    // its line.
     fn image(self) -> Result<Image, AsmFault>
         requires { IsWhole self }
         ensures ok { IfOk result (λ image. finished_result self ≡ Ok (program_of image)) }
@@ -145,9 +122,7 @@ impl Finished {
             bytes,
             unmet: _,
         } = self;
-        if !are_within(code_level(&fields), &code) {
-            return Err(AsmFault::NoMemory);
-        }
+        insns_fit(&code);
         let own = own_segments(level, &segments);
         Ok(Image::of_program(version_of(level), &fields, own, code, bytes))
     }
@@ -159,7 +134,8 @@ impl Finished {
 ///
 /// `NoEntry`, `Undefined`, `ImageField` or `Reach`, the first in this order.
 pub(crate) fn made<'a>(pass: Pass<'a>) -> Result<(Image, Labels<'a>), AsmFault>
-    requires { Sound (place_of pass) (length pass.output.bytes.items) }
+    requires sound { Sound (place_of pass) (length pass.output.bytes.items) }
+    requires leveled { Leveled (place_of pass) pass.output.code.items }
     ensures ok { IfOk result (λ r. (is : _) → Stands is pass.entry → made is ≡ Ok (program_of r.0)) }
     ensures labels { IfOk result (λ r. r.1 ≡ pass.entry.labels) }
     ensures refused { IfErr result (λ fault. fault ≢ faults.NoMemory →
@@ -196,7 +172,8 @@ fn fields_of<'a>(
 
 // Puts all addresses in.
 fn finish<'a>(pass: Pass<'a>, entry: &Entry<'a>) -> Result<(Finished, Labels<'a>), AsmFault>
-    requires { Sound (place_of pass) (length pass.output.bytes.items) }
+    requires sound { Sound (place_of pass) (length pass.output.bytes.items) }
+    requires leveled { Leveled (place_of pass) pass.output.code.items }
     ensures whole { IfOk result (λ r. IsWhole r.0) }
     ensures ok { IfOk result (λ r. (is : _) → Stands is pass.entry →
         Finishes is (entry_view entry.now) r.0) }

@@ -1,6 +1,9 @@
-ghost use Rattle.std.specs.Prelude.{◌≡◌, ◌≢◌, ◌≤◌, ◌<◌, ◌^◌, [], length, map, Some, None, OnOk, IfOk, IfErr};
+ghost use Rattle.std.specs.Prelude.{◌≡◌, ◌≢◌, ◌≤◌, ◌<◌, ◌^◌, [], length, map, All, Some, None, OnOk, IfOk, IfErr};
 ghost use Rattle.std.specs.List.{AllByRecursion};
 ghost use Rattle.std.specs.Str.Lines.{lines};
+ghost use Rattle.alpha_words.specs.declared.Level.TheVariants.{One};
+ghost use Rattle.alpha_image.specs.Parts.{IsCodeInsn};
+ghost use Rattle.alpha_asm.specs.Layout.{end};
 ghost use Rattle.alpha_asm.specs.Assembled.{item_at, first_refused};
 ghost use Rattle.alpha_asm.specs.Pass.{Stands};
 ghost use Rattle.alpha_asm.specs.Unlinked.{Makes, IsUnlinked};
@@ -14,7 +17,7 @@ use crate::label::Labels;
 use crate::line_kind::LineKinds;
 use crate::pass::Pass;
 use crate::patch::Patch;
-use crate::program::MOST_DATA;
+use crate::program::{MOST_DATA, insns_fit};
 use alpha_table::Insn;
 use std::alloc::{AllocError, Global};
 
@@ -45,6 +48,7 @@ impl<'a> Unlinked<'a> {
         requires { length source.now < 2 ^ 32 }
         ensures makes { IfOk result (Makes (map item_at (lines source.now))) }
         ensures few { IfOk result (λ made. length made.bytes.items ≤ made.filled) }
+        ensures level { IfOk result (λ made. All (IsCodeInsn One) made.code.items) }
         ensures good { OnOk result (AllByRecursion IsUnlinked (map item_at (lines source.now))) }
         ensures taken { OnOk result (first_refused kinds.Module [] (lines source.now) ≡ None) }
         ensures refused { IfErr result (λ fault. fault ≢ faults.NoMemory →
@@ -61,10 +65,13 @@ impl<'a> Unlinked<'a> {
     fn behind(pass: Pass<'a>) -> Result<Unlinked<'a>, AllocError>
         ensures makes { IfOk result (λ made. (is : _) → Stands is pass.entry → Makes is made) }
         ensures few { IfOk result (λ made. length made.bytes.items ≤ made.filled) }
+        ensures level { IfOk result (λ made. (is : _) → Stands is pass.entry → (end is).level ≡ None →
+            All (IsCodeInsn One) made.code.items) }
     {
         let filled = pass.output.bytes.len();
         let zeroed = pass.place.last.zeroed;
         let code = pass.output.code;
+        insns_fit(&code);
         let patches = pass.output.patches;
         let bytes = pass.output.bytes.spread_within(MOST_DATA)?;
         Ok(Unlinked {

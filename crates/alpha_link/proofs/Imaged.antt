@@ -59,7 +59,7 @@ pub record Reaches (d : Displacement) : Type 0 where
   pub address : ℤ
   pub reached_so : reached by pc address ≡ Some d
 
-displacement_reaches : (addresses : List (Option ℕ)) (l : Located) (r : Relocation) (d : Displacement) → displacement addresses l r ≡ Some d → Reaches d
+pub displacement_reaches : (addresses : List (Option ℕ)) (l : Located) (r : Relocation) (d : Displacement) → displacement addresses l r ≡ Some d → Reaches d
 displacement_reaches addresses l r d e = go (use_of r.kind) (target addresses r) e
   where
     go : (u : Option Use) (a : Option ℤ) → option_and_then (λ by. option_and_then (reached by (0x10000 + 4 * l.words + r.offset)) a) u ≡ Some d → Reaches d
@@ -77,7 +77,7 @@ insn_allowed kind d i h good = either (is_taken_by kind i)
 there : (code : List Form) (place : ℕ) (i : Form) → slice_get code place ≡ Some i → All IsAllowed code → IsAllowed i
 there code place i e all = subst IsAllowed (get_or_from_slice_get code place i i e) (all place i (slice_get_within code place i e))
 
-code_at_allowed : (kind : RelocationKind) (place : ℕ) (o : Option Displacement) (code : List Form) → ((d : Displacement) → o ≡ Some d → Reaches d) → All IsAllowed code → All IsAllowed (code_at kind place o code)
+pub code_at_allowed : (kind : RelocationKind) (place : ℕ) (o : Option Displacement) (code : List Form) → ((d : Displacement) → o ≡ Some d → Reaches d) → All IsAllowed code → All IsAllowed (code_at kind place o code)
 code_at_allowed kind place None code h all = all
 code_at_allowed kind place (Some d) code h all = go (slice_get code place) refl
   where
@@ -99,7 +99,7 @@ word_allowed w i good e = (
 )
 
 -- and those of good words
-words_allowed : (words : List ℕ) → All (IsCodeWord levels.One) words → All IsAllowed (filter_map decoded words)
+pub words_allowed : (words : List ℕ) → All (IsCodeWord levels.One) words → All IsAllowed (filter_map decoded words)
 words_allowed [] all = All-nil IsAllowed
 words_allowed (w ∷ words) all = go (decoded w) refl (words_allowed words (All-tail (IsCodeWord levels.One) w words all))
   where

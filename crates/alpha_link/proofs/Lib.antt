@@ -13,12 +13,15 @@ pub mod Rising
 pub mod NameKeys
 pub mod Repeats
 pub mod SourceNames
+pub mod Numbered
+pub mod Ranks
 pub mod MadeModules
 pub mod Lists
 pub mod Naming
 pub mod Shifting
 pub mod Joining
 pub mod Imaged
+pub mod LinkedInsns
 pub mod MadeSizes
 pub mod MadeSymbols
 pub mod MadeRelocations

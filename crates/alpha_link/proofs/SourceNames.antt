@@ -3,7 +3,11 @@ use Rattle.std.proofs.Common.{◌≡◌, ℕ, Bool, true, false, cond, ◌||◌,
 use Rattle.std.specs.Prelude.{is_none}
 use Rattle.std.specs.Option.{option_or}
 use Rattle.std.specs.List.{list_any, flat_map, cons_option}
+use Rattle.std.specs.List.Sorted.{IsSorted}
+use Rattle.std.specs.Ordering.{nat_cmp}
+use Rattle.std.specs.Cmp.Lexicographic.{slice_cmp, on_texts, texts_ties}
 use Rattle.std.specs.Str.{bytes_eq}
+use Rattle.std.proofs.lemmas.List.Kept.{IsStrictlySortedBy-dedup}
 use Rattle.std.proofs.lemmas.List.Folds.{list_any-append}
 use Rattle.std.proofs.lemmas.Slice.Eq.{bytes_eq-Decides}
 use Rattle.alpha_text.specs.Reading.{LineSaid}
@@ -16,9 +20,11 @@ use Rattle.alpha_asm.specs.Patches.{Fix, fix_of, fixes}
 use Rattle.alpha_asm.specs.Labels.{spot_named, are_among}
 use Rattle.alpha_asm.specs.Unlinked.{Makes}
 use Rattle.alpha_asm.proofs.Making.{names-all}
+use Rattle.alpha_link.specs.declared.keyed.KeyedName.{KeyedName}
 use Rattle.alpha_link.specs.Rising.{Rise}
 use Rattle.alpha_link.specs.Made.{labels_in, references_in, all_names}
-use Rattle.alpha_link.proofs.Rising.{rising_is}
+use Rattle.alpha_link.proofs.Repeats.{distinct}
+use Rattle.alpha_link.proofs.Rising.{rising_is, dedup_any}
 
 same_way : (a b : List ℕ) → bytes_eq a b ≡ bytes_eq b a
 same_way a b = by (bytes_eq a b) refl (bytes_eq b a) refl
@@ -89,12 +95,11 @@ undefined_any known q ps = by (is_some (known q)) refl
     by false e = all e ps
 
 -- the names that were sorted are those that the items define or name
-pub names_among : (is : List LineSaid) (u : Unlinked) (old pushed new : List (Bor (List ℕ))) → Makes is u
-    → ((q : List ℕ) → are_among old q ≡ is_some (spot_named u.labels q))
-    → ((q : List ℕ) → are_among pushed q ≡ (are_among old q || list_any (λ p. is_none (spot_named u.labels p.to.label.now) && bytes_eq q p.to.label.now) u.patches.items))
-    → ((q : List ℕ) → are_among new q ≡ are_among pushed q) → (q : List ℕ) → are_among new q ≡ list_any (bytes_eq q) (labels_in (layout is) ++ references_in (layout is))
-names_among is u old pushed new makes before undefined same q =
-    same q ∙ undefined q ∙ ap (λ b. b || list_any (λ p. is_none (spot_named u.labels p.to.label.now) && bytes_eq q p.to.label.now) u.patches.items) (before q)
+pub names_among : (is : List LineSaid) (u : Unlinked) (numbered sorted : List (Bor (List ℕ))) → Makes is u
+    → ((q : List ℕ) → are_among numbered q ≡ (is_some (spot_named u.labels q) || list_any (λ p. is_none (spot_named u.labels p.to.label.now) && bytes_eq q p.to.label.now) u.patches.items))
+    → ((q : List ℕ) → are_among sorted q ≡ are_among numbered q) → (q : List ℕ) → are_among sorted q ≡ list_any (bytes_eq q) (labels_in (layout is) ++ references_in (layout is))
+names_among is u numbered sorted makes all same q =
+    same q ∙ all q
     ∙ undefined_any (spot_named u.labels) q u.patches.items
     ∙ ap (λ b. b || list_any (λ p. bytes_eq q p.to.label.now) u.patches.items) (ap is_some (makes.labels q) ∙ defined_any q (layout is))
     ∙ ap (λ b. list_any (bytes_eq q) (labels_in (layout is)) || b) (named_any q is u.patches.items makes.patches)
@@ -103,3 +108,12 @@ names_among is u old pushed new makes before undefined same q =
 pub names_are : (is : List LineSaid) (new : List (Bor (List ℕ))) → Rise new → ((q : List ℕ) → are_among new q ≡ list_any (bytes_eq q) (labels_in (layout is) ++ references_in (layout is))) → map (λ n. n.now) new ≡ all_names is
 unfolding all_names
 names_are is new rise among = rising_is new (labels_in (layout is) ++ references_in (layout is)) rise among
+
+-- sorted names rise without their repetitions
+pub sorted_rise : (ks : List KeyedName) → IsSorted (λ a b. slice_cmp nat_cmp a.now b.now) (map (λ k. k.name) ks) → Rise (distinct (map (λ k. k.name) ks))
+sorted_rise ks sorted = IsStrictlySortedBy-dedup (on_texts (λ x. x.now)) (λ x y. texts_ties x.now y.now) _ sorted
+
+-- and have the same members
+pub sorted_among : (ks : List KeyedName) (names : List (Bor (List ℕ))) → ((q : List ℕ) → list_any (λ k. bytes_eq q k.name.now) ks ≡ are_among names q) → (q : List ℕ) → are_among (distinct (map (λ k. k.name) ks)) q ≡ are_among names q
+sorted_among ks names same q =
+    dedup_any q (map (λ (k : KeyedName). k.name) ks) ∙ (map_any (λ (n : Bor (List ℕ)). bytes_eq q n.now) (λ (k : KeyedName). k.name) ks ∙ same q)

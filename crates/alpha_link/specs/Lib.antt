@@ -11,6 +11,7 @@ pub mod Linked
 pub mod Rising
 pub mod NameKeys
 pub mod Made
+pub mod Numbered
 pub mod Names
 pub mod Output
 pub mod Unlinked

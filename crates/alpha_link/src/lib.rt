@@ -46,8 +46,9 @@
 //! `header.rt` has the sizes at the front, `symbol.rt` and `relocation.rt` have what symbols and
 //! relocations are, `symbols.rt` and `relocations.rt` read and write them, `number.rt` reads a number of two
 //! bytes; `read.rt` and `write.rt` are the ways in and out, and `judged.rt` has the verdict.
-//! A module of a source is `made.rt`, on `labels.rt` with the labels in rising order, which
-//! `keyed.rt` sorts, `made_symbols.rt` and `made_relocations.rt`.
+//! A module of a source is `made.rt`. `labels.rt` numbers the labels that the source defines or names, and
+//! `made_relocations.rt` makes relocations by these numbers; `keyed.rt` sorts the labels, and
+//! `made_symbols.rt` makes their symbols, and the ranks that go into the relocations.
 //!
 //! The linker goes over the modules four times. `located.rt` says where each one stands, and `names.rt`
 //! holds the addresses of the names that they define in one table, in which each symbol's name is then
@@ -57,8 +58,9 @@
 //! `specs/Reading.antt` says how bytes are read from the front, `specs/Header.antt`, `specs/Symbols.antt`
 //! and `specs/Relocations.antt` which items there are and which are good, `specs/Parts.antt` what a module
 //! is, `specs/Spelled.antt` its bytes both ways, and `specs/Module.antt` what a [`Module`] holds;
-//! `specs/Made.antt` has the module that a source makes, and `specs/Rising.antt` names in order
-//! and `specs/NameKeys.antt` the numbers that they are sorted by;
+//! `specs/Made.antt` has the module that a source makes, `specs/Numbered.antt` what is made by the numbers
+//! of labels on the way, `specs/Rising.antt` names in order, and `specs/NameKeys.antt` the keys that they are
+//! sorted by;
 //! `specs/Alike.antt` says which words no condition of a trap shadow tells apart. `specs/Names.antt` and
 //! `specs/Output.antt` say what the linker holds on its way.
 #![tactic(auto)]

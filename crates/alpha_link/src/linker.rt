@@ -1,6 +1,6 @@
 //! The image that modules link to.
 
-ghost use Rattle.std.specs.Prelude.{◌≡◌, ◌≢◌, ◌≤◌, ℕ, List, length, [], ◌∷◌, Some, Ok, Err, IfOk, IfErr};
+ghost use Rattle.std.specs.Prelude.{◌≡◌, ◌≢◌, ◌≤◌, ℕ, List, length, [], ◌∷◌, Some, Ok, Err, All, IfOk, IfErr};
 ghost use Rattle.std.specs.Option.{option_map};
 ghost use Rattle.alpha_image.specs.Numbers.{level_numbers};
 ghost use Rattle.alpha_asm.specs.Program.{program_of, program_with};
@@ -9,6 +9,8 @@ ghost use Rattle.alpha_link.specs.Linked.{places, address_of, missing, unmet, en
 ghost use Rattle.alpha_link.specs.Names.{found_in};
 ghost use Rattle.alpha_link.specs.Output.{StandBehind, JoinsAll};
 ghost use Rattle.alpha_image.specs.Rules.{FieldsFit};
+ghost use Rattle.alpha_image.specs.Parts.{IsCodeInsn};
+ghost use Rattle.alpha_words.specs.declared.Level.TheVariants as levels;
 ghost use Rattle.alpha_image.specs.declared.version.Version.TheVariants.{One};
 
 use crate::LinkFault;
@@ -16,9 +18,7 @@ use crate::located::{CODE_BASE, DATA_BASE, Located, places};
 use crate::module::Module;
 use crate::names::Names;
 use crate::output::Output;
-use alpha_asm::are_within;
 use alpha_image::{Image, LevelFields, Segment, Version};
-use alpha_words::Level;
 use std::alloc::Global;
 
 /// How many stack bytes a linked image has.
@@ -99,6 +99,7 @@ fn joined<'m>(
     requires names { (name : List ℕ) → found_in names.now name ≡ address_of places.now name }
     requires stand { StandBehind 0 0 places.now }
     ensures ok { IfOk result (JoinsAll places.now) }
+    ensures insns { IfOk result (λ output. All (IsCodeInsn levels.One) output.code.items) }
     ensures refused { IfErr result (λ fault. fault ≢ faults.NoMemory →
         option_map (λ p. faults.Reach p.0 p.1) (unmet places.now) ≡ Some fault) }
 {
@@ -111,20 +112,17 @@ fn joined<'m>(
     Ok(output)
 }
 
-// The image of instructions and data bytes. Each instruction is of level 1, since those of modules are.
-fn image_of(fields: &LevelFields, segment: Segment, output: Output) -> Result<Image, LinkFault>
+// The image of instructions and data bytes.
+fn image_of(fields: &LevelFields, segment: Segment, output: Output) -> Image
     requires fields { FieldsFit (level_numbers fields.now (length output.code.items) (segment ∷ [])) }
     requires level { fields.now.level ≡ 1 }
     requires filled { length output.bytes.items ≡ segment.filled }
-    ensures ok { let numbers = level_numbers fields.now (length output.code.items) (segment ∷ []) in
-        IfOk result (λ image. program_of image ≡ program_with One numbers output.code.items output.bytes.items) }
-    ensures refused { IfErr result (λ fault. fault ≡ faults.NoMemory) }
+    requires insns { All (IsCodeInsn levels.One) output.code.items }
+    ensures { let numbers = level_numbers fields.now (length output.code.items) (segment ∷ []) in
+        program_of result ≡ program_with One numbers output.code.items output.bytes.items }
 {
     let Output { code, bytes } = output;
-    if !are_within(Level::One, &code) {
-        return Err(LinkFault::NoMemory);
-    }
-    Ok(Image::of_program(Version::One, fields, &[segment], code, bytes))
+    Image::of_program(Version::One, fields, &[segment], code, bytes)
 }
 
 // The image with an entry.
@@ -158,7 +156,7 @@ fn linked_at<'m>(
         return Err(LinkFault::ImageField(field));
     }
     let output = joined(alloc, names, places, totals)?;
-    image_of(&fields, segment, output)
+    Ok(image_of(&fields, segment, output))
 }
 
 /// The image that modules link to, 64 modules at most. Its entry is the address of a name. Memory taken

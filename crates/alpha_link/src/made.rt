@@ -1,18 +1,19 @@
 //! Modules that are made of sources.
 
 ghost use Rattle.std.specs.Prelude.{◌≡◌, ◌≢◌, ◌+◌, ◌<◌, ◌≤◌, ◌^◌, length, Ok, Err, All, IfOk, IfErr, IfNone};
-ghost use Rattle.alpha_image.specs.Parts.{IsByte};
+ghost use Rattle.alpha_words.specs.declared.Level.TheVariants.{One};
+ghost use Rattle.alpha_image.specs.Parts.{IsByte, IsCodeInsn};
 ghost use Rattle.alpha_asm.specs.Unlinked.{Makes};
 ghost use Rattle.alpha_asm.specs.declared.fault.AsmFault.TheVariants as faults;
 ghost use Rattle.alpha_link.specs.Made.{bad_field, sized, module_of, made_module};
 ghost use Rattle.alpha_link.specs.Unlinked.{IsOfLines};
 
-use crate::labels::all_names;
-use crate::made_relocations::relocations_of;
-use crate::made_symbols::symbols_of;
+use crate::keyed::by_keys;
+use crate::made_relocations::{Numbered, put_ranks};
+use crate::made_symbols::Ranked;
 use crate::module::Module;
-use alpha_asm::{AsmFault, Unlinked, are_within};
-use alpha_words::{Level, NoMemory};
+use alpha_asm::{AsmFault, Unlinked};
+use alpha_words::NoMemory;
 use std::alloc::Global;
 
 const MOST_WORDS: usize = 262_144;
@@ -45,27 +46,27 @@ fn bytes_fit(bytes: &[u8])
     let _first = bytes.first();
 }
 
-// The module of what was read. An instruction of level 2 was refused with its line, so each is of the
-// first.
+// The module of what was read.
 fn module_of<'a>(alloc: Global, unlinked: Unlinked<'a>) -> Result<Module<'a>, NoMemory>
     requires words { length unlinked.code.items ≤ 262144 }
     requires filled { unlinked.filled ≤ 16777216 }
     requires data { length unlinked.bytes.items + unlinked.zeroed ≤ 16777216 }
     requires lines { IsOfLines unlinked }
+    requires level { All (IsCodeInsn One) unlinked.code.items }
     ensures value { IfOk result (λ m. (is : _) → Makes is unlinked.entry → module_of is ≡ m) }
 {
-    if !are_within(Level::One, &unlinked.code) {
+    let labels = unlinked.labels;
+    let patches = unlinked.patches;
+    let Numbered {
+        names,
+        mut relocations,
+    } = Numbered::build(alloc, &labels, patches)?;
+    let sorted = by_keys(alloc, names)?;
+    let Ranked { symbols, ranks } = Ranked::build(alloc, &labels, &sorted)?;
+    if symbols.len() > 0xffff_ffff || relocations.len() > 0xffff_ffff {
         return Err(NoMemory);
     }
-    let sorted = all_names(alloc, &unlinked)?;
-    if sorted.names.len() > 0xffff_ffff {
-        return Err(NoMemory);
-    }
-    let relocations = relocations_of(alloc, &sorted, unlinked.patches)?;
-    if relocations.len() > 0xffff_ffff {
-        return Err(NoMemory);
-    }
-    let symbols = symbols_of(alloc, unlinked.labels, &sorted)?;
+    put_ranks(&mut relocations, &ranks);
     bytes_fit(&unlinked.bytes);
     Ok(Module {
         insns: unlinked.code,
@@ -80,6 +81,7 @@ fn module_of<'a>(alloc: Global, unlinked: Unlinked<'a>) -> Result<Module<'a>, No
 fn sized<'a>(alloc: Global, unlinked: Unlinked<'a>) -> Result<Module<'a>, AsmFault>
     requires few { length unlinked.bytes.items ≤ unlinked.filled }
     requires lines { IsOfLines unlinked }
+    requires level { All (IsCodeInsn One) unlinked.code.items }
     ensures ok { IfOk result (λ m. (is : _) → Makes is unlinked.entry → sized (module_of is) ≡ Ok m) }
     ensures refused { IfErr result (λ fault. fault ≢ faults.NoMemory →
         (is : _) → Makes is unlinked.entry → sized (module_of is) ≡ Err fault) }
@@ -108,8 +110,5 @@ pub fn make_module<'a>(alloc: Global, source: &'a [u8]) -> Result<Module<'a>, As
     ensures ok { IfOk result (λ m. made_module source.now ≡ Ok m) }
     ensures refused { IfErr result (λ fault. fault ≢ faults.NoMemory → made_module source.now ≡ Err fault) }
 {
-    match Unlinked::of(alloc, source) {
-        Ok(unlinked) => sized(alloc, unlinked),
-        Err(fault) => Err(fault),
-    }
+    sized(alloc, Unlinked::of(alloc, source)?)
 }

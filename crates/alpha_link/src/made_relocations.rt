@@ -1,16 +1,17 @@
 //! The relocations of a module that is made of a source.
 
-ghost use Rattle.std.specs.Prelude.{◌≡◌, ◌++◌, ℕ, [], map, Some, IfOk, OnOk, IfSome};
-ghost use Rattle.std.specs.Option.{option_map};
-ghost use Rattle.std.specs.List.{filter_map, cons_option};
+ghost use Rattle.std.specs.Prelude.{◌≡◌, ◌<◌, ◌||◌, ◌&&◌, ◌++◌, ℕ, List, [], All, map, length, Some, is_some, is_none, IfOk, OnOk, IfSome};
+ghost use Rattle.std.specs.List.{cons_option, list_any};
+ghost use Rattle.std.specs.Str.{bytes_eq};
+ghost use Rattle.alpha_asm.specs.Labels.{spot_named, are_among};
 ghost use Rattle.alpha_asm.specs.Patches.{fix_of, need_of};
 ghost use Rattle.alpha_asm.specs.declared.place.Section.TheVariants as sides;
-ghost use Rattle.alpha_link.specs.Rising.{Rise};
-ghost use Rattle.alpha_link.specs.Made.{number_in, kind_in, offset_in, relocation_with, relocation_for};
+ghost use Rattle.alpha_link.specs.Made.{kind_in, offset_in, relocation_with};
+ghost use Rattle.alpha_link.specs.Numbered.{texts, IsNumbered, ByNumbers, relocation_at, relocations_at, ranked};
 
-use crate::labels::SortedNames;
+use crate::labels::numbers_of;
 use crate::relocation::{Relocation, RelocationKind};
-use alpha_asm::{Need, Patch, Section, Use};
+use alpha_asm::{Labels, Need, Patch, Section, Use};
 use alpha_words::NoMemory;
 use std::alloc::Global;
 
@@ -58,45 +59,32 @@ fn addend_of(offset: i64) -> Option<i32>
     Some(offset as i32)
 }
 
-// The relocation of a kind at a patch, with a guess at its label's rank. Each label has a rank, and the
-// numbers of a source are small, so there is one.
-fn relocation_with<'a>(
-    kind: RelocationKind,
-    sorted: &SortedNames<'a>,
-    guess: u32,
-    patch: &Patch<'a>,
-) -> Option<Relocation>
-    requires { Rise sorted.now.names.items }
-    ensures { IfSome result (λ r. option_map
-        (relocation_with kind (offset_in (fix_of patch.now).at (fix_of patch.now).name.need) patch.now.to.offset)
-        (number_in (map (λ n. n.now) sorted.now.names.items) patch.now.to.label.now) ≡ Some r) }
+// The relocation of a kind at a patch, by the number of its label. The numbers of a source are small, so there is
+// one.
+fn relocation_with(kind: RelocationKind, number: u32, patch: &Patch<'_>) -> Option<Relocation>
+    ensures { let fix = fix_of patch.now in
+        IfSome result (λ r. relocation_with kind (offset_in fix.at fix.name.need) patch.now.to.offset number ≡ r) }
 {
-    let symbol = sorted.rank(guess, patch.to.label)?;
     let offset = offset_of(patch)?;
     let addend = addend_of(patch.to.offset)?;
-    if symbol > 0xffff_ffff {
-        return None;
-    }
     Some(Relocation {
         kind,
         offset,
-        symbol: symbol as u32,
+        symbol: number,
         addend,
     })
 }
 
-// The relocation of a patch that one of the two sections needs, if it does.
-fn relocation_for<'a>(
+// The relocation of a patch that one of the two sections needs, if it does, by the number of its label.
+fn relocation_at(
     side: Section,
-    sorted: &SortedNames<'a>,
-    guess: u32,
-    patch: &Patch<'a>,
+    patch: &Patch<'_>,
+    number: u32,
 ) -> Result<Option<Relocation>, NoMemory>
-    requires { Rise sorted.now.names.items }
-    ensures { IfOk result (λ r. relocation_for side (map (λ n. n.now) sorted.now.names.items) (fix_of patch.now) ≡ r) }
+    ensures { IfOk result (λ r. relocation_at side (fix_of patch.now) number ≡ r) }
 {
     match kind_in(side, patch.need) {
-        Some(kind) => match relocation_with(kind, sorted, guess, patch) {
+        Some(kind) => match relocation_with(kind, number, patch) {
             Some(relocation) => Ok(Some(relocation)),
             None => Err(NoMemory),
         },
@@ -105,54 +93,92 @@ fn relocation_for<'a>(
 }
 
 // Appends the relocation of a patch that one of the two sections needs, if it does.
-fn push_relocation_for<'a>(
+fn push_relocation_at(
     relocations: &mut Vec<Relocation>,
     side: Section,
-    sorted: &SortedNames<'a>,
-    guess: u32,
-    patch: &Patch<'a>,
+    patch: &Patch<'_>,
+    number: u32,
 ) -> Result<(), NoMemory>
-    requires { Rise sorted.now.names.items }
     ensures { OnOk result (relocations.new.items ≡ relocations.old.items
-        ++ cons_option (relocation_for side (map (λ n. n.now) sorted.now.names.items) (fix_of patch.now)) []) }
+        ++ cons_option (relocation_at side (fix_of patch.now) number) []) }
 {
-    match relocation_for(side, sorted, guess, patch)? {
+    match relocation_at(side, patch, number)? {
         Some(relocation) => Ok(relocations.push(relocation)?),
         None => Ok(()),
     }
 }
 
 // Appends the relocations of patches that one of the two sections needs.
-fn push_relocations_for<'a>(
+fn push_relocations_at(
     relocations: &mut Vec<Relocation>,
     side: Section,
-    sorted: &SortedNames<'a>,
-    patches: &[Patch<'a>],
+    patches: &[Patch<'_>],
+    numbers: &[u32],
 ) -> Result<(), NoMemory>
-    requires { Rise sorted.now.names.items }
+    requires { length numbers.now ≡ length patches.now }
     ensures { OnOk result (relocations.new.items ≡ relocations.old.items
-        ++ filter_map (relocation_for side (map (λ n. n.now) sorted.now.names.items)) (map fix_of patches.now)) }
+        ++ relocations_at side (map fix_of patches.now) numbers.now) }
 {
-    for (number, patch) in patches.iter().enumerate() {
-        let guess = sorted.patched.get(number).copied().unwrap_or(u32::MAX);
-        push_relocation_for(relocations, side, sorted, guess, patch)?;
+    for (at, patch) in patches.iter().enumerate() {
+        push_relocation_at(relocations, side, patch, numbers[at])?;
     }
     Ok(())
 }
 
-/// The relocations of patches, which aren't needed any more: those of the code, and then those of the data.
-pub(crate) fn relocations_of<'a>(
+// The relocations of patches, which aren't needed any more: those of the code, and then those of the data.
+fn relocations_of(
     alloc: Global,
-    sorted: &SortedNames<'a>,
-    patches: Vec<Patch<'a>>,
+    patches: Vec<Patch<'_>>,
+    numbers: &[u32],
 ) -> Result<Vec<Relocation>, NoMemory>
-    requires { Rise sorted.now.names.items }
+    requires { length numbers.now ≡ length patches.items }
     ensures { IfOk result (λ relocations. relocations.items
-        ≡ filter_map (relocation_for sides.Code (map (λ n. n.now) sorted.now.names.items)) (map fix_of patches.entry.items)
-        ++ filter_map (relocation_for sides.Data (map (λ n. n.now) sorted.now.names.items)) (map fix_of patches.entry.items)) }
+        ≡ relocations_at sides.Code (map fix_of patches.entry.items) numbers.now
+        ++ relocations_at sides.Data (map fix_of patches.entry.items) numbers.now) }
 {
     let mut relocations = Vec::with_capacity(alloc, patches.len())?;
-    push_relocations_for(&mut relocations, Section::Code, sorted, &patches)?;
-    push_relocations_for(&mut relocations, Section::Data, sorted, &patches)?;
+    push_relocations_at(&mut relocations, Section::Code, &patches, numbers)?;
+    push_relocations_at(&mut relocations, Section::Data, &patches, numbers)?;
     Ok(relocations)
+}
+
+/// The labels that a source defines or names, by number, and the relocations that are made by these numbers.
+#[derive(Drop)]
+pub(crate) struct Numbered<'a> {
+    /// The labels that it defines, and behind them those that it only names.
+    pub names: Vec<&'a [u8]>,
+    /// Its relocations. Each has the number of its label in place of that of a symbol.
+    pub relocations: Vec<Relocation>,
+}
+
+impl<'a> Numbered<'a> {
+    /// By the labels and the patches of a source, of which the latter aren't needed any more.
+    pub(crate) fn build(
+        alloc: Global,
+        labels: &Labels<'a>,
+        patches: Vec<Patch<'a>>,
+    ) -> Result<Numbered<'a>, NoMemory>
+        ensures names { IfOk result (λ made. IsNumbered labels.now (texts made.names.items)) }
+        ensures among { IfOk result (λ made. (q : List ℕ) →
+            are_among made.names.items q ≡ (is_some (spot_named labels.now q)
+            || list_any (λ p. is_none (spot_named labels.now p.to.label.now)
+            && bytes_eq q p.to.label.now) patches.entry.items)) }
+        ensures relocations { IfOk result (λ made.
+            ByNumbers (texts made.names.items) patches.entry.items made.relocations.items) }
+    {
+        let mut names = labels.names(alloc)?;
+        let numbers = numbers_of(&mut names, labels, &patches)?;
+        let relocations = relocations_of(alloc, patches, &numbers)?;
+        Ok(Numbered { names, relocations })
+    }
+}
+
+/// Puts the ranks of labels in place of their numbers.
+pub(crate) fn put_ranks(relocations: &mut Vec<Relocation>, ranks: &[u32])
+    requires { All (λ r. r.symbol < length ranks.now) relocations.old.items }
+    ensures { relocations.new.items ≡ map (ranked ranks.now) relocations.old.items }
+{
+    for relocation in relocations.iter_mut() {
+        relocation.symbol = ranks[relocation.symbol as usize];
+    }
 }

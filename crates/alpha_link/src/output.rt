@@ -1,12 +1,14 @@
 //! The code and the data bytes of an image that modules link to, one behind the other.
 
-ghost use Rattle.std.specs.Prelude.{◌≡◌, ◌+◌, ◌/◌, ◌-◌, ◌*◌, ◌++◌, ◌≤◌, ◌^◌, ℤ, [], length, map, replicate, None, Some, Ok, OnOk, IfOk, IfSome, is_some, not, position};
-ghost use Rattle.std.specs.Option.{option_map, option_and_then};
+ghost use Rattle.std.specs.Prelude.{◌≡◌, ◌+◌, ◌/◌, ◌-◌, ◌*◌, ◌++◌, ◌≤◌, [], length, All, replicate, None, Some, Ok, OnOk, IfOk, IfSome, is_some, not, position};
+ghost use Rattle.std.specs.Option.{option_and_then};
 ghost use Rattle.std.specs.List.{filter_map};
+ghost use Rattle.alpha_words.specs.declared.Level.TheVariants.{One};
 ghost use Rattle.alpha_table.specs.Decoded.{decoded};
+ghost use Rattle.alpha_image.specs.Parts.{IsCodeInsn};
 ghost use Rattle.alpha_asm.specs.Patches.{IsField, IsNear};
 ghost use Rattle.alpha_asm.specs.Program.{reached};
-ghost use Rattle.alpha_link.specs.Linked.{use_of, target, insn_with, code_at, code_base, displacement, quadword, is_met};
+ghost use Rattle.alpha_link.specs.Linked.{use_of, target, insn_with, code_at, displacement, quadword, is_met};
 ghost use Rattle.alpha_link.specs.Names.{found_in};
 ghost use Rattle.alpha_link.specs.Output.{code_with, bytes_with, code_with_all, bytes_with_all, addresses_by, JoinsOne};
 
@@ -185,6 +187,8 @@ impl Output {
         ensures bytes { OnOk result (self.new.bytes.items
             ≡ self.old.bytes.items ++ (replicate (located.now.filled - length self.old.bytes.items) 0 ++ located.now.parts.bytes)) }
         ensures size { OnOk result (length self.new.code.items ≡ length self.old.code.items + length located.now.parts.words) }
+        ensures insns { OnOk result (All (IsCodeInsn One) self.old.code.items
+            → All (IsCodeInsn One) self.new.code.items) }
     {
         let module = located.module;
         self.code.extend_from_slice(&module.insns)?;
@@ -205,6 +209,8 @@ impl Output {
             IfOk result (λ unmet. unmet ≡ position (λ r. not (is_met addresses located.now r)) located.now.parts.relocations) }
         ensures joined { result ≡ Ok None →
             JoinsOne (addresses_by (found_in names.now) located.now) located.now self.old self.new }
+        ensures insns { result ≡ Ok None → All (IsCodeInsn One) self.old.code.items
+            → All (IsCodeInsn One) self.new.code.items }
     {
         let addresses = names.addresses(alloc, located)?;
         self.append(located)?;

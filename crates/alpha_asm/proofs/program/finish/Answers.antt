@@ -16,7 +16,8 @@ returns-clause-undefined c = λ other is s.
 pub returns-in-Ok-clause-whole : goal.returns-in-Ok-clause-whole
 returns-in-Ok-clause-whole c =
     let k = known_with c.unwrap_or.result c.deref.result.now c.args.pass in
-    whole c.args.pass (entry_view c.args.entry.now) k c.unwrap_or-base.result _ c.requires
+    whole c.args.pass (entry_view c.args.entry.now) k c.unwrap_or-base.result _ c.requires.sound c.requires.leveled
+    (c.in-Ok.ensures.code ∙ ap (λ l. code_after k (map fix_of l) c.args.pass.output.code.items) c.deref-2.ensures.value)
     (λ few.
     c.in-Ok.ensures.bytes
     ∙ (ap (λ l. bytes_after k (map fix_of l) c.in_ok-bytes.bytes.items) c.deref-2.ensures.value

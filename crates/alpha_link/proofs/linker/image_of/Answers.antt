@@ -6,8 +6,8 @@ use Rattle.alpha_asm.specs.Program.{program_of, program_with}
 use Rattle.alpha_asm.proofs.Making.{insns_of_words}
 use Rattle.alpha_link.proofs.linker.image_of.Goals as goal
 
-pub returns-clause-ok : goal.returns-clause-ok
-returns-clause-ok c =
+pub returns : goal.returns
+returns c =
     let image = c.of_program.result in
     let code = c.args.output.code.items in
     let numbers = level_numbers c.args.fields.now (length code) (c.args.segment ∷ []) in

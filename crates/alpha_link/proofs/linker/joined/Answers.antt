@@ -17,7 +17,7 @@ returns-in-Some-clause-refused c = λ other.
     let stops = unmet_as (found_in c.args.names.now) all l c.in_ok-number.field-0 (fun_ext c.requires.names) c.in_ok-number.ensures.unmet in
     let here = stops ∙ ap (option_map (λ (n : ℕ). (l.number, n))) c.in-Some.is in
     ap (option_map (λ (p : ℕ × ℕ). faults.Reach p.0 p.1))
-    (first_stops (λ x. unmet_in (addresses_of all x) x) all c.loop-located.located-index l (l.number, c.in-Some.number) _ c.loop-located-test.true c.located-item.is here c.loop-located.invariant.met)
+    (first_stops (λ x. unmet_in (addresses_of all x) x) all c.loop-located.located-index l (l.number, c.in-Some.number) _ c.loop-located-test.true c.located-item.is here c.loop-located.invariant.joined.met)
     ∙ ap (λ (k : ℕ). Some (faults.Reach k c.in-Some.number)) (sym number)
 
 pub loop-located-preserved : goal.loop-located-preserved
@@ -29,4 +29,7 @@ loop-located-preserved c =
     let met = goes ∙ ap (option_map (λ (n : ℕ). (l.number, n))) c.in_default.is in
     let done : c.join.result ≡ Ok None = cc in
     let one = subst (λ (f : List ℕ → Option ℕ). JoinsOne (addresses_by f l) l c.loop-located.output c.join.new.self) (fun_ext c.requires.names) (c.join.ensures.joined done) in
-    joins all c.loop-located.located-index l c.loop-located.output c.join.new.self c.loop-located-test.true c.located-item.is met one c.loop-located.invariant
+    record {
+      joined = joins all c.loop-located.located-index l c.loop-located.output c.join.new.self c.loop-located-test.true c.located-item.is met one c.loop-located.invariant.joined;
+      insns = c.join.ensures.insns done c.loop-located.invariant.insns;
+    }

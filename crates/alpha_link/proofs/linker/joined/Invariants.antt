@@ -1,5 +1,11 @@
+use Rattle.std.proofs.Common.{All}
+use Rattle.alpha_words.specs.declared.Level.TheVariants.{One}
+use Rattle.alpha_image.specs.Parts.{IsCodeInsn}
 use Rattle.alpha_link.proofs.Joining.{Joined}
 use Rattle.alpha_link.proofs.linker.joined.Given as goal
 
 abbrev pub invariant-loop-located : goal.invariant-loop-located
-invariant-loop-located l = Joined l.places l.located-index l.output.code.items l.output.bytes.items
+invariant-loop-located l = record {
+  joined : Joined l.places l.located-index l.output.code.items l.output.bytes.items;
+  insns : All (IsCodeInsn One) l.output.code.items;
+}

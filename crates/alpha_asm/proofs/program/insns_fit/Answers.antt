@@ -2,19 +2,17 @@ use Rattle.std.proofs.Common.{◌≡◌, ◌+◌, ◌++◌, ◌∷◌, [], All, 
 use Rattle.std.proofs.lemmas.Grind.{common_steps}
 use Rattle.std.proofs.lemmas.List.{take_more}
 use Rattle.std.proofs.lemmas.List.Elements.{All-append, All-cons, All-nil}
-use Rattle.alpha_image.specs.Parts.{IsCodeInsn}
-use Rattle.alpha_asm.proofs.program.are_within.Goals as goal
+use Rattle.alpha_table.specs.Row.{IsInsn}
+use Rattle.alpha_asm.proofs.program.insns_fit.Goals as goal
 
 pub loop-insn-preserved : goal.loop-insn-preserved
 loop-insn-preserved c =
-    let P = IsCodeInsn c.args.level in
     let before = take c.loop-insn.insn-index c.args.code.now in
     let t : take (c.loop-insn.insn-index + 1) c.args.code.now ≡ before ++ c.insn-item.result ∷ [] =
     take_more c.args.code.now c.loop-insn.insn-index c.insn-item.result c.loop-insn-test.true ∙ ap (λ x. before ++ x ∷ []) (sym c.insn-item.is) in
-    let here = c.is_within.ensures c.if-not-is_within.false in
-    subst (All P) (sym t) (All-append P before (c.insn-item.result ∷ []) c.loop-insn.invariant (All-cons P c.insn-item.result [] here (All-nil P)))
+    subst (All IsInsn) (sym t) (All-append IsInsn before (c.insn-item.result ∷ []) c.loop-insn.invariant (All-cons IsInsn c.insn-item.result [] c.form-form.ensures.good (All-nil IsInsn)))
 
 pub returns : goal.returns
-returns c = λ t.
+returns c =
     let whole : take c.loop-insn.insn-index c.args.code.now ≡ c.args.code.now = grind (arith, common_steps) in
-    subst (All (IsCodeInsn c.args.level)) whole c.loop-insn.invariant
+    subst (All IsInsn) whole c.loop-insn.invariant
