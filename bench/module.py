@@ -13,8 +13,8 @@ from measure import WORDS, best, counts_instructions, file_of, instructions, mos
 
 
 def names(count):
-    """Labels of one letter more each time, to 500 letters, and so on with the next letter."""
-    return "".join(f"{chr(97 + n // 500) * (1 + n % 500)}:\n" for n in range(count))
+    """Labels of one letter more each time, up to 499 more, and so on behind the next number."""
+    return "".join(f"n{n // 500:02}{'a' * (n % 500)}:\n" for n in range(count))
 
 
 def many_names(count):
@@ -69,7 +69,7 @@ def main():
             compare(program, f"{WORDS} {kind}", make, WORDS, out)
             for count in (WORDS // 16, WORDS // 4, WORDS):
                 measure(program, f"{count} {kind}", make, count, out)
-        measure(program, "12,500 symbols of one letter more", names, 12_500, out)
+        measure(program, "50,000 symbols of one letter more", names, 50_000, out)
         measure(program, f"{WORDS} relocations of one symbol", one_name, WORDS, out)
         measure(program, f"{WORDS} relocations of as many symbols", many_names, WORDS, out)
         measure(program, "16 MiB of comments", comments, 524_288, out)
