@@ -19,7 +19,7 @@ use alpha_request::Choices;
 use std::alloc::Global;
 
 /// The most bytes of a choices file.
-pub const CHOICES_LIMIT: u64 = 1_048_576;
+const CHOICES_LIMIT: u64 = 1_048_576;
 
 /// Where the words come from.
 #[derive(Drop)]

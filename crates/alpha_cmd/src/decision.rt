@@ -20,7 +20,7 @@ use alpha_shadow::{Broken, line_of_broken};
 /// What a command has decided, and what is still to be written for it.
 #[derive(Drop)]
 pub(crate) struct Decision {
-    /// The status, which is not that of a failed sink.
+    /// The status. `deliver` asks that it isn't that of a failed sink.
     pub(crate) status: Status,
     /// The bytes for the output.
     pub(crate) output: Line,

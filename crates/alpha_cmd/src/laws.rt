@@ -35,7 +35,8 @@ pub fn laws_of_answers()
 
 /// The law of listings: where `dis` is done, what it writes is a source of the image of its file.
 pub fn laws_of_listed_files()
-    ensures { (file : List ℕ) (w : World) (a : Answer) → AnswerBy (listings.steps file) w a → a.status ≡ Done 0
+    ensures { (file : List ℕ) (w : World) (a : Answer) → AnswerBy (listings.steps file) w a
+        → a.status ≡ Done 0
         → (image : Parts) × ImageOf w.files file (goes image) × IsSourceOf a.output image }
 {}
 
@@ -108,7 +109,8 @@ pub fn laws_of_accepted_files()
 /// The law of kept modules: a file that `module` keeps is one of those that make a link accepted, as
 /// `KeepsLink` says it of the files that the clause `links` of [`alpha_top`](crate::alpha_top) speaks of.
 pub fn laws_of_kept_modules()
-    ensures { (file out : List ℕ) (old new : Files) → KeepsModule file out old new → HasAccepted new out }
+    ensures { (file out : List ℕ) (old new : Files) → KeepsModule file out old new
+        → HasAccepted new out }
 {}
 
 /// The law of records: where a call of `record` has kept the journal of a run over a told input, and the

@@ -110,7 +110,8 @@ fn linked(alloc: Global, entry: &str, files: Vec<Vec<u8>>) -> Result<Vec<u8>, St
     requires { length files.items ≤ 64 }
     ensures ok { IfOk result (λ bytes. Then (ModulesOf (map (λ file. file.items) files.items))
         (Links entry.now) (goes bytes.items)) }
-    ensures refused { IfErr result (λ status. Then (ModulesOf (map (λ file. file.items) files.items))
+    ensures refused { IfErr result (λ status. Then
+        (ModulesOf (map (λ file. file.items) files.items))
         (Links entry.now) (stops status (status_line status))
         ⊎ (status ≡ Status.NoMemory)) }
 {
@@ -123,7 +124,8 @@ fn image_of(alloc: Global, entry: &str, files: Vec<Vec<u8>>) -> Result<Image, St
     requires { length files.items ≤ 64 }
     ensures ok { IfOk result (λ image. Then (ModulesOf (map (λ file. file.items) files.items))
         (Links entry.now) (goes (images.spelling image))) }
-    ensures refused { IfErr result (λ status. Then (ModulesOf (map (λ file. file.items) files.items))
+    ensures refused { IfErr result (λ status. Then
+        (ModulesOf (map (λ file. file.items) files.items))
         (Links entry.now) (stops status (status_line status))
         ⊎ (status ≡ Status.NoMemory)) }
 {
@@ -134,7 +136,8 @@ fn image_of(alloc: Global, entry: &str, files: Vec<Vec<u8>>) -> Result<Image, St
 // The modules that the bytes of files spell.
 fn modules_of<'a>(alloc: Global, files: &'a [Vec<u8>]) -> Result<Vec<Module<'a>>, Status>
     requires { length files.now ≤ 64 }
-    ensures ok { IfOk result (λ all. ModulesOf (map (λ file. file.items) files.now) (goes all.items)) }
+    ensures ok { IfOk result (λ all. ModulesOf (map (λ file. file.items) files.now)
+        (goes all.items)) }
     ensures count { IfOk result (λ all. length all.items ≡ length files.now) }
     ensures refused { IfErr result (λ status.
         ModulesOf (map (λ file. file.items) files.now) (stops status (status_line status))

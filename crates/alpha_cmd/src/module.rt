@@ -21,12 +21,8 @@ use crate::image::read_file;
 use crate::keep::keep_as;
 use alpha_asm::AsmFault;
 use alpha_io::Shelf;
-use alpha_link::{Module, make_module, module_bytes, verdict};
+use alpha_link::{CODE_BASE, Module, make_module, module_bytes, verdict};
 use std::alloc::Global;
-
-/// Where the code of a module is counted from when one of its places is broken: where it stands if it is
-/// the first one that is linked.
-const CODE_BASE: u64 = 0x10000;
 
 /// Makes a module of the source of a file, judges it, and keeps its spelling under another name or the
 /// same. The keep comes last: before it no file is changed.
@@ -89,6 +85,7 @@ fn spelled(alloc: Global, module: &Module<'_>) -> Result<Vec<u8>, Decision>
             Ok(bytes) => Ok(bytes),
             Err(_) => Err(Decision::said(Status::NoMemory)),
         },
+        // Its address is that of the first module that is linked.
         Err(broken) => Err(Decision::broken(broken, CODE_BASE)),
     }
 }

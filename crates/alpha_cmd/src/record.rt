@@ -107,7 +107,8 @@ fn keep_journal<H: Shelf>(
         (Rose (H.faults shelf.old) (H.faults shelf.new)) name.now (spelling journal.now)
         (shelved H.Shelf shelf.old shelf.new) decision result }
     ensures good { IsJournal journal.now }
-    ensures shelf { decision.status ≢ Status.ShelfFault → Serves (shelved H.Shelf shelf.old shelf.new)
+    ensures shelf { decision.status ≢ Status.ShelfFault
+        → Serves (shelved H.Shelf shelf.old shelf.new)
         (result.status ≢ Status.ShelfFault) }
 {
     match journal_bytes(alloc, journal) {

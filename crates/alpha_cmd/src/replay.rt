@@ -21,7 +21,7 @@ use alpha_replay::{Journal, JournalFault, ReplayFault, Replayed, read_journal};
 use std::alloc::Global;
 
 /// The most bytes of a journal file.
-pub const JOURNAL_LIMIT: u64 = 33_554_432;
+const JOURNAL_LIMIT: u64 = 33_554_432;
 
 /// Reads the image of a file and the journal of another, and replays the journal on the image.
 pub(crate) fn replay<H: Shelf>(alloc: Global, file: &str, journal: &str, shelf: &mut H) -> Decision

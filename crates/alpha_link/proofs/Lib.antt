@@ -11,6 +11,7 @@ pub mod Joined
 pub mod Linked
 pub mod Rising
 pub mod NameKeys
+pub mod Digits
 pub mod Repeats
 pub mod SourceNames
 pub mod Numbered

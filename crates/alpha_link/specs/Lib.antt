@@ -10,6 +10,7 @@ pub mod Alike
 pub mod Linked
 pub mod Rising
 pub mod NameKeys
+pub mod Digits
 pub mod Made
 pub mod Numbered
 pub mod Names

@@ -14,9 +14,11 @@ const MAGIC: [u8; 8] = *b"ALPHAOB1";
 /// How many bytes the magic and the sizes have.
 pub(crate) const HEADER_BYTES: usize = 28;
 
-const MOST_WORDS: u32 = 262_144;
+/// How many code words a module has at most.
+pub(crate) const MOST_WORDS: u32 = 262_144;
 
-const MOST_DATA: u32 = 16_777_216;
+/// How many data and zeroed bytes it has at most.
+pub(crate) const MOST_DATA: u32 = 16_777_216;
 
 /// How many items of each sort a module has.
 #[derive(Clone, Copy, Debug)]

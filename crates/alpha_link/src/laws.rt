@@ -33,7 +33,8 @@ pub fn laws_of_joined_code()
 /// image that they link to is accepted, whatever addresses are put in. What good modules link to is the
 /// program of an image.
 pub fn laws_of_linked_code()
-    ensures accepted { (modules : List ModuleParts) (entry : List ℕ) (image : Parts) → IsImage image →
+    ensures accepted { (modules : List ModuleParts) (entry : List ℕ) (image : Parts)
+        → IsImage image →
         linked modules entry ≡ Ok (program_of image) →
         All (λ m. All (λ word. IsSome (decoded word)) m.words × IsAccepted m.words) modules →
         IsAccepted image.words }

@@ -47,20 +47,22 @@
 //! relocations are, `symbols.rt` and `relocations.rt` read and write them, `number.rt` reads a number of two
 //! bytes; `read.rt` and `write.rt` are the ways in and out, and `judged.rt` has the verdict.
 //! A module of a source is `made.rt`. `labels.rt` numbers the labels that the source defines or names, and
-//! `made_relocations.rt` makes relocations by these numbers; `keyed.rt` sorts the labels, and
-//! `made_symbols.rt` makes their symbols, and the ranks that go into the relocations.
+//! `made_relocations.rt` makes relocations by these numbers; `keyed.rt` sorts the labels, which `radix.rt`
+//! puts in the order of their keys first where they stand in many runs; and `made_symbols.rt` makes their
+//! symbols, and the ranks that go into the relocations.
 //!
 //! The linker goes over the modules four times. `located.rt` says where each one stands, and `names.rt`
 //! holds the addresses of the names that they define in one table, in which each symbol's name is then
 //! looked up. `linker.rt` has the refusals in their order, and `output.rt` copies the modules into one
-//! buffer of instructions and one of data bytes, and puts in there what each relocation asks for.
+//! buffer of instructions and one of data bytes, and puts in there what each relocation asks for. The code
+//! of an image begins at [`CODE_BASE`].
 //!
 //! `specs/Reading.antt` says how bytes are read from the front, `specs/Header.antt`, `specs/Symbols.antt`
 //! and `specs/Relocations.antt` which items there are and which are good, `specs/Parts.antt` what a module
 //! is, `specs/Spelled.antt` its bytes both ways, and `specs/Module.antt` what a [`Module`] holds;
 //! `specs/Made.antt` has the module that a source makes, `specs/Numbered.antt` what is made by the numbers
-//! of labels on the way, `specs/Rising.antt` names in order, and `specs/NameKeys.antt` the keys that they are
-//! sorted by;
+//! of labels on the way, `specs/Rising.antt` names in order, `specs/NameKeys.antt` the keys that they are
+//! sorted by, and `specs/Digits.antt` the digits of these, counted;
 //! `specs/Alike.antt` says which words no condition of a trap shadow tells apart. `specs/Names.antt` and
 //! `specs/Output.antt` say what the linker holds on its way.
 #![tactic(auto)]
@@ -80,6 +82,7 @@ mod module;
 mod names;
 mod number;
 mod output;
+mod radix;
 mod read;
 mod relocation;
 mod relocations;
@@ -91,6 +94,7 @@ pub use fault::{LinkFault, ModuleFault};
 pub use judged::verdict;
 pub use laws::{laws_of_joined_code, laws_of_linked_code, laws_of_modules};
 pub use linker::link;
+pub use located::CODE_BASE;
 pub use made::make_module;
 pub use module::Module;
 pub use read::read_module;

@@ -114,7 +114,8 @@ fn joined<'m>(
 
 // The image of instructions and data bytes.
 fn image_of(fields: &LevelFields, segment: Segment, output: Output) -> Image
-    requires fields { FieldsFit (level_numbers fields.now (length output.code.items) (segment ∷ [])) }
+    requires fields { FieldsFit (level_numbers fields.now (length output.code.items)
+        (segment ∷ [])) }
     requires level { fields.now.level ≡ 1 }
     requires filled { length output.bytes.items ≡ segment.filled }
     requires insns { All (IsCodeInsn levels.One) output.code.items }
@@ -139,7 +140,8 @@ fn linked_at<'m>(
     requires filled { totals.filled ≡ filled_in places.now }
     requires zeroed { totals.zeroed ≡ zeroed_in places.now }
     ensures ok { IfOk result (λ image. linked_at places.now (Some entry) ≡ Ok (program_of image)) }
-    ensures refused { IfErr result (λ fault. fault ≢ faults.NoMemory → linked_at places.now (Some entry) ≡ Err fault) }
+    ensures refused { IfErr result (λ fault. fault ≢ faults.NoMemory
+        → linked_at places.now (Some entry) ≡ Err fault) }
 {
     let fields = LevelFields {
         code_base: CODE_BASE,
@@ -160,8 +162,8 @@ fn linked_at<'m>(
 }
 
 /// The image that modules link to, 64 modules at most. Its entry is the address of a name. Memory taken
-/// is that of the image, of a table of the names that the modules define, and of a number for each symbol
-/// of one module.
+/// is that of the image and of a table of the names that the modules define, with 24 bytes for each module
+/// and 16 for each symbol of the one that has the most.
 ///
 /// # Errors
 ///
@@ -175,7 +177,8 @@ pub fn link<'m>(
 ) -> Result<Image, LinkFault>
     requires { length modules.now ≤ 64 }
     ensures ok { IfOk result (λ image. linked modules.now entry.now ≡ Ok (program_of image)) }
-    ensures refused { IfErr result (λ fault. fault ≢ faults.NoMemory → linked modules.now entry.now ≡ Err fault) }
+    ensures refused { IfErr result (λ fault. fault ≢ faults.NoMemory
+        → linked modules.now entry.now ≡ Err fault) }
 {
     let places = places(alloc, modules)?;
     let names = Names::of(alloc, &places)?;

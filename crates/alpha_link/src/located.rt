@@ -10,7 +10,7 @@ use std::alloc::{AllocError, Global};
 use std::marker::Model;
 
 /// The address of the first code word of an image that modules link to.
-pub(crate) const CODE_BASE: u64 = 0x10000;
+pub const CODE_BASE: u64 = 0x10000;
 
 /// The address of its first data byte.
 pub(crate) const DATA_BASE: u64 = 0x1000_0000;
@@ -44,7 +44,8 @@ impl<'m> Model for Located<'m> {
       parts = l.«module».now;
     } };
 
-    ghost invariant = { λ l. (l.number < 64) × (l.words ≤ 64 * 262144) × (l.filled ≤ 64 * 16785407) };
+    ghost invariant = { λ l. (l.number < 64) × (l.words ≤ 64 * 262144)
+        × (l.filled ≤ 64 * 16785407) };
 }
 
 impl Module<'_> {

@@ -8,6 +8,7 @@ ghost use Rattle.alpha_asm.specs.declared.fault.AsmFault.TheVariants as faults;
 ghost use Rattle.alpha_link.specs.Made.{bad_field, sized, module_of, made_module};
 ghost use Rattle.alpha_link.specs.Unlinked.{IsOfLines};
 
+use crate::header::{MOST_DATA, MOST_WORDS};
 use crate::keyed::by_keys;
 use crate::made_relocations::{Numbered, put_ranks};
 use crate::made_symbols::Ranked;
@@ -16,23 +17,19 @@ use alpha_asm::{AsmFault, Unlinked};
 use alpha_words::NoMemory;
 use std::alloc::Global;
 
-const MOST_WORDS: usize = 262_144;
-
-const MOST_DATA: usize = 16_777_216;
-
 // The least field of an image that such sizes make bad.
 fn bad_field(words: usize, filled: usize, zeroed: u64) -> Option<u8>
     ensures value { result ≡ bad_field words filled zeroed }
     ensures words { IfNone result (words ≤ 262144) }
     ensures data { IfNone result (filled + zeroed ≤ 16777216) }
 {
-    if words > MOST_WORDS {
+    if words > MOST_WORDS as usize {
         return Some(3);
     }
-    if filled > MOST_DATA {
+    if filled > MOST_DATA as usize {
         return Some(4);
     }
-    if zeroed > (MOST_DATA - filled) as u64 {
+    if zeroed > u64::from(MOST_DATA) - filled as u64 {
         return Some(5);
     }
     None
@@ -60,8 +57,9 @@ fn module_of<'a>(alloc: Global, unlinked: Unlinked<'a>) -> Result<Module<'a>, No
     let Numbered {
         names,
         mut relocations,
+        room,
     } = Numbered::build(alloc, &labels, patches)?;
-    let sorted = by_keys(alloc, names)?;
+    let sorted = by_keys(alloc, names, room)?;
     let Ranked { symbols, ranks } = Ranked::build(alloc, &labels, &sorted)?;
     if symbols.len() > 0xffff_ffff || relocations.len() > 0xffff_ffff {
         return Err(NoMemory);
@@ -82,7 +80,8 @@ fn sized<'a>(alloc: Global, unlinked: Unlinked<'a>) -> Result<Module<'a>, AsmFau
     requires few { length unlinked.bytes.items ≤ unlinked.filled }
     requires lines { IsOfLines unlinked }
     requires level { All (IsCodeInsn One) unlinked.code.items }
-    ensures ok { IfOk result (λ m. (is : _) → Makes is unlinked.entry → sized (module_of is) ≡ Ok m) }
+    ensures ok { IfOk result (λ m. (is : _) → Makes is unlinked.entry → sized (module_of is)
+        ≡ Ok m) }
     ensures refused { IfErr result (λ fault. fault ≢ faults.NoMemory →
         (is : _) → Makes is unlinked.entry → sized (module_of is) ≡ Err fault) }
 {
@@ -108,7 +107,8 @@ fn sized<'a>(alloc: Global, unlinked: Unlinked<'a>) -> Result<Module<'a>, AsmFau
 pub fn make_module<'a>(alloc: Global, source: &'a [u8]) -> Result<Module<'a>, AsmFault>
     requires { length source.now < 2 ^ 32 }
     ensures ok { IfOk result (λ m. made_module source.now ≡ Ok m) }
-    ensures refused { IfErr result (λ fault. fault ≢ faults.NoMemory → made_module source.now ≡ Err fault) }
+    ensures refused { IfErr result (λ fault. fault ≢ faults.NoMemory → made_module source.now
+        ≡ Err fault) }
 {
     sized(alloc, Unlinked::of(alloc, source)?)
 }

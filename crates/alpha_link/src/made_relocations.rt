@@ -9,6 +9,7 @@ ghost use Rattle.alpha_asm.specs.declared.place.Section.TheVariants as sides;
 ghost use Rattle.alpha_link.specs.Made.{kind_in, offset_in, relocation_with};
 ghost use Rattle.alpha_link.specs.Numbered.{texts, IsNumbered, ByNumbers, relocation_at, relocations_at, ranked};
 
+use crate::keyed::KeyedName;
 use crate::labels::numbers_of;
 use crate::relocation::{Relocation, RelocationKind};
 use alpha_asm::{Labels, Need, Patch, Section, Use};
@@ -30,7 +31,8 @@ fn kind_in(side: Section, need: Need) -> Option<RelocationKind>
 
 // How many bytes of its section stand before what needs an address, `None` from 2^32 on.
 fn offset_of(patch: &Patch<'_>) -> Option<u32>
-    ensures { IfSome result (λ n. n ≡ offset_in (fix_of patch.now).at (fix_of patch.now).name.need) }
+    ensures { IfSome result (λ n. n
+        ≡ offset_in (fix_of patch.now).at (fix_of patch.now).name.need) }
 {
     match patch.need {
         Need::Insn(_) => {
@@ -63,7 +65,8 @@ fn addend_of(offset: i64) -> Option<i32>
 // one.
 fn relocation_with(kind: RelocationKind, number: u32, patch: &Patch<'_>) -> Option<Relocation>
     ensures { let fix = fix_of patch.now in
-        IfSome result (λ r. relocation_with kind (offset_in fix.at fix.name.need) patch.now.to.offset number ≡ r) }
+        IfSome result (λ r. relocation_with kind (offset_in fix.at fix.name.need)
+        patch.now.to.offset number ≡ r) }
 {
     let offset = offset_of(patch)?;
     let addend = addend_of(patch.to.offset)?;
@@ -149,6 +152,8 @@ pub(crate) struct Numbered<'a> {
     pub names: Vec<&'a [u8]>,
     /// Its relocations. Each has the number of its label in place of that of a symbol.
     pub relocations: Vec<Relocation>,
+    /// An empty list with room for the labels with their keys.
+    pub room: Vec<KeyedName<'a>>,
 }
 
 impl<'a> Numbered<'a> {
@@ -165,11 +170,19 @@ impl<'a> Numbered<'a> {
             && bytes_eq q p.to.label.now) patches.entry.items)) }
         ensures relocations { IfOk result (λ made.
             ByNumbers (texts made.names.items) patches.entry.items made.relocations.items) }
+        ensures room { IfOk result (λ made. made.room.items ≡ []) }
     {
         let mut names = labels.names(alloc)?;
         let numbers = numbers_of(&mut names, labels, &patches)?;
+        // It is taken before the patches are freed: once glibc's allocator has freed a large block, it takes blocks
+        // up to that size from its heap, where this one would leave a hole when it is freed.
+        let room = Vec::with_capacity(alloc, names.len())?;
         let relocations = relocations_of(alloc, patches, &numbers)?;
-        Ok(Numbered { names, relocations })
+        Ok(Numbered {
+            names,
+            relocations,
+            room,
+        })
     }
 }
 

@@ -69,7 +69,8 @@ fn is_new(before: Option<&KeyedName<'_>>, keyed: &KeyedName<'_>) -> bool
     requires { (front : List ℕ) × IfSome before (λ b. IsKeyed front b.now.key b.now.name.now)
         × IsKeyed front keyed.now.key keyed.now.name.now }
     ensures none { IfNone before.entry (result ≡ true) }
-    ensures some { IfSome before.entry (λ b. result ≡ not (bytes_eq keyed.now.name.now b.now.name.now)) }
+    ensures some { IfSome before.entry (λ b. result
+        ≡ not (bytes_eq keyed.now.name.now b.now.name.now)) }
 {
     match before {
         Some(before) => !is_repeated(before, keyed),

@@ -76,7 +76,8 @@ impl<'m> Names<'m> {
 
     // Gives a name an address, unless it has one.
     fn define(&mut self, name: &'m [u8], address: u64) -> Result<(), AllocError>
-        ensures { OnOk result ((other : List ℕ) → found_in self.new other ≡ option_or (found_in self.old other)
+        ensures { OnOk result ((other : List ℕ) → found_in self.new other
+            ≡ option_or (found_in self.old other)
             (if bytes_eq name.entry.now other then Some address else None)) }
     {
         let label = Label { name };
@@ -90,7 +91,8 @@ impl<'m> Names<'m> {
     // Gives the names that a module defines their addresses, unless they have one.
     fn define_all(&mut self, located: &Located<'m>) -> Result<(), AllocError>
         ensures { OnOk result ((name : List ℕ) →
-            found_in self.new name ≡ option_or (found_in self.old name) (address_in name located.now)) }
+            found_in self.new name
+            ≡ option_or (found_in self.old name) (address_in name located.now)) }
     {
         let module = located.module;
         for symbol in &module.symbols {
@@ -103,7 +105,8 @@ impl<'m> Names<'m> {
 
     // The least of some symbols that is defined and whose name has an address.
     fn least_repeated(&self, symbols: &'m [Symbol<'m>]) -> Option<usize>
-        ensures value { result ≡ position (λ s. is_defined s.section && is_some (found_in self.now s.name.now))
+        ensures value { result
+            ≡ position (λ s. is_defined s.section && is_some (found_in self.now s.name.now))
             symbols.entry.now }
         ensures bound { IfSome result (λ number. number < length symbols.entry.now) }
     {
@@ -113,7 +116,8 @@ impl<'m> Names<'m> {
     // The least symbol that a module defines and whose name has an address.
     #[tactic(auto, using(crate::proofs::Lists::position_map))]
     fn repeated(&self, located: &Located<'m>) -> Option<u32>
-        ensures { result ≡ position (λ s. is_defined s.section && is_some (found_in self.now s.name))
+        ensures { result
+            ≡ position (λ s. is_defined s.section && is_some (found_in self.now s.name))
             located.now.parts.symbols }
     {
         let module = located.module;
@@ -125,7 +129,8 @@ impl<'m> Names<'m> {
 
     // The least of some symbols whose name has no address.
     fn least_missing(&self, symbols: &'m [Symbol<'m>]) -> Option<usize>
-        ensures value { result ≡ position (λ s. is_none (found_in self.now s.name.now)) symbols.entry.now }
+        ensures value { result
+            ≡ position (λ s. is_none (found_in self.now s.name.now)) symbols.entry.now }
         ensures bound { IfSome result (λ number. number < length symbols.entry.now) }
     {
         symbols.iter().position(|s| self.address(s.name).is_none())
@@ -134,7 +139,8 @@ impl<'m> Names<'m> {
     /// The least symbol of a module whose name has no address.
     #[tactic(auto, using(crate::proofs::Lists::position_map))]
     pub(crate) fn missing(&self, located: &Located<'m>) -> Option<u32>
-        ensures { result ≡ position (λ s. is_none (found_in self.now s.name)) located.now.parts.symbols }
+        ensures { result ≡ position (λ s. is_none (found_in self.now s.name))
+            located.now.parts.symbols }
     {
         let module = located.module;
         match self.least_missing(&module.symbols) {
@@ -149,7 +155,8 @@ impl<'m> Names<'m> {
         alloc: Global,
         symbols: &'m [Symbol<'m>],
     ) -> Result<Vec<Option<u64>>, AllocError>
-        ensures { IfOk result (λ all. all.items ≡ map (λ s. found_in self.now s.name.now) symbols.entry.now) }
+        ensures { IfOk result (λ all. all.items
+            ≡ map (λ s. found_in self.now s.name.now) symbols.entry.now) }
     {
         symbols.iter().map(|s| self.address(s.name)).collect(alloc)
     }

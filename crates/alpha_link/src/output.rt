@@ -88,7 +88,8 @@ impl Output {
     // Puts a displacement into the instruction at a place, if there is one of this kind.
     fn displace(&mut self, kind: RelocationKind, place: usize, displacement: Displacement)
         requires { IsField displacement }
-        ensures code { self.new.code.items ≡ code_at kind place (Some displacement) self.old.code.items }
+        ensures code { self.new.code.items
+            ≡ code_at kind place (Some displacement) self.old.code.items }
         ensures same { self.new.bytes ≡ self.old.bytes }
     {
         match self.code.get(place) {
@@ -110,7 +111,8 @@ impl Output {
     ) -> bool
         requires { use_of relocation.now.kind ≡ Some by }
         ensures fits { result ≡ is_some (displacement addresses.now located.now relocation.now) }
-        ensures code { self.new.code.items ≡ code_with addresses.now located.now relocation.now self.old.code.items }
+        ensures code { self.new.code.items
+            ≡ code_with addresses.now located.now relocation.now self.old.code.items }
         ensures same { self.new.bytes ≡ self.old.bytes }
     {
         let words = located.words;
@@ -135,7 +137,8 @@ impl Output {
     ) -> bool
         requires { relocation.now.kind ≡ RelocationKind.Quad }
         ensures fits { result ≡ is_some (quadword addresses.now relocation.now) }
-        ensures bytes { self.new.bytes.items ≡ bytes_with addresses.now located.now relocation.now self.old.bytes.items }
+        ensures bytes { self.new.bytes.items
+            ≡ bytes_with addresses.now located.now relocation.now self.old.bytes.items }
         ensures same { self.new.code ≡ self.old.code }
     {
         let at = located.filled as usize + relocation.offset as usize;
@@ -153,8 +156,10 @@ impl Output {
         relocation: &Relocation,
     ) -> bool
         ensures fits { result ≡ is_met addresses.now located.now relocation.now }
-        ensures code { self.new.code.items ≡ code_with addresses.now located.now relocation.now self.old.code.items }
-        ensures bytes { self.new.bytes.items ≡ bytes_with addresses.now located.now relocation.now self.old.bytes.items }
+        ensures code { self.new.code.items
+            ≡ code_with addresses.now located.now relocation.now self.old.code.items }
+        ensures bytes { self.new.bytes.items
+            ≡ bytes_with addresses.now located.now relocation.now self.old.bytes.items }
     {
         match relocation.kind.use_of() {
             Some(by) => self.put_insn(by, addresses, located, relocation),
@@ -164,11 +169,14 @@ impl Output {
 
     // Puts in all that the last module asks for. The least relocation that doesn't fit.
     fn put_all(&mut self, addresses: &[Option<u64>], located: &Located<'_>) -> Option<u32>
-        ensures unmet { result ≡ position (λ r. not (is_met addresses.now located.now r)) located.now.parts.relocations }
+        ensures unmet { result ≡ position (λ r. not (is_met addresses.now located.now r))
+            located.now.parts.relocations }
         ensures code { result ≡ None → self.new.code.items
-            ≡ code_with_all addresses.now located.now located.now.parts.relocations self.old.code.items }
+            ≡ code_with_all addresses.now located.now located.now.parts.relocations
+            self.old.code.items }
         ensures bytes { result ≡ None → self.new.bytes.items
-            ≡ bytes_with_all addresses.now located.now located.now.parts.relocations self.old.bytes.items }
+            ≡ bytes_with_all addresses.now located.now located.now.parts.relocations
+            self.old.bytes.items }
     {
         let module = located.module;
         for (number, relocation) in module.relocations.iter().enumerate() {
@@ -185,8 +193,11 @@ impl Output {
         ensures code { OnOk result (self.new.code.items
             ≡ self.old.code.items ++ filter_map decoded located.now.parts.words) }
         ensures bytes { OnOk result (self.new.bytes.items
-            ≡ self.old.bytes.items ++ (replicate (located.now.filled - length self.old.bytes.items) 0 ++ located.now.parts.bytes)) }
-        ensures size { OnOk result (length self.new.code.items ≡ length self.old.code.items + length located.now.parts.words) }
+            ≡ self.old.bytes.items
+            ++ (replicate (located.now.filled - length self.old.bytes.items) 0
+            ++ located.now.parts.bytes)) }
+        ensures size { OnOk result (length self.new.code.items
+            ≡ length self.old.code.items + length located.now.parts.words) }
         ensures insns { OnOk result (All (IsCodeInsn One) self.old.code.items
             → All (IsCodeInsn One) self.new.code.items) }
     {
@@ -206,7 +217,8 @@ impl Output {
         requires words { located.now.words ≡ length self.old.code.items }
         requires filled { length self.old.bytes.items ≤ located.now.filled }
         ensures unmet { let addresses = addresses_by (found_in names.now) located.now in
-            IfOk result (λ unmet. unmet ≡ position (λ r. not (is_met addresses located.now r)) located.now.parts.relocations) }
+            IfOk result (λ unmet. unmet
+            ≡ position (λ r. not (is_met addresses located.now r)) located.now.parts.relocations) }
         ensures joined { result ≡ Ok None →
             JoinsOne (addresses_by (found_in names.now) located.now) located.now self.old self.new }
         ensures insns { result ≡ Ok None → All (IsCodeInsn One) self.old.code.items

@@ -62,7 +62,7 @@ fn fault_of_words(fault: ImageFault) -> ModuleFault
     }
 }
 
-/// The module that the bytes spell. Memory taken is at most that of its parts.
+/// The module that the bytes spell.
 ///
 /// # Errors
 ///

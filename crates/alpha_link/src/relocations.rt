@@ -178,7 +178,8 @@ fn relocation_at<'a>(
     requires known { map decoded (map encoded insns.now) ≡ map Some insns.now }
     requires number { length before.now < 2 ^ 32 }
     ensures { Gives (λ x. (x.0, x.1.now)) result
-        (relocation_at total sizes.now (body (map encoded insns.now) filled.now) before.now bytes.now) }
+        (relocation_at total sizes.now (body (map encoded insns.now) filled.now) before.now
+        bytes.now) }
 {
     if bytes.len() < RELOCATION_BYTES {
         return Err(ModuleFault::Cut(total));

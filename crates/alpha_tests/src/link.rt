@@ -7,7 +7,7 @@ use alpha_link::{
     read_module, verdict,
 };
 use alpha_shadow::{Broken, Condition};
-use std::alloc::Global;
+use std::alloc::{AllocError, Global};
 use std::test::Fail;
 
 // `start: bsr $26,sum`, `lda $0,1($31)`, `callsys`: `start` is defined and `sum` isn't.
@@ -211,6 +211,48 @@ const BARRED: [&[u8]; 9] = [
     b"nop\nldq $1,%hi(x)($31)",
     b"nop\nldq $1,%lo(x)($31)",
 ];
+
+// A line with the label of a number and a branch to it.
+fn push_line(source: &mut Vec<u8>, number: u32) -> Result<(), AllocError> {
+    let name = [
+        b'l',
+        b'0' + (number / 1000 % 10) as u8,
+        b'0' + (number / 100 % 10) as u8,
+        b'0' + (number / 10 % 10) as u8,
+        b'0' + (number % 10) as u8,
+    ];
+    source.extend_from_slice(&name)?;
+    source.extend_from_slice(b": br $31,")?;
+    source.extend_from_slice(&name)?;
+    source.extend_from_slice(b"\n")
+}
+
+// The numbers below 2,048 come once each, in no order.
+#[test]
+fn labels_in_no_order_make_symbols_in_order(rt: HostRuntime) -> Result<(), Fail> {
+    let mut source = Vec::new(rt.alloc());
+    let mut number = 0u32;
+    for _ in 0..2048 {
+        number = number.wrapping_mul(1021).wrapping_add(7) % 2048;
+        push_line(&mut source, number)?;
+    }
+    assert!(rt; source.len() == 40_960);
+    let module = make_module(rt.alloc(), &source)?;
+    assert_eq!(rt;
+        (module.symbols().len(), module.relocations().len()),
+        (2048, 2048)
+    );
+    let mut last: &[u8] = b"";
+    for symbol in module.symbols() {
+        assert!(rt; last < symbol.name);
+        last = symbol.name;
+    }
+    for relocation in module.relocations() {
+        let label = module.symbols().get(relocation.symbol as usize);
+        assert_eq!(rt; label.map(|s| s.offset), Some(relocation.offset));
+    }
+    Ok(())
+}
 
 #[test]
 fn a_module_has_no_field_and_no_half_in_a_load(rt: HostRuntime) {

@@ -8,6 +8,7 @@ use Rattle.alpha_shadow.specs.Report.{broken_line}
 use Rattle.alpha_link.specs.Parts.{ModuleParts}
 use Rattle.alpha_link.specs.Spelled.{spelling}
 use Rattle.alpha_link.specs.Made.{made_module}
+use Rattle.alpha_link.specs.Linked.{code_base}
 use Rattle.alpha_cmd.specs.declared.status.Status.{Status}
 use Rattle.alpha_cmd.specs.declared.status.Status.TheVariants.{NotRestartable, BadSource}
 use Rattle.alpha_cmd.specs.Outcome.{Outcome, Either, Then}
@@ -28,7 +29,7 @@ ModuleOf source = Either (λ m. made_module source ≡ Ok m) (Says (NoModule sou
 -- why a module is refused, with the line that says it: the least broken place of its code, with addresses as those of the
 -- first module that is linked
 abbrev pub IsBroken : ModuleParts → Status → List ℕ → Type 0
-IsBroken m status line = (b : Broken) × (status ≡ NotRestartable b) × (IsLeastBroken m.words b × (line ≡ broken_line b 0x10000))
+IsBroken m status line = (b : Broken) × (status ≡ NotRestartable b) × (IsLeastBroken m.words b × (line ≡ broken_line b code_base))
 
 -- the verdict lets the spelling of an accepted module through
 abbrev pub Spells : ModuleParts → Outcome (List ℕ) → Type 0
