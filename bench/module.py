@@ -12,9 +12,19 @@ from asm import BY_HAND, COMPILED, FEW, byte_lists, canonical, comments, label_l
 from measure import WORDS, best, counts_instructions, file_of, instructions, most_memory, print_times, the_program
 
 
+def longer(count):
+    """Names of one letter more each time, up to 499 more, and so on behind the next number."""
+    return [f"n{n // 500:02}{'a' * (n % 500)}" for n in range(count)]
+
+
 def names(count):
-    """Labels of one letter more each time, up to 499 more, and so on behind the next number."""
-    return "".join(f"n{n // 500:02}{'a' * (n % 500)}:\n" for n in range(count))
+    """Labels of one letter more each time."""
+    return "".join(f"{name}:\n" for name in longer(count))
+
+
+def names_unordered(count):
+    """Such labels in no order."""
+    return "".join(f"{name}:\n" for name in random.Random(5).sample(longer(count), count))
 
 
 def many_names(count):
@@ -22,10 +32,29 @@ def many_names(count):
     return ".data\n" + "".join(f".quad name_{n}\n" for n in range(count))
 
 
+def in_no_order(count):
+    """Numbers below a million, in no order."""
+    return random.Random(5).sample(range(1_000_000), count)
+
+
+def many_names_unordered(count):
+    """Such names in no order."""
+    return ".data\n" + "".join(f".quad name_{number}\n" for number in in_no_order(count))
+
+
+def labelled(names):
+    """A label on each line, which the line before names."""
+    return "".join(f"{name}: br $31,{names[(n + 1) % len(names)]}\n" for n, name in enumerate(names))
+
+
 def unordered(count):
-    """A label on each line, in no order, which the line before names."""
-    numbers = random.Random(5).sample(range(1_000_000), count)
-    return "".join(f"label_{number}: br $31,label_{numbers[(n + 1) % count]}\n" for n, number in enumerate(numbers))
+    """Labels in no order."""
+    return labelled([f"label_{number}" for number in in_no_order(count)])
+
+
+def alike(count):
+    """Labels in no order that begin in two ways, each time with the same eight bytes behind."""
+    return labelled([f"{'ab'[number % 2]}_long_front_{number}" for number in in_no_order(count)])
 
 
 def one_name(count):
@@ -64,7 +93,11 @@ def main():
         out = os.path.join(folder, "out")
         for make, kind in ((repeated(BY_HAND), "mixed lines by hand"), (repeated(COMPILED), "lines of a compiler")):
             compare(program, kind, make, 5 * FEW, out)
-        compare(program, "labels in no order", unordered, WORDS, out)
+        for count in (WORDS // 16, WORDS):
+            compare(program, f"{count} labels in no order", unordered, count, out)
+        compare(program, f"{WORDS // 4} labels in no order that begin alike", alike, WORDS // 4, out)
+        for make, order in ((names, "each time"), (names_unordered, "in no order")):
+            compare(program, f"50,000 symbols of one letter more {order}", make, 50_000, out)
         for make, kind in ((canonical, "canonical lines"), (labels, "labels")):
             compare(program, f"{WORDS} {kind}", make, WORDS, out)
             for count in (WORDS // 16, WORDS // 4, WORDS):
@@ -72,6 +105,7 @@ def main():
         measure(program, "50,000 symbols of one letter more", names, 50_000, out)
         measure(program, f"{WORDS} relocations of one symbol", one_name, WORDS, out)
         measure(program, f"{WORDS} relocations of as many symbols", many_names, WORDS, out)
+        measure(program, f"{WORDS} relocations of as many symbols in no order", many_names_unordered, WORDS, out)
         measure(program, "16 MiB of comments", comments, 524_288, out)
         measure(program, "1 MiB of lists of bytes", byte_lists, 1_040, out, 10)
         measure(program, "1 MiB of lists of labels", label_lists, 1_040, out, 10)
