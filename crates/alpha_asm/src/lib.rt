@@ -25,7 +25,8 @@
 //! [`Section`], [`Spot`], [`Use`] and [`Displacement`] are what its definitions speak of, for crates that
 //! cite them, and [`Labels`], [`Patch`] and [`Need`] what [`Unlinked`] has. [`Use::displacement`],
 //! [`displaced`], [`put_quad`] and [`padding`] put addresses in and round sizes, and [`Label`] and
-//! [`Seeded`] are the keys and the hash of a map of labels, for a crate that links.
+//! [`Seeded`] are the keys and the hash of a map of labels, for a crate that links. [`CODE_BASE`],
+//! [`DATA_BASE`] and [`STACK_BYTES`] are what an image has without statements of them.
 //!
 //! `specs/Statement.antt` has what a statement asks, `specs/Layout.antt` where each item stands,
 //! `specs/Program.antt` the program that the items make, and `specs/Assembled.antt` the image of a
@@ -61,6 +62,7 @@ pub use laws::laws_of_sources;
 pub use line_kind::LineKind;
 pub use patch::{Displacement, Need, Patch, displaced};
 pub use place::{Section, Spot, padding};
+pub use program::{CODE_BASE, DATA_BASE, STACK_BYTES};
 pub use statement::Use;
 pub use symbols::{Symbols, assemble_with_symbols};
 pub use unlinked::Unlinked;

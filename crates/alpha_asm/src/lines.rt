@@ -1,17 +1,8 @@
 ghost use Rattle.std.specs.Prelude.{◌≡◌, ◌<◌, ◌∷◌, ◌==◌, length, position};
-ghost use Rattle.std.specs.Str.Lines.{lines, strip_carriage_return};
+ghost use Rattle.std.specs.Str.Lines.{lines};
 
+use alpha_token::without_return;
 use memchr::memchr;
-
-// A line without the one carriage return at its end, if it has one.
-fn without_return(line: &[u8]) -> &[u8]
-    ensures { result.now ≡ strip_carriage_return line.now }
-{
-    match line {
-        [text @ .., b'\r'] => text,
-        _ => line,
-    }
-}
 
 // Where the first line feed is.
 fn line_feed(source: &[u8]) -> Option<usize>

@@ -21,17 +21,17 @@ use alpha_image::{Image, LevelFields, Segment, Version};
 use alpha_table::Insn;
 use std::alloc::AllocError;
 
-/// Without a `.codebase`.
-const CODE_BASE: u64 = 0x10000;
+/// The address of the first code word without a `.codebase`.
+pub const CODE_BASE: u64 = 0x10000;
 
-/// Without a `.database`.
-const DATA_BASE: u64 = 0x1000_0000;
+/// The address of the first data byte without a `.database`.
+pub const DATA_BASE: u64 = 0x1000_0000;
 
 /// The most data bytes of an image.
 pub(crate) const MOST_DATA: usize = 16_777_216;
 
-/// Without a `.stack`.
-const STACK: u64 = 65_536;
+/// How many stack bytes an image has without a `.stack`.
+pub const STACK_BYTES: u64 = 65_536;
 
 // The segments, the one of the first version first.
 fn all_segments(earlier: Vec<Segment>, last: Segment, base: u64) -> Result<Vec<Segment>, AllocError>
@@ -165,7 +165,7 @@ fn fields_of<'a>(
     LevelFields {
         code_base: bases.code_base,
         entry: bases.entry(entry),
-        stack: read.stack.unwrap_or(STACK),
+        stack: read.stack.unwrap_or(STACK_BYTES),
         level: u64::from(level.unwrap_or(1)),
     }
 }

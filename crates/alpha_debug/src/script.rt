@@ -1,5 +1,4 @@
 ghost use Rattle.std.specs.Prelude.{◌≡◌, [], ◌∷◌, List, ℕ, IsTrue, IfOk, OnErr};
-ghost use Rattle.std.specs.Str.Lines.{strip_carriage_return};
 ghost use Rattle.alpha_io.specs.Sunk.{sunk};
 ghost use Rattle.alpha_debug.specs.Command.{command_of};
 ghost use Rattle.alpha_debug.specs.Effects.{Remains, Answers, AnswerFails, IsHeld, Hears, HearFails};
@@ -7,6 +6,7 @@ ghost use Rattle.alpha_debug.specs.Effects.{Remains, Answers, AnswerFails, IsHel
 use crate::command::{LINE_LIMIT, command_of};
 use crate::debugger::{Debugger, Talk};
 use alpha_io::{Failed, Sink};
+use alpha_token::without_return;
 use arrayvec::ArrayVec;
 
 // How many bytes of a line are held: one that has so many is too long, whether or not its last is a carriage return.
@@ -82,14 +82,4 @@ pub(crate) fn answer_line<K: Sink>(
     ensures same { Remains debugger.old debugger.new }
 {
     debugger.answer(command_of(line), out)
-}
-
-// A line without the one carriage return at its end, if it has one.
-fn without_return(line: &[u8]) -> &[u8]
-    ensures { result.now ≡ strip_carriage_return line.now }
-{
-    match line {
-        [text @ .., b'\r'] => text,
-        _ => line,
-    }
 }

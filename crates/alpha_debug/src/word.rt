@@ -3,7 +3,7 @@ ghost use Rattle.std.specs.List.{prefix_len};
 ghost use Rattle.alpha_token.specs.Bytes.{is_blank};
 ghost use Rattle.alpha_debug.specs.Command.{words, has_bytes, number_in};
 
-use alpha_token::{Step, TokenKind, next, number, without_blanks};
+use alpha_token::{Step, TokenKind, is_blank, next, number, without_blanks};
 
 /// The first word of a line and what stands behind it; no bytes where the line has no word.
 pub(crate) fn first_word(line: &[u8]) -> (&[u8], &[u8])
@@ -21,12 +21,6 @@ fn word_len(line: &[u8]) -> usize
     ensures within { result ≤ length line.now }
 {
     line.iter().take_while(|b| !is_blank(**b)).count()
-}
-
-fn is_blank(b: u8) -> bool
-    ensures { result ≡ is_blank b }
-{
-    b == b' ' || b == b'\t'
 }
 
 /// The number that a word is, below 2^64; `None` where it is none.

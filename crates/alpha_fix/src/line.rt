@@ -1,7 +1,7 @@
 ghost use Rattle.std.specs.Prelude.{◌≡◌, ◌<◌, length};
-ghost use Rattle.std.specs.Str.Lines.{strip_carriage_return};
 ghost use Rattle.alpha_fix.specs.Lines.{IsFirst};
 
+use alpha_token::without_return;
 use memchr::memchr;
 
 /// The first line of a source, and the source behind it.
@@ -15,16 +15,6 @@ pub(crate) struct Line<'a> {
     pub ended: bool,
     /// What stands behind it.
     pub rest: &'a [u8],
-}
-
-// A line without the one carriage return at its end, if it has one.
-fn without_return(line: &[u8]) -> &[u8]
-    ensures { result.now ≡ strip_carriage_return line.now }
-{
-    match line {
-        [text @ .., b'\r'] => text,
-        _ => line,
-    }
 }
 
 impl<'a> Line<'a> {

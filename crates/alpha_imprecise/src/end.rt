@@ -1,4 +1,7 @@
-use alpha_seq::End;
+ghost use Rattle.std.specs.Prelude.{◌≡◌};
+ghost use Rattle.alpha_imprecise.specs.WildTurn.{run_ended_by};
+
+use alpha_seq::{End, RunEnd};
 use alpha_words::RegSet;
 
 /// How a step went.
@@ -23,4 +26,24 @@ pub enum WildEnd {
     InputFault,
     /// The output failed in a write, or the notes failed at the line of a report.
     SinkFault,
+}
+
+impl WildEnd {
+    /// How the run ends, if this step ends it.
+    #[inline(always)]
+    pub fn run_end(self) -> Option<RunEnd>
+        ensures { result ≡ run_ended_by self }
+    {
+        match self {
+            WildEnd::Went
+            | WildEnd::Barrier
+            | WildEnd::Triggered
+            | WildEnd::Waited
+            | WildEnd::Reported(_) => None,
+            WildEnd::Ended(end) => Some(RunEnd::Ended(end)),
+            WildEnd::Lost(pc, mask) => Some(RunEnd::Lost(pc, mask)),
+            WildEnd::InputFault => Some(RunEnd::InputFault),
+            WildEnd::SinkFault => Some(RunEnd::SinkFault),
+        }
+    }
 }

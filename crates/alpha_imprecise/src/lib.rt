@@ -42,6 +42,7 @@ pub use counting::CountingChooser;
 pub use end::WildEnd;
 pub use laws::{laws_of_chosen_runs, laws_of_free_runs};
 pub use list::ListChooser;
+pub use look::overflowing;
 pub use pcg::PcgChooser;
 pub use pending::Pending;
 pub use runs::run;

@@ -33,9 +33,9 @@ pub(crate) fn overflow_of(machine: &Machine, insn: &Insn) -> Option<Overflow>
     Some(Overflow { place, rc })
 }
 
-// The destination of an instruction that overflows.
+/// The destination of an instruction, if it overflows by the registers of a machine.
 #[inline(always)]
-fn overflowing(machine: &Machine, insn: &Insn) -> Option<Reg>
+pub fn overflowing(machine: &Machine, insn: &Insn) -> Option<Reg>
     ensures found { IfSome result (λ rc. triggers (Some (class_of insn.now)) (bare machine.now) ≡ true) }
     ensures into { IfSome result (λ rc. destination (Some (class_of insn.now)) ≡ rc) }
     ensures none { IfNone result (triggers (Some (class_of insn.now)) (bare machine.now) ≡ false) }

@@ -1,17 +1,16 @@
 //! Runs: steps until the program ends, a trap is lost, or all units are used with nothing pending.
 
-ghost use Rattle.std.specs.Prelude.{◌≡◌, ◌≤◌, ℕ, List, Some, None, IfSome};
+ghost use Rattle.std.specs.Prelude.{◌≡◌, ℕ, List, Some, None};
 ghost use Rattle.alpha_io.specs.Sunk.{sunk};
 ghost use Rattle.alpha_seq.specs.Devices.{drawn, AreCalm};
 ghost use Rattle.alpha_seq.specs.Machine.{Stays};
 ghost use Rattle.alpha_seq.specs.RunEffect.{HasGrown};
 ghost use Rattle.alpha_imprecise.specs.Restart.{IsRestartable};
-ghost use Rattle.alpha_imprecise.specs.Run.{unit_of};
 ghost use Rattle.alpha_imprecise.specs.Telling.{telling};
-ghost use Rattle.alpha_imprecise.specs.Wild.{trap_in, IsFresh};
+ghost use Rattle.alpha_imprecise.specs.Wild.{IsFresh};
 ghost use Rattle.alpha_imprecise.specs.WildEffect.{Framed};
 ghost use Rattle.alpha_imprecise.specs.Free.{FreeEffect, NeverLoses, LosesNone};
-ghost use Rattle.alpha_imprecise.specs.WildTurn.{WildTurnEffect, run_ended_by};
+ghost use Rattle.alpha_imprecise.specs.WildTurn.{WildTurnEffect};
 ghost use Rattle.alpha_imprecise.specs.WildRunEffect.{WildRunEffect, WildRunCause, ShowsMade, ShowsMadePart, ShowsTold, ShowsSequential};
 
 use crate::{Chooser, Wild, WildEnd};
@@ -86,26 +85,14 @@ pub fn run<C: Chooser, S: Source, K: Sink, N: Sink>(
     ensures same { Stays wild.old.machine wild.new.machine }
 {
     let mut left = units;
-    'steps: while unit(wild) <= left {
-        left -= unit(wild);
+    'steps: while wild.unit() <= left {
+        left -= wild.unit();
         let step = turn(wild, chooser, input, out, notes, watch);
-        if let Some(end) = run_ended_by(step) {
+        if let Some(end) = step.run_end() {
             return end;
         }
     }
     RunEnd::Spent
-}
-
-// The units that the next step uses: one with nothing pending, else none.
-#[inline(always)]
-fn unit(wild: &Wild) -> u64
-    ensures value { result ≡ unit_of (trap_in wild.now.pending) }
-    ensures bound { IfSome wild.now.pending (λ p. p.waited ≤ 1024) }
-{
-    match wild.pending() {
-        None => 1,
-        Some(_) => 0,
-    }
 }
 
 // Makes one step and, where it is a barrier that is watched, writes its lines.
@@ -135,23 +122,5 @@ fn turn<C: Chooser, S: Source, K: Sink, N: Sink>(
             }
         }
         end => end,
-    }
-}
-
-// How the run ends, if this step ends it.
-#[inline(always)]
-fn run_ended_by(step: WildEnd) -> Option<RunEnd>
-    ensures { result ≡ run_ended_by step }
-{
-    match step {
-        WildEnd::Went
-        | WildEnd::Barrier
-        | WildEnd::Triggered
-        | WildEnd::Waited
-        | WildEnd::Reported(_) => None,
-        WildEnd::Ended(end) => Some(RunEnd::Ended(end)),
-        WildEnd::Lost(pc, mask) => Some(RunEnd::Lost(pc, mask)),
-        WildEnd::InputFault => Some(RunEnd::InputFault),
-        WildEnd::SinkFault => Some(RunEnd::SinkFault),
     }
 }

@@ -1,6 +1,6 @@
 //! A step, by what it is: precise, a trigger, a word that is executed while a trap waits, or a report.
 
-ghost use Rattle.std.specs.Prelude.{◌≡◌, ◌≢◌, ◌<◌, ◌≤◌, ◌/◌, ◌%◌, ◌==◌, ℕ, List, [], ◌∷◌, true, false, IfSome, IfNone, IsTrue, None, Some};
+ghost use Rattle.std.specs.Prelude.{◌≡◌, ◌≢◌, ◌<◌, ◌≤◌, ◌/◌, ◌%◌, ◌==◌, ℕ, List, [], ◌∷◌, true, false, IfSome, IsTrue, None, Some};
 ghost use Rattle.alpha_io.specs.Sunk.{sunk};
 ghost use Rattle.alpha_table.specs.Class.{class_of};
 ghost use Rattle.alpha_seq.specs.Next.{next_insn};
@@ -9,12 +9,11 @@ ghost use Rattle.alpha_seq.specs.Machine.{class_here, program_of, kernel_left};
 ghost use Rattle.alpha_seq.specs.Devices.{drawn};
 ghost use Rattle.alpha_imprecise.specs.Moment.{Triggered, Waited, with_register};
 ghost use Rattle.alpha_imprecise.specs.Step.{triggers, destination, mask_after};
-ghost use Rattle.alpha_imprecise.specs.Chosen.{must_report};
 ghost use Rattle.alpha_imprecise.specs.Telling.{Telling, telling};
 ghost use Rattle.alpha_imprecise.specs.Wild.{bare, wild_state, OverflowsAt, WaitsAt};
 ghost use Rattle.alpha_imprecise.specs.WildEffect.{WildEffect, AloneEffect, StepsAlone, Chooses, ChoosesReport, IsFramed, Framed};
 
-use crate::look::{Overflow, overflow_of, waits_here};
+use crate::look::{Overflow, overflow_of};
 use crate::report::{Landing, report};
 use crate::spoil::spoil;
 use crate::{Chooser, Pending, WildEnd};
@@ -22,9 +21,6 @@ use alpha_io::{Failed, Sink, Source};
 use alpha_seq::{End, Machine, StepEnd, write_overflow};
 use alpha_table::{Form, Insn};
 use alpha_words::{Reg, RegSet};
-
-// How many words are executed at most while a trap is pending.
-const MOST_WAITED: u32 = 1024;
 
 /// Makes a step of a machine in user mode, with a trap that may be pending.
 #[inline(always)]
@@ -140,7 +136,7 @@ fn with_trap<C: Chooser, N: Sink>(
     ensures user { IsTrue machine.new.kernel.user }
     ensures bound { IfSome pending.new (λ p. p.waited ≤ 1024) }
 {
-    match waiting_insn(machine, trap) {
+    match trap.waiting_insn(machine) {
         Some(insn) => {
             let c = chooser.next();
             if c % 4 == 0 {
@@ -152,21 +148,6 @@ fn with_trap<C: Chooser, N: Sink>(
             }
         }
         None => report_pending(machine, pending, trap, notes),
-    }
-}
-
-// The word at the PC, if the trap may wait for its execution.
-#[inline(always)]
-fn waiting_insn(machine: &Machine, trap: &Pending) -> Option<Insn>
-    ensures found { IfSome result (λ insn. WaitsAt machine.now (class_of insn)) }
-    ensures few { IfSome result (λ insn. trap.now.waited < 1024) }
-    ensures none { IfNone result (must_report (class_here machine.now) (bare machine.now)
-        trap.now.waited ≡ true) }
-{
-    if trap.waited < MOST_WAITED {
-        waits_here(machine)
-    } else {
-        None
     }
 }
 

@@ -29,7 +29,9 @@ impl Wild {
     ghost use Rattle.alpha_seq.specs.Devices.{drawn};
     ghost use Rattle.alpha_seq.specs.Machine.{class_here, Stays};
     ghost use Rattle.alpha_seq.specs.Executed.{NeverGoes};
+    ghost use Rattle.alpha_imprecise.specs.Run.{unit_of};
     ghost use Rattle.alpha_imprecise.specs.Telling.{telling};
+    ghost use Rattle.alpha_imprecise.specs.Wild.{trap_in};
     ghost use Rattle.alpha_imprecise.specs.WildEffect.{Framed, WildCause, WildEffect, WildGoesOn};
 
     /// The imprecise machine with nothing pending, over a machine in user mode.
@@ -59,6 +61,18 @@ impl Wild {
         ensures bound { IfSome result (λ p. p.waited ≤ 1024) }
     {
         self.pending
+    }
+
+    /// The units that the next step uses: one with nothing pending, else none.
+    #[inline(always)]
+    pub fn unit(&self) -> u64
+        ensures value { result ≡ unit_of (trap_in self.now.pending) }
+        ensures bound { IfSome self.now.pending (λ p. p.waited ≤ 1024) }
+    {
+        match self.pending {
+            None => 1,
+            Some(_) => 0,
+        }
     }
 
     /// Makes one step exactly where nothing is pending and the word at the PC only goes on: it draws no word, puts and

@@ -36,10 +36,6 @@ waits_look o s t n adds e same = record {
   takes = refl;
 }
 
--- a word that can't be executed forces the report
-pub must_by : (m : Machine) (n : ℕ) → can_wait (class_here m) (bare m) ≡ false → must_report (class_here m) (bare m) n ≡ true
-must_by m n e = ap (λ (b : Bool). not b || nat_le most_waited n) e
-
 -- one that can be doesn't, unless there were too many before
 pub may_wait : (m : Machine) (class : Class) (n : ℕ) → WaitsAt m class → n < 1024 → must_report (class_here m) (bare m) n ≡ false
 may_wait m class n waits few =

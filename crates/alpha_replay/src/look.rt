@@ -1,19 +1,16 @@
 //! What the next step would do, before it is made.
 
-ghost use Rattle.std.specs.Prelude.{◌≡◌, ◌<◌, IfSome, IfNone, None, Some, true};
+ghost use Rattle.std.specs.Prelude.{◌≡◌, ◌<◌, None, Some};
 ghost use Rattle.alpha_table.specs.Class.{class_of, barrier};
 ghost use Rattle.alpha_words.specs.declared.PalCall.TheVariants.{Callsys};
-ghost use Rattle.alpha_imprecise.specs.Chosen.{must_report};
-ghost use Rattle.alpha_imprecise.specs.Step.{triggers};
-ghost use Rattle.alpha_imprecise.specs.Wild.{bare, trap_of, WaitsAt};
+ghost use Rattle.alpha_imprecise.specs.Wild.{bare, trap_of};
 ghost use Rattle.alpha_seq.specs.Machine.{class_here};
 ghost use Rattle.alpha_replay.specs.Moves.{adds_here};
 ghost use Rattle.alpha_replay.specs.Looks.{Looks, LookIs};
 
-use alpha_imprecise::{Pending, Wild};
-use alpha_seq::{Machine, Next};
+use alpha_imprecise::{Pending, Wild, overflowing};
+use alpha_seq::Machine;
 use alpha_table::{Form, Insn};
-use alpha_values::overflows;
 use alpha_words::{PalCall, Reg};
 
 /// What a step does, as far as a journal tells of it.
@@ -43,9 +40,6 @@ pub(crate) enum Look {
         adds: bool,
     },
 }
-
-// How many words are executed at most while a trap is pending.
-const MOST_WAITED: u32 = 1024;
 
 // The system calls' numbers, and their descriptors.
 const READ: u64 = 3;
@@ -91,27 +85,13 @@ fn look_with_none(machine: &Machine) -> Look
 fn look_at(machine: &Machine, insn: &Insn) -> Look
     ensures { LookIs result (Some (class_of insn.now)) (bare machine.now) None 0 }
 {
-    if overflows_at(machine, insn) {
+    if overflowing(machine, insn).is_some() {
         return Look::Triggers;
     }
     match insn.form() {
         Form::Pal(PalCall::Callsys) => look_at_call(machine),
         _ => Look::Unit,
     }
-}
-
-// Whether an instruction overflows.
-#[inline(always)]
-fn overflows_at(machine: &Machine, insn: &Insn) -> bool
-    ensures { result ≡ triggers (Some (class_of insn.now)) (bare machine.now) }
-{
-    let Form::Operate { op, ra, src, .. } = insn.form() else {
-        return false;
-    };
-    let Some(op) = op.trap() else {
-        return false;
-    };
-    overflows(op, machine.regs.get(ra), machine.source(&src))
 }
 
 // At a system call.
@@ -136,28 +116,11 @@ fn look_with_trap(machine: &Machine, trap: &Pending) -> Look
     ensures { LookIs result (class_here machine.now) (bare machine.now) (Some (trap_of trap.now))
         trap.now.waited }
 {
-    match waiting_insn(machine, trap) {
+    match trap.waiting_insn(machine) {
         Some(insn) => Look::MayWait {
             adds: may_add(&insn),
         },
         None => Look::Reports,
-    }
-}
-
-// The word at the PC, if the trap may wait for its execution.
-#[inline(always)]
-fn waiting_insn(machine: &Machine, trap: &Pending) -> Option<Insn>
-    ensures found { IfSome result (λ insn. WaitsAt machine.now (class_of insn)) }
-    ensures few { IfSome result (λ insn. trap.now.waited < 1024) }
-    ensures none { IfNone result (must_report (class_here machine.now) (bare machine.now)
-        trap.now.waited ≡ true) }
-{
-    if MOST_WAITED <= trap.waited {
-        return None;
-    }
-    match machine.next() {
-        Next::Plain(insn) | Next::Overflows(insn) => Some(insn),
-        Next::Outside | Next::Barrier(_) | Next::Faults(_) => None,
     }
 }
 

@@ -1,14 +1,12 @@
 //! A run of the imprecise machine, with its journal.
 
-ghost use Rattle.std.specs.Prelude.{◌≡◌, ◌≤◌, ℕ, List, [], None, Some, IfSome};
+ghost use Rattle.std.specs.Prelude.{◌≡◌, ℕ, List, [], None, Some};
 ghost use Rattle.alpha_io.specs.Sunk.{sunk};
 ghost use Rattle.alpha_seq.specs.Devices.{drawn};
 ghost use Rattle.alpha_seq.specs.Machine.{Stays, program_of};
 ghost use Rattle.alpha_imprecise.specs.Free.{NeverLoses};
-ghost use Rattle.alpha_imprecise.specs.Run.{unit_of};
 ghost use Rattle.alpha_imprecise.specs.Telling.{telling};
-ghost use Rattle.alpha_imprecise.specs.Wild.{trap_in, IsFresh};
-ghost use Rattle.alpha_imprecise.specs.WildTurn.{run_ended_by};
+ghost use Rattle.alpha_imprecise.specs.Wild.{IsFresh};
 ghost use Rattle.alpha_replay.specs.Gathered.{no_moves};
 ghost use Rattle.alpha_replay.specs.Taped.{taped};
 ghost use Rattle.alpha_replay.specs.Endings.{FitsEnding};
@@ -106,13 +104,13 @@ fn make_taped<C: Chooser, S: Source, K: Sink, N: Sink>(
     ensures same { Stays wild.old.machine wild.new.machine }
 {
     let mut left = units;
-    'steps: while unit(wild) <= left {
-        left -= unit(wild);
+    'steps: while wild.unit() <= left {
+        left -= wild.unit();
         let Turned { end, fits } = turn(tape, wild, chooser, input, out, notes);
         if is_past(&end, fits) {
             return None;
         }
-        if let Some(end) = run_ended_by(end) {
+        if let Some(end) = end.run_end() {
             return Some(end);
         }
     }
@@ -133,36 +131,6 @@ fn is_past(step: &WildEnd, fits: bool) -> bool
         | WildEnd::Reported(_)
         | WildEnd::Ended(_)
         | WildEnd::Lost(..) => !fits,
-    }
-}
-
-// The units that the next step uses: one with nothing pending, else none.
-#[inline(always)]
-fn unit(wild: &Wild) -> u64
-    ensures value { result ≡ unit_of (trap_in wild.now.pending) }
-    ensures bound { IfSome wild.now.pending (λ p. p.waited ≤ 1024) }
-{
-    match wild.pending() {
-        None => 1,
-        Some(_) => 0,
-    }
-}
-
-// How the run ends, if this step ends it.
-#[inline(always)]
-fn run_ended_by(step: WildEnd) -> Option<RunEnd>
-    ensures { result ≡ run_ended_by step }
-{
-    match step {
-        WildEnd::Went
-        | WildEnd::Barrier
-        | WildEnd::Triggered
-        | WildEnd::Waited
-        | WildEnd::Reported(_) => None,
-        WildEnd::Ended(end) => Some(RunEnd::Ended(end)),
-        WildEnd::Lost(pc, mask) => Some(RunEnd::Lost(pc, mask)),
-        WildEnd::InputFault => Some(RunEnd::InputFault),
-        WildEnd::SinkFault => Some(RunEnd::SinkFault),
     }
 }
 

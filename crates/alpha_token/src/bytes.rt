@@ -1,9 +1,12 @@
 ghost use Rattle.std.specs.Prelude.{◌≡◌, ◌≤◌, ◌-◌, length, take, drop};
 ghost use Rattle.std.specs.List.{prefix_len};
+ghost use Rattle.std.specs.Str.Lines.{strip_carriage_return};
 ghost use Rattle.std.specs.Char.{is_ascii_alphabetic, is_ascii_alphanumeric, is_ascii_digit, is_ascii_hexdigit};
 ghost use Rattle.alpha_token.specs.Bytes.{is_blank, begins_name, goes_on_name};
 
-fn is_blank(b: u8) -> bool
+/// Whether a byte is a blank: a space or a tab.
+#[inline(always)]
+pub fn is_blank(b: u8) -> bool
     ensures { result ≡ is_blank b }
 {
     b == b' ' || b == b'\t'
@@ -19,6 +22,17 @@ fn goes_on_name(b: u8) -> bool
     ensures { result ≡ goes_on_name b }
 {
     b.is_ascii_alphanumeric() || b == b'_' || b == b'.' || b == b'/'
+}
+
+/// A line without the one carriage return at its end, if it has one.
+#[inline(always)]
+pub fn without_return(line: &[u8]) -> &[u8]
+    ensures { result.now ≡ strip_carriage_return line.now }
+{
+    match line {
+        [text @ .., b'\r'] => text,
+        _ => line,
+    }
 }
 
 // How many blanks stand at the front.

@@ -50,7 +50,7 @@ returns-in-Some-clause-effect g c =
     let input = times g.S.Source.left g.S.Source.faults c.args.input.now c.steps.input c.turn-step.new.input in
     let out = times g.K.Sink.written g.K.Sink.faults c.args.out.now c.steps.out c.turn-step.new.out in
     let notes = times g.N.Sink.written g.N.Sink.faults c.args.notes.now c.steps.notes c.turn-step.new.notes in
-    let stops = sym c.run_ended_by.ensures ∙ c.in-Some.is in
+    let stops = sym c.run_end.ensures ∙ c.in-Some.is in
     let most = room c.args.units c.steps.left c.unit.result (unit_of (trap_in c.steps.wild.pending)) c.unit.ensures.value c.steps-test.true c.steps.invariant.most in
     λ bytes told. turn_stops bytes (c.args.units - c.steps.left) c.args.units c.args.watch c.turn-step.result c.in-Some.end c.args.wild.now c.steps.wild c.turn-step.new.wild before mid after input out notes told c.unit.ensures.bound most stops (c.steps.invariant.made bytes told) c.turn-step.ensures.effect
 
@@ -62,7 +62,7 @@ returns-in-Some-clause-free g c =
     let input = times g.S.Source.left g.S.Source.faults c.args.input.now c.steps.input c.turn-step.new.input in
     let out = times g.K.Sink.written g.K.Sink.faults c.args.out.now c.steps.out c.turn-step.new.out in
     let notes = times g.N.Sink.written g.N.Sink.faults c.args.notes.now c.steps.notes c.turn-step.new.notes in
-    let stops = sym c.run_ended_by.ensures ∙ c.in-Some.is in
+    let stops = sym c.run_end.ensures ∙ c.in-Some.is in
     let most = room c.args.units c.steps.left c.unit.result (unit_of (trap_in c.steps.wild.pending)) c.unit.ensures.value c.steps-test.true c.steps.invariant.most in
     free_stops (c.args.units - c.steps.left) c.args.units c.args.watch c.turn-step.result c.in-Some.end c.args.wild.now c.steps.wild c.turn-step.new.wild before mid after input out notes c.steps.invariant.same.program most stops c.steps.invariant.free c.turn-step.ensures.effect c.turn-step.ensures.frame
 
@@ -83,7 +83,7 @@ returns-in-Some-clause-cause g c =
     let input = times g.S.Source.left g.S.Source.faults c.args.input.now c.steps.input c.turn-step.new.input in
     let out = times g.K.Sink.written g.K.Sink.faults c.args.out.now c.steps.out c.turn-step.new.out in
     let notes = times g.N.Sink.written g.N.Sink.faults c.args.notes.now c.steps.notes c.turn-step.new.notes in
-    let stops = sym c.run_ended_by.ensures ∙ c.in-Some.is in
+    let stops = sym c.run_end.ensures ∙ c.in-Some.is in
     counts_stop c.args.watch c.turn-step.result c.in-Some.end c.steps.wild c.turn-step.new.wild mid after input out notes stops c.steps.invariant.calm c.turn-step.ensures.effect
 
 pub returns-in-Some-clause-shown : goal.returns-in-Some-clause-shown
@@ -158,7 +158,7 @@ steps-smaller g c =
     let input = times g.S.Source.left g.S.Source.faults c.args.input.now c.steps.input c.turn-step.new.input in
     let out = times g.K.Sink.written g.K.Sink.faults c.args.out.now c.steps.out c.turn-step.new.out in
     let notes = times g.N.Sink.written g.N.Sink.faults c.args.notes.now c.steps.notes c.turn-step.new.notes in
-    let goes = sym c.run_ended_by.ensures ∙ c.in_default.is in
+    let goes = sym c.run_end.ensures ∙ c.in_default.is in
     let some = subst (λ n. n ≤ c.steps.left) c.unit.ensures.value c.steps-test.true in
     subst (λ n. (c.steps.left - n) * 1026 + wait_left c.turn-step.new.wild.pending < c.steps.left * 1026 + wait_left c.steps.wild.pending) (sym c.unit-left.ensures.value)
     (turn_shortens c.steps.left c.args.watch c.turn-step.result c.steps.wild c.turn-step.new.wild mid after (drawn_after input) (sunk_after out) (sunk_after notes) some goes c.turn-step.ensures.effect)
@@ -171,7 +171,7 @@ steps-preserved g c =
     let input = times g.S.Source.left g.S.Source.faults c.args.input.now c.steps.input c.turn-step.new.input in
     let out = times g.K.Sink.written g.K.Sink.faults c.args.out.now c.steps.out c.turn-step.new.out in
     let notes = times g.N.Sink.written g.N.Sink.faults c.args.notes.now c.steps.notes c.turn-step.new.notes in
-    let goes = sym c.run_ended_by.ensures ∙ c.in_default.is in
+    let goes = sym c.run_end.ensures ∙ c.in_default.is in
     let same = c.unit-left.ensures.value ∙ sym c.unit.ensures.value in
     let some = subst (λ n. n ≤ c.steps.left) (sym same) c.steps-test.true in
     let units = room_less c.args.units c.steps.left c.unit-left.result (unit_of (trap_in c.steps.wild.pending)) c.unit-left.ensures.value some c.steps.invariant.most in

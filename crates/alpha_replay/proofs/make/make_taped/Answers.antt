@@ -52,7 +52,7 @@ returns-in-Some-clause-effect g c =
     let input = times g.S.Source.left g.S.Source.faults c.args.input.now c.steps.input c.turn-end.new.input in
     let out = times g.K.Sink.written g.K.Sink.faults c.args.out.now c.steps.out c.turn-end.new.out in
     let notes = times g.N.Sink.written g.N.Sink.faults c.args.notes.now c.steps.notes c.turn-end.new.notes in
-    let stops = sym c.run_ended_by.ensures ∙ c.in-Some.is in
+    let stops = sym c.run_end.ensures ∙ c.in-Some.is in
     λ bytes told.
     turn_outcome bytes c.args.units c.steps.left c.unit.result c.turn-end.result.end c.in-Some.end c.steps.tape c.turn-end.new.tape c.turn-end.result.fits c.args.wild.now c.steps.wild c.turn-end.new.wild before mid after input out notes told c.unit.ensures.bound c.steps.invariant.most c.unit.ensures.value c.steps-test.true (sym c.is_past.ensures ∙ c.if-is_past.false) stops (c.steps.invariant.made bytes told) c.turn-end.ensures.tapes c.turn-end.ensures.effect
 
@@ -63,7 +63,7 @@ steps-smaller g c =
     let input = times g.S.Source.left g.S.Source.faults c.args.input.now c.steps.input c.turn-end.new.input in
     let out = times g.K.Sink.written g.K.Sink.faults c.args.out.now c.steps.out c.turn-end.new.out in
     let notes = times g.N.Sink.written g.N.Sink.faults c.args.notes.now c.steps.notes c.turn-end.new.notes in
-    let goes = sym c.run_ended_by.ensures ∙ c.in_default.is in
+    let goes = sym c.run_end.ensures ∙ c.in_default.is in
     let some = subst (λ n. n ≤ c.steps.left) c.unit.ensures.value c.steps-test.true in
     subst (λ n. (c.steps.left - n) * 1026 + wait_left c.turn-end.new.wild.pending < c.steps.left * 1026 + wait_left c.steps.wild.pending) (sym c.unit-left.ensures.value)
     (turn_shortens c.steps.left false c.turn-end.result.end c.steps.wild c.turn-end.new.wild mid after (drawn_after input) (sunk_after out) (sunk_after notes) some goes c.turn-end.ensures.effect)
@@ -76,7 +76,7 @@ steps-preserved g c =
     let input = times g.S.Source.left g.S.Source.faults c.args.input.now c.steps.input c.turn-end.new.input in
     let out = times g.K.Sink.written g.K.Sink.faults c.args.out.now c.steps.out c.turn-end.new.out in
     let notes = times g.N.Sink.written g.N.Sink.faults c.args.notes.now c.steps.notes c.turn-end.new.notes in
-    let goes = sym c.run_ended_by.ensures ∙ c.in_default.is in
+    let goes = sym c.run_end.ensures ∙ c.in_default.is in
     let same = c.unit-left.ensures.value ∙ sym c.unit.ensures.value in
     let some = subst (λ n. n ≤ c.steps.left) (sym same) c.steps-test.true in
     let units = room_less c.args.units c.steps.left c.unit-left.result (unit_of (trap_in c.steps.wild.pending)) c.unit-left.ensures.value some c.steps.invariant.most in
@@ -133,7 +133,7 @@ returns-in-Some-clause-free g c =
     let input = times g.S.Source.left g.S.Source.faults c.args.input.now c.steps.input c.turn-end.new.input in
     let out = times g.K.Sink.written g.K.Sink.faults c.args.out.now c.steps.out c.turn-end.new.out in
     let notes = times g.N.Sink.written g.N.Sink.faults c.args.notes.now c.steps.notes c.turn-end.new.notes in
-    let stops = sym c.run_ended_by.ensures ∙ c.in-Some.is in
+    let stops = sym c.run_end.ensures ∙ c.in-Some.is in
     let most = room c.args.units c.steps.left c.unit.result (unit_of (trap_in c.steps.wild.pending)) c.unit.ensures.value c.steps-test.true c.steps.invariant.most in
     free_outcome c.in-Some.end c.args.wild.now.machine.how c.turn-end.new.tape c.args.units c.args.wild.now c.turn-end.new.wild before after
     (drawn_over input) (sunk_over out) (sunk_over notes)
@@ -147,7 +147,7 @@ returns-in-Some-clause-found g c =
     let input = times g.S.Source.left g.S.Source.faults c.args.input.now c.steps.input c.turn-end.new.input in
     let out = times g.K.Sink.written g.K.Sink.faults c.args.out.now c.steps.out c.turn-end.new.out in
     let notes = times g.N.Sink.written g.N.Sink.faults c.args.notes.now c.steps.notes c.turn-end.new.notes in
-    let stops = sym c.run_ended_by.ensures ∙ c.in-Some.is in
+    let stops = sym c.run_end.ensures ∙ c.in-Some.is in
     let most = room c.args.units c.steps.left c.unit.result (unit_of (trap_in c.steps.wild.pending)) c.unit.ensures.value c.steps-test.true c.steps.invariant.most in
     λ calm never.
     loses_outcome c.in-Some.end c.args.wild.now.machine.how c.turn-end.new.tape
@@ -162,7 +162,7 @@ returns-in-Some-clause-cause g c =
     let input = times g.S.Source.left g.S.Source.faults c.args.input.now c.steps.input c.turn-end.new.input in
     let out = times g.K.Sink.written g.K.Sink.faults c.args.out.now c.steps.out c.turn-end.new.out in
     let notes = times g.N.Sink.written g.N.Sink.faults c.args.notes.now c.steps.notes c.turn-end.new.notes in
-    let stops = sym c.run_ended_by.ensures ∙ c.in-Some.is in
+    let stops = sym c.run_end.ensures ∙ c.in-Some.is in
     cause_outcome c.in-Some.end c.args.wild.now.machine.how c.turn-end.new.tape (drawn_over input) (sunk_over out) (sunk_over notes)
     (counts_stop false c.turn-end.result.end c.in-Some.end c.steps.wild c.turn-end.new.wild mid after input out notes stops c.steps.invariant.calm c.turn-end.ensures.effect)
 
