@@ -38,7 +38,7 @@ finished_result f =
     (unless (option_map Reach f.unmet)
     (Ok (finished_program f)))
 
--- Where no field is bad, the data bytes are those of the segments; else they may be missing, since there may be more of them
+-- Where no field is bad, the data bytes are those of the segments; else some may be missing, since there may be more of them
 -- than an image may have. Without a level there is one segment, and the image has the first level. Each instruction is there
 -- at the level.
 pub record IsWhole (f : Finished) : Type 0 where

@@ -1,9 +1,8 @@
 -- What a statement asks of the assembler, apart from where it stands.
 use Rattle.std.specs.Prelude.{ℕ, zero, suc, ℤ, Bool, true, false, List, [], ◌∷◌, length, map, sum_by, Option, None, Some}
-use Rattle.std.specs.Option.{option_and_then}
 use Rattle.alpha_table.specs.declared.form.Form.{Form}
 use Rattle.alpha_token.specs.Quoted.{first_byte}
-use Rattle.alpha_operands.specs.Values.{Listed, list_shape, first_value}
+use Rattle.alpha_operands.specs.Values.{Listed, next_of}
 use Rattle.alpha_operands.specs.Values as listed
 use Rattle.alpha_text.specs.Statements.{Said}
 use Rattle.alpha_text.specs.Statements as says
@@ -50,8 +49,7 @@ then_more (Some first) more = first.0 ∷ more first.1
 -- the values of a list, each of so many bytes; there are no more of them than the list has bytes
 abbrev pub values_up_to : ℕ → ℕ → List ℕ → List Listed
 values_up_to zero bytes list = []
-values_up_to (suc n) bytes list =
-    then_more (option_and_then (λ shape. first_value shape list) (list_shape bytes)) (values_up_to n bytes)
+values_up_to (suc n) bytes list = then_more (next_of bytes list) (values_up_to n bytes)
 
 -- the bytes that the text of a string stands for; there are no more of them than the text has bytes
 abbrev pub bytes_up_to : ℕ → List ℕ → List ℕ

@@ -24,7 +24,8 @@ use std::alloc::Global;
 pub fn assemble(alloc: Global, source: &[u8]) -> Result<Image, AsmFault>
     requires { length source.now < 2 ^ 32 }
     ensures ok { IfOk result (λ image. assembled source.now ≡ Ok (program_of image)) }
-    ensures refused { IfErr result (λ fault. fault ≢ faults.NoMemory → assembled source.now ≡ Err fault) }
+    ensures refused { IfErr result (λ fault. fault ≢ faults.NoMemory
+        → assembled source.now ≡ Err fault) }
 {
     let mut kinds = LineKinds::none(alloc);
     let pass = read_lines(alloc, SourceKind::Program, source, &mut kinds)?;
@@ -43,8 +44,10 @@ pub(crate) fn read_lines<'a>(
     ensures stands { IfOk result (Stands (map item_at (lines source.now))) }
     ensures taken { OnOk result (first_refused kind [] (lines source.now) ≡ None) }
     ensures kinds { OnOk result (kinds.old.gathers ≡ true →
-        kinds.new.items.items ≡ kinds.old.items.items ++ kinds_of (map item_at (lines source.now))) }
-    ensures refused { IfErr result (λ fault. fault ≢ faults.NoMemory → first_refused kind [] (lines source.now) ≡ Some fault) }
+        kinds.new.items.items ≡ kinds.old.items.items
+        ++ kinds_of (map item_at (lines source.now))) }
+    ensures refused { IfErr result (λ fault. fault ≢ faults.NoMemory
+        → first_refused kind [] (lines source.now) ≡ Some fault) }
 {
     let mut pass = Pass::new(alloc, source);
     let mut rest = source;

@@ -1,4 +1,4 @@
-ghost use Rattle.std.specs.Prelude.{◌≡◌, ◌+◌, ◌≤◌, ◌^◌, ◌*◌, length, map, slice_get, if◌then◌else◌, Some, None, OnOk, IfOk, IfErr, IfSome, OnSome, is_some};
+ghost use Rattle.std.specs.Prelude.{◌≡◌, ◌+◌, ◌≤◌, ◌^◌, ◌*◌, map, slice_get, if◌then◌else◌, Some, None, OnOk, IfOk, IfErr, IfSome, OnSome, is_some};
 ghost use Rattle.std.specs.Option.{option_map, option_map_or, option_or};
 ghost use Rattle.alpha_asm.specs.Layout.{first};
 ghost use Rattle.alpha_asm.specs.Program.{spot_address, address_of, quadword_of, undefined_line, unmet_line, is_met, entry_number, reached};
@@ -51,7 +51,8 @@ impl<'a> Bases<'_, 'a> {
     // The address that a statement names, `None` exactly where the label has no definition.
     fn address(&self, to: &Expr<'a>) -> Option<i128>
         ensures found { is_some result ≡ is_some ((known_of self.now).spots to.now.label.now) }
-        ensures value { IfSome result (λ a. a ≡ address_of (known_of self.now) (reference_of to.now)) }
+        ensures value { IfSome result (λ a. a
+            ≡ address_of (known_of self.now) (reference_of to.now)) }
         ensures near { IfSome result IsNear }
     {
         match self.labels.spot(to.label) {
@@ -99,7 +100,8 @@ fn put_insn(
 ) -> bool
     requires { IsNear address }
     ensures fits { result ≡ is_some (reached by (bases.now.code_base + 4 * place) address) }
-    ensures code { code.new.items ≡ code_at (reached by (bases.now.code_base + 4 * place) address) place code.old.items }
+    ensures code { code.new.items
+        ≡ code_at (reached by (bases.now.code_base + 4 * place) address) place code.old.items }
 {
     let pc = u128::from(bases.code_base) + 4 * place as u128;
     match by.displacement(pc, address) {
@@ -129,7 +131,8 @@ fn put_quadword(bytes: &mut Vec<u8>, at: usize, n: u64)
 /// stand there. It answers whether the address fits into one.
 pub fn put_quad(address: i128, at: usize, bytes: &mut Vec<u8>) -> bool
     ensures fits { result ≡ is_some (quadword_of address) }
-    ensures bytes { bytes.new.items ≡ option_map_or (λ n. overlaid at n bytes.old.items) (quadword_of address) bytes.old.items }
+    ensures bytes { bytes.new.items
+        ≡ option_map_or (λ n. overlaid at n bytes.old.items) (quadword_of address) bytes.old.items }
 {
     match quadword_of(address) {
         Some(n) => {
@@ -151,8 +154,11 @@ fn put(
 ) -> bool
     requires { IsNear address }
     ensures fits { result ≡ is_met (known_of bases.now) address (need_of at need) }
-    ensures code { code.new.items ≡ code_with (known_of bases.now) address (need_of at need) code.old.items }
-    ensures bytes { bytes.new.items ≡ bytes_with (known_of bases.now) (offset_of at need) address (need_of at need) bytes.old.items }
+    ensures code { code.new.items
+        ≡ code_with (known_of bases.now) address (need_of at need) code.old.items }
+    ensures bytes { bytes.new.items
+        ≡ bytes_with (known_of bases.now) (offset_of at need) address
+        (need_of at need) bytes.old.items }
 {
     match need {
         Need::Insn(by) => put_insn(bases, by, at, address, code),
@@ -171,11 +177,16 @@ fn put_patch<'a>(
 ) -> Option<bool>
     ensures found { is_some result ≡ is_some ((known_of bases.now).spots patch.now.to.label.now) }
     ensures fits { IfSome result (λ fits. fits
-        ≡ is_met (known_of bases.now) (address_of (known_of bases.now) (reference_of patch.now.to)) (need_of patch.now.at patch.now.need)) }
+        ≡ is_met (known_of bases.now) (address_of (known_of bases.now) (reference_of patch.now.to))
+        (need_of patch.now.at patch.now.need)) }
     ensures code { OnSome result (code.new.items
-        ≡ code_with (known_of bases.now) (address_of (known_of bases.now) (reference_of patch.now.to)) (need_of patch.now.at patch.now.need) code.old.items) }
+        ≡ code_with (known_of bases.now)
+        (address_of (known_of bases.now) (reference_of patch.now.to))
+        (need_of patch.now.at patch.now.need) code.old.items) }
     ensures bytes { OnSome result (bytes.new.items
-        ≡ bytes_with (known_of bases.now) (offset_of patch.now.at patch.now.need) (address_of (known_of bases.now) (reference_of patch.now.to)) (need_of patch.now.at patch.now.need) bytes.old.items) }
+        ≡ bytes_with (known_of bases.now) (offset_of patch.now.at patch.now.need)
+        (address_of (known_of bases.now) (reference_of patch.now.to))
+        (need_of patch.now.at patch.now.need) bytes.old.items) }
 {
     match bases.address(&patch.to) {
         Some(address) => Some(put(bases, patch.need, patch.at, address, code, bytes)),
@@ -205,11 +216,16 @@ pub(crate) fn put_all<'a>(
     bytes: &mut Vec<u8>,
 ) -> Result<Option<u32>, AsmFault>
     ensures undefined { IfErr result (λ fault.
-        option_map faults.Undefined (first (undefined_line (known_of bases.now)) (names_of patches.now)) ≡ Some fault) }
-    ensures defined { OnOk result (first (undefined_line (known_of bases.now)) (names_of patches.now) ≡ None) }
-    ensures unmet { IfOk result (λ line. line ≡ first (unmet_line (known_of bases.now)) (names_of patches.now)) }
-    ensures code { OnOk result (code.new.items ≡ code_after (known_of bases.now) (map fix_of patches.now) code.old.items) }
-    ensures bytes { OnOk result (bytes.new.items ≡ bytes_after (known_of bases.now) (map fix_of patches.now) bytes.old.items) }
+        option_map faults.Undefined
+        (first (undefined_line (known_of bases.now)) (names_of patches.now)) ≡ Some fault) }
+    ensures defined { OnOk result
+        (first (undefined_line (known_of bases.now)) (names_of patches.now) ≡ None) }
+    ensures unmet { IfOk result (λ line. line
+        ≡ first (unmet_line (known_of bases.now)) (names_of patches.now)) }
+    ensures code { OnOk result (code.new.items
+        ≡ code_after (known_of bases.now) (map fix_of patches.now) code.old.items) }
+    ensures bytes { OnOk result (bytes.new.items
+        ≡ bytes_after (known_of bases.now) (map fix_of patches.now) bytes.old.items) }
 {
     let mut unmet = None;
     for patch in patches {

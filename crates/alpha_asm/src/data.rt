@@ -124,7 +124,7 @@ impl Data {
         spread(&gaps, &bytes)
     }
 
-    /// All bytes, or none where there are more than so many.
+    /// All bytes. Where there are more than so many, those of paddings are left out.
     pub(crate) fn spread_within(self, most: usize) -> Result<Vec<u8>, AllocError>
         ensures value { IfOk result (λ all. length self.items ≤ most → all.items ≡ self.items) }
         ensures bound { IfOk result (λ all. length all.items ≤ length self.items) }

@@ -1,5 +1,5 @@
 ghost use Rattle.std.specs.Prelude.{◌≡◌};
-ghost use Rattle.std.specs.Option.{option_map, option_or};
+ghost use Rattle.std.specs.Option.{option_map};
 ghost use Rattle.alpha_text.specs.Statements.{said};
 ghost use Rattle.alpha_asm.specs.Statement.{code_base_in, data_base_in, stack_in, entry_in};
 ghost use Rattle.alpha_asm.specs.Layout.{repeats_field, with_fields};

@@ -119,7 +119,8 @@ impl<'a> Labels<'a> {
 
     /// Where the label with a number is defined, `None` exactly where none has it.
     pub fn numbered(&self, number: usize) -> Option<Spot>
-        ensures { result ≡ option_and_then (spot_named self.now) (slice_get (label_names self.now) number) }
+        ensures { result
+            ≡ option_and_then (spot_named self.now) (slice_get (label_names self.now) number) }
     {
         let (_label, spot) = self.spots.get_index(number)?;
         Some(*spot)
@@ -136,8 +137,10 @@ impl<'a> Labels<'a> {
 
     /// Defines a label, unless it was defined before, and answers whether it was.
     pub(crate) fn define(&mut self, name: &'a [u8], spot: Spot) -> Result<bool, AllocError>
-        ensures value { IfOk result (λ again. again ≡ is_some (spot_named self.old name.entry.now)) }
-        ensures defined { IfOk result (λ again. again ≡ false → (other : List ℕ) → spot_named self.new other
+        ensures value { IfOk result (λ again. again
+            ≡ is_some (spot_named self.old name.entry.now)) }
+        ensures defined { IfOk result (λ again. again ≡ false → (other : List ℕ)
+            → spot_named self.new other
             ≡ (if bytes_eq name.entry.now other then Some spot else spot_named self.old other)) }
     {
         let old = self.spots.insert(Label { name }, spot)?;

@@ -17,8 +17,13 @@ ghost use Rattle.alpha_asm.specs.declared.fault.AsmFault.TheVariants as faults;
 /// refused, each is a line of the grammar and says its item. A line that is refused as no line of source
 /// has the number of lines so far and one, and its first fault.
 pub fn laws_of_sources()
-    ensures values { (bytes : ℕ) (list : List ℕ) (all : List Listed) → AreValuesOf bytes list all → cells (values bytes list) ≡ map (cell_of bytes) all }
-    ensures text { (string all : List ℕ) → IsTextOf string all → cells (text string) ≡ map (cell 1) all }
-    ensures lines { (kind : _) (source : List ℕ) → first_refused kind [] (lines source) ≡ None → AllByRecursion (λ line. IsLine (tokens line) (item_at line)) (lines source) }
-    ensures fault { (kind is : _) (line : List ℕ) (n : ℕ) (f : _) → refused kind is line ≡ Some (faults.Line n f) → (n ≡ length is + 1) × IsFirstFault line f }
+    ensures values { (bytes : ℕ) (list : List ℕ) (all : List Listed) → AreValuesOf bytes list all
+        → cells (values bytes list) ≡ map (cell_of bytes) all }
+    ensures text { (string all : List ℕ) → IsTextOf string all
+        → cells (text string) ≡ map (cell 1) all }
+    ensures lines { (kind : _) (source : List ℕ) → first_refused kind [] (lines source) ≡ None
+        → AllByRecursion (λ line. IsLine (tokens line) (item_at line)) (lines source) }
+    ensures fault { (kind is : _) (line : List ℕ) (n : ℕ) (f : _)
+        → refused kind is line ≡ Some (faults.Line n f)
+        → (n ≡ length is + 1) × IsFirstFault line f }
 {}

@@ -31,7 +31,9 @@
 //! `specs/Statement.antt` has what a statement asks, `specs/Layout.antt` where each item stands,
 //! `specs/Program.antt` the program that the items make, and `specs/Assembled.antt` the image of a
 //! source or its first refusal. None of them knows of a pass or a patch; `specs/Patches.antt` and
-//! `specs/Pass.antt` say what the state of the pass is, and `specs/Finished.antt` what it comes to.
+//! `specs/Pass.antt` say what the state of the pass is, and `specs/Finished.antt` what it comes to;
+//! `specs/Labels.antt`, `specs/Unlinked.antt`, `specs/Symbols.antt` and `specs/LineKinds.antt` what other
+//! crates get of it.
 #![tactic(auto)]
 
 mod assembler;

@@ -1,6 +1,6 @@
 //! What the lines of a source are to whoever puts instructions before them.
 
-ghost use Rattle.std.specs.Prelude.{◌≡◌, ◌++◌, ◌∷◌, [], true, false, OnOk};
+ghost use Rattle.std.specs.Prelude.{◌≡◌, ◌++◌, ◌∷◌, [], true, OnOk};
 ghost use Rattle.alpha_text.specs.Statements.{said};
 ghost use Rattle.alpha_asm.specs.LineKinds.{is_branch, insn_if, line_kind};
 
@@ -44,10 +44,7 @@ fn line_kind(statement: &Statement<'_>) -> LineKind
     match statement {
         Statement::Code(insn) => insn_if(!is_branch(insn)),
         Statement::Target { target, .. } => insn_if(target.offset == 0),
-        Statement::High { insn, address } => {
-            insn_if(address.offset == 0 && (is_lda(insn) || is_ldah(insn)))
-        }
-        Statement::Low { insn, address } => {
+        Statement::High { insn, address } | Statement::Low { insn, address } => {
             insn_if(address.offset == 0 && (is_lda(insn) || is_ldah(insn)))
         }
         Statement::EntryAt(_) | Statement::EntryLabel(_) | Statement::Values { .. } => {

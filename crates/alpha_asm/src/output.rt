@@ -87,9 +87,11 @@ impl<'a> Output<'a> {
 
     /// Adds an instruction.
     pub(crate) fn push_coded(&mut self, line: u32, coded: &Coded<'a>) -> Result<(), AllocError>
-        ensures code { OnOk result (self.new.code.items ≡ self.old.code.items ++ coded.now.insn ∷ []) }
+        ensures code { OnOk result (self.new.code.items
+            ≡ self.old.code.items ++ coded.now.insn ∷ []) }
         ensures bytes { self.new.bytes ≡ self.old.bytes }
-        ensures patches { OnOk result (map fix_of self.new.patches.items ≡ map fix_of self.old.patches.items
+        ensures patches { OnOk result (map fix_of self.new.patches.items
+            ≡ map fix_of self.old.patches.items
             ++ map (fix 0) (list_of (insn_name line (length self.old.code.items) (coded_of coded.now)))) }
     {
         push_reach(&mut self.patches, line, self.code.len(), coded)?;
@@ -122,7 +124,8 @@ impl<'a> Output<'a> {
 
     // Adds a value of a list.
     fn push_value(&mut self, line: u32, bytes: u8, value: &ListValue<'a>) -> Result<(), AllocError>
-        ensures { OnOk result (AddsCells line (cell_of bytes (view value.now) ∷ []) self.old self.new) }
+        ensures { OnOk result
+            (AddsCells line (cell_of bytes (view value.now) ∷ []) self.old self.new) }
     {
         match *value {
             ListValue::Number(n) => self.bytes.push_number(bytes, n),
@@ -132,7 +135,8 @@ impl<'a> Output<'a> {
 
     // Adds the quadword of an address.
     fn push_quad(&mut self, line: u32, to: Expr<'a>) -> Result<(), AllocError>
-        ensures { OnOk result (AddsCells line (address (reference_of to.entry) ∷ []) self.old self.new) }
+        ensures { OnOk result
+            (AddsCells line (address (reference_of to.entry) ∷ []) self.old self.new) }
     {
         let at = self.bytes.len();
         push_patch(&mut self.patches, line, to, Need::Quad, at)?;

@@ -68,8 +68,10 @@ impl<'a> Pass<'a> {
     ) -> Result<(), AsmFault>
         requires bounded { IsBounded self.old }
         requires lines { self.old.line + 1 < 2 ^ 32 }
-        ensures ok { OnOk result ((is : _) → Stands is self.old → Stands (is ++ item_at line.entry.now ∷ []) self.new) }
-        ensures taken { OnOk result ((is : _) → Stands is self.old → refused kind is line.entry.now ≡ None) }
+        ensures ok { OnOk result ((is : _) → Stands is self.old
+            → Stands (is ++ item_at line.entry.now ∷ []) self.new) }
+        ensures taken { OnOk result ((is : _) → Stands is self.old
+            → refused kind is line.entry.now ≡ None) }
         ensures refused { IfErr result (λ fault. fault ≢ faults.NoMemory →
             (is : _) → Stands is self.old → refused kind is line.entry.now ≡ Some fault) }
         ensures bounded { OnOk result (IsBounded self.new) }
@@ -149,7 +151,9 @@ impl<'a> Pass<'a> {
         ensures value { IfOk result (λ again.
             again ≡ repeats_label (spot_at self.old) (option_map (λ l. l.now) label.entry)) }
         ensures labels { IfOk result (λ again. again ≡ false → (name : List ℕ) →
-            spot_at self.new name ≡ with_label (spot_at self.old) (option_map (λ l. l.now) label.entry) (spot (place_of self.old)) name) }
+            spot_at self.new name
+            ≡ with_label (spot_at self.old) (option_map (λ l. l.now) label.entry)
+            (spot (place_of self.old)) name) }
         ensures same { self.new ≡ record self.old { labels = self.new.labels } }
     {
         match label {

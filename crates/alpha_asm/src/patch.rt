@@ -1,4 +1,4 @@
-ghost use Rattle.std.specs.Prelude.{◌≡◌, ◌<◌, ◌≤◌, ◌-ℤ◌, ◌^◌, ◌*◌, pos, nat_le, IfSome, if◌then◌else◌, Some, None};
+ghost use Rattle.std.specs.Prelude.{◌≡◌, ◌≤◌, ◌^◌, pos, IfSome};
 ghost use Rattle.alpha_asm.specs.Program.{words_over, halved, high_half, low_half, reached, displaced, quadword_of};
 ghost use Rattle.alpha_asm.specs.Patches.{IsField, IsNear};
 ghost use Rattle.alpha_table.specs.Row.{IsSigned};

@@ -173,7 +173,8 @@ impl Place {
     fn zeroed_pad(&self, statement: &Statement<'_>) -> u16
         requires small { IsSmall self.now }
         requires within { IsWithin (said statement.now) }
-        ensures value { (words : ℕ) → result ≡ zeroed_pad (seen words self.now) (said statement.now) }
+        ensures value { (words : ℕ) → result
+            ≡ zeroed_pad (seen words self.now) (said statement.now) }
         ensures bound { result < 8192 }
     {
         if self.has_zero {
@@ -187,9 +188,11 @@ impl Place {
     fn last_behind(&self, statement: &Statement<'_>, added: u64) -> Segment
         requires small { IsSmall self.now }
         requires within { IsWithin (said statement.now) }
-        requires added { added ≡ data_size (said statement.now) + filled_pad (seen 0 self.now) (said statement.now) }
+        requires added { added
+            ≡ data_size (said statement.now) + filled_pad (seen 0 self.now) (said statement.now) }
         requires room { self.now.last.filled + added < 2 ^ 63 }
-        ensures value { (words : ℕ) → result ≡ last_behind (seen words self.now) (said statement.now) }
+        ensures value { (words : ℕ) → result
+            ≡ last_behind (seen words self.now) (said statement.now) }
         ensures filled { result.filled ≤ self.now.last.filled + added }
         ensures zeroed { result.zeroed ≤ self.now.last.zeroed + 2 ^ 25 }
     {
@@ -213,14 +216,16 @@ impl Place {
     pub(crate) fn go_on(&mut self, statement: &Statement<'_>, added: u64) -> Result<(), AllocError>
         requires small { IsSmall self.old }
         requires within { IsWithin (said statement.now) }
-        requires added { added ≡ data_size (said statement.now) + filled_pad (seen 0 self.old) (said statement.now) }
+        requires added { added
+            ≡ data_size (said statement.now) + filled_pad (seen 0 self.old) (said statement.now) }
         requires room { self.old.last.filled + added < 2 ^ 63 }
         ensures place { OnOk result ((words : ℕ) →
             seen (words + (if is_some (coded (said statement.now)) then 1 else 0)) self.new
             ≡ behind (seen words self.old) (said statement.now)) }
         ensures filled { OnOk result (self.new.last.filled ≤ self.old.last.filled + added) }
         ensures zeroed { OnOk result (self.new.last.zeroed ≤ self.old.last.zeroed + 2 ^ 25) }
-        ensures earlier { OnOk result (length self.new.earlier.items ≤ length self.old.earlier.items + 1) }
+        ensures earlier { OnOk result (length self.new.earlier.items
+            ≤ length self.old.earlier.items + 1) }
     {
         let last = self.last_behind(statement, added);
         let begins = segment_in(statement).is_some();

@@ -90,7 +90,8 @@ struct Finished {
 impl Finished {
     // Why it has no image.
     fn fault(&self) -> Option<AsmFault>
-        ensures value { result ≡ option_or (option_map faults.ImageField (least_bad_field (finished_numbers self.now)))
+        ensures value { result
+            ≡ option_or (option_map faults.ImageField (least_bad_field (finished_numbers self.now)))
             (option_map faults.Reach self.now.unmet) }
         ensures good { IfNone result (FieldsFit (finished_numbers self.now)) }
     {
@@ -109,7 +110,8 @@ impl Finished {
     fn image(self) -> Result<Image, AsmFault>
         requires { IsWhole self }
         ensures ok { IfOk result (λ image. finished_result self ≡ Ok (program_of image)) }
-        ensures refused { IfErr result (λ fault. fault ≢ faults.NoMemory → finished_result self ≡ Err fault) }
+        ensures refused { IfErr result (λ fault. fault ≢ faults.NoMemory
+            → finished_result self ≡ Err fault) }
     {
         if let Some(fault) = self.fault() {
             return Err(fault);
@@ -136,7 +138,8 @@ impl Finished {
 pub(crate) fn made<'a>(pass: Pass<'a>) -> Result<(Image, Labels<'a>), AsmFault>
     requires sound { Sound (place_of pass) (length pass.output.bytes.items) }
     requires leveled { Leveled (place_of pass) pass.output.code.items }
-    ensures ok { IfOk result (λ r. (is : _) → Stands is pass.entry → made is ≡ Ok (program_of r.0)) }
+    ensures ok { IfOk result (λ r. (is : _) → Stands is pass.entry
+        → made is ≡ Ok (program_of r.0)) }
     ensures labels { IfOk result (λ r. r.1 ≡ pass.entry.labels) }
     ensures refused { IfErr result (λ fault. fault ≢ faults.NoMemory →
         (is : _) → Stands is pass.entry → made is ≡ Err fault) }
@@ -160,7 +163,8 @@ fn fields_of<'a>(
     level: Option<u8>,
     entry: &Entry<'a>,
 ) -> LevelFields
-    ensures { result ≡ fields_of (known_of bases.now) (fields_read read.now) level (entry_view entry.now) }
+    ensures { result
+        ≡ fields_of (known_of bases.now) (fields_read read.now) level (entry_view entry.now) }
 {
     LevelFields {
         code_base: bases.code_base,
@@ -178,8 +182,10 @@ fn finish<'a>(pass: Pass<'a>, entry: &Entry<'a>) -> Result<(Finished, Labels<'a>
     ensures ok { IfOk result (λ r. (is : _) → Stands is pass.entry →
         Finishes is (entry_view entry.now) r.0) }
     ensures labels { IfOk result (λ r. r.1 ≡ pass.entry.labels) }
-    ensures undefined { IfErr result (λ fault. fault ≢ faults.NoMemory → (is : _) → Stands is pass.entry →
-        option_map faults.Undefined (first (undefined_line (known is)) (flat_map names_in (layout is))) ≡ Some fault) }
+    ensures undefined { IfErr result (λ fault. fault ≢ faults.NoMemory → (is : _)
+        → Stands is pass.entry
+        → option_map faults.Undefined
+        (first (undefined_line (known is)) (flat_map names_in (layout is))) ≡ Some fault) }
 {
     let level = pass.place.level;
     let base = pass.fields.data_base.unwrap_or(DATA_BASE);

@@ -1,4 +1,4 @@
-ghost use Rattle.std.specs.Prelude.{◌≡◌, ◌≢◌, ◌<◌, ◌^◌, length, map, Some, None, Ok, Err, OnOk, IfOk, IfErr};
+ghost use Rattle.std.specs.Prelude.{◌≡◌, ◌≢◌, ◌<◌, ◌^◌, length, map, Ok, Err, IfOk, IfErr};
 ghost use Rattle.std.specs.Str.Lines.{lines};
 ghost use Rattle.alpha_asm.specs.Layout.{layout, spot_of, is_of_code};
 ghost use Rattle.alpha_asm.specs.LineKinds.{kinds_of};
@@ -50,7 +50,8 @@ pub fn assemble_with_symbols<'a>(
     requires { length source.now < 2 ^ 32 }
     ensures ok { IfOk result (λ made. assembled source.now ≡ Ok (program_of made.0)) }
     ensures symbols { IfOk result (λ made. made.1 ≡ source.now) }
-    ensures refused { IfErr result (λ fault. fault ≢ faults.NoMemory → assembled source.now ≡ Err fault) }
+    ensures refused { IfErr result (λ fault. fault ≢ faults.NoMemory
+        → assembled source.now ≡ Err fault) }
 {
     let mut kinds = LineKinds::gathered(alloc);
     let pass = read_lines(alloc, SourceKind::Program, source, &mut kinds)?;

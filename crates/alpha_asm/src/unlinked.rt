@@ -28,7 +28,8 @@ pub struct Unlinked<'a> {
     pub code: Vec<Insn>,
     /// How many data bytes.
     pub filled: usize,
-    /// The data bytes, where there are at most 16,777,216. Those of an address are 0.
+    /// The data bytes, where there are at most 16,777,216; where there are more, some are missing. Those of an
+    /// address are 0.
     pub bytes: Vec<u8>,
     /// How many zeroed bytes stand behind them.
     pub zeroed: u64,
@@ -65,8 +66,9 @@ impl<'a> Unlinked<'a> {
     fn behind(pass: Pass<'a>) -> Result<Unlinked<'a>, AllocError>
         ensures makes { IfOk result (λ made. (is : _) → Stands is pass.entry → Makes is made) }
         ensures few { IfOk result (λ made. length made.bytes.items ≤ made.filled) }
-        ensures level { IfOk result (λ made. (is : _) → Stands is pass.entry → (end is).level ≡ None →
-            All (IsCodeInsn One) made.code.items) }
+        ensures level { IfOk result (λ made. (is : _) → Stands is pass.entry
+            → (end is).level ≡ None
+            → All (IsCodeInsn One) made.code.items) }
     {
         let filled = pass.output.bytes.len();
         let zeroed = pass.place.last.zeroed;

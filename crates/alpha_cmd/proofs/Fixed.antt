@@ -11,14 +11,14 @@ use Rattle.alpha_cmd.specs.Status.{class_of}
 use Rattle.alpha_cmd.specs.Asks.{Asks}
 use Rattle.alpha_cmd.specs.Answer.{World, Answer}
 use Rattle.alpha_cmd.specs.Commands.Fix.{form, there}
-use Rattle.alpha_cmd.specs.Fixed.{IsSafe}
+use Rattle.alpha_cmd.specs.Fixed.{IsFixed}
 use Rattle.alpha_cmd.specs.Kept.{HasKept}
 use Rattle.alpha_cmd.specs.Tried.{TriedBy}
 use Rattle.alpha_cmd.proofs.Forms.{done_goes}
 use Rattle.alpha_cmd.proofs.Commands.Fix.{lawful}
 use Rattle.alpha_cmd.proofs.Tried.{done_tried}
 
-safe : (source text : List ℕ) → IsFixedSource source text → IsSafe source text
+safe : (source text : List ℕ) → IsFixedSource source text → IsFixed source text
 safe source text f = record {
   is = f;
   accepted = is_accepted source text f;
@@ -29,7 +29,7 @@ safe source text f = record {
 
 pub tried_fixed : (shelf input : Type 0) (words : List (List ℕ)) (file out : List ℕ) (w : World) (t : Answer) (s : Shelved) → Asks words (fix file out)
     → TriedBy shelf input words w t → t.status ≡ Done 0 → HasKept t.kept s
-    → (source text : List ℕ) × HasFile w.files file source × HasFile s.new out text × IsSafe source text
+    → (source text : List ℕ) × HasFile w.files file source × HasFile s.new out text × IsFixed source text
 tried_fixed shelf input words file out w t s asks tried e kept =
     let is = done_tried shelf input words (fix file out) w t asks tried e in
     let (text, made, keeps) = done_goes (form file out) (there file out) w (lawful file out w) t is (ap class_of e) in

@@ -2,7 +2,7 @@
 use Rattle.std.proofs.Common.{◌≡◌, ◌≢◌, ◌⊎◌, ◌∙◌, ℕ, Bool, false, List, Option, None, Some, IsSome, refl, sym, ap, subst, inl, inr, arith}
 use Rattle.alpha_io.specs.Faults.{Rose, Calm}
 use Rattle.alpha_trap.specs.declared.handler.Lost.{Lost}
-use Rattle.alpha_request.specs.Command.{Command, imprecise}
+use Rattle.alpha_request.specs.Command.{Command, check, dis, asm, fix, make_module, link, replay, record_run, run, imprecise, debug, trial}
 use Rattle.alpha_request.specs.Options.{Origin}
 use Rattle.alpha_request.specs.declared.options.RunOptions.{RunOptions}
 use Rattle.alpha_request.specs.Asked.{asked}
@@ -120,13 +120,28 @@ fails_failed shelf input f w t (inl h) = cut_failed shelf t.status h.cause
 fails_failed shelf input f w t (inr (inl h)) = ap class_of h.status_is
 fails_failed shelf input f w t (inr (inr h)) = cut_failed shelf t.status h.cause
 
+-- the end of a command by its form is one by its kind
+ends_by : (command : Command) (s : Status) → (form_of command).kind.ends s → EndsBy command s
+ends_by (check file) s h = h
+ends_by (dis file) s h = h
+ends_by (asm file out) s h = h
+ends_by (fix file out) s h = h
+ends_by (make_module file out) s h = h
+ends_by (link entry out files) s h = h
+ends_by (replay file journal) s h = h
+ends_by (record_run options choices force file out) s h = h
+ends_by (run options file) s h = h
+ends_by (imprecise options choices force file) s h = h
+ends_by (debug file) s h = h
+ends_by (trial blocks) s h = h
+
 -- the status of a program's end is one of the end of the words' command
 pub tried_ended : (shelf input : Type 0) (words : List (List ℕ)) (w : World) (t : Answer) → TriedBy shelf input words w t → class_of t.status ≡ ended
     → (command : Command) × Asks words command × EndsBy command t.status
 tried_ended shelf input words w t (inl (inl h)) is =
     let bad : class_of t.status ≡ refused = ap (λ (a : Answer). class_of a.status) h.1 in
     let no = sym is ∙ bad in absurd cc
-tried_ended shelf input words w t (inl (inr h)) is = (h.0, h.1, ended_ends (form_of h.0) (there_of h.0) w (lawful h.0 w) t h.2 is)
+tried_ended shelf input words w t (inl (inr h)) is = (h.0, h.1, ends_by h.0 t.status (ended_ends (form_of h.0) (there_of h.0) w (lawful h.0 w) t h.2 is))
 tried_ended shelf input words w t (inr (inl h)) is = let no = sym is ∙ fails_failed shelf input (form_of h.0) w t h.2 in absurd cc
 tried_ended shelf input words w t (inr (inr h)) is =
     let cut : class_of t.status ≡ failed = ap (λ (a : Answer). class_of a.status) h in

@@ -83,7 +83,7 @@ IsTold command = IsToldFor (form_of command).needs
 
 -- the statuses with which a command ends that has begun its last stage
 abbrev pub EndsBy : Command → Status → Type 0
-EndsBy command = (form_of command).kind.ends
+EndsBy command = (kind_of command).ends
 
 -- the statuses under which a command may have taken input
 abbrev pub MayTake : Command → Status → Type 0

@@ -8,7 +8,7 @@ use Rattle.alpha_fix.specs.Fix.{IsFixedSource}
 -- The text is the source with a barrier at each cut of its code. Its image is accepted, and can be restarted after each late
 -- trap. Without the word of any one of the barriers, which stands behind the words before its cut and the barriers before it, a
 -- place is broken. A source whose image is accepted is left as it is.
-pub record IsSafe (source text : List ℕ) : Type 0 where
+pub record IsFixed (source text : List ℕ) : Type 0 where
   pub is : IsFixedSource source text
   pub accepted : IsAccepted is.fixed.words
   pub restarts : IsRestartable is.fixed

@@ -19,9 +19,9 @@ use crate::asm::SOURCE_LIMIT;
 use crate::decision::Decision;
 use crate::image::read_file;
 use crate::keep::keep_as;
-use alpha_asm::AsmFault;
+use alpha_asm::{AsmFault, CODE_BASE};
 use alpha_io::Shelf;
-use alpha_link::{CODE_BASE, Module, make_module, module_bytes, verdict};
+use alpha_link::{Module, make_module, module_bytes, verdict};
 use std::alloc::Global;
 
 /// Makes a module of the source of a file, judges it, and keeps its spelling under another name or the

@@ -22,7 +22,7 @@ ghost use Rattle.alpha_cmd.specs.Commands.Module.{KeepsModule};
 ghost use Rattle.alpha_cmd.specs.Commands.Record.{KeepsUnder};
 ghost use Rattle.alpha_cmd.specs.Commands.Run as runs;
 ghost use Rattle.alpha_cmd.specs.Ends.{Decides, Ends, EndsPart, status_in};
-ghost use Rattle.alpha_cmd.specs.Fixed.{IsSafe};
+ghost use Rattle.alpha_cmd.specs.Fixed.{IsFixed};
 ghost use Rattle.alpha_cmd.specs.Kept.{Serves};
 ghost use Rattle.alpha_cmd.specs.Image.{ImageOf};
 ghost use Rattle.alpha_cmd.specs.Outcome.{goes};
@@ -157,7 +157,7 @@ pub fn alpha_top<H: Shelf, S: Source, K: Sink, N: Sink>(
     ensures fixed { (file out : List ℕ) → Asks words.now (commands.fix file out)
         → result ≡ Status.Done 0
         → (source text : List ℕ) × HasFile (H.files shelf.old) file source
-        × HasFile (H.files shelf.new) out text × IsSafe source text }
+        × HasFile (H.files shelf.new) out text × IsFixed source text }
 
     // Where the shelf tells that the file spells an accepted image and no device fails, a check of it
     // is done, or memory ran out.

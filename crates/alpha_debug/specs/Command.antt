@@ -46,8 +46,8 @@ abbrev pub most_steps : ℕ
 most_steps = 1000000
 
 -- the most bytes of a `mem`, and words of a `dis`
-abbrev pub most_units : ℕ
-most_units = 256
+abbrev pub most_shown : ℕ
+most_shown = 256
 
 -- the most bytes of a line that is a command
 abbrev pub line_limit : ℕ
@@ -84,7 +84,7 @@ with_number name n =
 -- a word, an address and a count
 abbrev pub with_range : List ℕ → ℕ → ℕ → Command
 with_range name at count =
-    if is_within most_units count then
+    if is_within most_shown count then
     (if bytes_eq name (codes "mem") then Memory at count else if bytes_eq name (codes "dis") then Listing at count else Unknown)
     else Unknown
 

@@ -1,6 +1,6 @@
-ghost use Rattle.std.specs.Prelude.{◌≡◌, ◌+◌, ◌==◌, [], ◌∷◌, ◌++◌, not, length, if◌then◌else◌};
+ghost use Rattle.std.specs.Prelude.{◌≡◌, ◌==◌, not};
 ghost use Rattle.std.specs.List.{filter};
-ghost use Rattle.alpha_debug.specs.Session.{has_point, most_points};
+ghost use Rattle.alpha_debug.specs.Session.{has_point};
 
 use arrayvec::ArrayVec;
 

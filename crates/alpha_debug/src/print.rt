@@ -1,11 +1,10 @@
-ghost use Rattle.std.specs.Prelude.{◌≡◌, ◌≤◌, ◌<◌, ◌+◌, ◌*◌, ◌^◌, ◌++◌, length, take, drop, min, OnOk, OnErr, Option, Some, slice_index};
+ghost use Rattle.std.specs.Prelude.{◌≡◌, ◌≤◌, ◌<◌, ◌+◌, ◌*◌, ◌^◌, ◌++◌, length, OnOk, OnErr, Some, slice_index};
 ghost use Rattle.hex.specs.Hex.{encode_lower};
 ghost use Rattle.alpha_io.specs.declared.line.TheConstants.{LINE_ROOM};
 ghost use Rattle.alpha_io.specs.Sunk.{sunk, Puts};
-ghost use Rattle.alpha_mem.specs.Block.{Block};
 ghost use Rattle.alpha_image.specs.Parts.{place_of};
 ghost use Rattle.alpha_debug.specs.Effects.{Stops};
-ghost use Rattle.alpha_debug.specs.Lines.{rows, where_line, memory_line, memory_row, bytes_lines, memory_lines, bad_range, code_line, code_row, code_lines, verdict_line, log_line};
+ghost use Rattle.alpha_debug.specs.Lines.{where_line, memory_line, bytes_lines, memory_lines, code_line, code_lines, verdict_line, log_line};
 
 use alpha_image::Image;
 use alpha_io::{Failed, Line, Sink, write_whole};
@@ -158,7 +157,8 @@ fn print_words<K: Sink>(image: &Image, place: u32, count: u64, out: &mut K) -> R
 #[tactic(auto, using(crate::proofs::Printing::line_at), unfolding(crate::specs::Lines::code_line))]
 fn code_line(image: &Image, place: u32) -> Line
     requires { place < length image.now.words }
-    ensures { result ≡ code_line (image.now.code_base + 4 * place) (slice_index image.now.words place) }
+    ensures { result
+        ≡ code_line (image.now.code_base + 4 * place) (slice_index image.now.words place) }
 {
     let mut text = LineBuf::new();
     write_line(&image.insn_at(place), &mut text);

@@ -1,4 +1,4 @@
-ghost use Rattle.std.specs.Prelude.{◌≡◌, [], ◌∷◌, List, ℕ, IsTrue, IfOk, OnErr};
+ghost use Rattle.std.specs.Prelude.{[], ◌∷◌, List, ℕ, IsTrue, IfOk, OnErr};
 ghost use Rattle.alpha_io.specs.Sunk.{sunk};
 ghost use Rattle.alpha_debug.specs.Command.{command_of};
 ghost use Rattle.alpha_debug.specs.Effects.{Remains, Answers, AnswerFails, IsHeld, Hears, HearFails};

@@ -27,13 +27,13 @@ const TRAPB: &[u8] = b"trapb\n";
 fn is_insn(statement: &Statement<'_>) -> bool
     ensures { result ≡ is_some (coded (said statement.now)) }
 {
-    match *statement {
-        Statement::Code(_) => true,
-        Statement::Target { .. } => true,
-        Statement::High { .. } => true,
-        Statement::Low { .. } => true,
-        _ => false,
-    }
+    matches!(
+        *statement,
+        Statement::Code(_)
+            | Statement::Target { .. }
+            | Statement::High { .. }
+            | Statement::Low { .. }
+    )
 }
 
 // What a line is to the barriers.
@@ -87,7 +87,8 @@ fn role_here<'a>(kind: LineKind, symbols: &Symbols<'a>, base: u64, text: &'a [u8
 
 // The kind of the first line, and those behind it.
 fn first_kind(kinds: &[LineKind]) -> (LineKind, &[LineKind])
-    ensures { (k : LineKindOf) (ks : List LineKindOf) → kinds.now ≡ k ∷ ks → (result.0 ≡ k) × (result.1.now ≡ ks) }
+    ensures { (k : LineKindOf) (ks : List LineKindOf) → kinds.now ≡ k ∷ ks
+        → (result.0 ≡ k) × (result.1.now ≡ ks) }
 {
     match kinds {
         [kind, more @ ..] => (*kind, more),
@@ -135,7 +136,8 @@ fn put_line(
     behind: bool,
 ) -> Result<(), AllocError>
     ensures { OnOk result ((l : SourceLine) → Is l line.now →
-        text.new.items ≡ text.old.items ++ flat_map line_bytes (bar_if before trapb_line ++ then_bar behind l)) }
+        text.new.items ≡ text.old.items
+        ++ flat_map line_bytes (bar_if before trapb_line ++ then_bar behind l)) }
 {
     if before {
         text.extend_from_slice(TRAPB)?;

@@ -1,4 +1,4 @@
-ghost use Rattle.std.specs.Prelude.{◌≡◌, ◌≤◌, ℕ, length, MatchOption, OnOk, IfOk, IfErr};
+ghost use Rattle.std.specs.Prelude.{◌≤◌, length, MatchOption, OnOk, IfOk, IfErr};
 ghost use Rattle.alpha_fix.specs.Cuts.{AreCuts, NoneAlone, NoneFrom, IsLeastFrom};
 ghost use Rattle.alpha_fix.specs.Fix.{Stops};
 
@@ -10,7 +10,8 @@ use std::alloc::Global;
 // The least broken place for triggers from a place on.
 fn broken_from(checker: &mut Checker, image: &Image, from: u32) -> Option<Broken>
     requires { from ≤ length image.now.words }
-    ensures { MatchOption result (NoneFrom image.now.words from) (IsLeastFrom image.now.words from) }
+    ensures { MatchOption result (NoneFrom image.now.words from)
+        (IsLeastFrom image.now.words from) }
 {
     match checker.judge(&mut ImageCode::new(image).from_place(from)) {
         Ok(()) => None,
@@ -30,7 +31,7 @@ fn broken_from(checker: &mut Checker, image: &Image, from: u32) -> Option<Broken
 ///
 /// # Errors
 ///
-/// `Unfixable` where a trigger is broken at its own place.
+/// `Unfixable` where a trigger is broken at its own place. `NoMemory` may come in place of any answer.
 pub fn cuts_of(alloc: Global, image: &Image) -> Result<Vec<u32>, CutFault>
     ensures ok { IfOk result (λ cuts. AreCuts image.now.words cuts.items) }
     ensures sound { OnOk result (NoneAlone image.now.words) }

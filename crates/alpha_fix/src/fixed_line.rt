@@ -35,10 +35,7 @@ fn takes_half<'a>(symbols: &Symbols<'a>, statement: &Statement<'a>) -> bool
     ensures { result ≡ takes_half (names_code (items_of symbols.now)) (said statement.now) }
 {
     match *statement {
-        Statement::High { insn, address } => {
-            symbols.names_code(address.label) && !is_address(&insn)
-        }
-        Statement::Low { insn, address } => {
+        Statement::High { insn, address } | Statement::Low { insn, address } => {
             symbols.names_code(address.label) && !is_address(&insn)
         }
         _ => false,
@@ -96,7 +93,8 @@ fn is_any_off<'a>(symbols: &Symbols<'a>, bytes: u8, list: &'a [u8]) -> bool
 // Whether an address that a statement names is some way off a label that names code.
 #[tactic(auto, unfolding(alpha_asm::specs::Statement::cells))]
 fn names_off<'a>(symbols: &Symbols<'a>, statement: &Statement<'a>) -> bool
-    ensures { result ≡ list_any (is_off (names_code (items_of symbols.now))) (references (said statement.now)) }
+    ensures { result
+        ≡ list_any (is_off (names_code (items_of symbols.now))) (references (said statement.now)) }
 {
     match *statement {
         Statement::Target { target, .. } => is_off(symbols, &target),

@@ -16,8 +16,10 @@ pub fn laws_of_cuts()
         AreCuts code cuts → j < length cuts → HasBroken (barred code (without j cuts)) }
     ensures one { (code a b : List ℕ) → AreCuts code a → AreCuts code b → a ≡ b }
     ensures some { (code : List ℕ) →
-        (NoneAlone code × ((cuts : List ℕ) × AreCuts code cuts)) ⊎ ((b : Broken) × IsLeastAlone code b) }
-    ensures alone { (code : List ℕ) (b c : Broken) → IsLeastAlone code b → IsLeastAlone code c → b ≡ c }
+        (NoneAlone code × ((cuts : List ℕ) × AreCuts code cuts))
+        ⊎ ((b : Broken) × IsLeastAlone code b) }
+    ensures alone { (code : List ℕ) (b c : Broken) → IsLeastAlone code b → IsLeastAlone code c
+        → b ≡ c }
 {}
 
 /// The laws of fixed sources. The image of a fixed source is accepted; without the word of any one of
@@ -25,7 +27,8 @@ pub fn laws_of_cuts()
 /// place is broken. A source whose image is accepted is its own fixed source. A source has one fixed
 /// source at most.
 pub fn laws_of_fixed_sources()
-    ensures accepted { (source text : List ℕ) (f : IsFixedSource source text) → IsAccepted f.fixed.words }
+    ensures accepted { (source text : List ℕ) (f : IsFixedSource source text)
+        → IsAccepted f.fixed.words }
     ensures needed { (source text : List ℕ) (f : IsFixedSource source text) (j cut : ℕ) →
         slice_get f.cuts j ≡ Some cut → HasBroken (without (cut + j) f.fixed.words) }
     ensures unchanged { (source text : List ℕ) (f : IsFixedSource source text) →

@@ -50,7 +50,7 @@ abbrev pub segments_in : ℕ → List ℕ → List Segment
 segments_in zero bytes = []
 segments_in (suc n) bytes = segment_in bytes ∷ segments_in n (drop 16 bytes)
 
--- the segment that an image of the first version has
+-- the first segment, one of zeros where there is none
 abbrev pub first_segment : List Segment → Segment
 first_segment [] = record { base = 0; filled = 0; zeroed = 0 }
 first_segment (s ∷ rest) = s

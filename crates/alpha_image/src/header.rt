@@ -157,7 +157,7 @@ impl Header {
         }
     }
 
-    /// The segment of an image of version 1.
+    /// The first segment, one of zeros where there is none.
     pub fn first_segment(&self) -> Segment
         ensures value { result ≡ first_segment self.now.segments.items }
     {

@@ -1,4 +1,4 @@
-ghost use Rattle.std.specs.Prelude.{◌≡◌, ◌+◌, ◌*◌, ◌<◌, ◌≤◌, ◌≢◌, ◌^◌, ◌↔◌, ◌++◌, ℕ, length, map, slice_index, slice_get, Some, IfSome, IfNone, IfOk, OnOk, IsSome, All};
+ghost use Rattle.std.specs.Prelude.{◌≡◌, ◌+◌, ◌*◌, ◌<◌, ◌≢◌, ◌↔◌, ◌++◌, ℕ, length, map, slice_index, slice_get, Some, IfSome, IfNone, IfOk, OnOk, IsSome, All};
 ghost use Rattle.std.specs.List.{flat_map};
 ghost use Rattle.std.specs.Option.{option_map, option_and_then};
 ghost use Rattle.alpha_table.specs.Decoded.{decoded};
@@ -176,7 +176,7 @@ impl Image {
         self.insns.as_slice()
     }
 
-    /// The code words, each as four bytes with the lowest first.
+    /// The code words, each as four bytes with the lowest first. `NoMemory` where memory runs out.
     pub fn code_bytes(&self, alloc: Global) -> Result<Vec<u8>, NoMemory>
         ensures value { IfOk result (λ code. code.items ≡ flat_map longword self.now.words) }
         ensures good { IsImage self.now }

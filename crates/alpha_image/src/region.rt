@@ -1,6 +1,6 @@
 //! Regions of addresses, and whether they overlap.
 
-ghost use Rattle.std.specs.Prelude.{◌≡◌, ◌+◌, ◌≤◌, ◌<◌, ◌^◌, nat_le};
+ghost use Rattle.std.specs.Prelude.{◌≡◌, ◌+◌, nat_le};
 ghost use Rattle.alpha_image.specs.Rules.{are_apart};
 
 /// So many addresses from the base on.

@@ -1,6 +1,6 @@
 //! The rules of an image's numbered fields.
 
-ghost use Rattle.std.specs.Prelude.{◌≡◌, ◌+◌, ◌≤◌, ◌<◌, ◌^◌, length, nat_le, map, sum_by, IsTrue, IfNone, All};
+ghost use Rattle.std.specs.Prelude.{◌≡◌, ◌+◌, ◌≤◌, ◌^◌, nat_le, map, sum_by, IsTrue, IfNone, All};
 ghost use Rattle.std.specs.List.{list_all};
 ghost use Rattle.alpha_image.specs.Numbers.{level_numbers};
 ghost use Rattle.alpha_image.specs.Rules.{FieldsFit, least_bad_field, is_base, rise, data_bases_fit, code_words_fit, data_bytes_fit, zeroed_bytes_fit, stack_bytes_fit, entry_fits, regions_fit, level_fits, segments_fit, all_apart, are_apart, segment_region, size_of_segment};

@@ -1,6 +1,6 @@
 //! Data segments.
 
-ghost use Rattle.std.specs.Prelude.{◌≡◌, ◌+◌, ◌*◌, ◌^◌, ◌<◌, ◌≤◌, length};
+ghost use Rattle.std.specs.Prelude.{◌≡◌, ◌*◌, ◌^◌, ◌<◌, ◌≤◌, length};
 ghost use Rattle.alpha_image.specs.Layout.{segment_in, segments_in, filled_size};
 ghost use Rattle.alpha_image.specs.Rules.{segment_region, size_of_segment};
 

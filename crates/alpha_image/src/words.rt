@@ -87,7 +87,8 @@ fn insn_at(level: Level, word: Word) -> Option<Insn>
     }
 }
 
-/// Appends the words of the instructions, each as four bytes with the lowest first.
+/// Appends the words of the instructions, each as four bytes with the lowest first. Where memory runs out,
+/// some of them may stand in `out`.
 pub fn push_words(out: &mut Vec<u8>, insns: &[Insn]) -> Result<(), AllocError>
     ensures ok { OnOk result
         (out.new.items ≡ out.old.items ++ flat_map longword (map encoded insns.now)) }

@@ -119,7 +119,7 @@ fn push_segment(out: &mut Vec<u8>, segment: &Segment) -> Result<(), AllocError>
     push_longword(out, segment.zeroed as u32)
 }
 
-/// The one spelling of an image. Memory taken is that of these bytes.
+/// The one spelling of an image. Memory taken is that of these bytes; `NoMemory` where it runs out.
 pub fn image_bytes(alloc: Global, image: &Image) -> Result<Vec<u8>, NoMemory>
     ensures value { IfOk result (λ bytes. bytes.items ≡ spelling image.now) }
 {

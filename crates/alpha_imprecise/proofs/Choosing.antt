@@ -4,7 +4,7 @@ use Rattle.std.proofs.Common.{◌≡◌, ◌<◌, ◌+◌, ◌/◌, ◌%◌, ◌
 use Rattle.std.proofs.lemmas.Bool.Decides.{nat_tests}
 use Rattle.alpha_words.specs.declared.PalCall.{PalCall}
 use Rattle.alpha_table.specs.Class.{Class, operate, trigger, address, load, store, load_locked, store_conditional, branch, jump, barrier, idle}
-use Rattle.alpha_words.specs.Regs.{reg}
+use Rattle.alpha_words.specs.Regs.{reg, put}
 use Rattle.alpha_values.specs.Source.{source_value}
 use Rattle.alpha_values.specs.TrapOp.{completed_of, stops}
 use Rattle.alpha_mem.specs.declared.access.MemFault.{MemFault}
@@ -25,7 +25,7 @@ use Rattle.alpha_imprecise.specs.Moment.{Trap, with_register, Happening, Precise
 use Rattle.alpha_imprecise.specs.Step.{triggers, triggered, precisely, with_none, can_wait, report, mask_after, waited, with_trap}
 use Rattle.alpha_imprecise.specs.Chosen.{Draw, first_word, reporting, triggering, executing, must_report, draw_at, waited_after}
 use Rattle.alpha_imprecise.specs.Telling.{Telling, Goes, Counts, Moves}
-use Rattle.alpha_imprecise.specs.Wild.{wild_state, trap_of, trap_in, waited_in, bare, OverflowsAt, triggered_machine, WaitsAt, Spoils}
+use Rattle.alpha_imprecise.specs.Wild.{wild_state, trap_of, trap_in, waited_in, bare, OverflowsAt, WaitsAt, Spoils}
 use Rattle.alpha_imprecise.specs.Report.{Reports}
 use Rattle.alpha_imprecise.specs.WildEffect.{WildSteps, Chooses, ChoosesReport, WildGoesOn}
 
@@ -206,6 +206,10 @@ goes-chooses old new h =
     }
 
 -- ---- a trigger
+
+-- the machine after an overflow whose destination got a value
+abbrev triggered_machine : Machine → ℕ → ℕ → Machine
+triggered_machine m rc value = record m { regs = put m.regs rc value; pc = (m.pc + 4) % 2 ^ 64 }
 
 pub trigger-chooses : (m new : Machine) (place rc value mask : ℕ) → OverflowsAt m place rc → new ≡ triggered_machine m rc value → mask ≡ with_register 0 rc
     → Chooses Triggered (wild_state m None) (wild_state new (Some (record { trigger = place; mask = mask; waited = 0 }))) (value ∷ [])

@@ -1,7 +1,7 @@
 -- How the code's machine stands to the definition.
-use Rattle.std.specs.Prelude.{◌≡◌, ℕ, ◌+◌, ◌%◌, ◌^◌, true, List, [], Option, None, Some}
+use Rattle.std.specs.Prelude.{◌≡◌, ℕ, true, List, [], Option, None, Some}
 use Rattle.std.specs.Option.{option_map, option_map_or}
-use Rattle.alpha_words.specs.Regs.{reg, put}
+use Rattle.alpha_words.specs.Regs.{reg}
 use Rattle.alpha_pal.specs.Kernel.{KernelState, arith_frame}
 use Rattle.alpha_table.specs.Class.{Class}
 use Rattle.alpha_image.specs.Parts.{place_of}
@@ -44,10 +44,6 @@ pub record OverflowsAt (m : Machine) (place rc : ℕ) : Type 0 where
   pub at : place_of m.image m.pc ≡ Some place
   pub overflows : triggers (class_here m) (bare m) ≡ true
   pub into : destination (class_here m) ≡ rc
-
--- the machine after an overflow whose destination got a value
-abbrev pub triggered_machine : Machine → ℕ → ℕ → Machine
-triggered_machine m rc value = record m { regs = put m.regs rc value; pc = (m.pc + 4) % 2 ^ 64 }
 
 -- the word at the PC is of this class, and can be executed while a trap waits
 pub record WaitsAt (m : Machine) (class : Class) : Type 0 where

@@ -11,5 +11,6 @@ pub trait Chooser {
 
     /// The next word.
     fn next(&mut self) -> u64
-        ensures { Moves (telling ahead drawn self.old) (telling ahead drawn self.new) (result ∷ []) };
+        ensures { Moves (telling ahead drawn self.old) (telling ahead drawn self.new)
+            (result ∷ []) };
 }

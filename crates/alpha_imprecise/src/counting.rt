@@ -5,8 +5,10 @@ use crate::Chooser;
 /// A chooser that counts the words which it has answered.
 #[derive(Debug, Drop)]
 pub struct CountingChooser<C: Chooser> {
-    chooser: C,
-    drawn: u64,
+    /// Where its words come from.
+    pub chooser: C,
+    /// How many words it has answered, modulo 2^64.
+    pub drawn: u64,
 }
 
 impl<C: Chooser> CountingChooser<C> {

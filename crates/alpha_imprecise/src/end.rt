@@ -29,7 +29,7 @@ pub enum WildEnd {
 }
 
 impl WildEnd {
-    /// How the run ends, if this step ends it.
+    /// How the run ends, if this step ends it; `None` where the run goes on. It is never `Spent`.
     #[inline(always)]
     pub fn run_end(self) -> Option<RunEnd>
         ensures { result ≡ run_ended_by self }

@@ -34,7 +34,8 @@ pub fn laws_of_free_runs()
     ensures told { (g : Program) (k : Making) (n : ℕ)
         → run_making_over g (lefts_making g k n) k ≡ steps_making g k n }
     ensures words { (g : Program) (s : State) (words : List ℕ) (inputs : List (List ℕ))
-        → let k = run_making_over g inputs (begun s None 0 words) in k.count ≤ most_words k.run.units }
+        → let k = run_making_over g inputs (begun s None 0 words) in
+        k.count ≤ most_words k.run.units }
     ensures cut { (n : ℕ) (watch : Bool) (w : WildState) (before after : Telling) (input : Drawn)
         (out notes : Sunk) → IsFreeCut n watch w before after input out notes
         → IsFreeFront n watch w before after out notes }

@@ -3,7 +3,8 @@
 //!
 //! - [`Wild`] is the machine: a sequential machine, and a trap that may be pending, a [`Pending`].
 //!   [`Wild::step`] makes one step, and [`WildEnd`] says how it went. [`run`] makes steps until the program ends, a
-//!   trap is lost or a number of units is used up.
+//!   trap is lost or a number of units is used up. [`Wild::unit`], [`WildEnd::run_end`], [`Pending::waiting_insn`] and
+//!   [`overflowing`] are the parts of a step and of a run that whoever records runs shares.
 //! - A [`Chooser`] answers the words of 64 bits by which a step chooses: [`ListChooser`] has them from bytes,
 //!   [`PcgChooser`] from a seeded generator. A [`CountingChooser`] counts the words of another one.
 //! - [`laws_of_chosen_runs`]: a run by such words uses its units or is over before, takes 1,026 steps a unit at most,
@@ -14,11 +15,12 @@
 //! step, `specs/Run.antt` the runs, `specs/Chosen.antt` the choices that are made by words of 64 bits,
 //! `specs/Made.antt` the runs that coming words make, `specs/Free.antt` the runs in which each step finds an input of its
 //! own, as over a source that tells nothing, `specs/Restart.antt` what it means that a program can be
-//! restarted after each trap, and `specs/Shown.antt` what such a program's runs show. `specs/WildEffect.antt` says what the code's step did against that, for choosers and
-//! devices that may tell nothing, `specs/WildRunEffect.antt` what its run did, and `specs/Telling.antt` how a chooser
+//! restarted after each trap, and `specs/Shown.antt` what such a program's runs show. `specs/WildEffect.antt` says what
+//! the code's step did against that, for choosers and devices that may tell nothing, `specs/WildRunEffect.antt` what its run did, and `specs/Telling.antt` how a chooser
 //! goes on. `specs/WildTurn.antt` says what a step does together with the lines of a barrier.
 //!
-//! `src/step.rt` has the step by what it is, `src/look.rt` what the word at the PC would do, `src/spoil.rt` the words
+//! `src/wild.rt` is the machine, `src/pending.rt` its pending trap and `src/end.rt` how a step went; `src/step.rt` has
+//! the step by what it is, `src/look.rt` what the word at the PC would do, `src/spoil.rt` the words
 //! that are executed while a trap is pending, `src/report.rt` the report, through the kernel's frame and the
 //! handler, `src/runs.rt` the run, and `src/laws.rt` the laws.
 #![tactic(auto)]

@@ -26,7 +26,7 @@ impl Model for ListChooser {
 }
 
 impl ListChooser {
-    /// The words of these bytes.
+    /// The words of these bytes. `NoMemory` where memory runs out.
     pub fn new(alloc: Global, bytes: &[u8]) -> Result<ListChooser, NoMemory>
         ensures { IfOk result (λ c. c ≡ bytes.now) }
     {

@@ -1,6 +1,6 @@
 //! What the word at the PC would do.
 
-ghost use Rattle.std.specs.Prelude.{◌≡◌, true, false, [], IfSome, IfNone, Some};
+ghost use Rattle.std.specs.Prelude.{◌≡◌, true, false, IfSome, IfNone, Some};
 ghost use Rattle.alpha_table.specs.Class.{class_of};
 ghost use Rattle.alpha_seq.specs.Next.{next_insn};
 ghost use Rattle.alpha_seq.specs.Machine.{program_of, class_here};
@@ -33,10 +33,13 @@ pub(crate) fn overflow_of(machine: &Machine, insn: &Insn) -> Option<Overflow>
     Some(Overflow { place, rc })
 }
 
-/// The destination of an instruction, if it overflows by the registers of a machine.
+/// The destination of an instruction with `/V` that overflows by the registers of a machine (Architecture
+/// Handbook, arithmetic traps), which may be R31; `None` for one that doesn't overflow, and for any other
+/// instruction.
 #[inline(always)]
 pub fn overflowing(machine: &Machine, insn: &Insn) -> Option<Reg>
-    ensures found { IfSome result (λ rc. triggers (Some (class_of insn.now)) (bare machine.now) ≡ true) }
+    ensures found { IfSome result (λ rc. triggers (Some (class_of insn.now)) (bare machine.now)
+        ≡ true) }
     ensures into { IfSome result (λ rc. destination (Some (class_of insn.now)) ≡ rc) }
     ensures none { IfNone result (triggers (Some (class_of insn.now)) (bare machine.now) ≡ false) }
 {

@@ -19,7 +19,7 @@ pub struct Pending {
     pub trigger: u32,
     /// The registers that the report will name.
     pub mask: RegSet,
-    /// How many words were executed since the trigger.
+    /// How many words were executed since the trigger; at most 1,024 where a [`Wild`](crate::Wild) has the trap.
     pub waited: u32,
 }
 

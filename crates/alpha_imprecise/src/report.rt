@@ -69,6 +69,7 @@ fn handled(machine: &mut Machine, mask: RegSet) -> Result<u64, Lost>
       kernel = returned_kernel machine.old.pc machine.old.regs;
     }) }
 {
+    // This read tells the proof that there are 32 registers.
     let zero = machine.regs.get(Reg::ZERO);
     prove!(zero == 0);
     machine

@@ -51,6 +51,7 @@ fn store(machine: &mut Machine, at: &MemAccess, ra: Reg, value: u64)
     ensures { Spoils (store at.now ra) value machine.old machine.new }
 {
     let addr = machine.accessed(at);
+    // The access was looked at before: it doesn't fault.
     let _ = machine.memory.store(addr, size(at.bytes), value);
     machine.advance();
 }
@@ -69,6 +70,7 @@ fn store_conditional(machine: &mut Machine, at: &MemAccess, ra: Reg, value: u64)
 {
     let addr = machine.accessed(at);
     if machine.lock == Some(addr / 16) {
+        // As above.
         let _ = machine.memory.store(addr, size(at.bytes), value);
     }
     machine.lock = None;

@@ -21,7 +21,8 @@ impl Model for Wild {
 
     ghost view = { λ w. record { machine = w.machine; pending = w.pending } };
 
-    ghost invariant = { λ w. (w.machine.kernel.user ≡ true) × IfSome w.pending (λ p. p.waited ≤ 1024) };
+    ghost invariant = { λ w. (w.machine.kernel.user ≡ true)
+        × IfSome w.pending (λ p. p.waited ≤ 1024) };
 }
 
 impl Wild {
@@ -67,7 +68,7 @@ impl Wild {
     #[inline(always)]
     pub fn unit(&self) -> u64
         ensures value { result ≡ unit_of (trap_in self.now.pending) }
-        ensures bound { IfSome self.now.pending (λ p. p.waited ≤ 1024) }
+        ensures good { IfSome self.now.pending (λ p. p.waited ≤ 1024) }
     {
         match self.pending {
             None => 1,

@@ -5,7 +5,6 @@ ghost use Rattle.alpha_io.specs.ReadWhole.{ReadCause, PieceCause};
 ghost use Rattle.alpha_io.specs.declared.read.ReadFault.TheVariants.{Shelf, NoMemory};
 
 use crate::{Failed, Shelf};
-use alpha_words::NoMemory;
 use std::alloc::{AllocError, Global};
 use thiserror::Error;
 
@@ -31,14 +30,6 @@ impl From<Failed> for ReadFault {
 
     fn from(_: Failed) -> Self {
         ReadFault::Shelf
-    }
-}
-
-impl From<NoMemory> for ReadFault {
-    ghost from_gives = { λ _ fault. fault ≡ NoMemory };
-
-    fn from(_: NoMemory) -> Self {
-        ReadFault::NoMemory
     }
 }
 

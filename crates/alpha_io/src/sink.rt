@@ -13,7 +13,8 @@ pub trait Sink {
     /// How often the sink has failed, at most the last value of a `u64`.
     ghost faults: { Self → ℕ };
 
-    /// Appends bytes from the front, at least one, and answers how many.
+    /// Appends bytes from the front, at least one, and answers how many. `Failed` leaves the bytes written so
+    /// far as they were.
     fn put(&mut self, bytes: &[u8]) -> Result<usize, Failed>
         requires { 0 < length bytes.now }
         ensures some { IfOk result (λ n. 0 < n) }

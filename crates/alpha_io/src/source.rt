@@ -14,6 +14,7 @@ pub trait Source {
     ghost faults: { Self → ℕ };
 
     /// Takes bytes into the front of the buffer, and answers how many: none exactly at the end.
+    /// `Failed` leaves the bytes still to come as they were.
     fn take(&mut self, buf: &mut [u8]) -> Result<usize, Failed>
         requires { 0 < length buf.old }
         ensures bound { ReadsAtMost result buf.new }

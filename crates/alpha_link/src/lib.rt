@@ -54,8 +54,8 @@
 //! The linker goes over the modules four times. `located.rt` says where each one stands, and `names.rt`
 //! holds the addresses of the names that they define in one table, in which each symbol's name is then
 //! looked up. `linker.rt` has the refusals in their order, and `output.rt` copies the modules into one
-//! buffer of instructions and one of data bytes, and puts in there what each relocation asks for. The code
-//! of an image begins at [`CODE_BASE`].
+//! buffer of instructions and one of data bytes, and puts in there what each relocation asks for. The
+//! code of an image begins at [`alpha_asm::CODE_BASE`], as that of a source without a `.codebase`.
 //!
 //! `specs/Reading.antt` says how bytes are read from the front, `specs/Header.antt`, `specs/Symbols.antt`
 //! and `specs/Relocations.antt` which items there are and which are good, `specs/Parts.antt` what a module
@@ -94,7 +94,6 @@ pub use fault::{LinkFault, ModuleFault};
 pub use judged::verdict;
 pub use laws::{laws_of_joined_code, laws_of_linked_code, laws_of_modules};
 pub use linker::link;
-pub use located::CODE_BASE;
 pub use made::make_module;
 pub use module::Module;
 pub use read::read_module;

@@ -14,15 +14,13 @@ ghost use Rattle.alpha_words.specs.declared.Level.TheVariants as levels;
 ghost use Rattle.alpha_image.specs.declared.version.Version.TheVariants.{One};
 
 use crate::LinkFault;
-use crate::located::{CODE_BASE, DATA_BASE, Located, places};
+use crate::located::{Located, places};
 use crate::module::Module;
 use crate::names::Names;
 use crate::output::Output;
+use alpha_asm::{CODE_BASE, DATA_BASE, STACK_BYTES};
 use alpha_image::{Image, LevelFields, Segment, Version};
 use std::alloc::Global;
-
-/// How many stack bytes a linked image has.
-const STACK: u64 = 65_536;
 
 // How many code words, data bytes and zeroed bytes the image has.
 #[derive(Clone, Copy)]
@@ -146,7 +144,7 @@ fn linked_at<'m>(
     let fields = LevelFields {
         code_base: CODE_BASE,
         entry,
-        stack: STACK,
+        stack: STACK_BYTES,
         level: 1,
     };
     let segment = Segment {

@@ -5,15 +5,9 @@ ghost use Rattle.alpha_link.specs.Linked.{places, room, section_address};
 
 use crate::module::Module;
 use crate::symbol::{Symbol, SymbolSection};
-use alpha_asm::padding;
+use alpha_asm::{CODE_BASE, DATA_BASE, padding};
 use std::alloc::{AllocError, Global};
 use std::marker::Model;
-
-/// The address of the first code word of an image that modules link to.
-pub const CODE_BASE: u64 = 0x10000;
-
-/// The address of its first data byte.
-pub(crate) const DATA_BASE: u64 = 0x1000_0000;
 
 /// The data of each module begin at a multiple of 2^13 bytes.
 const DATA_UNIT: u8 = 13;

@@ -1,6 +1,6 @@
 //! The relocations of a module that is made of a source.
 
-ghost use Rattle.std.specs.Prelude.{◌≡◌, ◌<◌, ◌||◌, ◌&&◌, ◌++◌, ℕ, List, [], All, map, length, Some, is_some, is_none, IfOk, OnOk, IfSome};
+ghost use Rattle.std.specs.Prelude.{◌≡◌, ◌<◌, ◌||◌, ◌&&◌, ◌++◌, ℕ, List, [], All, map, length, is_some, is_none, IfOk, OnOk, IfSome};
 ghost use Rattle.std.specs.List.{cons_option, list_any};
 ghost use Rattle.std.specs.Str.{bytes_eq};
 ghost use Rattle.alpha_asm.specs.Labels.{spot_named, are_among};

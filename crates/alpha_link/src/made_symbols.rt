@@ -99,10 +99,12 @@ impl<'a> Ranked<'a> {
         requires numbers { (names : List (List ℕ)) × IsNumbered labels.now names
             × (length names ≡ length keyed.now)
             × All (λ k. slice_get names k.number ≡ Some k.name.now) keyed.now }
-        ensures symbols { let names = dedup (λ a b. bytes_eq a.now b.now) (map (λ k. k.name) keyed.now) in
+        ensures symbols { let names = dedup (λ a b. bytes_eq a.now b.now)
+            (map (λ k. k.name) keyed.now) in
             IfOk result (λ ranked. map named ranked.symbols.items
             ≡ map (λ n. symbol_at_spot n.now (spot_named labels.now n.now)) names) }
-        ensures ranks { let names = dedup (λ a b. bytes_eq a.now b.now) (map (λ k. k.name) keyed.now) in
+        ensures ranks { let names = dedup (λ a b. bytes_eq a.now b.now)
+            (map (λ k. k.name) keyed.now) in
             IfOk result (λ ranked. All (HasRank ranked.ranks.items (texts names)) keyed.now) }
     {
         let mut symbols = Vec::with_capacity(alloc, keyed.len())?;

@@ -1,6 +1,6 @@
 //! The code and the data bytes of an image that modules link to, one behind the other.
 
-ghost use Rattle.std.specs.Prelude.{◌≡◌, ◌+◌, ◌/◌, ◌-◌, ◌*◌, ◌++◌, ◌≤◌, [], length, All, replicate, None, Some, Ok, OnOk, IfOk, IfSome, is_some, not, position};
+ghost use Rattle.std.specs.Prelude.{◌≡◌, ◌+◌, ◌-◌, ◌++◌, ◌≤◌, [], length, All, replicate, None, Some, Ok, OnOk, IfOk, IfSome, is_some, not, position};
 ghost use Rattle.std.specs.Option.{option_and_then};
 ghost use Rattle.std.specs.List.{filter_map};
 ghost use Rattle.alpha_words.specs.declared.Level.TheVariants.{One};
@@ -12,11 +12,11 @@ ghost use Rattle.alpha_link.specs.Linked.{use_of, target, insn_with, code_at, di
 ghost use Rattle.alpha_link.specs.Names.{found_in};
 ghost use Rattle.alpha_link.specs.Output.{code_with, bytes_with, code_with_all, bytes_with_all, addresses_by, JoinsOne};
 
-use crate::located::{CODE_BASE, Located};
+use crate::located::Located;
 use crate::names::Names;
 use crate::relocation::{Relocation, RelocationKind};
 use crate::relocations::is_taken_by;
-use alpha_asm::{Displacement, Use, displaced, put_quad};
+use alpha_asm::{CODE_BASE, Displacement, Use, displaced, put_quad};
 use alpha_table::Insn;
 use std::alloc::{AllocError, Global};
 

@@ -1,4 +1,4 @@
-ghost use Rattle.std.specs.Prelude.{◌≡◌, ℕ, ◌+◌, ◌-◌, ◌%◌, ◌^◌, ◌<◌, ◌≤◌, ◌⊎◌, Bool, true, false, List, [], ◌∷◌, ◌++◌, length, slice_index, None, IsTrue};
+ghost use Rattle.std.specs.Prelude.{◌≡◌, ℕ, ◌+◌, ◌-◌, ◌%◌, ◌^◌, ◌<◌, ◌≤◌, ◌⊎◌, Bool, List, [], ◌∷◌, ◌++◌, length, slice_index, None, IsTrue};
 ghost use Rattle.alpha_words.specs.Digits.{little, low_bytes};
 ghost use Rattle.alpha_mem.specs.Intent.{Intent, Load, Store};
 ghost use Rattle.alpha_mem.specs.Block.{Block, Shape, shapes, within, block};

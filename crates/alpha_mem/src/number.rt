@@ -17,7 +17,7 @@ pub fn number_of(bytes: &[u8]) -> u64
     }
 }
 
-// The number of bytes that no integer type has.
+// The number that bytes are of which no integer type has so many: 0, 3, 5, 6 or 7.
 fn padded(bytes: &[u8]) -> u64
     requires { length bytes.now ≤ 8 }
     ensures { result ≡ little bytes.now }

@@ -1,4 +1,4 @@
-ghost use Rattle.std.specs.Prelude.{◌≡◌, ◌+◌, ◌-◌, ◌^◌, ◌<◌, ◌≤◌, IsTrue, IfOk, length};
+ghost use Rattle.std.specs.Prelude.{◌≡◌, ◌+◌, ◌^◌, ◌≤◌, IsTrue, IfOk, length};
 ghost use Rattle.alpha_words.specs.Digits.{low_bytes};
 ghost use Rattle.alpha_mem.specs.Size.{size_of};
 ghost use Rattle.alpha_mem.specs.Block.{shape_of, holds, part, overwritten, block};

@@ -11,9 +11,12 @@ ghost use Rattle.alpha_operands.specs.Values.{next_of, AreValuesOf, IsReadAsList
 /// at most. Where no pattern spells a line, its first fault is read: of all that it has, the one
 /// at the least column, and at one column of the least kind. A line with operands has no fault.
 pub fn laws_of_operands()
-    ensures grammar { (s : _) (line : List ℕ) (o : _) → (operands (patterns s) (tokens line) ≡ Ok o) ↔ AreOperands (patterns s) (tokens line) o }
-    ensures fault { (s : _) (line : List ℕ) (f : _) → operands (patterns s) (tokens line) ≡ Err f → FirstFault (patterns s) (tokens line) f }
-    ensures faultless { (s : _) (line : List ℕ) (o f : _) → AreOperands (patterns s) (tokens line) o → ¬ HasFault (patterns s) [] Plus (tokens line) f }
+    ensures grammar { (s : _) (line : List ℕ) (o : _) → (operands (patterns s) (tokens line) ≡ Ok o)
+        ↔ AreOperands (patterns s) (tokens line) o }
+    ensures fault { (s : _) (line : List ℕ) (f : _) → operands (patterns s) (tokens line) ≡ Err f
+        → FirstFault (patterns s) (tokens line) f }
+    ensures faultless { (s : _) (line : List ℕ) (o f : _) → AreOperands (patterns s) (tokens line) o
+        → ¬ HasFault (patterns s) [] Plus (tokens line) f }
 {}
 
 /// The laws of lists and texts. What was read as a list of values of a size is read to its end by
@@ -21,9 +24,13 @@ pub fn laws_of_operands()
 /// [`next_byte`](alpha_token::next_byte). A list has one row of values, each of its size, and a list
 /// that is empty has none.
 pub fn laws_of_lists()
-    ensures values { (bytes : ℕ) (list behind : List ℕ) → IsReadAsList bytes list behind → IsWholeList bytes list }
+    ensures values { (bytes : ℕ) (list behind : List ℕ) → IsReadAsList bytes list behind
+        → IsWholeList bytes list }
     ensures end { (bytes : ℕ) → next_of bytes [] ≡ None }
-    ensures one { (bytes : ℕ) (list : List ℕ) (vs ws : _) → AreValuesOf bytes list vs → AreValuesOf bytes list ws → vs ≡ ws }
-    ensures sized { (bytes : ℕ) (list : List ℕ) (v : _) → next_of bytes list ≡ Some v → IsOfSize bytes v.0 }
-    ensures text { (s : _) (line t : List ℕ) (o : _) → operands (patterns s) (tokens line) ≡ Ok o → o.text ≡ Some t → IsText t }
+    ensures one { (bytes : ℕ) (list : List ℕ) (vs ws : _) → AreValuesOf bytes list vs
+        → AreValuesOf bytes list ws → vs ≡ ws }
+    ensures sized { (bytes : ℕ) (list : List ℕ) (v : _) → next_of bytes list ≡ Some v
+        → IsOfSize bytes v.0 }
+    ensures text { (s : _) (line t : List ℕ) (o : _) → operands (patterns s) (tokens line) ≡ Ok o
+        → o.text ≡ Some t → IsText t }
 {}

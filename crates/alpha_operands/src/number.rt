@@ -69,7 +69,8 @@ fn halfword(sign: Sign, n: u64) -> Option<i16>
 
 // The displacement in words of a branch over a distance in bytes, within its field.
 fn words(sign: Sign, distance: u64) -> Option<i32>
-    ensures { result ≡ (if distance % 4 == 0 && in_range 4194304 4194300 sign distance then Some (words_of sign distance) else None) }
+    ensures { result ≡ (if distance % 4 == 0 && in_range 4194304 4194300 sign distance
+        then Some (words_of sign distance) else None) }
 {
     if distance % 4 == 0 && in_range(4_194_304, 4_194_300, sign, distance) {
         let words = (distance / 4) as i32;
@@ -84,7 +85,8 @@ fn words(sign: Sign, distance: u64) -> Option<i32>
 
 // The PALcode call with this function.
 fn call(function: u64) -> Option<Number>
-    ensures { result ≡ (if nat_lt function (2 ^ 26) then option_map Call (call_of (decoded function)) else None) }
+    ensures { result ≡ (if nat_lt function (2 ^ 26)
+        then option_map Call (call_of (decoded function)) else None) }
 {
     if function < 1 << 26 {
         match decode(Word(function as u32))?.form() {

@@ -98,15 +98,11 @@ fn has_no_slash(name: &[u8]) -> bool
     name.iter().all(|b| *b != b'/')
 }
 
-/// Whether a name is that of a label: it begins with a letter or `_`, and has no `/`.
+/// Whether a name, the text of a token of that kind, is that of a label: it doesn't begin with `.`, and has no `/`.
 pub fn is_label(name: &[u8]) -> bool
     ensures { result ≡ is_label name.now }
 {
-    let begins = match name.first() {
-        Some(first) => *first != b'.',
-        None => true,
-    };
-    begins && has_no_slash(name)
+    name.first() != Some(&b'.') && has_no_slash(name)
 }
 
 // What stands between the quotes of a string.
@@ -128,8 +124,10 @@ pub(crate) fn fill<'a>(
     sign: Sign,
     operands: &mut Operands<'a>,
 ) -> Result<(), LineFaultKind>
-    ensures ok { OnOk result (filled piece (lexeme token.now) sign (slots operands.old) ≡ Ok (slots operands.new)) }
-    ensures fault { IfErr result (λ why. filled piece (lexeme token.now) sign (slots operands.old) ≡ Err why) }
+    ensures ok { OnOk result (filled piece (lexeme token.now) sign (slots operands.old)
+        ≡ Ok (slots operands.new)) }
+    ensures fault { IfErr result (λ why. filled piece (lexeme token.now) sign (slots operands.old)
+        ≡ Err why) }
 {
     operands.left = token.rest.len();
     match piece {

@@ -41,7 +41,9 @@ fn first_operands<'a>(
     operands: &mut Operands<'a>,
 ) -> Option<&'a [u8]>
     requires { IsReached (patterns shape) reached.now }
-    ensures { option_map (λ rest. (slots operands.new, rest.now)) result ≡ first_operands (patterns shape) (front_of reached.now) sign (tokens list.entry.now) (slots operands.old) }
+    ensures { option_map (λ rest. (slots operands.new, rest.now)) result
+        ≡ first_operands (patterns shape) (front_of reached.now) sign (tokens list.entry.now)
+        (slots operands.old) }
 {
     let token = match next(list) {
         Step::Token(token) => token,
@@ -171,7 +173,8 @@ fn past_value(behind: &[u8]) -> Option<&[u8]>
 // The value of a number's token, and the list behind its comma.
 #[inline(always)]
 fn numbered<'a>(shape: Shape, sign: Sign, token: &Token<'a>) -> Option<(u64, &'a [u8])>
-    ensures { IfSome result (λ v. (list : List ℕ) → HasNumber list sign (lexeme token.now) → first_value shape list ≡ Some (value v.0, v.1.now)) }
+    ensures { IfSome result (λ v. (list : List ℕ) → HasNumber list sign (lexeme token.now)
+        → first_value shape list ≡ Some (value v.0, v.1.now)) }
 {
     let piece = number_piece(shape)?;
     let Some(Number::Value(n)) = number_of(piece, sign, token.text) else {
@@ -184,7 +187,8 @@ fn numbered<'a>(shape: Shape, sign: Sign, token: &Token<'a>) -> Option<(u64, &'a
 // The label of a token in a list of quadwords, and the list behind its comma.
 #[inline(always)]
 fn labelled<'a>(token: &Token<'a>) -> Option<(Expr<'a>, &'a [u8])>
-    ensures { IfSome result (λ v. (list : List ℕ) → HasLabel list (lexeme token.now) → first_value shapes.Quads list ≡ Some (label v.0.label.now v.0.offset, v.1.now)) }
+    ensures { IfSome result (λ v. (list : List ℕ) → HasLabel list (lexeme token.now)
+        → first_value shapes.Quads list ≡ Some (label v.0.label.now v.0.offset, v.1.now)) }
 {
     if is_label(token.text) {
         let rest = past_value(token.rest)?;

@@ -73,7 +73,8 @@ fn piece_behind(
     front: &[Piece],
     kind: TokenKind,
 ) -> Option<(Piece, &'static [Piece])>
-    ensures value { option_map (λ found. found.0) result ≡ piece_behind (map (λ p. p.now) patterns.now) front.now kind }
+    ensures value { option_map (λ found. found.0) result
+        ≡ piece_behind (map (λ p. p.now) patterns.now) front.now kind }
     ensures pattern { IfSome result (λ found. IsOneOf found.1.now (map (λ p. p.now) patterns.now)) }
     ensures behind { IfSome result (λ found. HasBehind found.1.now front.now found.0) }
 {
@@ -143,8 +144,10 @@ impl Reached {
     #[inline(always)]
     pub(crate) fn longer(&self, shape: Shape, kind: TokenKind) -> Option<Longer>
         requires { IsReached (patterns shape) self.now }
-        ensures value { option_map (λ l. l.piece) result ≡ piece_behind (patterns shape) (front_of self.now) kind }
-        ensures front { IfSome result (λ l. front_of l.reached ≡ front_after (front_of self.now) l.piece) }
+        ensures value { option_map (λ l. l.piece) result
+            ≡ piece_behind (patterns shape) (front_of self.now) kind }
+        ensures front { IfSome result (λ l. front_of l.reached
+            ≡ front_after (front_of self.now) l.piece) }
         ensures reached { IfSome result (λ l. IsReached (patterns shape) l.reached) }
     {
         let front = &self.pattern[..self.pieces];
@@ -207,7 +210,8 @@ pub fn stuck_at(token: &Token<'_>) -> LineFaultKind
 fn at_end(shape: Shape, reached: &Reached, left: usize) -> Result<(), OperandFault>
     requires { IsReached (patterns shape) reached.now }
     ensures ok { OnOk result (is_whole (patterns shape) (front_of reached.now) ≡ true) }
-    ensures fault { IfErr result (λ f. (is_whole (patterns shape) (front_of reached.now) ≡ false) × (f ≡ fault_at left BadOperands)) }
+    ensures fault { IfErr result (λ f. (is_whole (patterns shape) (front_of reached.now) ≡ false)
+        × (f ≡ fault_at left BadOperands)) }
 {
     if reached.is_whole(shape) {
         Ok(())
@@ -228,8 +232,12 @@ fn follow<'a>(
     operands: &mut Operands<'a>,
 ) -> Result<(), OperandFault>
     requires { IsReached (patterns shape) reached.now }
-    ensures ok { OnOk result (follow (patterns shape) (front_of reached.now) sign (tokens line.entry.now) (slots operands.old) ≡ Ok (slots operands.new)) }
-    ensures fault { IfErr result (λ f. follow (patterns shape) (front_of reached.now) sign (tokens line.entry.now) (slots operands.old) ≡ Err f) }
+    ensures ok { OnOk result
+        (follow (patterns shape) (front_of reached.now) sign (tokens line.entry.now)
+        (slots operands.old) ≡ Ok (slots operands.new)) }
+    ensures fault { IfErr result
+        (λ f. follow (patterns shape) (front_of reached.now) sign (tokens line.entry.now)
+        (slots operands.old) ≡ Err f) }
 {
     let token = match next(line) {
         Step::Token(token) => token,

@@ -1,4 +1,4 @@
-ghost use Rattle.std.specs.Prelude.{◌≡◌, ℕ, true, IsTrue};
+ghost use Rattle.std.specs.Prelude.{◌≡◌, ℕ, IsTrue};
 ghost use Rattle.alpha_mem.specs.Block.{shapes};
 ghost use Rattle.alpha_pal.specs.CallEffect.{CallEffect, InputCause, SinkCause, kernel_after, seen};
 ghost use Rattle.alpha_words.specs.declared.PalCall.TheVariants.{Callsys};

@@ -1,4 +1,4 @@
-ghost use Rattle.std.specs.Prelude.{◌≡◌, ℕ, ◌+◌, ◌^◌, ◌<◌, ◌≤◌, ◌++◌, length, take, drop};
+ghost use Rattle.std.specs.Prelude.{◌≡◌, ◌+◌, ◌^◌, ◌<◌, ◌≤◌, ◌++◌, length, take, drop};
 ghost use Rattle.alpha_words.specs.Digits.{low_bytes, little_at};
 ghost use Rattle.alpha_pal.specs.Frame.{bytes_of, frame_of};
 
@@ -62,7 +62,8 @@ fn quadword(bytes: &[u8], at: usize) -> u64
 // Writes the quadword at this offset.
 fn put_quadword(bytes: &mut [u8], at: usize, value: u64)
     requires { at + 8 ≤ length bytes.old }
-    ensures bytes { bytes.new ≡ take at bytes.old ++ (low_bytes 8 value ++ drop (at + 8) bytes.old) }
+    ensures bytes { bytes.new ≡ take at bytes.old
+        ++ (low_bytes 8 value ++ drop (at + 8) bytes.old) }
     ensures fits { value < 2 ^ 64 }
 {
     LittleEndian::write_u64(&mut bytes[at..], value);

@@ -1,4 +1,4 @@
-ghost use Rattle.std.specs.Prelude.{◌≡◌, ℕ, true, false, IsTrue, IfOk, ◌==◌, ◌||◌, if◌then◌else◌, length, drop};
+ghost use Rattle.std.specs.Prelude.{◌≡◌, true, false, IsTrue, IfOk, if◌then◌else◌, length, drop};
 ghost use Rattle.alpha_words.specs.Regs.{reg, put, IsFile};
 ghost use Rattle.alpha_pal.specs.Frame.{bytes_of, frame_of};
 ghost use Rattle.alpha_pal.specs.Kernel.{user_regs, arith_frame, entered, entry_regs, arith_regs, is_saved, saving, new_kernel};
@@ -46,7 +46,7 @@ impl Model for Kernel {
 }
 
 impl Kernel {
-    /// A kernel in user mode whose stack is zeros.
+    /// A kernel in user mode whose stack is zeros. `NoMemory` where memory runs out.
     pub fn new(alloc: Global) -> Result<Kernel, NoMemory>
         ensures { IfOk result (λ k. k ≡ new_kernel) }
     {

@@ -4,8 +4,8 @@ ghost use Rattle.alpha_mem.specs.Block.{Block, shapes};
 ghost use Rattle.alpha_pal.specs.Call.{Outside, goes, call};
 ghost use Rattle.alpha_pal.specs.CallEffect.{Seen, GoesOn, GoesOnTold};
 
-/// The laws of calls: a call leaves where the blocks of memory lie and how many registers there are, and where the input was told,
-/// what a call that goes on did is the definition at that input.
+/// The laws of calls: a call that goes on leaves where the blocks of memory lie and how many registers
+/// there are. Where the input was told, what it did is the definition at that input.
 pub fn laws_of_calls()
     ensures shapes { (function : PalCall) (regs regs' : List ℕ) (mem mem' : List Block)
         (o o' : Outside) → call function regs mem o ≡ goes regs' mem' o'

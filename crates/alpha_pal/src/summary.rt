@@ -1,4 +1,4 @@
-ghost use Rattle.std.specs.Prelude.{⊤, ◌≡◌, [], ◌∷◌, codes};
+ghost use Rattle.std.specs.Prelude.{⊤, [], ◌∷◌, codes};
 
 use bitflags::{Flag, Flags};
 
@@ -66,7 +66,8 @@ impl Flags for Summary {
 
     ghost exact = { ⊤ };
 
-    ghost table = { (codes "SWC", 1) ∷ (codes "INV", 2) ∷ (codes "DZE", 4) ∷ (codes "OVF", 8) ∷ (codes "UNF", 16) ∷ (codes "INE", 32) ∷ (codes "IOV", 64) ∷ [] };
+    ghost table = { (codes "SWC", 1) ∷ (codes "INV", 2) ∷ (codes "DZE", 4) ∷ (codes "OVF", 8) ∷
+        (codes "UNF", 16) ∷ (codes "INE", 32) ∷ (codes "IOV", 64) ∷ [] };
 
     ghost set_of = { λ s. s.0 };
 

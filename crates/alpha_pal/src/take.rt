@@ -22,10 +22,12 @@ pub(crate) fn take_into<S: Source>(
 ) -> Result<u64, Failed>
     requires range { IsTrue (within (shapes mem.old) Store addr size) }
     requires good { IsMemory mem.old }
-    ensures ok { IfOk result (λ n. HasTaken mem.old mem.new addr n (S.left input.old) (S.left input.new)) }
+    ensures ok { IfOk result
+        (λ n. HasTaken mem.old mem.new addr n (S.left input.old) (S.left input.new)) }
     ensures bound { IfOk result (λ n. n ≤ size) }
     ensures ends { IfOk result (λ n. n < size → NothingLeft (S.left input.old) (S.left input.new)) }
-    ensures refused { OnErr result (TakesLess mem.old mem.new addr size (S.left input.old) (S.left input.new)) }
+    ensures refused { OnErr result
+        (TakesLess mem.old mem.new addr size (S.left input.old) (S.left input.new)) }
     ensures shapes { shapes mem.new ≡ shapes mem.old }
     ensures cause { HasCause (S.faults input.old) (S.faults input.new) result }
 {
@@ -52,7 +54,8 @@ fn take_piece<S: Source>(
     requires some { 0 < length piece.old }
     requires range { IsTrue (within (shapes mem.old) Store addr (length piece.old)) }
     requires good { IsMemory mem.old }
-    ensures ok { IfOk result (λ n. HasTaken mem.old mem.new addr n (S.left input.old) (S.left input.new)) }
+    ensures ok { IfOk result
+        (λ n. HasTaken mem.old mem.new addr n (S.left input.old) (S.left input.new)) }
     ensures bound { IfOk result (λ n. n ≤ length piece.old) }
     ensures ends { IfOk result (λ n. n ≡ 0 → IsAtEnd (S.left input.old)) }
     ensures same { OnErr result (mem.new ≡ mem.old) }

@@ -22,8 +22,7 @@ use alpha_table::{BranchOp, Form, Insn, JumpKind, MemOp, Mnemonic, Op, OperandRu
 use alpha_text::{Own, Statement, halved, link, move_number};
 use alpha_words::Reg;
 
-// The statement of an instruction. Each has a place of its own for it, which is cleared where it is
-// used alone.
+// The statement of an instruction. It is inlined: a caller would clear a place for its answer before a call.
 #[inline(always)]
 fn coded<'a>(form: Form) -> Option<Statement<'a>>
     ensures { IfSome result (λ s. said s ≡ code form) }
@@ -35,7 +34,8 @@ fn coded<'a>(form: Form) -> Option<Statement<'a>>
 // A memory instruction with a number, behind its register and a comma.
 #[inline(always)]
 fn displaced<'a>(op: MemOp, ra: Reg, words: &'a [u8]) -> Option<Statement<'a>>
-    ensures { IfSome result (λ s. (line : List ℕ) → HasFirst line ra words.now → Says (mnemonics.Mem op) line (said s)) }
+    ensures { IfSome result (λ s. (line : List ℕ) → HasFirst line ra words.now
+        → Says (mnemonics.Mem op) line (said s)) }
 {
     let (sign, n, rest) = signed(words)?;
     let Some(Number::Displacement(disp)) = number_at(Piece::Displacement, sign, n) else {
@@ -48,7 +48,8 @@ fn displaced<'a>(op: MemOp, ra: Reg, words: &'a [u8]) -> Option<Statement<'a>>
 // A memory instruction with half of the address of a label, behind its register and a comma.
 #[inline(always)]
 fn addressed<'a>(op: MemOp, ra: Reg, words: &'a [u8]) -> Option<Statement<'a>>
-    ensures { IfSome result (λ s. (line : List ℕ) → HasFirst line ra words.now → Says (mnemonics.Mem op) line (said s)) }
+    ensures { IfSome result (λ s. (line : List ℕ) → HasFirst line ra words.now
+        → Says (mnemonics.Mem op) line (said s)) }
 {
     let (half, address, rest) = address(words)?;
     let rb = tail(rest)?;
@@ -60,7 +61,8 @@ fn addressed<'a>(op: MemOp, ra: Reg, words: &'a [u8]) -> Option<Statement<'a>>
 // A memory instruction with a base alone, behind its register and a comma.
 #[inline(always)]
 fn based<'a>(op: MemOp, ra: Reg, words: &'a [u8]) -> Option<Statement<'a>>
-    ensures { IfSome result (λ s. (line : List ℕ) → HasFirst line ra words.now → Says (mnemonics.Mem op) line (said s)) }
+    ensures { IfSome result (λ s. (line : List ℕ) → HasFirst line ra words.now
+        → Says (mnemonics.Mem op) line (said s)) }
 {
     let rb = last_base(words)?;
     let disp = 0;
@@ -85,7 +87,8 @@ fn memory(op: MemOp, words: &[u8]) -> Option<Statement<'_>>
 // A branch over a distance, behind its register and a comma.
 #[inline(always)]
 fn over<'a>(op: BranchOp, ra: Reg, words: &'a [u8]) -> Option<Statement<'a>>
-    ensures { IfSome result (λ s. (line : List ℕ) → HasFirst line ra words.now → Says (mnemonics.Branch op) line (said s)) }
+    ensures { IfSome result (λ s. (line : List ℕ) → HasFirst line ra words.now
+        → Says (mnemonics.Branch op) line (said s)) }
 {
     let disp = distance(words)?;
     coded(Form::Branch { op, ra, disp })
@@ -94,7 +97,8 @@ fn over<'a>(op: BranchOp, ra: Reg, words: &'a [u8]) -> Option<Statement<'a>>
 // A branch to a label, behind its register and a comma.
 #[inline(always)]
 fn to_label<'a>(op: BranchOp, ra: Reg, words: &'a [u8]) -> Option<Statement<'a>>
-    ensures { IfSome result (λ s. (line : List ℕ) → HasFirst line ra words.now → Says (mnemonics.Branch op) line (said s)) }
+    ensures { IfSome result (λ s. (line : List ℕ) → HasFirst line ra words.now
+        → Says (mnemonics.Branch op) line (said s)) }
 {
     let target = target(words)?;
     let disp = 0;
@@ -105,7 +109,8 @@ fn to_label<'a>(op: BranchOp, ra: Reg, words: &'a [u8]) -> Option<Statement<'a>>
 // A branch behind its register and a comma.
 #[inline(always)]
 fn linked<'a>(op: BranchOp, ra: Reg, words: &'a [u8]) -> Option<Statement<'a>>
-    ensures { IfSome result (λ s. (line : List ℕ) → HasFirst line ra words.now → Says (mnemonics.Branch op) line (said s)) }
+    ensures { IfSome result (λ s. (line : List ℕ) → HasFirst line ra words.now
+        → Says (mnemonics.Branch op) line (said s)) }
 {
     match words {
         [b'.', ..] => over(op, ra, words),

@@ -1,6 +1,6 @@
 //! Words of a line that stand together: a register with its comma, a base, a label with its offset, and what
 //! stands to the end of a line.
-ghost use Rattle.std.specs.Prelude.{◌≡◌, IfSome};
+ghost use Rattle.std.specs.Prelude.{IfSome};
 ghost use Rattle.alpha_quick.specs.Words.{HasFirst, HasBase, HasExpr, HasLastBase, HasTail, HasSource, HasLast, HasPair, HasUnary, HasBinary, HasWrittenHint, HasHint, HasJump, HasTarget, HasOffset, HasWords, HasDistance, HasAddress};
 
 use crate::words::{behind_byte, close, comma, half, is_end, label, number, open, register};

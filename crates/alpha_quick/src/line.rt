@@ -91,7 +91,8 @@ fn whole_front(line: &[u8]) -> Front<'_>
 fn part_behind<'a>(label: &'a [u8], rest: &'a [u8]) -> Option<Parted<'a>>
     requires { list_all goes_on_label label.now ≡ true }
     ensures key { IfSome result (λ p. IsKeyed p.front.name.now p.front.key.0) }
-    ensures parts { IfSome result (λ p. IsParted (label.now ++ 58 ∷ rest.now) (option_map (λ l. l.now) p.label) p.front.name.now p.front.behind.now) }
+    ensures parts { IfSome result (λ p. IsParted (label.now ++ 58 ∷ rest.now)
+        (option_map (λ l. l.now) p.label) p.front.name.now p.front.behind.now) }
 {
     if !begins_label(label) {
         return None;
@@ -107,7 +108,8 @@ fn part_behind<'a>(label: &'a [u8], rest: &'a [u8]) -> Option<Parted<'a>>
 #[inline(always)]
 fn part(line: &[u8]) -> Option<Parted<'_>>
     ensures key { IfSome result (λ p. IsKeyed p.front.name.now p.front.key.0) }
-    ensures parts { IfSome result (λ p. IsParted line.now (option_map (λ l. l.now) p.label) p.front.name.now p.front.behind.now) }
+    ensures parts { IfSome result (λ p. IsParted line.now
+        (option_map (λ l. l.now) p.label) p.front.name.now p.front.behind.now) }
 {
     let front = Front::of(line);
     match behind_byte(b':', front.behind) {
@@ -123,7 +125,10 @@ fn part(line: &[u8]) -> Option<Parted<'_>>
 #[inline(always)]
 fn of_parts<'a>(parted: &Parted<'a>) -> Option<Item<'a>>
     requires { IsKeyed parted.now.front.name.now parted.now.front.key.0 }
-    ensures { IfSome result (λ i. (line : List ℕ) → IsParted line (option_map (λ l. l.now) parted.now.label) parted.now.front.name.now parted.now.front.behind.now → line_of (tokens line) ≡ Ok (item_said i)) }
+    ensures { IfSome result (λ i. (line : List ℕ)
+        → IsParted line (option_map (λ l. l.now) parted.now.label)
+        parted.now.front.name.now parted.now.front.behind.now
+        → line_of (tokens line) ≡ Ok (item_said i)) }
 {
     let label = parted.label;
     if parted.front.name.is_empty() {

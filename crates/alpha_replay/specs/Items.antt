@@ -44,11 +44,11 @@ abbrev pub FitsItem : Item → Type 0
 FitsItem (Units n) = (0 < n) × (n < 2 ^ 32)
 FitsItem (Trigger value) = value < 2 ^ 64
 FitsItem (Wait adds value) = value < 2 ^ 64
-FitsItem Report = Unit {0}
+FitsItem Report = ⊤
 
 -- No Units follows a Units. The test says whether these items stand behind one.
 abbrev pub AreMerged : Bool → List Item → Type 0
-AreMerged behind [] = Unit {0}
+AreMerged behind [] = ⊤
 AreMerged behind (i ∷ items) = (behind ≡ true → is_units i ≡ false) × AreMerged (is_units i) items
 
 -- The item that bytes begin with, none where it isn't whole or is bad. The test says whether it stands behind a Units.

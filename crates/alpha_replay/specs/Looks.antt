@@ -24,8 +24,7 @@ abbrev pub takes_at : Option Class → State → Option Trap → Bool
 takes_at o s None = takes_input o s
 takes_at o s (Some t) = false
 
--- the same, by a look
-
+-- the draw and the move of such a step, by a look
 abbrev pub look_draw : Look → List ℕ → Draw
 look_draw looks.Unit words = reporting 0
 look_draw looks.Triggers words = triggering (first_word words)

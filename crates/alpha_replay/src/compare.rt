@@ -7,10 +7,11 @@ ghost use Rattle.alpha_seq.specs.Machine.{class_here};
 ghost use Rattle.alpha_replay.specs.Compared.{Sees, first_difference};
 ghost use Rattle.alpha_replay.specs.Puts.{is_callsys, puts, puts_at};
 
+use crate::look::{OUTPUT, WRITE, register};
 use alpha_imprecise::Wild;
 use alpha_seq::Machine;
 use alpha_table::{Form, Insn};
-use alpha_words::{PalCall, Reg};
+use alpha_words::PalCall;
 
 /// What was seen of an output so far.
 #[derive(Clone, Copy, Debug, PartialEq, Eq)]
@@ -87,20 +88,6 @@ fn same_front(bytes: &[u8], expected: &[u8]) -> usize
     count
 }
 
-// The number of the system call that writes, and the descriptor that it takes.
-const WRITE: u64 = 4;
-
-const OUTPUT: u64 = 1;
-
-// The register with this number.
-#[inline(always)]
-fn register(number: u8) -> Reg
-    requires { number < 32 }
-    ensures { result ≡ number }
-{
-    Reg::new(number).unwrap()
-}
-
 /// The bytes that the next step puts.
 #[inline(always)]
 pub(crate) fn put_here(wild: &Wild) -> &[u8]
@@ -117,10 +104,7 @@ pub(crate) fn put_here(wild: &Wild) -> &[u8]
 fn is_callsys(insn: &Insn) -> bool
     ensures { result ≡ is_callsys (Some (class_of insn.now)) }
 {
-    match insn.form() {
-        Form::Pal(PalCall::Callsys) => true,
-        _ => false,
-    }
+    matches!(insn.form(), Form::Pal(PalCall::Callsys))
 }
 
 // Whether the word at the PC is a system call.

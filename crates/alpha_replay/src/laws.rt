@@ -67,12 +67,14 @@ pub fn laws_of_journaled_runs()
         → (steps : ℕ) × (k.making ≡ steps_making g from.making steps) }
     ensures listed { (n : ℕ) (g : Program) (input words : List ℕ) (k : Journaled)
         → IsJournaled n g (unjournaled (begun (start g input) None 0 words)) k
-        → listed g input (closed k.gathered) ≡ Ok (record { run = k.making.run; waited = k.making.waited }) }
+        → listed g input (closed k.gathered)
+        ≡ Ok (record { run = k.making.run; waited = k.making.waited }) }
     ensures taken { (n : ℕ) (g : Program) (items : List Item) (p q : Played) (front rest : List ℕ)
         → listed_from g n items p ≡ Ok q → q.run.state.outside.input ≡ front ++ rest
         → (fed : List ℕ) × (p.run.state.outside.input ≡ fed ++ rest)
         × (listed_from g n items (played_over fed p) ≡ Ok (played_over front q)) }
-    ensures replayed { (n : ℕ) (image : Image) (how : Completion) (input words : List ℕ) (k : Journaled)
+    ensures replayed { (n : ℕ) (image : Image) (how : Completion) (input words : List ℕ)
+        (k : Journaled)
         → let g : Program = record { image = image; how = how } in
         IsJournaled n g (unjournaled (begun (start g input) None 0 words)) k
         → is_within (journal_at how k) ≡ true

@@ -44,13 +44,14 @@ pub(crate) enum Look {
 // The system calls' numbers, and their descriptors.
 const READ: u64 = 3;
 
-const WRITE: u64 = 4;
+pub(crate) const WRITE: u64 = 4;
 
 const INPUT: u64 = 0;
 
-const OUTPUT: u64 = 1;
+pub(crate) const OUTPUT: u64 = 1;
 
 /// The register with this number.
+#[inline(always)]
 pub(crate) fn register(number: u8) -> Reg
     requires { number < 32 }
     ensures { result ≡ number }
@@ -118,15 +119,15 @@ fn look_with_trap(machine: &Machine, trap: &Pending) -> Look
 {
     match trap.waiting_insn(machine) {
         Some(insn) => Look::MayWait {
-            adds: may_add(&insn),
+            adds: adds_here(&insn),
         },
         None => Look::Reports,
     }
 }
 
-// Whether an instruction may add its destination to a mask.
+/// Whether an instruction may add its destination to a mask.
 #[inline(always)]
-fn may_add(insn: &Insn) -> bool
+pub(crate) fn adds_here(insn: &Insn) -> bool
     ensures { result ≡ adds_here (Some (class_of insn.now)) }
 {
     match insn.form() {

@@ -18,7 +18,7 @@ use crate::{Ending, JournalEnd};
 use alpha_imprecise::{Chooser, Wild, WildEnd};
 use alpha_io::{Sink, Source};
 use alpha_seq::RunEnd;
-use alpha_words::{Completion, RegSet};
+use alpha_words::Completion;
 use std::alloc::Global;
 
 /// Makes the run that [`alpha_imprecise::run`] makes of so many units without `watch`, together with its journal,
@@ -90,7 +90,8 @@ fn make_taped<C: Chooser, S: Source, K: Sink, N: Sink>(
         (drawn S.Source input.old input.new)
         (sunk K.Sink out.old out.new)
         (sunk N.Sink notes.old notes.new) }
-    ensures free { FreeJournal (outcome result wild.old.machine.how tape.new) units wild.old wild.new
+    ensures free { FreeJournal (outcome result wild.old.machine.how tape.new) units
+        wild.old wild.new
         (telling C.ahead C.drawn chooser.old) (telling C.ahead C.drawn chooser.new)
         (drawn S.Source input.old input.new)
         (sunk K.Sink out.old out.new)
@@ -170,19 +171,7 @@ fn ending_of(end: &RunEnd) -> Ending
 {
     match *end {
         RunEnd::Ended(end) => Ending::of_end(end),
-        RunEnd::Lost(pc, mask) => lost(pc, mask),
+        RunEnd::Lost(pc, mask) => Ending::of_lost(pc, mask),
         RunEnd::Spent | RunEnd::InputFault | RunEnd::SinkFault => Ending::Spent,
-    }
-}
-
-// A trap that is lost.
-#[inline(always)]
-fn lost(pc: u64, mask: RegSet) -> Ending
-    ensures value { result ≡ Ending.Lost pc mask }
-    ensures fits { FitsEnding result }
-{
-    Ending::Lost {
-        pc,
-        mask: u64::from(mask.bits()),
     }
 }

@@ -1,9 +1,8 @@
 //! The items of a journal, played on the machine.
 
-ghost use Rattle.std.specs.Prelude.{◌≡◌, ◌≤◌, length, IfSome, IfNone, IfOk, IfErr, Some, is_some};
+ghost use Rattle.std.specs.Prelude.{◌≡◌, ◌≤◌, length, IfSome, IfNone, IfOk, IfErr, is_some};
 ghost use Rattle.alpha_imprecise.specs.Run.{finished};
 ghost use Rattle.alpha_imprecise.specs.Wild.{trap_in};
-ghost use Rattle.alpha_table.specs.Class.{class_of};
 ghost use Rattle.alpha_seq.specs.Machine.{class_here};
 ghost use Rattle.alpha_replay.specs.Journal.{most_items};
 ghost use Rattle.alpha_replay.specs.Listed.{move as moved, units as units_made, item as item_made};
@@ -11,13 +10,12 @@ ghost use Rattle.alpha_replay.specs.Moves.{may_add, adds_here};
 ghost use Rattle.alpha_replay.specs.Playing.{happened_of, accords, is_triggered, is_waited, place, first_stand, Moved, Did, Fails, Plays, StopsAt};
 
 use crate::compare::{Seen, put_here};
-use crate::given::Given;
+use crate::given::words_of;
+use crate::look::adds_here;
 use crate::{Item, Move};
 use alpha_imprecise::{Wild, WildEnd};
 use alpha_io::{NullSink, SureSource};
 use alpha_seq::Machine;
-use alpha_table::{Form, Insn};
-use alpha_words::Reg;
 
 /// How the last step went, and what was seen of the output.
 #[derive(Clone, Copy, Debug)]
@@ -50,16 +48,6 @@ pub(crate) fn is_finished(end: &WildEnd) -> bool
         | WildEnd::Reported(_)
         | WildEnd::InputFault
         | WildEnd::SinkFault => false,
-    }
-}
-
-// Whether an instruction may add its destination to a mask.
-fn adds_here(insn: &Insn) -> bool
-    ensures { result ≡ adds_here (Some (class_of insn.now)) }
-{
-    match insn.form() {
-        Form::Operate { op, rc, .. } => op.trap().is_some() && rc != Reg::ZERO,
-        _ => false,
     }
 }
 
@@ -102,17 +90,7 @@ fn accords(pending: bool, m: &Move, end: &WildEnd) -> bool
 fn is_triggered(end: &WildEnd) -> bool
     ensures { result ≡ is_triggered (happened_of end.now) }
 {
-    match end {
-        WildEnd::Triggered => true,
-        WildEnd::Went
-        | WildEnd::Barrier
-        | WildEnd::Waited
-        | WildEnd::Reported(_)
-        | WildEnd::Ended(_)
-        | WildEnd::Lost(_, _)
-        | WildEnd::InputFault
-        | WildEnd::SinkFault => false,
-    }
+    matches!(end, WildEnd::Triggered)
 }
 
 // Whether an instruction was executed while a trap is pending.
@@ -120,17 +98,7 @@ fn is_triggered(end: &WildEnd) -> bool
 fn is_waited(end: &WildEnd) -> bool
     ensures { result ≡ is_waited (happened_of end.now) }
 {
-    match end {
-        WildEnd::Waited => true,
-        WildEnd::Went
-        | WildEnd::Barrier
-        | WildEnd::Triggered
-        | WildEnd::Reported(_)
-        | WildEnd::Ended(_)
-        | WildEnd::Lost(_, _)
-        | WildEnd::InputFault
-        | WildEnd::SinkFault => false,
-    }
+    matches!(end, WildEnd::Waited)
 }
 
 // Whether a trap is pending.
@@ -138,10 +106,7 @@ fn is_waited(end: &WildEnd) -> bool
 fn is_pending(wild: &Wild) -> bool
     ensures { result ≡ is_some (trap_in wild.now.pending) }
 {
-    match wild.pending() {
-        Some(_) => true,
-        None => false,
-    }
+    wild.pending().is_some()
 }
 
 // Makes a step by the words of a move. No device fails.
@@ -149,7 +114,7 @@ fn is_pending(wild: &Wild) -> bool
 fn step(wild: &mut Wild, input: &mut SureSource, m: &Move) -> WildEnd
     ensures { Moved m.now (happened_of result) wild.old wild.new input.old input.new }
 {
-    let mut given = Given::new(m);
+    let mut given = words_of(m);
     wild.step(
         &mut given,
         input,

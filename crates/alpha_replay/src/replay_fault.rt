@@ -1,10 +1,5 @@
 //! Why a journal is no run of an image.
 
-ghost use Rattle.std.specs.Prelude.{◌≡◌};
-ghost use Rattle.alpha_replay.specs.declared.replay_fault.ReplayFault.TheVariants.{NoMemory};
-
-use alpha_words::NoMemory as OutOfMemory;
-use std::alloc::{AllocError, AllocFailed};
 use thiserror::Error;
 
 /// Why a journal is no run of an image. The first fault is told, in the order of the variants.
@@ -25,28 +20,4 @@ pub enum ReplayFault {
     /// Memory ran out, before the first step.
     #[error("out of memory")]
     NoMemory,
-}
-
-impl From<AllocError> for ReplayFault {
-    ghost from_gives = { λ _ e. e ≡ NoMemory };
-
-    fn from(_: AllocError) -> Self {
-        ReplayFault::NoMemory
-    }
-}
-
-impl<T: Drop> From<AllocFailed<T>> for ReplayFault {
-    ghost from_gives = { λ _ e. e ≡ NoMemory };
-
-    fn from(_: AllocFailed<T>) -> Self {
-        ReplayFault::NoMemory
-    }
-}
-
-impl From<OutOfMemory> for ReplayFault {
-    ghost from_gives = { λ _ e. e ≡ NoMemory };
-
-    fn from(_: OutOfMemory) -> Self {
-        ReplayFault::NoMemory
-    }
 }

@@ -7,7 +7,7 @@ ghost use Rattle.alpha_imprecise.specs.Wild.{trap_in, IsFresh};
 ghost use Rattle.alpha_seq.specs.Machine.{program_of};
 ghost use Rattle.alpha_replay.specs.Endings.{FitsEnding};
 ghost use Rattle.alpha_replay.specs.Items.{units_of};
-ghost use Rattle.alpha_replay.specs.Journal.{most_items, most_bytes, parts};
+ghost use Rattle.alpha_replay.specs.Journal.{most_items, parts};
 ghost use Rattle.alpha_replay.specs.Playing.{happened_of, Begins};
 ghost use Rattle.alpha_replay.specs.Replay.{ending_by, ending_of, same_ending, ends_by, item_reports, reports_of, replayed, Replays};
 
@@ -15,9 +15,9 @@ use crate::play::{is_finished, play_items};
 use crate::{Ending, Item, Journal, ReplayFault};
 use alpha_image::Image;
 use alpha_imprecise::{Wild, WildEnd};
-use alpha_io::{Source, SureSource};
+use alpha_io::SureSource;
 use alpha_seq::{End, Machine};
-use alpha_words::Completion;
+use alpha_words::{Completion, RegSet};
 use std::alloc::Global;
 
 /// What the run of a journal is.
@@ -48,16 +48,25 @@ impl Ending {
         }
     }
 
+    // A trap that is lost.
+    #[inline(always)]
+    pub(crate) fn of_lost(pc: u64, mask: RegSet) -> Ending
+        ensures value { result ≡ Ending.Lost pc mask }
+        ensures fits { FitsEnding result }
+    {
+        Ending::Lost {
+            pc,
+            mask: u64::from(mask.bits()),
+        }
+    }
+
     // How a run ends, by its last step.
     fn of_step(step: &WildEnd) -> Ending
         ensures { result ≡ ending_of (happened_of step.now) }
     {
         match *step {
             WildEnd::Ended(end) => Ending::of_end(end),
-            WildEnd::Lost(pc, mask) => Ending::Lost {
-                pc,
-                mask: u64::from(mask.bits()),
-            },
+            WildEnd::Lost(pc, mask) => Ending::of_lost(pc, mask),
             WildEnd::Went
             | WildEnd::Barrier
             | WildEnd::Triggered
@@ -90,10 +99,7 @@ fn ends_as(ending: &Ending, last: &WildEnd, calm: bool) -> bool
 fn is_calm(wild: &Wild) -> bool
     ensures { result ≡ is_none (trap_in wild.now.pending) }
 {
-    match wild.pending() {
-        Some(_) => false,
-        None => true,
-    }
+    wild.pending().is_none()
 }
 
 // How many units items use.
@@ -133,25 +139,11 @@ fn reports_of(items: &[Item]) -> u64
     reports
 }
 
-// How many bytes are left.
-fn count_left(input: &mut SureSource) -> u64
-    requires { length input.old ≤ most_bytes }
-    ensures { result ≡ length input.old }
-{
-    let mut buf = [0; 4096];
-    let mut left = 0;
-    loop {
-        match input.take(&mut buf) {
-            Ok(0) | Err(_) => return left,
-            Ok(count) => left += count as u64,
-        }
-    }
-}
-
 // The machine at the start of the image's program.
 fn fresh(alloc: Global, image: Image, how: Completion) -> Result<Wild, ReplayFault>
     ensures fresh { IfOk result IsFresh }
-    ensures program { IfOk result (λ wild. program_of wild.machine ≡ record { image = image; how = how }) }
+    ensures program { IfOk result (λ wild. program_of wild.machine
+        ≡ record { image = image; how = how }) }
     ensures memory { IfErr result (λ e. e ≡ ReplayFault.NoMemory) }
 {
     match Machine::new(alloc, image, how) {
@@ -172,7 +164,6 @@ fn play_all(
     ending: &Ending,
 ) -> Result<Replayed, ReplayFault>
     requires few_items { length items.now ≤ most_items }
-    requires few_bytes { length input.old ≤ most_bytes }
     ensures { (image : Image) (how : Completion)
         → Begins (record { image = image; how = how }) wild.old
         → result ≡ replayed image (parts how ending.now input.old output.now items.now) }
@@ -187,9 +178,9 @@ fn play_all(
     if !ends_as(ending, &stand.last, is_calm(wild)) {
         return Err(ReplayFault::End);
     }
-    let left = count_left(input);
+    let left = input.rest().len();
     if left != 0 {
-        return Err(ReplayFault::Input(left));
+        return Err(ReplayFault::Input(left as u64));
     }
     Ok(Replayed {
         units: units_of(items),

@@ -85,6 +85,7 @@ fn bytes_of(items: &[Item]) -> usize
 }
 
 /// The one spelling of a journal, which is a good one. Memory taken is that of these bytes.
+/// `NoMemory` where memory runs out.
 pub fn journal_bytes(alloc: Global, journal: &Journal) -> Result<Vec<u8>, NoMemory>
     ensures value { IfOk result (λ bytes. bytes.items ≡ spelling journal.now) }
     ensures good { IsJournal journal.now }

@@ -3,7 +3,7 @@ use Rattle.std.proofs.Common.{◌≡◌, ◌≢◌, ◌<◌, ◌≤◌, ℕ, tru
 use Rattle.alpha_table.specs.declared.columns.InsnKind.TheVariants as kinds
 use Rattle.alpha_table.specs.declared.columns.MemAccess.{MemAccess}
 use Rattle.alpha_table.specs.Code.{class_at, kind, sets, uses, access, trap_rc}
-use Rattle.alpha_values.specs.Address.{SpansMeet}
+use Rattle.alpha_values.specs.Address.{AccessesMeet}
 use Rattle.alpha_shadow.specs.Code.{SetIn}
 use Rattle.alpha_shadow.specs.declared.broken.Condition.{Condition}
 use Rattle.alpha_shadow.specs.declared.broken.Condition.TheVariants as conditions
@@ -60,7 +60,7 @@ module _ (code : List ℕ) (accepted : IsAccepted code) where
 
   meets : (p i j : ℕ) (a b : MemAccess) → Shadowed code p i → kind (class_at code i) ≡ Some kinds.Store
       → access (class_at code i) ≡ Some a → p < j → j < i → kind (class_at code j) ≡ Some kinds.Load
-      → access (class_at code j) ≡ Some b → ((b.base ≢ a.base) ⊎ SpansMeet b a) → ⊥
+      → access (class_at code j) ≡ Some b → ((b.base ≢ a.base) ⊎ AccessesMeet b a) → ⊥
   meets p i j a b h store e low high load f meet = none p i conditions.LoadThenStore h (record {
     store = store;
     access = a;

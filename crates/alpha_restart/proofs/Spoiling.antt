@@ -8,7 +8,7 @@ use Rattle.alpha_table.specs.declared.columns.InsnKind.TheVariants as kinds
 use Rattle.alpha_table.specs.declared.columns.MemAccess.{MemAccess}
 use Rattle.alpha_table.specs.Code.{class_at, kind, access}
 use Rattle.alpha_values.specs.Numbers.{register_of}
-use Rattle.alpha_values.specs.Address.{address_of, access_address, Covers, SpansMeet}
+use Rattle.alpha_values.specs.Address.{address_of, access_address, Covers, AccessesMeet}
 use Rattle.alpha_values.proofs.Words.{register_is}
 use Rattle.alpha_values.proofs.AddressLemmas.{common-meets}
 use Rattle.alpha_mem.specs.Block.{Block, shapes}
@@ -44,7 +44,7 @@ covers_wrapped c base y fits h =
 
 -- two accesses by one base that touch a common byte of memory
 spans_meet : (a b : MemAccess) (base y : ℕ) → FitsSigned w16 a.disp → FitsSigned w16 b.disp → access_address a base + a.bytes ≤ 2 ^ 30
-    → access_address b base + b.bytes ≤ 2 ^ 30 → Covers a base y → Covers b base y → SpansMeet a b
+    → access_address b base + b.bytes ≤ 2 ^ 30 → Covers a base y → Covers b base y → AccessesMeet a b
 spans_meet a b base y fits also there there_too one other =
     let same = access_wrapped a base fits in
     let same_too = access_wrapped b base also in

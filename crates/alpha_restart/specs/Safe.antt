@@ -6,7 +6,7 @@ use Rattle.alpha_table.specs.declared.columns.InsnKind.TheVariants as kinds
 use Rattle.alpha_table.specs.declared.columns.MemAccess.{MemAccess}
 use Rattle.alpha_table.specs.Class.{Class}
 use Rattle.alpha_table.specs.Code.{class_at, kind, sets, uses, access, trap_rc, Straight}
-use Rattle.alpha_values.specs.Address.{SpansMeet}
+use Rattle.alpha_values.specs.Address.{AccessesMeet}
 
 -- the program may run from a trigger to a place with the trap pending
 pub record Shadowed (code : List ℕ) (trigger at : ℕ) : Type 0 where
@@ -25,7 +25,7 @@ pub record IsSafe (code : List ℕ) : Type 0 where
       → sets (class_at code k) ≢ Some a.base
   pub meets : (p i j : ℕ) (a b : MemAccess) → Shadowed code p i → kind (class_at code i) ≡ Some kinds.Store
       → access (class_at code i) ≡ Some a → p < j → j < i → kind (class_at code j) ≡ Some kinds.Load
-      → access (class_at code j) ≡ Some b → ((b.base ≢ a.base) ⊎ SpansMeet b a) → ⊥
+      → access (class_at code j) ≡ Some b → ((b.base ≢ a.base) ⊎ AccessesMeet b a) → ⊥
   pub locked : (p i : ℕ) → Shadowed code p i → kind (class_at code i) ≢ Some kinds.Locked
   pub turn : (p i : ℕ) → Shadowed code p i → kind (class_at code i) ≢ Some kinds.Turn
 

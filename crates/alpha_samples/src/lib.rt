@@ -4,12 +4,12 @@
 //! `specs/Sample.antt` says which.
 #![tactic(auto)]
 
-ghost use Rattle.std.specs.Prelude.{◌≡◌, ◌++◌, ◌<◌, ◌^◌, ◌*◌, length, All, IfOk, OnOk};
+ghost use Rattle.std.specs.Prelude.{◌≡◌, IfOk};
 ghost use Rattle.std.specs.List.{flat_map};
 ghost use Rattle.alpha_image.specs.Layout.{longword};
 ghost use Rattle.alpha_samples.specs.Sample.{sample};
 
-use alpha_image::{Fields, Image, ImageFault};
+use alpha_image::{Fields, Image, ImageFault, push_longword};
 use std::alloc::{AllocError, Global};
 
 /// The image of version 1 whose code is these words from 0x10000 on, with the entry at the first
@@ -38,15 +38,7 @@ fn code_of(alloc: Global, words: &[u32]) -> Result<Vec<u8>, AllocError>
 {
     let mut code = Vec::with_capacity(alloc, words.len().saturating_mul(4))?;
     for word in words {
-        push_word(&mut code, *word)?;
+        push_longword(&mut code, *word)?;
     }
     Ok(code)
-}
-
-// Appends a word.
-#[tactic(auto, unfolding(alpha_image::specs::Layout::longword))]
-fn push_word(code: &mut Vec<u8>, word: u32) -> Result<(), AllocError>
-    ensures { OnOk result (code.new.items ≡ code.old.items ++ longword word) }
-{
-    code.extend_from_slice(&word.to_le_bytes())
 }

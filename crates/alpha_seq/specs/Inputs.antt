@@ -18,7 +18,7 @@ use Rattle.alpha_seq.specs.declared.end.RunEnd.TheVariants as runs
 use Rattle.alpha_seq.specs.declared.machine.Machine.{Machine}
 use Rattle.alpha_seq.specs.State.{Program, State}
 use Rattle.alpha_seq.specs.Step.{next_pc, next_class, step_from}
-use Rattle.alpha_seq.specs.Run.{Run, started, end_of, is_over, extended_by, after, notes_of, Shown, shown}
+use Rattle.alpha_seq.specs.Run.{Run, started, end_of, is_over, extended_by, after, notes_of}
 use Rattle.alpha_seq.specs.Machine.{program_of, state_of, kernel_left}
 use Rattle.alpha_seq.specs.Devices.{Drawn}
 
@@ -55,10 +55,6 @@ pub record HasMade (n : ℕ) (r : Run) : Type 0 where
 abbrev pub lefts : Program → State → ℕ → List (List ℕ)
 lefts g s zero = []
 lefts g s (suc n) = lefts g s n ++ (after g s n).state.outside.input ∷ []
-
--- what such a run from the start shows, over some inputs
-abbrev pub sequential_over : Program → State → List (List ℕ) → Bool → Shown
-sequential_over g s inputs watch = shown watch (run_over g inputs (started s))
 
 -- ---- what the machine's run did
 

@@ -1,11 +1,9 @@
 -- A program, the states in which it may stand, and what comes of a step.
-use Rattle.std.specs.Prelude.{◌<◌, ◌^◌, ℕ, List, All, Option, IfSome}
+use Rattle.std.specs.Prelude.{ℕ, List, Option}
 use Rattle.alpha_words.specs.declared.Completion.{Completion}
-use Rattle.alpha_words.specs.Regs.{IsFile}
 use Rattle.alpha_mem.specs.Block.{Block}
-use Rattle.alpha_mem.specs.Memory.{IsMemory}
 use Rattle.alpha_pal.specs.Call.{Outside}
-use Rattle.alpha_image.specs.Parts.{Parts, IsByte}
+use Rattle.alpha_image.specs.Parts.{Parts}
 use Rattle.alpha_seq.specs.declared.end.End.{End}
 
 -- An image, and what an instruction that overflows leaves. No step changes either.
@@ -24,18 +22,6 @@ pub record State : Type 0 where
   pub count : ℕ
   pub logged : ℕ
   pub outside : Outside
-
--- each part of a state is within its bounds
-pub record IsState (s : State) : Type 0 where
-  pub regs : IsFile s.regs
-  pub pc : s.pc < 2 ^ 64
-  pub mem : IsMemory s.mem
-  pub lock : IfSome s.lock (λ block. block < 2 ^ 60)
-  pub count : s.count < 2 ^ 64
-  pub logged : s.logged < 2 ^ 64
-  pub unique : s.outside.unique < 2 ^ 64
-  pub input : All IsByte s.outside.input
-  pub output : All IsByte s.outside.output
 
 -- An instruction was executed; a barrier was; the one at this address overflowed and was logged; or the program ended.
 pub data Event : Type 0 where

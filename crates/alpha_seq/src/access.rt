@@ -128,7 +128,8 @@ impl Machine {
     fn store_conditional(&mut self, at: &MemAccess, ra: Reg) -> Result<(), MemFault>
         requires { IsSized at.now.bytes }
         ensures went { OnOk result (Does Went (store_conditional at.now ra) self.old self.new) }
-        ensures fault { IfErr result (λ fault. FaultEffect fault (store_conditional at.now ra) at.now
+        ensures fault { IfErr result
+            (λ fault. FaultEffect fault (store_conditional at.now ra) at.now
             self.old self.new) }
     {
         let addr = self.accessed(at);
@@ -162,7 +163,8 @@ impl Machine {
     fn read(&self, extension: Extension, at: &MemAccess, addr: u64) -> Result<u64, MemFault>
         requires size { IsSized at.now.bytes }
         requires addr { addr ≡ accessed at.now (state_of self.now [] []) }
-        ensures fault { result_err result ≡ fault_of (shapes self.now.memory) Load addr at.now.bytes }
+        ensures fault { result_err result
+            ≡ fault_of (shapes self.now.memory) Load addr at.now.bytes }
         ensures ok { IfOk result (λ v. v ≡ loaded extension at.now (state_of self.now [] [])) }
     {
         match self.memory.load(addr, size(at.bytes)) {

@@ -56,7 +56,8 @@ impl Machine {
 
     // Goes on after a PAL call. A return from callsys clears the lock flag.
     fn go_on(&mut self, function: PalCall, next: u64)
-        ensures { self.new ≡ record self.old { pc = next; lock = lock_after function self.old.lock } }
+        ensures { self.new
+            ≡ record self.old { pc = next; lock = lock_after function self.old.lock } }
     {
         self.pc = next;
         if function == PalCall::Callsys {

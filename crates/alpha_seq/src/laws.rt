@@ -35,7 +35,8 @@ pub fn laws_of_runs()
 pub fn laws_of_inputs()
     ensures told { (g : Program) (s : State) (n : ℕ)
         → run_over g (lefts g s n) (started s) ≡ after g s n }
-    ensures unread { (g : Program) (s : State) (inputs : List (List ℕ)) → IsUnread g s (length inputs)
+    ensures unread { (g : Program) (s : State) (inputs : List (List ℕ))
+        → IsUnread g s (length inputs)
         → SameButInput (run_over g inputs (started s)) (after g s (length inputs)) }
     ensures cut { (n : ℕ) (watch : Bool) (m : Machine) (input : Drawn) (out notes : Sunk)
         → IsCutAt n watch m input out notes → IsFront n watch m out notes }

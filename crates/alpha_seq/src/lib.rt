@@ -5,10 +5,10 @@
 //!   and [`Machine::next`] says what that step would do, as a [`Next`]. [`run`] makes
 //!   steps until the program ends or a number of them is used up.
 //! - [`StepEnd`] is how a step went, [`RunEnd`] how a run went, [`End`] how a program ends.
-//! - [`Machine::insn`], [`Machine::source`], [`Machine::accessed`], [`Machine::set`] and [`Machine::advance`] are the parts of a step that other
-//!   machines share, with [`memory_access`], [`size`] and [`branch_target`].
+//! - [`Machine::goes_on`], [`Machine::insn`], [`Machine::source`], [`Machine::accessed`], [`Machine::set`] and
+//!   [`Machine::advance`] are the parts of a step that other machines share, with [`memory_access`], [`size`] and [`branch_target`].
 //! - [`write_overflow`], [`write_barrier`], [`write_registers`] and [`write_end`] write the lines of an overflow, of a
-//!   barrier, of the registers alone and of an end.
+//!   barrier, of the registers alone and of an end; [`line_of_end`] is the last of these.
 //! - [`laws_of_steps`]: a step leaves how many registers there are and where the blocks of memory lie, and one that ends
 //!   the program leaves all. [`laws_of_runs`]: a run that is over stays, and one that isn't has made all its steps.
 //!   [`laws_of_inputs`]: how runs in which each step finds an input of its own stand to the run over one input, and to
@@ -23,7 +23,7 @@
 //! `specs/StartMemory.antt`, `specs/Executed.antt` and `specs/Turn.antt` say what the helpers of the start, of the step
 //! and of the run do.
 //!
-//! `src/step.rt` has the step. Its layers are `src/execute.rt`, which executes each word that is no barrier,
+//! `src/machine.rt` has the machine and `src/end.rt` its answers; `src/step.rt` has the step. Its layers are `src/execute.rt`, which executes each word that is no barrier,
 //! `src/words.rt` and `src/access.rt` with the families of these words, the second with those that have a
 //! displacement from a base register, `src/barrier.rt` with the PAL calls, and `src/parts.rt` with what they share.
 //! `src/look.rt` says what a word would do. `src/start.rt` makes the machine, `src/runs.rt` runs it, `src/lines.rt`
@@ -48,9 +48,7 @@ mod words;
 pub use access::{memory_access, size};
 pub use end::{End, Next, RunEnd, StepEnd};
 pub use laws::{laws_of_inputs, laws_of_runs, laws_of_steps};
-pub use lines::{
-    line_of_end, line_of_overflow, write_barrier, write_end, write_overflow, write_registers,
-};
+pub use lines::{line_of_end, write_barrier, write_end, write_overflow, write_registers};
 pub use machine::Machine;
 pub use runs::run;
 pub use words::branch_target;

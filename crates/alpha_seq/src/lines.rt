@@ -32,9 +32,9 @@ pub fn write_end<K: Sink>(end: &End, to: &mut K) -> Result<(), Failed>
     write_whole(to, line_of_end(end).as_bytes())
 }
 
-/// The line of a logged overflow.
+// The line of a logged overflow.
 #[tactic(auto, unfolding(crate::specs::Notes::overflow_line))]
-pub fn line_of_overflow(addr: u64) -> Line
+fn line_of_overflow(addr: u64) -> Line
     ensures { result ≡ overflow_line addr }
 {
     let mut line = Line::new();
@@ -103,7 +103,8 @@ pub fn write_registers<K: Sink>(regs: &RegFile, to: &mut K) -> Result<(), Failed
 pub fn write_barrier<K: Sink>(pc: u64, regs: &RegFile, to: &mut K) -> Result<(), Failed>
     ensures written { OnOk result (Appends (K.written to.old) (K.written to.new)
         (barrier_lines pc regs.now)) }
-    ensures prefix { WritesPrefix (K.written to.old) (K.written to.new) (barrier_lines pc regs.now) }
+    ensures prefix { WritesPrefix (K.written to.old) (K.written to.new)
+        (barrier_lines pc regs.now) }
     ensures cause { HasCause (K.faults to.old) (K.faults to.new) result }
 {
     write_barrier_line(pc, to)?;
@@ -112,7 +113,8 @@ pub fn write_barrier<K: Sink>(pc: u64, regs: &RegFile, to: &mut K) -> Result<(),
 
 // Appends the line `barrier A`, or on `Failed` a prefix of it.
 fn write_barrier_line<K: Sink>(pc: u64, to: &mut K) -> Result<(), Failed>
-    ensures written { OnOk result (Appends (K.written to.old) (K.written to.new) (barrier_line pc)) }
+    ensures written { OnOk result
+        (Appends (K.written to.old) (K.written to.new) (barrier_line pc)) }
     ensures prefix { WritesPrefix (K.written to.old) (K.written to.new) (barrier_line pc) }
     ensures cause { HasCause (K.faults to.old) (K.faults to.new) result }
 {
@@ -124,7 +126,8 @@ fn write_sixteen<K: Sink>(regs: &RegFile, first: u8, to: &mut K) -> Result<(), F
     requires { first + 16 ≤ 32 }
     ensures written { OnOk result (Appends (K.written to.old) (K.written to.new)
         (sixteen_registers regs.now first)) }
-    ensures prefix { WritesPrefix (K.written to.old) (K.written to.new) (sixteen_registers regs.now first) }
+    ensures prefix { WritesPrefix (K.written to.old) (K.written to.new)
+        (sixteen_registers regs.now first) }
     ensures cause { HasCause (K.faults to.old) (K.faults to.new) result }
 {
     write_eight(regs, first, to)?;
@@ -136,7 +139,8 @@ fn write_eight<K: Sink>(regs: &RegFile, first: u8, to: &mut K) -> Result<(), Fai
     requires { first + 8 ≤ 32 }
     ensures written { OnOk result (Appends (K.written to.old) (K.written to.new)
         (eight_registers regs.now first)) }
-    ensures prefix { WritesPrefix (K.written to.old) (K.written to.new) (eight_registers regs.now first) }
+    ensures prefix { WritesPrefix (K.written to.old) (K.written to.new)
+        (eight_registers regs.now first) }
     ensures cause { HasCause (K.faults to.old) (K.faults to.new) result }
 {
     let mut line = Line::new();

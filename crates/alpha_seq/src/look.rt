@@ -36,7 +36,8 @@ impl Machine {
     // What an instruction would do here.
     fn next_at(&self, insn: &Insn) -> Next
         ensures { (input output : List ℕ)
-            → result ≡ next_by (program_of self.now) (Some insn.now) (state_of self.now input output) }
+            → result ≡ next_by (program_of self.now) (Some insn.now)
+            (state_of self.now input output) }
     {
         match insn.form() {
             Form::Operate { op, ra, src, .. } => {

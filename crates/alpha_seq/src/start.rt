@@ -1,7 +1,7 @@
-ghost use Rattle.std.specs.Prelude.{◌≡◌, ◌+◌, ◌<◌, ℕ, List, [], ◌∷◌, length, replicate, IfOk, OnOk};
+ghost use Rattle.std.specs.Prelude.{◌≡◌, ◌+◌, ◌<◌, ℕ, List, [], length, replicate, IfOk, OnOk};
 ghost use Rattle.alpha_words.specs.Regs.{put};
 ghost use Rattle.alpha_pal.specs.Kernel.{new_kernel};
-ghost use Rattle.alpha_seq.specs.Start.{stack_end, code_block, start_memory, start_regs, start};
+ghost use Rattle.alpha_seq.specs.Start.{stack_end, start_memory, start};
 ghost use Rattle.alpha_seq.specs.StartMemory.{memory_before};
 ghost use Rattle.alpha_seq.specs.Machine.{program_of, state_of};
 
@@ -18,6 +18,7 @@ const STACK_END: u64 = 1 << 30;
 impl Machine {
     /// The machine in the state at the start: R27 is the entry address, R30 is 2^30 and all other
     /// registers are 0; the data bytes are the image's and all other bytes that may be written are 0.
+    /// `how` is what an instruction that overflows leaves. `NoMemory` where memory runs out.
     pub fn new(alloc: Global, image: Image, how: Completion) -> Result<Machine, NoMemory>
         ensures program { IfOk result (λ m. program_of m ≡ record { image = image; how = how }) }
         ensures start { IfOk result (λ m. (input : List ℕ)

@@ -1,8 +1,8 @@
 -- The conditions under which a trap that is reported late may find its sources lost or a wrong memory.
-use Rattle.std.specs.Prelude.{◌≡◌, ◌≢◌, ◌<◌, ◌≤◌, ◌+◌, ℕ, ◌<ℤ◌, ◌⊎◌, Some, List, length}
+use Rattle.std.specs.Prelude.{◌≡◌, ◌≢◌, ◌<◌, ◌≤◌, ◌+◌, ℕ, ◌⊎◌, Some, List, length}
 use Rattle.alpha_table.specs.declared.columns.InsnKind.TheVariants as kinds
 use Rattle.alpha_table.specs.declared.columns.MemAccess.{MemAccess}
-use Rattle.alpha_table.specs.Columns.{bytes_spanned}
+use Rattle.alpha_table.specs.Columns.{bytes_spanned, SpansMeet}
 use Rattle.alpha_table.specs.Code.{Straight}
 use Rattle.alpha_shadow.specs.declared.broken.Condition.{Condition}
 use Rattle.alpha_shadow.specs.declared.broken.Condition.TheVariants.{ZeroDestination, SourceLost, SameDestination, WildBase, LoadThenStore, Locked, Turn, Open, Long}
@@ -11,8 +11,7 @@ use Rattle.alpha_shadow.specs.Code.{kind_at, destination_at, access_at, Sets, Se
 
 -- two accesses that may touch a common byte: by different bases, or by one base where their spans meet
 abbrev pub MayMeet : MemAccess → MemAccess → Type 0
-MayMeet a b =
-    (a.base ≢ b.base) ⊎ (((bytes_spanned a).low <ℤ (bytes_spanned b).high) × ((bytes_spanned b).low <ℤ (bytes_spanned a).high))
+MayMeet a b = (a.base ≢ b.base) ⊎ SpansMeet (bytes_spanned a) (bytes_spanned b)
 
 -- some load in [from, to) may touch a byte of the access
 pub record LoadMeets (code : List ℕ) (from to : ℕ) (store : MemAccess) : Type 0 where
@@ -79,11 +78,6 @@ condition_number Locked = 6
 condition_number Turn = 7
 condition_number Open = 8
 condition_number Long = 9
-
--- the first condition that holds at a place
-pub record IsLeastHolding (code : List ℕ) (trigger at : ℕ) (condition : Condition) : Type 0 where
-  pub holds : Holds code trigger at condition
-  pub least : (other : Condition) → Holds code trigger at other → condition_number condition ≤ condition_number other
 
 -- a broken place comes no later than another: by its place, then by its trigger, then by its condition
 abbrev pub NoLater : Broken → ℕ → ℕ → Condition → Type 0

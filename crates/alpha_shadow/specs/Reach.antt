@@ -1,7 +1,7 @@
 -- The bytes that an access may touch, counted from its base.
-use Rattle.std.specs.Prelude.{◌≢◌, ◌<ℤ◌, ◌⊎◌}
+use Rattle.std.specs.Prelude.{◌≢◌, ◌⊎◌}
 use Rattle.alpha_table.specs.declared.columns.MemAccess.{MemAccess}
-use Rattle.alpha_table.specs.Columns.{bytes_spanned}
+use Rattle.alpha_table.specs.Columns.{bytes_spanned, SpansMeet}
 use Rattle.alpha_shadow.specs.declared.loads.Reach.{Reach}
 
 abbrev pub reach_of : MemAccess → Reach
@@ -9,4 +9,4 @@ reach_of a = record { base = a.base; span = bytes_spanned a }
 
 -- two reaches may touch a common byte: by different bases, or by one base where their spans meet
 abbrev pub MayTouch : Reach → Reach → Type 0
-MayTouch a b = (a.base ≢ b.base) ⊎ ((a.span.low <ℤ b.span.high) × (b.span.low <ℤ a.span.high))
+MayTouch a b = (a.base ≢ b.base) ⊎ SpansMeet a.span b.span

@@ -20,7 +20,7 @@ pub enum Condition {
     Turn,
     /// C8: the code has ended.
     Open,
-    /// C9: the shadow is longer than 1,024 words after its trigger.
+    /// C9: more than 1,024 words follow the trigger.
     Long,
 }
 

@@ -5,8 +5,7 @@
 //! - [`Condition`] is one of the nine conditions, C1 to C9, and [`Broken`] a broken place.
 //! - [`judge`] is the verdict on the instructions that a [`Fetch`] gives. It looks at each word once at
 //!   most, in their order, and takes no memory. A [`Checker`] gives one verdict after another, in the
-//!   same room. [`ImageCode`] is the code of an image, or the rest of it
-//!   from a place on.
+//!   same room. [`ImageCode`] is the code of an image, or the rest of it from a place on.
 //! - [`write_broken`] writes the line of a broken place.
 //! - [`laws_of_verdicts`] says that each condition is decided, and that every list of words is
 //!   accepted or has a least broken place.
@@ -16,7 +15,8 @@
 //! walk over the words) over `place.rt` (the least broken place at one word, condition by condition),
 //! `window.rt` (what is known of the words before a place, whose meaning is `specs/Window.antt`),
 //! `triggers.rt` and `loads.rt` (the open triggers, and the loads after the first of them), `last.rt`
-//! (the last place of each register) and `columns.rt` (what is read of one word).
+//! (the last place of each register) and `columns.rt` (what is read of one word). `broken.rt` has what a
+//! verdict names, `fetch.rt` and `image_code.rt` where the words come from, and `report.rt` the line.
 //!
 //! `proofs/Shadows.antt`, `OpenLoads.antt` and `Ends.antt` follow the open triggers, the open loads and the
 //! registers' places word by word; `Places.antt` ties each condition to them, `Steps.antt` joins the

@@ -69,7 +69,8 @@ impl Model for Loads {
 
     ghost view = { λ l. record { items = take l.len l.held } };
 
-    ghost invariant = { λ l. (l.len ≤ MOST) × (length l.held ≡ MOST) × IsCover l.cover (take l.len l.held) };
+    ghost invariant = { λ l. (l.len ≤ MOST) × (length l.held ≡ MOST)
+        × IsCover l.cover (take l.len l.held) };
 }
 
 impl Loads {

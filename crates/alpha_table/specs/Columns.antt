@@ -18,11 +18,12 @@ use Rattle.alpha_table.specs.declared.form.Form.TheVariants.{Operate}
 use Rattle.alpha_table.specs.Op.{op_row}
 use Rattle.alpha_table.specs.Class.{Class, operate, trigger, address, load, store, load_locked, store_conditional, branch, jump, barrier, idle, class_of}
 
--- the registers that an operate instruction reads: its sources, and the destination of a conditional move
+-- the register of a second source, if it is one
 abbrev pub source_registers : Src → List ℕ
 source_registers (Reg rb) = rb ∷ []
 source_registers (Lit n) = []
 
+-- with the destination before them, where it is a conditional move
 abbrev pub moved_register : OpRole → ℕ → List ℕ → List ℕ
 moved_register Move rc others = rc ∷ others
 moved_register Plain rc others = others

@@ -75,7 +75,7 @@ impl ByteSpan {
 }
 
 /// The registers that the instruction reads, but for R31 (Architecture Handbook, chapter 4). A
-/// conditional move reads its destination too.
+/// conditional move reads its destination too. A load into R31, and a prefetch, use none.
 pub fn uses(i: &Insn) -> RegSet
     ensures { (r : ℕ) → Has result r ↔ IsTrue (uses_of i.now r) }
 {
@@ -170,7 +170,7 @@ fn memory_kind(op: MemOp, ra: Reg) -> InsnKind
 }
 
 /// The access that the instruction makes to memory, if it makes one (Architecture Handbook,
-/// section 4.2).
+/// section 4.2). A load into R31 that isn't locked makes none.
 pub fn access(i: &Insn) -> Option<MemAccess>
     ensures { result ≡ access_of i.now }
 {
@@ -190,7 +190,7 @@ pub fn access(i: &Insn) -> Option<MemAccess>
     }
 }
 
-/// The bytes that the instruction's access may touch, if it makes one.
+/// The bytes that the instruction's access may touch, if it makes one: see [`access`].
 pub fn span(i: &Insn) -> Option<ByteSpan>
     ensures { result ≡ span_of i.now }
 {

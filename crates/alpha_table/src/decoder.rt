@@ -114,7 +114,8 @@ fn fits(opcode: u8, op: Op, ra: Reg, src: &Src) -> bool
 #[inline(always)]
 fn operate(w: Word) -> Option<Form>
     ensures found { IfSome result (λ form. Row w.0 form) }
-    ensures none { IfNone result ((op : _) (a : ℕ) (b : _) (c : ℕ) → Row w.0 (Operate op a b c) → ⊥) }
+    ensures none { IfNone result ((op : _) (a : ℕ) (b : _) (c : ℕ) → Row w.0 (Operate op a b c)
+        → ⊥) }
 {
     let op = Op::at(w.opcode(), w.function())?;
     let src = source(w)?;
@@ -172,13 +173,12 @@ fn form_of(w: Word) -> Option<Form>
 
 /// The instruction that the word stands for (Architecture Handbook, section 3.3), `None` exactly
 /// where it is outside the table.
-#[tactic(auto, using(crate::proofs::Decoding::decoding))]
 pub fn decode(w: Word) -> Option<Insn>
     ensures row { IfSome result (λ i. Row w.0 i) }
     ensures none { IfNone result ((i : _) → Row w.0 i → ⊥) }
     ensures value { result ≡ decoded w.0 }
 {
-    Some(Insn::new(form_of(w)?))
+    decode_inline(w)
 }
 
 /// The same, as a part of the code that calls it: for a loop that looks at one word after another

@@ -17,8 +17,10 @@ ghost use Rattle.alpha_text.specs.Reading.{read};
 pub fn laws_of_lines()
     ensures grammar { (line : List ℕ) (l : _) → (read line ≡ Ok l) ↔ IsLine (tokens line) l }
     ensures fault { (line : List ℕ) (f : _) → read line ≡ Err f → IsFirstFault line f }
-    ensures faultless { (line : List ℕ) (l f : _) → IsLine (tokens line) l → ¬ LineHasFault (tokens line) f }
-    ensures reads_back { (i : _) → IsInsn i → read (canon i) ≡ Ok (record { label = None; statement = code i }) }
+    ensures faultless { (line : List ℕ) (l f : _) → IsLine (tokens line) l
+        → ¬ LineHasFault (tokens line) f }
+    ensures reads_back { (i : _) → IsInsn i
+        → read (canon i) ≡ Ok (record { label = None; statement = code i }) }
     ensures returned { (line : List ℕ) (l : _) → read (line ++ 13 ∷ []) ≡ Ok l → read line ≡ Ok l }
     ensures different { (i j : _) → IsInsn i → IsInsn j → canon i ≡ canon j → i ≡ j }
 {}
@@ -27,8 +29,10 @@ pub fn laws_of_lines()
 /// gives a first value of it, then the first of the rest, and so on, until the list is empty, and
 /// so does [`next_byte`](crate::next_byte) with the bytes of the text. Neither gives `None` before.
 pub fn laws_of_items()
-    ensures list { (line : List ℕ) (l : _) (n : ℕ) (list : List ℕ) → read line ≡ Ok l → l.statement ≡ values n list → IsWholeList n list }
-    ensures text { (line : List ℕ) (l : _) (t : List ℕ) → read line ≡ Ok l → l.statement ≡ text t → IsText t }
+    ensures list { (line : List ℕ) (l : _) (n : ℕ) (list : List ℕ) → read line ≡ Ok l
+        → l.statement ≡ values n list → IsWholeList n list }
+    ensures text { (line : List ℕ) (l : _) (t : List ℕ) → read line ≡ Ok l → l.statement ≡ text t
+        → IsText t }
 {}
 
 /// The law of a line's labels. The label that a line defines, and each that it names, is a whole one: a

@@ -72,7 +72,7 @@ fn call(number: Option<Number>) -> PalCall
     }
 }
 
-// The pseudo-operation that stands for an instruction.
+// The instruction that a pseudo-operation, or `call_pal`, stands for; `None` for a directive.
 pub(crate) fn of_pseudo(own: Own, o: &Operands<'_>) -> Option<Insn>
     ensures { result ≡ pseudo_form own (slots o.now) }
 {

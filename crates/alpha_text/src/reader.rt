@@ -41,7 +41,8 @@ pub fn list_in(behind: &[u8], left: usize) -> &[u8]
 
 /// The statement of a name with the operands behind it, or their first fault.
 pub fn with_operands(head: Head, behind: &[u8]) -> Result<Statement<'_>, OperandFault>
-    ensures { Gives said result (with_operands head behind.now (operands (patterns (shape_of head)) (tokens behind.now))) }
+    ensures { Gives said result
+        (with_operands head behind.now (operands (patterns (shape_of head)) (tokens behind.now))) }
 {
     match head.shape().operands(behind) {
         Ok(o) => {
@@ -117,7 +118,8 @@ fn behind_label<'a>(token: &Token<'a>, left: usize) -> Result<Item<'a>, OperandF
 // The item of a line without a label, which begins with a token.
 fn unlabelled<'a>(token: &Token<'a>, left: usize) -> Result<Item<'a>, OperandFault>
     requires { left ≡ left_of (lexeme token.now) }
-    ensures { Gives item_said result (labelled None (named (lexeme token.now) (tokens token.now.rest.now))) }
+    ensures { Gives item_said result
+        (labelled None (named (lexeme token.now) (tokens token.now.rest.now))) }
 {
     match named(token, left) {
         Ok(statement) => Ok(Item {

@@ -44,7 +44,8 @@ pub(crate) fn digit_value(digit: u8) -> u8
 
 // A number with a further digit behind it, `None` exactly from 2^64 on.
 fn with_digit(n: u64, radix: u64, digit: u8) -> Option<u64>
-    ensures { SomeIff result (n * radix + digit_value digit < 2 ^ 64) (n * radix + digit_value digit) }
+    ensures { SomeIff result (n * radix + digit_value digit < 2 ^ 64)
+        (n * radix + digit_value digit) }
 {
     n.checked_mul(radix)?
         .checked_add(u64::from(digit_value(digit)))
@@ -53,7 +54,8 @@ fn with_digit(n: u64, radix: u64, digit: u8) -> Option<u64>
 // The number that digits stand for, `None` exactly from 2^64 on.
 fn digits_value(radix: u64, digits: &[u8]) -> Option<u64>
     requires { 1 ≤ radix }
-    ensures { MatchOption result (2 ^ 64 ≤ digits_value radix digits.now) (λ n. n ≡ digits_value radix digits.now) }
+    ensures { MatchOption result (2 ^ 64 ≤ digits_value radix digits.now)
+        (λ n. n ≡ digits_value radix digits.now) }
 {
     let mut n: u64 = 0;
     for digit in digits {

@@ -1,4 +1,4 @@
-ghost use Rattle.std.specs.Prelude.{◌≡◌, ◌≤◌, ◌<◌, IfSome, length, drop};
+ghost use Rattle.std.specs.Prelude.{◌≡◌, ◌≤◌, IfSome, length, drop};
 ghost use Prim.Native.Nat.{suc};
 ghost use Rattle.std.specs.List.{prefix_len};
 ghost use Rattle.alpha_token.specs.Bytes.{is_blank};

@@ -17,7 +17,8 @@ pub fn laws_of_scans()
         → IsTrue (fits code mask at to) ↔ Fits code mask at to }
     ensures finds { (image : Parts) (pc mask at : ℕ)
         → (scan image pc mask ≡ Some at) ↔ Finds image pc mask at }
-    ensures last { (image : Parts) (pc mask at to rc : ℕ) → place_or_end image pc ≡ Some to → at < to
+    ensures last { (image : Parts) (pc mask at to rc : ℕ) → place_or_end image pc ≡ Some to
+        → at < to
         → trap_rc (class_at image.words at) ≡ Some rc → rc < 31 → Has mask rc
         → Covers image.words mask at to → Straight image.words at to
         → ((k : ℕ) → at < k → k < to → trap_rc (class_at image.words k) ≢ Some rc)

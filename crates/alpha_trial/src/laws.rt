@@ -1,6 +1,6 @@
 //! What holds of the program of a trial. The function does nothing.
 
-ghost use Rattle.std.specs.Prelude.{◌≡◌, ◌+◌, ◌*◌, ℕ, ◌<◌, ◌≤◌, map, length, count_by, Some};
+ghost use Rattle.std.specs.Prelude.{◌≡◌, ◌+◌, ◌*◌, ℕ, ◌≤◌, map, length, count_by, Some};
 ghost use Rattle.alpha_table.specs.Decoded.{decoded};
 ghost use Rattle.alpha_image.specs.Parts.{IsImage};
 ghost use Rattle.alpha_shadow.specs.Broken.{IsAccepted};
@@ -26,6 +26,7 @@ pub fn laws_of_trials()
     ensures exits { (n units : ℕ) → n ≤ 20000 → 9 * n + 10 ≤ units
         → Exits (9 * n + 10) (sequential_run units (trial_image n)) }
     ensures alike { (n units seed : ℕ) → n ≤ 20000 → 9 * n + 10 ≤ units
-        → EndsAlike (sequential_run units (trial_image n)) (imprecise_run units (trial_image n) seed) }
+        → EndsAlike (sequential_run units (trial_image n))
+        (imprecise_run units (trial_image n) seed) }
     ensures lines { (n : ℕ) → n ≤ 20000 → HasLines n (trial_text n) }
 {}

@@ -8,9 +8,8 @@ ghost use Rattle.alpha_image.specs.Parts.{IsImage};
 ghost use Rattle.alpha_trial.specs.Program.{seeded};
 ghost use Rattle.alpha_trial.specs.Words.{displacement_field, block_words, blocks_words, ending_words, program_words, trial_image};
 
-use alpha_image::{Fields, Image};
+use alpha_image::{Fields, Image, push_longword};
 use alpha_words::NoMemory;
-use byteorder::{ByteOrder, LittleEndian};
 use rand_core::SeedableRng;
 use rand_core::utils::NextWord;
 use rand_pcg::Lcg64Xsh32;
@@ -34,7 +33,7 @@ const FIELDS: Fields = Fields {
 /// The image of the trial with a number, from 1 to 20,000: so many blocks, each of which adds
 /// and multiplies two numbers that a generator draws whose seed is that number, and an ending, which
 /// writes eight bytes and exits. It has 9 code words a block and 10 more. Each block has two
-/// instructions with `/V`, and a TRAPB behind them.
+/// instructions with `/V`, and a TRAPB behind them. `NoMemory` where memory runs out.
 pub fn trial_image(alloc: Global, n: u32) -> Result<Image, NoMemory>
     requires some { 0 < n }
     requires bound { n ≤ 20000 }
@@ -88,19 +87,9 @@ fn push_words(code: &mut Vec<u8>, words: &[u32]) -> Result<(), AllocError>
     ensures { OnOk result (code.new.items ≡ code.old.items ++ flat_map longword words.now) }
 {
     for word in words {
-        push_word(code, *word)?;
+        push_longword(code, *word)?;
     }
     Ok(())
-}
-
-// Appends a word as four bytes, the lowest first.
-#[tactic(auto, unfolding(alpha_image::specs::Layout::longword))]
-fn push_word(code: &mut Vec<u8>, word: u32) -> Result<(), AllocError>
-    ensures { OnOk result (code.new.items ≡ code.old.items ++ longword word) }
-{
-    let mut bytes = [0; 4];
-    LittleEndian::write_u32(&mut bytes, word);
-    code.extend_from_slice(&bytes)
 }
 
 // The words of a block, by two drawn words.

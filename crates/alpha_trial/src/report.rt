@@ -1,6 +1,6 @@
 //! The lines of a trial.
 
-ghost use Rattle.std.specs.Prelude.{◌≡◌, ◌<◌, ◌≤◌, ◌++◌, OnOk, codes, decimal, length, slice_index, count_by};
+ghost use Rattle.std.specs.Prelude.{◌≡◌, ◌<◌, ◌++◌, OnOk, codes, decimal, length, slice_index, count_by};
 ghost use Rattle.hex.specs.Hex.{encode_lower};
 ghost use Rattle.alpha_trial.specs.Report.{is_trigger, line};
 ghost use Rattle.alpha_trial.specs.Counted.{tally_of};

@@ -19,7 +19,8 @@ pub(crate) fn run_sequential(
     requires user { IsTrue machine.old.kernel.user }
     requires input { input.old ≡ [] }
     requires out { out.old.written ≡ [] }
-    ensures counts { IfOk result (λ steps. RunsTo units machine.old machine.new out.new.written steps) }
+    ensures counts { IfOk result
+        (λ steps. RunsTo units machine.old machine.new out.new.written steps) }
 {
     for made in 0..units {
         let step = machine.step(input, out, &mut NullSink::new());

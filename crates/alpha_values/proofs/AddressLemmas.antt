@@ -5,7 +5,7 @@ use Rattle.std.proofs.lemmas.Int.{ints}
 use Rattle.std.proofs.lemmas.Bool.{cond_both}
 use Rattle.alpha_table.specs.declared.columns.MemAccess.{MemAccess}
 use Rattle.alpha_table.specs.Columns.{bytes_spanned}
-use Rattle.alpha_values.specs.Address.{address_of, access_address, Covers, SpansMeet}
+use Rattle.alpha_values.specs.Address.{address_of, access_address, Covers, AccessesMeet}
 use Rattle.alpha_values.proofs.Words.{register_is, register_bound}
 
 -- a displacement, counted from the lowest one
@@ -96,7 +96,7 @@ one_end a b base y fits also far from below =
 -- two accesses by one base that touch a common byte of memory: their spans meet
 pub common-meets : (a b : MemAccess) (base y : ℕ) → base < 2 ^ 64 → FitsSigned w16 a.disp → FitsSigned w16 b.disp
     → access_address a base + a.bytes ≤ 2 ^ 30 → access_address b base + b.bytes ≤ 2 ^ 30
-    → Covers a base y → Covers b base y → SpansMeet a b
+    → Covers a base y → Covers b base y → AccessesMeet a b
 common-meets a b base y small fits also there there_too one other =
     let far = as_far base a.disp b.disp small fits also (in_memory a base there) (in_memory b base there_too) in
     (one_end a b base y fits also far one.from other.below, one_end b a base y also fits (sym far) other.from one.below)
@@ -104,7 +104,7 @@ common-meets a b base y small fits also there there_too one other =
 -- and where their spans meet they touch one, if neither clears bits of its address
 pub meeting-touches : (a b : MemAccess) (base : ℕ) → base < 2 ^ 64 → FitsSigned w16 a.disp → FitsSigned w16 b.disp → 0 < a.bytes → 0 < b.bytes
     → access_address a base + a.bytes ≤ 2 ^ 30 → access_address b base + b.bytes ≤ 2 ^ 30 → a.clears ≡ false → b.clears ≡ false
-    → SpansMeet a b → (y : ℕ) × Covers a base y × Covers b base y
+    → AccessesMeet a b → (y : ℕ) × Covers a base y × Covers b base y
 meeting-touches a b base small fits also some some_too there there_too plain plain_too meet =
     let far = as_far base a.disp b.disp small fits also (in_memory a base there) (in_memory b base there_too) in
     let x = access_by a base false plain in

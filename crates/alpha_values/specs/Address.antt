@@ -1,7 +1,7 @@
 -- The addresses that LDA, LDAH and the accesses to memory compute, and the bytes that an access touches.
-use Rattle.std.specs.Prelude.{ℕ, ℤ, ◌+◌, ◌*◌, ◌/◌, ◌<◌, ◌≤◌, ◌+ℤ◌, ◌*ℤ◌, ◌<ℤ◌, pos, if◌then◌else◌}
+use Rattle.std.specs.Prelude.{ℕ, ℤ, ◌+◌, ◌*◌, ◌/◌, ◌<◌, ◌≤◌, ◌+ℤ◌, ◌*ℤ◌, pos, if◌then◌else◌}
 use Rattle.alpha_table.specs.declared.columns.MemAccess.{MemAccess}
-use Rattle.alpha_table.specs.Columns.{bytes_spanned}
+use Rattle.alpha_table.specs.Columns.{bytes_spanned, SpansMeet}
 use Rattle.alpha_values.specs.Numbers.{register_of}
 
 -- a base register and a displacement of 16 bits, in bytes or, for the high half of an address, in units of 65,536
@@ -21,5 +21,5 @@ pub record Covers (c : MemAccess) (base y : ℕ) : Type 0 where
   pub below : y < access_address c base + c.bytes
 
 -- the spans of two accesses have a byte in common
-abbrev pub SpansMeet : MemAccess → MemAccess → Type 0
-SpansMeet a b = ((bytes_spanned a).low <ℤ (bytes_spanned b).high) × ((bytes_spanned b).low <ℤ (bytes_spanned a).high)
+abbrev pub AccessesMeet : MemAccess → MemAccess → Type 0
+AccessesMeet a b = SpansMeet (bytes_spanned a) (bytes_spanned b)

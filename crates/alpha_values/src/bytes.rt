@@ -1,6 +1,5 @@
 ghost use Rattle.std.specs.Prelude.{◌≡◌, ◌-◌, ◌*◌, ◌/◌, ◌%◌, ◌^◌, ◌<◌, ◌≤◌, ◌==◌, nat_le, if◌then◌else◌};
 ghost use Rattle.alpha_words.specs.Digits.{digits};
-ghost use Rattle.alpha_values.specs.Bits.{inverted};
 ghost use Rattle.alpha_values.specs.Bytes.{extracted_low, extracted_high, inserted_low, inserted_high, cleared, masked_low, masked_high, zapped, zapped_not, bytes_compared};
 
 /// EXTxL: the bytes of Ra from Rb's place on, as many as the size has (Architecture Handbook,
@@ -88,7 +87,8 @@ pub(crate) fn compare_bytes(a: u64, b: u64) -> u64
 // 1 where the byte of Ra at a place is at least that of Rb, else 0.
 fn at_least(a: u64, b: u64, k: u32) -> u64
     requires { k < 8 }
-    ensures answer { result ≡ (if nat_le (b / 2 ^ (8 * k) % 256) (a / 2 ^ (8 * k) % 256) then 1 else 0) }
+    ensures answer { result
+        ≡ (if nat_le (b / 2 ^ (8 * k) % 256) (a / 2 ^ (8 * k) % 256) then 1 else 0) }
     ensures bit { result < 2 }
 {
     u64::from(byte(b, k) <= byte(a, k))

@@ -6,7 +6,7 @@ ghost use Rattle.alpha_table.specs.declared.columns.MemAccess.{MemAccess};
 ghost use Rattle.alpha_table.specs.Op.{trap_of};
 ghost use Rattle.alpha_values.specs.Numbers.{register_of};
 ghost use Rattle.alpha_values.specs.TrapOp.{size_of, exact, Overflows, completed_of};
-ghost use Rattle.alpha_values.specs.Address.{address_of, high_address_of, access_address, Covers, SpansMeet};
+ghost use Rattle.alpha_values.specs.Address.{address_of, high_address_of, access_address, Covers, AccessesMeet};
 ghost use Rattle.alpha_values.specs.Op.{result_of};
 
 /// The laws of results: each fits a register. Quadword sums, differences and products are those of
@@ -44,10 +44,10 @@ pub fn laws_of_addresses()
     ensures meets { (a b : MemAccess) (base y : ℕ) → base < 2 ^ 64
         → FitsSigned w16 a.disp → FitsSigned w16 b.disp
         → access_address a base + a.bytes ≤ 2 ^ 30 → access_address b base + b.bytes ≤ 2 ^ 30
-        → Covers a base y → Covers b base y → SpansMeet a b }
+        → Covers a base y → Covers b base y → AccessesMeet a b }
     ensures touches { (a b : MemAccess) (base : ℕ) → base < 2 ^ 64
         → FitsSigned w16 a.disp → FitsSigned w16 b.disp → 0 < a.bytes → 0 < b.bytes
         → access_address a base + a.bytes ≤ 2 ^ 30 → access_address b base + b.bytes ≤ 2 ^ 30
-        → a.clears ≡ false → b.clears ≡ false → SpansMeet a b
+        → a.clears ≡ false → b.clears ≡ false → AccessesMeet a b
         → (y : ℕ) × Covers a base y × Covers b base y }
 {}

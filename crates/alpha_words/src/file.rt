@@ -12,7 +12,7 @@ pub struct RegFile {
 }
 
 impl Model for RegFile {
-    ghost use Rattle.std.specs.Prelude.{◌≡◌, ◌^◌, ℕ, ◌<◌, List, length, slice_index};
+    ghost use Rattle.std.specs.Prelude.{◌≡◌, ℕ, List, length, slice_index};
 
     ghost Value = { List ℕ };
 

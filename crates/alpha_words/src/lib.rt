@@ -9,7 +9,8 @@
 //!
 //! `word.rt`, `reg.rt`, `set.rt` and `file.rt` have one of the first four each, and this file the
 //! rest. `specs/Field.antt` says what a bit field is, `specs/Regs.antt` what a register set and a
-//! register file are, `specs/Levels.antt` how levels are numbered.
+//! register file are, `specs/Levels.antt` how levels are numbered, and `specs/Digits.antt` has numbers as
+//! lists of digits, bits and bytes.
 #![tactic(auto)]
 
 ghost use Rattle.std.specs.Prelude.{◌≡◌, ◌≢◌, ◌≤◌, ◌↔◌, IsTrue, IfSome, IfNone};

@@ -20,7 +20,7 @@ pub struct MemorySink {
 }
 
 impl Model for MemorySink {
-    ghost use Rattle.std.specs.Prelude.{◌≤◌, length, vec_len, vec_capacity};
+    ghost use Rattle.std.specs.Prelude.{◌≤◌, vec_len, vec_capacity};
     ghost use Rattle.alpha_io.specs.SinkState.{SinkState};
 
     ghost Value = { SinkState };
@@ -37,7 +37,8 @@ impl Model for MemorySink {
 }
 
 impl MemorySink {
-    /// An empty sink. The calls of `put` whose numbers, from 0, are listed fail.
+    /// An empty sink. The calls of `put` whose numbers, from 0, are listed fail. `NoMemory` where
+    /// memory runs out.
     pub fn new(alloc: Global, room: usize, failing: Vec<u64>) -> Result<MemorySink, NoMemory>
         ensures { IfOk result (λ s. s ≡ sink_started room failing.items) }
     {

@@ -32,6 +32,13 @@ impl SureSource {
     {
         SureSource { bytes, at: 0 }
     }
+
+    /// The bytes still to come.
+    pub fn rest(&self) -> &[u8]
+        ensures { result.now ≡ self.now }
+    {
+        &self.bytes[self.at..]
+    }
 }
 
 impl Source for SureSource {
@@ -66,7 +73,7 @@ pub struct MemorySource {
 }
 
 impl Model for MemorySource {
-    ghost use Rattle.std.specs.Prelude.{ℕ, ◌<◌, ◌≤◌, length, drop};
+    ghost use Rattle.std.specs.Prelude.{◌<◌, ◌≤◌, length, drop};
     ghost use Rattle.alpha_io.specs.SourceState.{SourceState};
 
     ghost Value = { SourceState };

@@ -1,4 +1,4 @@
-ghost use Rattle.std.specs.Prelude.{◌≡◌, ◌≢◌, ◌⊎◌, ◌↔◌, ◌-◌, ◌<◌, ◌≤◌, ℕ, List, length, min, true, false, Some, None, IfOk, OnOk, OnErr, IsErr, IsSomeAnd, string_bytes, option_copied};
+ghost use Rattle.std.specs.Prelude.{◌≡◌, ◌≢◌, ◌↔◌, ◌-◌, ◌<◌, ◌≤◌, ℕ, List, length, min, true, false, Some, None, IfOk, OnOk, OnErr, IsErr, IsSomeAnd, string_bytes, option_copied};
 ghost use Rattle.std.specs.Io.{ReadsAtMost};
 ghost use Rattle.alpha_io.specs.Files.{IsPiece};
 ghost use Rattle.alpha_io.specs.SureShelfState.{sure_started, sure_file, sure_takes};
@@ -35,11 +35,13 @@ impl Model for SureShelf {
       kept = if s.is_kept then Some s.kept.items else None;
     } };
 
-    ghost invariant = { λ s. (s.room ≤ vec_capacity s.kept) × (string_bytes s.name ≢ string_bytes s.out) };
+    ghost invariant = { λ s. (s.room ≤ vec_capacity s.kept)
+        × (string_bytes s.name ≢ string_bytes s.out) };
 }
 
 impl SureShelf {
     /// A shelf that holds `bytes` under `name`, and takes at most `room` bytes under `out`.
+    /// `NoMemory` where memory runs out.
     pub fn new(
         alloc: Global,
         name: String,

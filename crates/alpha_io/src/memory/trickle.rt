@@ -1,4 +1,4 @@
-ghost use Rattle.std.specs.Prelude.{◌≡◌, ◌⊎◌, ◌↔◌, ◌<◌, length, take, IfOk, OnErr, IsErr, Contains, Ok};
+ghost use Rattle.std.specs.Prelude.{◌≡◌, ◌⊎◌, ◌↔◌, ◌<◌, length, take, IfOk, OnErr, IsErr, Contains};
 ghost use Rattle.alpha_io.specs.Faults.{HasCause};
 ghost use Rattle.alpha_io.specs.SinkState.{sink_started, sink_given, sink_failed};
 
@@ -24,7 +24,7 @@ impl Model for TrickleSink {
 
 impl TrickleSink {
     /// An empty sink with room for so many bytes. The calls of `put` whose numbers, from 0, are
-    /// listed fail.
+    /// listed fail. `NoMemory` where memory runs out.
     pub fn new(alloc: Global, room: usize, failing: Vec<u64>) -> Result<TrickleSink, NoMemory>
         ensures { IfOk result (λ s. s ≡ sink_started room failing.items) }
     {

@@ -10,7 +10,7 @@ returns-in-Some c =
     let m = c.args.machine.now in
     let t = c.args.trap.now in
     let waits = c.in-Some.ensures.found in
-    waits_look (class_here m) (bare m) (trap_of t) t.waited _ (may_wait m _ t.waited waits c.in-Some.ensures.few) (c.may_add.ensures ∙ ap adds_here (sym waits.here))
+    waits_look (class_here m) (bare m) (trap_of t) t.waited _ (may_wait m _ t.waited waits c.in-Some.ensures.few) (c.adds_here.ensures ∙ ap adds_here (sym waits.here))
 
 pub returns-in-None : goal.returns-in-None
 returns-in-None c =
