@@ -179,15 +179,25 @@ abbrev pub based : ℕ → List Segment → List Segment
 based base [] = []
 based base (s ∷ rest) = record s { base = base } ∷ rest
 
--- without a `.codebase`, a `.database` and a `.stack`
+-- what an image has without a `.codebase`, a `.database` and a `.stack`
+abbrev pub code_base : ℕ
+code_base = 0x10000
+
+abbrev pub data_base : ℕ
+data_base = 0x10000000
+
+abbrev pub stack_bytes : ℕ
+stack_bytes = 65536
+
+-- what it has by the statements, if they are there
 abbrev pub code_base_of : Fields → ℕ
-code_base_of f = unwrap_or f.code_base 0x10000
+code_base_of f = unwrap_or f.code_base code_base
 
 abbrev pub data_base_of : Fields → ℕ
-data_base_of f = unwrap_or f.data_base 0x10000000
+data_base_of f = unwrap_or f.data_base data_base
 
 abbrev pub stack_of : Fields → ℕ
-stack_of f = unwrap_or f.stack 65536
+stack_of f = unwrap_or f.stack stack_bytes
 
 -- the segments, the one of the first version first
 unfoldable pub segments_of : List LineSaid → List Segment

@@ -16,7 +16,7 @@ use Rattle.alpha_asm.specs.Labels.{spot_named}
 pub record Makes (is : List LineSaid) (u : Unlinked) : Type 0 where
   pub code : u.code.items ≡ flat_map (λ x. raw_insns x.item.statement) (layout is)
   pub filled : u.filled ≡ length (flat_map raw_bytes (layout is))
-  -- where there are more of them than an image may have they may be others
+  -- where there are more of them than an image may have some may be missing
   pub bytes : u.filled ≤ 16777216 → u.bytes.items ≡ flat_map raw_bytes (layout is)
   pub zeroed : u.zeroed ≡ (end is).last.zeroed
   pub labels : (name : List ℕ) → spot_named u.labels name ≡ spot_of (layout is) name

@@ -92,7 +92,8 @@ impl<'a> Output<'a> {
         ensures bytes { self.new.bytes ≡ self.old.bytes }
         ensures patches { OnOk result (map fix_of self.new.patches.items
             ≡ map fix_of self.old.patches.items
-            ++ map (fix 0) (list_of (insn_name line (length self.old.code.items) (coded_of coded.now)))) }
+            ++ map (fix 0) (list_of (insn_name line (length self.old.code.items)
+            (coded_of coded.now)))) }
     {
         push_reach(&mut self.patches, line, self.code.len(), coded)?;
         self.code.push(coded.insn)?;
@@ -107,7 +108,8 @@ impl<'a> Output<'a> {
         list: &'a [u8],
     ) -> Result<(), AllocError>
         ensures { OnOk result (AddsCells line
-            (map (cell_of bytes) (values_up_to (length list.entry.now) bytes list.entry.now)) self.old self.new) }
+            (map (cell_of bytes) (values_up_to (length list.entry.now) bytes list.entry.now))
+            self.old self.new) }
     {
         let mut rest = list;
         for _ in 0..list.len() {

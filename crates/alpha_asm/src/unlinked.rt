@@ -28,7 +28,7 @@ pub struct Unlinked<'a> {
     pub code: Vec<Insn>,
     /// How many data bytes.
     pub filled: usize,
-    /// The data bytes, where there are at most 16,777,216; where there are more, some are missing. Those of an
+    /// The data bytes, where there are at most 16,777,216; where there are more, some may be missing. Those of an
     /// address are 0.
     pub bytes: Vec<u8>,
     /// How many zeroed bytes stand behind them.

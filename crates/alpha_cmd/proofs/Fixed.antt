@@ -18,8 +18,8 @@ use Rattle.alpha_cmd.proofs.Forms.{done_goes}
 use Rattle.alpha_cmd.proofs.Commands.Fix.{lawful}
 use Rattle.alpha_cmd.proofs.Tried.{done_tried}
 
-safe : (source text : List ℕ) → IsFixedSource source text → IsFixed source text
-safe source text f = record {
+fixed_by : (source text : List ℕ) → IsFixedSource source text → IsFixed source text
+fixed_by source text f = record {
   is = f;
   accepted = is_accepted source text f;
   restarts = accepted_restarts f.fixed f.has_image.good (is_accepted source text f);
@@ -35,4 +35,4 @@ tried_fixed shelf input words file out w t s asks tried e kept =
     let (text, made, keeps) = done_goes (form file out) (there file out) w (lawful file out w) t is (ap class_of e) in
     let (source, read, fixed) = made in
     let has = subst (λ (a : Answer). HasKept a.kept s) keeps.1 kept in
-    (source, text, read.0, has.0, safe source text fixed)
+    (source, text, read.0, has.0, fixed_by source text fixed)

@@ -22,18 +22,18 @@ use Rattle.alpha_seq.specs.Notes.{end_line}
 use Rattle.alpha_cmd.specs.declared.status.Status.{Status}
 use Rattle.alpha_cmd.specs.declared.status.Status.TheVariants.{Done, NotRestartable, BadWords, BadSource, BadImage, Stopped, StepsSpent, Lost, ShelfFault, InputFault, SinkFault, TooLarge, NoMemory, Unfixable, FixedLine, Far, BadModule, BadLink, BadJournal, NotARun, JournalFull}
 
--- `image kind K first F second S`: the kind of the fault and its numbers, 0 where there is none
-unfoldable pub numbered_line : ℕ → ℕ → ℕ → List ℕ
-numbered_line kind first second =
-    codes "image kind " ++ decimal kind ++ codes " first " ++ decimal first ++ codes " second " ++ decimal second ++ 10 ∷ []
+-- A word and `kind K first F second S`: the kind of the fault and its numbers, 0 where there is none
+unfoldable pub numbered_line : List ℕ → ℕ → ℕ → ℕ → List ℕ
+numbered_line word kind first second =
+    word ++ codes " kind " ++ decimal kind ++ codes " first " ++ decimal first ++ codes " second " ++ decimal second ++ 10 ∷ []
 
 abbrev pub fault_line : ImageFault → List ℕ
-fault_line (faults.Short given) = numbered_line 1 given 0
-fault_line faults.Magic = numbered_line 2 0 0
-fault_line (faults.Field field) = numbered_line 3 field 0
-fault_line (faults.Length given wanted) = numbered_line 4 given wanted
-fault_line (faults.BadWord place word) = numbered_line 5 place word
-fault_line faults.NoMemory = numbered_line 6 0 0
+fault_line (faults.Short given) = numbered_line (codes "image") 1 given 0
+fault_line faults.Magic = numbered_line (codes "image") 2 0 0
+fault_line (faults.Field field) = numbered_line (codes "image") 3 field 0
+fault_line (faults.Length given wanted) = numbered_line (codes "image") 4 given wanted
+fault_line (faults.BadWord place word) = numbered_line (codes "image") 5 place word
+fault_line faults.NoMemory = numbered_line (codes "image") 6 0 0
 
 -- A word and `kind K line L column C detail D`: the kind of the refusal and where it stands, 0 where that is nowhere. The detail
 -- is the number of a line's fault, or the field.
@@ -92,18 +92,13 @@ module_fault_line file (modules.Relocation n) = module_line file 6 n
 module_fault_line file (modules.Rest at) = module_line file 7 at
 module_fault_line file modules.NoMemory = module_line file 8 0
 
--- `link kind K first F second S`: the kind of the refusal and its numbers, 0 where there is none
-unfoldable pub link_line : ℕ → ℕ → ℕ → List ℕ
-link_line kind first second =
-    codes "link kind " ++ decimal kind ++ codes " first " ++ decimal first ++ codes " second " ++ decimal second ++ 10 ∷ []
-
 abbrev pub link_fault_line : LinkFault → List ℕ
-link_fault_line (links.Duplicate number symbol) = link_line 1 number symbol
-link_fault_line (links.Undefined number symbol) = link_line 2 number symbol
-link_fault_line links.Entry = link_line 3 0 0
-link_fault_line (links.ImageField field) = link_line 4 field 0
-link_fault_line (links.Reach number relocation) = link_line 5 number relocation
-link_fault_line links.NoMemory = link_line 6 0 0
+link_fault_line (links.Duplicate number symbol) = numbered_line (codes "link") 1 number symbol
+link_fault_line (links.Undefined number symbol) = numbered_line (codes "link") 2 number symbol
+link_fault_line links.Entry = numbered_line (codes "link") 3 0 0
+link_fault_line (links.ImageField field) = numbered_line (codes "link") 4 field 0
+link_fault_line (links.Reach number relocation) = numbered_line (codes "link") 5 number relocation
+link_fault_line links.NoMemory = numbered_line (codes "link") 6 0 0
 
 -- A word and `kind K at N`: the kind of the fault and its number, 0 where there is none
 unfoldable pub kind_line : List ℕ → ℕ → ℕ → List ℕ

@@ -16,10 +16,9 @@ ghost use Rattle.alpha_cmd.specs.Tries.{CutBy, TriesBy};
 
 use crate::Status;
 use crate::decision::Decision;
-use crate::image::read_file;
+use crate::image::{read_file, spelled};
 use crate::keep::keep_as;
 use alpha_asm::{AsmFault, assemble};
-use alpha_image::image_bytes;
 use alpha_io::Shelf;
 use std::alloc::Global;
 
@@ -68,10 +67,7 @@ fn assembled(alloc: Global, source: &[u8]) -> Result<Vec<u8>, Status>
         ⊎ (status ≡ Status.NoMemory)) }
 {
     match assemble(alloc, source) {
-        Ok(image) => match image_bytes(alloc, &image) {
-            Ok(bytes) => Ok(bytes),
-            Err(_) => Err(Status::NoMemory),
-        },
+        Ok(image) => spelled(alloc, &image),
         Err(AsmFault::NoMemory) => Err(Status::NoMemory),
         Err(fault) => Err(Status::BadSource(fault)),
     }

@@ -5,9 +5,8 @@ ghost use Rattle.alpha_seq.specs.Notes.{end_line};
 ghost use Rattle.alpha_cmd.specs.Status.{status_line, unfixable_line};
 ghost use Rattle.alpha_cmd.specs.Answer.{said};
 ghost use Rattle.alpha_cmd.specs.Commands.Check.{accepted};
-ghost use Rattle.alpha_cmd.specs.Commands.Imprecise.{drawn_status};
 ghost use Rattle.alpha_cmd.specs.Commands.Replay.{shown};
-ghost use Rattle.alpha_cmd.specs.Commands.Run.{end_status};
+ghost use Rattle.alpha_cmd.specs.Commands.Run.{drawn_status, end_status};
 ghost use Rattle.alpha_cmd.specs.Decision.{answer_in};
 
 use crate::Status;
@@ -98,11 +97,7 @@ impl Decision {
             ≡ said left (end_status end.now) (end_line end.now) }
         ensures status { result.status ≡ end_status end.now }
     {
-        Decision {
-            status: status_of(end),
-            output: Line::new(),
-            line: line_of_end(end),
-        }
+        Decision::ended_by(end, 0)
     }
 
     /// An end of a program that the imprecise machine ran by so many words.
@@ -142,17 +137,7 @@ impl Decision {
     }
 }
 
-// The status of an end.
-fn status_of(end: &End) -> Status
-    ensures { result ≡ end_status end.now }
-{
-    match *end {
-        End::Exit(_) => Status::Done(0),
-        other => Status::Stopped(other),
-    }
-}
-
-// The status of an end of the imprecise machine, by the number of words.
+// The status of an end, by the number of words that were drawn.
 fn drawn_status_of(end: &End, drawn: u64) -> Status
     ensures { result ≡ drawn_status drawn end.now }
 {

@@ -4,13 +4,14 @@ ghost use Rattle.std.specs.Prelude.{◌≡◌, ◌≢◌, ◌⊎◌, ◌^◌, �
 ghost use Rattle.alpha_io.specs.Faults.{Rose};
 ghost use Rattle.alpha_io.specs.Shelved.{shelved, OnlyReads};
 ghost use Rattle.alpha_image.specs.ImageFault.{first_fault};
+ghost use Rattle.alpha_image.specs.Parts.{spelling};
 ghost use Rattle.alpha_cmd.specs.Outcome.{goes, stops};
 ghost use Rattle.alpha_cmd.specs.Status.{status_line};
 ghost use Rattle.alpha_cmd.specs.Image.{Reads, Spells, ImageOf};
 ghost use Rattle.alpha_cmd.specs.Tries.{CutBy};
 
 use crate::Status;
-use alpha_image::{Image, ImageFault, take_image};
+use alpha_image::{Image, ImageFault, image_bytes, take_image};
 use alpha_io::{ReadFault, Shelf, read_whole};
 use std::alloc::Global;
 
@@ -54,6 +55,17 @@ pub(crate) fn read_file<H: Shelf>(
         Err(ReadFault::Shelf) => Err(Status::ShelfFault),
         Err(ReadFault::TooLarge) => Err(Status::TooLarge(limit)),
         Err(ReadFault::NoMemory) => Err(Status::NoMemory),
+    }
+}
+
+/// The spelling of an image.
+pub(crate) fn spelled(alloc: Global, image: &Image) -> Result<Vec<u8>, Status>
+    ensures ok { IfOk result (λ bytes. bytes.items ≡ spelling image.now) }
+    ensures refused { IfErr result (λ status. status ≡ Status.NoMemory) }
+{
+    match image_bytes(alloc, image) {
+        Ok(bytes) => Ok(bytes),
+        Err(_) => Err(Status::NoMemory),
     }
 }
 

@@ -2,9 +2,8 @@
 
 ghost use Rattle.std.specs.Prelude.{◌≡◌, ◌≤◌, length};
 ghost use Rattle.alpha_io.specs.declared.line.TheConstants.{LINE_ROOM};
-ghost use Rattle.alpha_shadow.specs.Report.{place_address};
 ghost use Rattle.alpha_cmd.specs.Commands.Replay.{run_line};
-ghost use Rattle.alpha_cmd.specs.Status.{status_line, fault_line, fixing_line, journal_line, kind_line, kind_number, limit_line, link_fault_line, link_line, lost_line, module_fault_line, module_line, norun_line, numbered_line, placed_line, refusal_line, unfixable_line};
+ghost use Rattle.alpha_cmd.specs.Status.{status_line, fault_line, fixing_line, journal_line, kind_line, kind_number, limit_line, link_fault_line, lost_line, module_fault_line, module_line, norun_line, numbered_line, placed_line, refusal_line, unfixable_line};
 
 use crate::Status;
 use alpha_asm::AsmFault;
@@ -13,7 +12,7 @@ use alpha_io::Line;
 use alpha_link::{LinkFault, ModuleFault};
 use alpha_replay::{JournalFault, ReplayFault, Replayed};
 use alpha_seq::line_of_end;
-use alpha_shadow::Broken;
+use alpha_shadow::{Broken, place_address};
 use alpha_text::{LineFault, LineFaultKind};
 use alpha_trap::Lost;
 
@@ -116,21 +115,28 @@ fn fault_line(fault: &ImageFault) -> Line
     ensures { result ≡ fault_line fault.now }
 {
     match *fault {
-        ImageFault::Short(given) => numbered_line(1, given, 0),
-        ImageFault::Magic => numbered_line(2, 0, 0),
-        ImageFault::Field(field) => numbered_line(3, u64::from(field), 0),
-        ImageFault::Length(given, wanted) => numbered_line(4, given, wanted),
-        ImageFault::BadWord(place, word) => numbered_line(5, u64::from(place), u64::from(word)),
-        ImageFault::NoMemory => numbered_line(6, 0, 0),
+        ImageFault::Short(given) => numbered_line(b"image", 1, given, 0),
+        ImageFault::Magic => numbered_line(b"image", 2, 0, 0),
+        ImageFault::Field(field) => numbered_line(b"image", 3, u64::from(field), 0),
+        ImageFault::Length(given, wanted) => numbered_line(b"image", 4, given, wanted),
+        ImageFault::BadWord(place, word) => numbered_line(
+            b"image",
+            5,
+            u64::from(place),
+            u64::from(word),
+        ),
+        ImageFault::NoMemory => numbered_line(b"image", 6, 0, 0),
     }
 }
 
 #[tactic(auto, unfolding(crate::specs::Status::numbered_line))]
-fn numbered_line(kind: u64, first: u64, second: u64) -> Line
-    ensures { result ≡ numbered_line kind first second }
+fn numbered_line(word: &[u8], kind: u64, first: u64, second: u64) -> Line
+    requires { length word.now ≤ 8 }
+    ensures { result ≡ numbered_line word.now kind first second }
 {
     let mut line = Line::new();
-    line.push(b"image kind ");
+    line.push(word);
+    line.push(b" kind ");
     line.push_decimal(kind);
     line.push(b" first ");
     line.push_decimal(first);
@@ -171,20 +177,13 @@ pub(crate) fn unfixable_line(broken: &Broken, code_base: u64) -> Line
 {
     let mut line = Line::new();
     line.push(b"unfixable trigger ");
-    line.push_hex(address(code_base, broken.trigger));
+    line.push_hex(place_address(code_base, broken.trigger));
     line.push(b" at ");
-    line.push_hex(address(code_base, broken.at));
+    line.push_hex(place_address(code_base, broken.at));
     line.push(b" condition C");
     line.push_decimal(u64::from(broken.condition.number()));
     line.end();
     line
-}
-
-// The address of a place, modulo 2^64.
-fn address(code_base: u64, place: u32) -> u64
-    ensures { result ≡ place_address code_base place }
-{
-    code_base.wrapping_add(4 * u64::from(place))
 }
 
 #[tactic(auto, unfolding(crate::specs::Status::fixing_line))]
@@ -234,30 +233,25 @@ fn link_fault_line(fault: &LinkFault) -> Line
     ensures { result ≡ link_fault_line fault.now }
 {
     match *fault {
-        LinkFault::Duplicate(module, symbol) => link_line(1, u64::from(module), u64::from(symbol)),
-        LinkFault::Undefined(module, symbol) => link_line(2, u64::from(module), u64::from(symbol)),
-        LinkFault::Entry => link_line(3, 0, 0),
-        LinkFault::ImageField(field) => link_line(4, u64::from(field), 0),
+        LinkFault::Duplicate(module, symbol) => numbered_line(
+            b"link",
+            1,
+            u64::from(module),
+            u64::from(symbol),
+        ),
+        LinkFault::Undefined(module, symbol) => numbered_line(
+            b"link",
+            2,
+            u64::from(module),
+            u64::from(symbol),
+        ),
+        LinkFault::Entry => numbered_line(b"link", 3, 0, 0),
+        LinkFault::ImageField(field) => numbered_line(b"link", 4, u64::from(field), 0),
         LinkFault::Reach(module, relocation) => {
-            link_line(5, u64::from(module), u64::from(relocation))
+            numbered_line(b"link", 5, u64::from(module), u64::from(relocation))
         }
-        LinkFault::NoMemory => link_line(6, 0, 0),
+        LinkFault::NoMemory => numbered_line(b"link", 6, 0, 0),
     }
-}
-
-#[tactic(auto, unfolding(crate::specs::Status::link_line))]
-fn link_line(kind: u64, first: u64, second: u64) -> Line
-    ensures { result ≡ link_line kind first second }
-{
-    let mut line = Line::new();
-    line.push(b"link kind ");
-    line.push_decimal(kind);
-    line.push(b" first ");
-    line.push_decimal(first);
-    line.push(b" second ");
-    line.push_decimal(second);
-    line.end();
-    line
 }
 
 // `journal kind K at N`, the number 0 where there is none.

@@ -7,7 +7,7 @@ ghost use Rattle.alpha_io.specs.Shelved.{shelved, OnlyReads};
 ghost use Rattle.alpha_seq.specs.Devices.{Drawn};
 ghost use Rattle.alpha_cmd.specs.Outcome.{goes, stops, Then};
 ghost use Rattle.alpha_cmd.specs.Status.{status_line};
-ghost use Rattle.alpha_cmd.specs.Commands.Link as forms;
+ghost use Rattle.alpha_cmd.specs.Commands.Link as links;
 ghost use Rattle.alpha_cmd.specs.Commands.Link.{FilesOf, ModuleOf, ModulesOf, Links, Makes};
 ghost use Rattle.alpha_cmd.specs.Decision.{answer_in};
 ghost use Rattle.alpha_cmd.specs.Ends.{Settles};
@@ -17,9 +17,9 @@ ghost use Rattle.alpha_cmd.specs.Tries.{CutBy, TriesBy};
 
 use crate::Status;
 use crate::decision::Decision;
-use crate::image::read_file;
+use crate::image::{read_file, spelled};
 use crate::keep::keep_as;
-use alpha_image::{Image, image_bytes};
+use alpha_image::Image;
 use alpha_io::Shelf;
 use alpha_link::{LinkFault, Module, ModuleFault, read_module};
 use std::alloc::Global;
@@ -40,13 +40,13 @@ pub(crate) fn link<H: Shelf>(
     ensures tried { (input : Drawn)
         → Settles (TriesBy (Rose (H.faults shelf.old) (H.faults shelf.new))
         (Rose input.before input.now)
-        (forms.form entry.now out.now (map (λ name. name.now) files.now))
+        (links.form entry.now out.now (map (λ name. name.now) files.now))
         (record { files = H.files shelf.old; takes = H.takes shelf.old; input = input.old }))
         (answer_in input.old result)
         (shelved H.Shelf shelf.old shelf.new) }
     ensures shelf { Serves (shelved H.Shelf shelf.old shelf.new)
         (result.status ≢ Status.ShelfFault) }
-    ensures files { SparesBy (forms.kind out.now) result.status
+    ensures files { SparesBy (links.kind out.now) result.status
         (H.files shelf.old) (H.files shelf.new) }
 {
     match made(alloc, entry, files, shelf) {
@@ -183,16 +183,5 @@ fn joined(alloc: Global, entry: &str, modules: &[Module<'_>]) -> Result<Image, S
         Ok(image) => Ok(image),
         Err(LinkFault::NoMemory) => Err(Status::NoMemory),
         Err(fault) => Err(Status::BadLink(fault)),
-    }
-}
-
-// The spelling of an image.
-fn spelled(alloc: Global, image: &Image) -> Result<Vec<u8>, Status>
-    ensures ok { IfOk result (λ bytes. bytes.items ≡ images.spelling image.now) }
-    ensures refused { IfErr result (λ status. status ≡ Status.NoMemory) }
-{
-    match image_bytes(alloc, image) {
-        Ok(bytes) => Ok(bytes),
-        Err(_) => Err(Status::NoMemory),
     }
 }

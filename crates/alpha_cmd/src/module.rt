@@ -6,7 +6,7 @@ ghost use Rattle.alpha_io.specs.Shelved.{shelved, OnlyReads};
 ghost use Rattle.alpha_seq.specs.Devices.{Drawn};
 ghost use Rattle.alpha_cmd.specs.Outcome.{goes, stops};
 ghost use Rattle.alpha_cmd.specs.Status.{status_line};
-ghost use Rattle.alpha_cmd.specs.Commands.Module as forms;
+ghost use Rattle.alpha_cmd.specs.Commands.Module as modules;
 ghost use Rattle.alpha_cmd.specs.Commands.Module.{Makes, Modules, Spells};
 ghost use Rattle.alpha_cmd.specs.Decision.{answer_in, SaysBy};
 ghost use Rattle.alpha_cmd.specs.Ends.{Settles};
@@ -29,13 +29,13 @@ use std::alloc::Global;
 pub(crate) fn module<H: Shelf>(alloc: Global, file: &str, out: &str, shelf: &mut H) -> Decision
     ensures tried { (input : Drawn)
         → Settles (TriesBy (Rose (H.faults shelf.old) (H.faults shelf.new))
-        (Rose input.before input.now) (forms.form file.now out.now)
+        (Rose input.before input.now) (modules.form file.now out.now)
         (record { files = H.files shelf.old; takes = H.takes shelf.old; input = input.old }))
         (answer_in input.old result)
         (shelved H.Shelf shelf.old shelf.new) }
     ensures shelf { Serves (shelved H.Shelf shelf.old shelf.new)
         (result.status ≢ Status.ShelfFault) }
-    ensures files { SparesBy (forms.kind out.now) result.status
+    ensures files { SparesBy (modules.kind out.now) result.status
         (H.files shelf.old) (H.files shelf.new) }
 {
     match made(alloc, shelf, file) {

@@ -7,7 +7,7 @@ ghost use Rattle.alpha_replay.specs.JournalFault.{first_fault};
 ghost use Rattle.alpha_seq.specs.Devices.{Drawn};
 ghost use Rattle.alpha_cmd.specs.Outcome.{goes, stops};
 ghost use Rattle.alpha_cmd.specs.Status.{status_line};
-ghost use Rattle.alpha_cmd.specs.Commands.Replay as forms;
+ghost use Rattle.alpha_cmd.specs.Commands.Replay as replays;
 ghost use Rattle.alpha_cmd.specs.Commands.Replay.{SpellsJournal, JournalOf, Plays, RunOf};
 ghost use Rattle.alpha_cmd.specs.Decision.{answer_in};
 ghost use Rattle.alpha_cmd.specs.Tries.{CutBy, TriesBy};
@@ -27,7 +27,7 @@ const JOURNAL_LIMIT: u64 = 33_554_432;
 pub(crate) fn replay<H: Shelf>(alloc: Global, file: &str, journal: &str, shelf: &mut H) -> Decision
     ensures tried { (input : Drawn)
         → TriesBy (Rose (H.faults shelf.old) (H.faults shelf.new))
-        (Rose input.before input.now) (forms.form file.now journal.now)
+        (Rose input.before input.now) (replays.form file.now journal.now)
         (record { files = H.files shelf.old; takes = H.takes shelf.old; input = input.old })
         (answer_in input.old result) }
     ensures shelf { OnlyReads (shelved H.Shelf shelf.old shelf.new)

@@ -19,7 +19,6 @@ ghost use Rattle.alpha_cmd.specs.Tries.{CountStays, TriesBy};
 use crate::Status;
 use crate::decision::Decision;
 use crate::image::load;
-use alpha_image::Image;
 use alpha_io::{Failed, Shelf, Sink, Source};
 use alpha_request::RunOptions;
 use alpha_seq::{Machine, RunEnd};

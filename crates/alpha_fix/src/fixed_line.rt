@@ -73,7 +73,8 @@ fn is_value_off<'a>(symbols: &Symbols<'a>, bytes: u8, value: &ListValue<'a>) -> 
 // Whether one of the values of a list is such an address. The list has no more values than bytes.
 fn is_any_off<'a>(symbols: &Symbols<'a>, bytes: u8, list: &'a [u8]) -> bool
     ensures { result ≡ list_any (is_off (names_code (items_of symbols.now)))
-        (filter_map cell_reference (map (cell_of bytes) (values_up_to (length list.now) bytes list.now))) }
+        (filter_map cell_reference (map (cell_of bytes)
+        (values_up_to (length list.now) bytes list.now))) }
 {
     let mut rest = list;
     for _ in 0..list.len() {

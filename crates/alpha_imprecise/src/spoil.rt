@@ -70,7 +70,7 @@ fn store_conditional(machine: &mut Machine, at: &MemAccess, ra: Reg, value: u64)
 {
     let addr = machine.accessed(at);
     if machine.lock == Some(addr / 16) {
-        // As above.
+        // The access was looked at before: it doesn't fault.
         let _ = machine.memory.store(addr, size(at.bytes), value);
     }
     machine.lock = None;

@@ -68,7 +68,7 @@ impl Wild {
     #[inline(always)]
     pub fn unit(&self) -> u64
         ensures value { result ≡ unit_of (trap_in self.now.pending) }
-        ensures good { IfSome self.now.pending (λ p. p.waited ≤ 1024) }
+        ensures pending { IfSome self.now.pending (λ p. p.waited ≤ 1024) }
     {
         match self.pending {
             None => 1,

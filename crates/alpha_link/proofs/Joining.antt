@@ -9,9 +9,9 @@ use Rattle.alpha_table.specs.declared.form.Form.{Form}
 use Rattle.alpha_table.specs.Decoded.{decoded}
 use Rattle.alpha_asm.specs.Layout.{first, padding}
 use Rattle.alpha_link.specs.Parts.{ModuleParts}
-use Rattle.alpha_link.specs.Linked.{Located, located, size, room, symbol_in, address_of, addresses_of, code_after, code_of, bytes_after, bytes_of, data_in, words_in, filled_in, is_met, unmet_in, unmet}
+use Rattle.alpha_link.specs.Linked.{Located, located, size, room, symbol_in, address_of, addresses_of, code_after, code_of, bytes_after, bytes_of, data_in, words_in, filled_in, is_met, unmet_in, unmet, addresses_by}
 use Rattle.alpha_link.specs.declared.output.Output.{Output}
-use Rattle.alpha_link.specs.Output.{code_with_all, bytes_with_all, StandBehind, addresses_by, JoinsOne, JoinsAll}
+use Rattle.alpha_link.specs.Output.{code_with_all, bytes_with_all, StandBehind, JoinsOne, JoinsAll}
 use Rattle.alpha_link.proofs.Lists.{next, none_left, first_goes}
 use Rattle.alpha_link.proofs.Naming.{behind}
 use Rattle.alpha_link.proofs.Shifting.{code_shift, bytes_shift, length-code_after, length-bytes_after}

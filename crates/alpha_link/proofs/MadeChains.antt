@@ -26,8 +26,7 @@ use Rattle.alpha_asm.proofs.Growing.{length-raw_bytes}
 use Rattle.alpha_asm.proofs.Pushing.{length-low_bytes}
 use Rattle.alpha_link.specs.declared.relocation.RelocationKind.{RelocationKind}
 use Rattle.alpha_link.specs.declared.relocation.RelocationKind.TheVariants.{Branch, High, Low}
-use Rattle.alpha_link.specs.Relocations.{Body, is_taken_by, is_taken_at, is_quad_at, stands_at}
-use Rattle.alpha_link.specs.Spelled.{body}
+use Rattle.alpha_link.specs.Relocations.{Body, is_taken_by, is_taken_at, is_quad_at, stands_at, body}
 use Rattle.alpha_link.specs.Made.{kind_in}
 use Rattle.alpha_link.proofs.MadeSizes.{insns_of, words_behind}
 use Rattle.alpha_link.proofs.MadeRelocations.{Chain}

@@ -24,9 +24,8 @@ use Rattle.alpha_asm.specs.Unlinked.{Makes, IsUnlinked}
 use Rattle.alpha_link.specs.declared.header.Sizes.{Sizes}
 use Rattle.alpha_link.specs.declared.relocation.Relocation.{Relocation}
 use Rattle.alpha_link.specs.Symbols.{Named, IsSymbol}
-use Rattle.alpha_link.specs.Relocations.{IsRelocation}
+use Rattle.alpha_link.specs.Relocations.{IsRelocation, body}
 use Rattle.alpha_link.specs.Parts.{ModuleParts, sizes_of, body_of, AreGood, IsModule}
-use Rattle.alpha_link.specs.Spelled.{body}
 use Rattle.alpha_link.specs.Made.{labels_in, references_in, all_names, symbol_at_spot, relocation_for, module_of, bad_field, sized}
 use Rattle.alpha_link.specs.Rising.{Rise}
 use Rattle.alpha_link.specs.Unlinked.{IsOfLines, IsNear}

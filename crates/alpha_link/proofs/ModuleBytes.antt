@@ -14,9 +14,9 @@ use Rattle.alpha_link.specs.declared.relocation.Relocation.{Relocation}
 use Rattle.alpha_link.specs.Reading.{Read, and_then, taken, items_at}
 use Rattle.alpha_link.specs.Header.{header_at, header_bytes}
 use Rattle.alpha_link.specs.Symbols.{Named, symbol_at, symbol_bytes, IsSymbol}
-use Rattle.alpha_link.specs.Relocations.{relocation_at, relocation_bytes, IsRelocation}
+use Rattle.alpha_link.specs.Relocations.{relocation_at, relocation_bytes, IsRelocation, body}
 use Rattle.alpha_link.specs.Parts.{ModuleParts, sizes_of, body_of, AreGood, IsModule}
-use Rattle.alpha_link.specs.Spelled.{words_at, ended, body, parts, relocated_at, named_at, filled_at, coded_at, module_at, spelling}
+use Rattle.alpha_link.specs.Spelled.{words_at, ended, parts, relocated_at, named_at, filled_at, coded_at, module_at, spelling}
 use Rattle.alpha_link.proofs.Results.{bind_ok, taken_ok, ok_is}
 use Rattle.alpha_link.proofs.Formats.{items_take, items_again}
 use Rattle.alpha_link.proofs.HeaderBytes.{AreSizes, header_takes, header_again}

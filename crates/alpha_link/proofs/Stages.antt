@@ -7,9 +7,9 @@ use Rattle.alpha_link.specs.declared.relocation.Relocation.{Relocation}
 use Rattle.alpha_link.specs.Reading.{Read, and_then, taken, items_at}
 use Rattle.alpha_link.specs.Header.{header_at}
 use Rattle.alpha_link.specs.Symbols.{Named, symbol_at}
-use Rattle.alpha_link.specs.Relocations.{relocation_at}
+use Rattle.alpha_link.specs.Relocations.{relocation_at, body}
 use Rattle.alpha_link.specs.Parts.{ModuleParts}
-use Rattle.alpha_link.specs.Spelled.{words_at, ended, body, parts, relocated_at, named_at, filled_at, coded_at, module_at}
+use Rattle.alpha_link.specs.Spelled.{words_at, ended, parts, relocated_at, named_at, filled_at, coded_at, module_at}
 
 pub headed : (bytes : List ℕ) (r : Read Sizes) → header_at bytes ≡ r → module_at bytes ≡ and_then r (λ z. coded_at (length bytes) z.0 z.1)
 unfolding module_at

@@ -12,7 +12,7 @@ use Rattle.alpha_asm.specs.declared.statement.Use.{Use}
 use Rattle.alpha_asm.specs.declared.statement.Use.TheVariants as uses
 use Rattle.alpha_asm.specs.declared.patch.Displacement.{Displacement}
 use Rattle.alpha_asm.specs.Layout.{first, padding}
-use Rattle.alpha_asm.specs.Program.{Program, program_with, reached, displaced, quadword_of}
+use Rattle.alpha_asm.specs.Program.{Program, program_with, code_base, data_base, stack_bytes, reached, displaced, quadword_of}
 use Rattle.alpha_asm.specs.Patches.{overlaid}
 use Rattle.alpha_link.specs.declared.fault.LinkFault.{LinkFault}
 use Rattle.alpha_link.specs.declared.fault.LinkFault.TheVariants.{Duplicate, Undefined, Entry, ImageField, Reach}
@@ -24,13 +24,6 @@ use Rattle.alpha_link.specs.declared.relocation.Relocation.{Relocation}
 use Rattle.alpha_link.specs.Symbols.{Named}
 use Rattle.alpha_link.specs.Relocations.{is_taken_by}
 use Rattle.alpha_link.specs.Parts.{ModuleParts}
-
--- the bases of code and data
-abbrev pub code_base : ℕ
-code_base = 0x10000
-
-abbrev pub data_base : ℕ
-data_base = 0x10000000
 
 -- a module by its number, with the code words and the bytes of the data segment that stand before it
 pub record Located : Type 0 where
@@ -73,9 +66,12 @@ address_in name l = first (named_address l name) l.parts.symbols
 abbrev pub address_of : List Located → List ℕ → Option ℕ
 address_of ls name = first (address_in name) ls
 
--- the addresses of a module's symbols
+-- the addresses of a module's symbols, by those of names
+abbrev pub addresses_by : (List ℕ → Option ℕ) → Located → List (Option ℕ)
+addresses_by find l = map (λ s. find s.name) l.parts.symbols
+
 abbrev pub addresses_of : List Located → Located → List (Option ℕ)
-addresses_of ls l = map (λ s. address_of ls s.name) l.parts.symbols
+addresses_of ls l = addresses_by (address_of ls) l
 
 -- the address that a relocation puts in, by those of the symbols: its symbol's, and its addend
 abbrev pub target : List (Option ℕ) → Relocation → Option ℤ
@@ -155,7 +151,7 @@ numbers_with ls entry = record {
   code_base = code_base;
   entry = entry;
   words = words_in ls;
-  stack = 65536;
+  stack = stack_bytes;
   segments = record { base = data_base; filled = filled_in ls; zeroed = zeroed_in ls } ∷ [];
 }
 

@@ -1,5 +1,5 @@
 -- What the linker has joined so far, and what a relocation of the last module puts into it.
-use Rattle.std.specs.Prelude.{◌≡◌, ℕ, ◌+◌, ◌-◌, ◌/◌, List, [], ◌∷◌, ◌++◌, length, map, replicate, Option, None}
+use Rattle.std.specs.Prelude.{◌≡◌, ℕ, ◌+◌, ◌-◌, ◌/◌, List, [], ◌∷◌, ◌++◌, length, replicate, Option, None}
 use Rattle.std.specs.Option.{option_map_or}
 use Rattle.std.specs.List.{flat_map, filter_map}
 use Rattle.alpha_table.specs.Decoded.{decoded}
@@ -29,10 +29,6 @@ abbrev pub StandBehind : ℕ → ℕ → List Located → Type 0
 StandBehind words filled [] = Unit {0}
 StandBehind words filled (l ∷ ls) =
     (l.words ≡ words) × ((l.filled ≡ filled) × StandBehind (words + length l.parts.words) (filled + room l.parts) ls)
-
--- the addresses of a module's symbols, by those of names
-abbrev pub addresses_by : (List ℕ → Option ℕ) → Located → List (Option ℕ)
-addresses_by find l = map (λ s. find s.name) l.parts.symbols
 
 -- A module is joined to code and data bytes: its own stand behind them, and zero bytes before its data.
 pub record JoinsOne (addresses : List (Option ℕ)) (l : Located) (old new : Output) : Type 0 where

@@ -5,7 +5,7 @@ use Rattle.alpha_image.specs.Parts.{IsByte, IsCodeWord}
 use Rattle.alpha_link.specs.declared.header.Sizes.{Sizes}
 use Rattle.alpha_link.specs.declared.relocation.Relocation.{Relocation}
 use Rattle.alpha_link.specs.Symbols.{Named, IsSymbol}
-use Rattle.alpha_link.specs.Relocations.{Body, IsRelocation}
+use Rattle.alpha_link.specs.Relocations.{Body, body, IsRelocation}
 
 -- the code words, the data bytes, how many zeroed bytes stand behind them, the symbols and the relocations
 pub record ModuleParts : Type 0 where
@@ -25,7 +25,7 @@ sizes_of m = record {
 }
 
 abbrev pub body_of : ModuleParts → Body
-body_of m = record { words = m.words; bytes = m.bytes }
+body_of m = body m.words m.bytes
 
 -- each item of a list is good behind those before it
 abbrev pub AreGood : {X : Type 0} → (List X → X → Type 0) → List X → List X → Type 0

@@ -33,6 +33,9 @@ pub record Body : Type 0 where
   pub words : List ℕ
   pub bytes : List ℕ
 
+abbrev pub body : List ℕ → List ℕ → Body
+body words bytes = record { words = words; bytes = bytes }
+
 -- a displacement of 0
 abbrev pub is_zero : ℤ → Bool
 is_zero (pos zero) = true

@@ -13,7 +13,7 @@ use Rattle.alpha_link.specs.declared.relocation.Relocation.{Relocation}
 use Rattle.alpha_link.specs.Reading.{Read, and_then, taken, items_at}
 use Rattle.alpha_link.specs.Header.{header_at, header_bytes}
 use Rattle.alpha_link.specs.Symbols.{Named, symbol_at, symbol_bytes}
-use Rattle.alpha_link.specs.Relocations.{Body, relocation_at, relocation_bytes}
+use Rattle.alpha_link.specs.Relocations.{body, relocation_at, relocation_bytes}
 use Rattle.alpha_link.specs.Parts.{ModuleParts, sizes_of}
 
 -- the fault of code words; memory may run out in place of any other
@@ -36,9 +36,6 @@ words_at total n bytes =
 abbrev pub ended : ℕ → ModuleParts → List ℕ → Result ModuleParts ModuleFault
 ended total m [] = Ok m
 ended total m (b ∷ rest) = Err (Rest (total - length (b ∷ rest)))
-
-abbrev pub body : List ℕ → List ℕ → Body
-body words bytes = record { words = words; bytes = bytes }
 
 abbrev pub parts : Sizes → List ℕ → List ℕ → List Named → List Relocation → ModuleParts
 parts z words bytes symbols relocations = record {

@@ -51,7 +51,7 @@
 //! puts in the order of their keys first where they stand in many runs; and `made_symbols.rt` makes their
 //! symbols, and the ranks that go into the relocations.
 //!
-//! The linker goes over the modules four times. `located.rt` says where each one stands, and `names.rt`
+//! `located.rt` says where each module stands among those that are linked, and `names.rt`
 //! holds the addresses of the names that they define in one table, in which each symbol's name is then
 //! looked up. `linker.rt` has the refusals in their order, and `output.rt` copies the modules into one
 //! buffer of instructions and one of data bytes, and puts in there what each relocation asks for. The
@@ -63,7 +63,8 @@
 //! `specs/Made.antt` has the module that a source makes, `specs/Numbered.antt` what is made by the numbers
 //! of labels on the way, `specs/Rising.antt` names in order, `specs/NameKeys.antt` the keys that they are
 //! sorted by, and `specs/Digits.antt` the digits of these, counted;
-//! `specs/Alike.antt` says which words no condition of a trap shadow tells apart. `specs/Names.antt` and
+//! `specs/Bytes.antt` has numbers of two bytes, `specs/Unlinked.antt` what is known of a source that was
+//! read, and `specs/Alike.antt` says which words no condition of a trap shadow tells apart. `specs/Names.antt` and
 //! `specs/Output.antt` say what the linker holds on its way.
 #![tactic(auto)]
 

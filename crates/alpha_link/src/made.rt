@@ -61,6 +61,8 @@ fn module_of<'a>(alloc: Global, unlinked: Unlinked<'a>) -> Result<Module<'a>, No
     } = Numbered::build(alloc, &labels, patches)?;
     let sorted = by_keys(alloc, names, room)?;
     let Ranked { symbols, ranks } = Ranked::build(alloc, &labels, &sorted)?;
+    // A module's counts have 32 bits. No clause says that a source of fewer than 2^32 bytes makes no more, so more
+    // count as want of memory.
     if symbols.len() > 0xffff_ffff || relocations.len() > 0xffff_ffff {
         return Err(NoMemory);
     }

@@ -35,30 +35,10 @@ fn offset_of(patch: &Patch<'_>) -> Option<u32>
         ≡ offset_in (fix_of patch.now).at (fix_of patch.now).name.need) }
 {
     match patch.need {
-        Need::Insn(_) => {
-            if patch.at > 0x3fff_ffff {
-                return None;
-            }
-            Some(4 * patch.at as u32)
-        }
-        Need::Quad => {
-            if patch.at > 0xffff_ffff {
-                return None;
-            }
-            Some(patch.at as u32)
-        }
+        Need::Insn(_) => u32::try_from(patch.at).ok()?.checked_mul(4),
+        Need::Quad => u32::try_from(patch.at).ok(),
         Need::Entry => Some(0),
     }
-}
-
-// A number of 32 bits with its sign, `None` outside.
-fn addend_of(offset: i64) -> Option<i32>
-    ensures { IfSome result (λ n. n ≡ offset) }
-{
-    if offset < -0x8000_0000 || offset > 0x7fff_ffff {
-        return None;
-    }
-    Some(offset as i32)
 }
 
 // The relocation of a kind at a patch, by the number of its label. The numbers of a source are small, so there is
@@ -69,7 +49,7 @@ fn relocation_with(kind: RelocationKind, number: u32, patch: &Patch<'_>) -> Opti
         patch.now.to.offset number ≡ r) }
 {
     let offset = offset_of(patch)?;
-    let addend = addend_of(patch.to.offset)?;
+    let addend = i32::try_from(patch.to.offset).ok()?;
     Some(Relocation {
         kind,
         offset,
@@ -175,7 +155,7 @@ impl<'a> Numbered<'a> {
         let mut names = labels.names(alloc)?;
         let numbers = numbers_of(&mut names, labels, &patches)?;
         // It is taken before the patches are freed: once glibc's allocator has freed a large block, it takes blocks
-        // up to that size from its heap, where this one would leave a hole when it is freed.
+        // up to that size from its heap, where this one would leave a gap when it is freed.
         let room = Vec::with_capacity(alloc, names.len())?;
         let relocations = relocations_of(alloc, patches, &numbers)?;
         Ok(Numbered {

@@ -8,9 +8,9 @@ ghost use Rattle.alpha_table.specs.Decoded.{decoded};
 ghost use Rattle.alpha_image.specs.Parts.{IsCodeInsn};
 ghost use Rattle.alpha_asm.specs.Patches.{IsField, IsNear};
 ghost use Rattle.alpha_asm.specs.Program.{reached};
-ghost use Rattle.alpha_link.specs.Linked.{use_of, target, insn_with, code_at, displacement, quadword, is_met};
+ghost use Rattle.alpha_link.specs.Linked.{use_of, target, insn_with, code_at, displacement, quadword, is_met, addresses_by};
 ghost use Rattle.alpha_link.specs.Names.{found_in};
-ghost use Rattle.alpha_link.specs.Output.{code_with, bytes_with, code_with_all, bytes_with_all, addresses_by, JoinsOne};
+ghost use Rattle.alpha_link.specs.Output.{code_with, bytes_with, code_with_all, bytes_with_all, JoinsOne};
 
 use crate::located::Located;
 use crate::names::Names;

@@ -6,8 +6,7 @@ ghost use Rattle.std.specs.Option.{option_and_then};
 ghost use Rattle.alpha_table.specs.Decoded.{decoded};
 ghost use Rattle.alpha_table.specs.Encoded.{encoded};
 ghost use Rattle.alpha_link.specs.Reading.{Gives, items_at};
-ghost use Rattle.alpha_link.specs.Relocations.{is_taken_by, is_taken_at, is_quad_at, stands_at, follows, follows_all, relocation_fits, relocation_in, relocation_at, relocation_bytes};
-ghost use Rattle.alpha_link.specs.Spelled.{body};
+ghost use Rattle.alpha_link.specs.Relocations.{is_taken_by, is_taken_at, is_quad_at, stands_at, follows, follows_all, relocation_fits, relocation_in, relocation_at, relocation_bytes, body};
 
 use crate::ModuleFault;
 use crate::header::Sizes;
@@ -46,19 +45,7 @@ fn insn_at(insns: &[Insn], place: usize) -> Option<Insn>
     requires { map decoded (map encoded insns.now) ≡ map Some insns.now }
     ensures { result ≡ option_and_then decoded (slice_get (map encoded insns.now) place) }
 {
-    if place < insns.len() {
-        Some(insn_in(insns, place))
-    } else {
-        None
-    }
-}
-
-// The instruction at a place.
-fn insn_in(insns: &[Insn], place: usize) -> Insn
-    requires { place < length insns.now }
-    ensures { slice_get insns.now place ≡ Some result }
-{
-    insns[place]
+    insns.get(place).copied()
 }
 
 // Whether the code has such an instruction at an offset.
@@ -209,7 +196,9 @@ pub(crate) fn read_relocations<'a>(
         (items_at (relocation_at total sizes.now (body (map encoded insns.now) filled.now))
         sizes.now.relocations [] bytes.now) }
 {
-    let mut relocations = Vec::new(alloc);
+    // No more than the bytes can have, whatever the header says.
+    let most = bytes.len() / RELOCATION_BYTES;
+    let mut relocations = Vec::with_capacity(alloc, most.min(sizes.relocations as usize))?;
     let mut rest = bytes;
     for _number in 0..sizes.relocations {
         let (relocation, behind) = relocation_at(total, sizes, insns, filled, &relocations, rest)?;

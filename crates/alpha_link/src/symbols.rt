@@ -119,7 +119,9 @@ pub(crate) fn read_symbols<'a>(
     ensures { Gives (λ x. (map named x.0.items, x.1.now)) result
         (items_at (symbol_at total sizes.now) sizes.now.symbols [] bytes.now) }
 {
-    let mut symbols = Vec::new(alloc);
+    // No more than the bytes can have, whatever the header says.
+    let most = bytes.len() / FRONT_BYTES;
+    let mut symbols = Vec::with_capacity(alloc, most.min(sizes.symbols as usize))?;
     let mut rest = bytes;
     for _number in 0..sizes.symbols {
         let (symbol, behind) = symbol_at(total, sizes, &symbols, rest)?;

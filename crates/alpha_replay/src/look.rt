@@ -41,13 +41,16 @@ pub(crate) enum Look {
     },
 }
 
-// The system calls' numbers, and their descriptors.
+// The number of the system call that reads.
 const READ: u64 = 3;
 
+/// The number of the system call that writes.
 pub(crate) const WRITE: u64 = 4;
 
+// The descriptor of the input.
 const INPUT: u64 = 0;
 
+/// The descriptor of the output.
 pub(crate) const OUTPUT: u64 = 1;
 
 /// The register with this number.

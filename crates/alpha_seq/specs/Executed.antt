@@ -1,15 +1,11 @@
 -- What the execution of one word did, by its answer.
 use Rattle.std.specs.Prelude.{◌≡◌, ◌≢◌, ℕ, ℤ, ◌+◌, ◌%◌, ◌^◌, ◌⊎◌, List, [], Option, Some, None}
-use Rattle.std.specs.Int.{w32}
 use Rattle.alpha_words.specs.Regs.{put}
 use Rattle.alpha_table.specs.declared.rows.MemOp.{MemOp}
-use Rattle.alpha_table.specs.declared.rows.Extension.{Extension}
-use Rattle.alpha_table.specs.declared.rows.Extension.TheVariants.{Zero, Sign}
 use Rattle.alpha_table.specs.declared.columns.MemAccess.{MemAccess}
 use Rattle.alpha_table.specs.declared.form.Form.{Form}
 use Rattle.alpha_table.specs.Class.{Class, barrier}
 use Rattle.alpha_table.specs.Rows.{mem_row}
-use Rattle.alpha_values.specs.Numbers.{signed, register_of}
 use Rattle.alpha_mem.specs.declared.access.MemFault.{MemFault}
 use Rattle.alpha_seq.specs.declared.end.End.{End}
 use Rattle.alpha_seq.specs.declared.end.Next.{Next}
@@ -64,11 +60,6 @@ logged_machine m rc value = record m {
 -- the sizes of accesses
 abbrev pub IsSized : ℕ → Type 0
 IsSized bytes = (bytes ≡ 1) ⊎ ((bytes ≡ 2) ⊎ ((bytes ≡ 4) ⊎ (bytes ≡ 8)))
-
--- a register that a load fills from a number
-abbrev pub filled : Extension → ℕ → ℕ
-filled Zero n = n
-filled Sign n = register_of (signed w32 n)
 
 -- what an instruction would do whose access may fault, and end the program so
 abbrev pub fault_answer : Option End → Form → Next

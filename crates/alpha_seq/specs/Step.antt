@@ -97,10 +97,14 @@ abbrev pub unless : Option MemFault → ℕ → State → State → Stepped
 unless None addr s after = went after
 unless (Some fault) addr s after = ended s (fault_end fault s.pc addr)
 
--- what a register gets of bytes; the longwords alone are extended with the sign
+-- what a load makes of a number; the longwords alone are extended with the sign
+abbrev pub filled : Extension → ℕ → ℕ
+filled Zero n = n
+filled Sign n = register_of (signed w32 n)
+
+-- what a register gets of bytes
 abbrev pub extended : Extension → List ℕ → ℕ
-extended Zero bytes = little bytes
-extended Sign bytes = register_of (signed w32 (little bytes))
+extended extension bytes = filled extension (little bytes)
 
 -- what a load puts into its register
 abbrev pub loaded : Extension → MemAccess → State → ℕ

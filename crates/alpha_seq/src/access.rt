@@ -8,10 +8,10 @@ ghost use Rattle.alpha_mem.specs.Intent.{Load};
 ghost use Rattle.alpha_table.specs.Class.{class_of, load, store, load_locked, store_conditional, idle};
 ghost use Rattle.alpha_table.specs.declared.form.Form.TheVariants.{Mem};
 ghost use Rattle.alpha_values.specs.Numbers.{signed, register_of};
-ghost use Rattle.alpha_seq.specs.Step.{fault_end, accessed, loaded};
+ghost use Rattle.alpha_seq.specs.Step.{fault_end, accessed, filled, loaded};
 ghost use Rattle.alpha_seq.specs.State.{Went};
 ghost use Rattle.alpha_seq.specs.Machine.{state_of};
-ghost use Rattle.alpha_seq.specs.Executed.{Does, FaultEffect, IsSized, filled, row_access};
+ghost use Rattle.alpha_seq.specs.Executed.{Does, FaultEffect, IsSized, row_access};
 
 use crate::{End, Machine};
 use alpha_mem::{MemFault, Size};

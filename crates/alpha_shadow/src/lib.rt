@@ -6,7 +6,8 @@
 //! - [`judge`] is the verdict on the instructions that a [`Fetch`] gives. It looks at each word once at
 //!   most, in their order, and takes no memory. A [`Checker`] gives one verdict after another, in the
 //!   same room. [`ImageCode`] is the code of an image, or the rest of it from a place on.
-//! - [`write_broken`] writes the line of a broken place.
+//! - [`write_broken`] writes the line of a broken place, [`line_of_broken`] has it, and [`place_address`] is the
+//!   address of a place.
 //! - [`laws_of_verdicts`] says that each condition is decided, and that every list of words is
 //!   accepted or has a least broken place.
 //!
@@ -42,5 +43,5 @@ pub use broken::{Broken, Condition};
 pub use fetch::Fetch;
 pub use image_code::ImageCode;
 pub use laws::laws_of_verdicts;
-pub use report::{line_of_broken, write_broken};
+pub use report::{line_of_broken, place_address, write_broken};
 pub use verdict::{Checker, judge};

@@ -26,17 +26,17 @@ pub fn line_of_broken(broken: &Broken, code_base: u64) -> Line
 {
     let mut line = Line::new();
     line.push(b"broken trigger ");
-    line.push_hex(address(code_base, broken.trigger));
+    line.push_hex(place_address(code_base, broken.trigger));
     line.push(b" at ");
-    line.push_hex(address(code_base, broken.at));
+    line.push_hex(place_address(code_base, broken.at));
     line.push(b" condition C");
     line.push_decimal(u64::from(broken.condition.number()));
     line.end();
     line
 }
 
-// The address of a place, modulo 2^64.
-fn address(code_base: u64, place: u32) -> u64
+/// The address of a place of the code with this base, modulo 2^64.
+pub fn place_address(code_base: u64, place: u32) -> u64
     ensures { result ≡ place_address code_base place }
 {
     code_base.wrapping_add(4 * u64::from(place))

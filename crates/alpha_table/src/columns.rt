@@ -75,7 +75,8 @@ impl ByteSpan {
 }
 
 /// The registers that the instruction reads, but for R31 (Architecture Handbook, chapter 4). A
-/// conditional move reads its destination too. A load into R31, and a prefetch, use none.
+/// conditional move reads its destination too. A load into R31 that isn't
+/// locked, and a prefetch, use none.
 pub fn uses(i: &Insn) -> RegSet
     ensures { (r : ℕ) → Has result r ↔ IsTrue (uses_of i.now r) }
 {

@@ -1,24 +1,16 @@
 //! Calls that files of cases can't make: over devices that never fail or take so much and no more, and of the
 //! functions beside the top call.
 
-use alpha_cmd::{Status, Words, alpha_sure, alpha_top, image_of};
+use crate::common::words_of;
+use alpha_cmd::{Status, alpha_sure, alpha_top, image_of};
 use alpha_image::ImageFault;
 use alpha_io::{MemorySink, SureShelf, SureSource};
-use alpha_words::NoMemory;
 use std::alloc::Global;
 use std::test::Fail;
 
 /// `lda $1,2($31); lda $2,3($31); addq/v $1,$2,$3; trapb; callsys`.
 const ACCEPTED: [u8; 68] =
     *b"ALPHAIM1\x00\x00\x01\x00\x00\x00\x00\x00\x00\x00\x00\x10\x00\x00\x00\x00\x00\x00\x01\x00\x00\x00\x00\x00\x05\x00\x00\x00\x00\x00\x00\x00\x00\x00\x00\x00\x00\x00\x01\x00\x02\x00\x3f\x20\x03\x00\x5f\x20\x03\x0c\x22\x40\x00\x00\xff\x63\x83\x00\x00\x00";
-
-fn words(alloc: Global, texts: &[&str]) -> Result<Words, NoMemory> {
-    let mut words = Words::new(alloc);
-    for text in texts {
-        words.push(text)?;
-    }
-    Ok(words)
-}
 
 /// A shelf with the file `a`, which takes a file `b` of so many bytes at most.
 fn shelf(alloc: Global, bytes: &[u8], room: usize) -> Result<SureShelf, Fail> {
@@ -38,7 +30,7 @@ fn sure_devices_serve(rt: HostRuntime) -> Result<(), Fail> {
     assert_eq!(rt;
         alpha_sure(
             alloc,
-            &words(alloc, &["check", "a"])?,
+            &words_of(alloc, &["check", "a"])?,
             &mut shelf,
             &mut input
         ),
@@ -59,7 +51,7 @@ fn an_image_that_is_not_taken_is_a_shelf_fault(rt: HostRuntime) -> Result<(), Fa
         let mut input = SureSource::new(Vec::new(alloc));
         let mut out = MemorySink::new(alloc, 0, Vec::new(alloc))?;
         let mut notes = MemorySink::new(alloc, 64, Vec::new(alloc))?;
-        let words = words(alloc, &["asm", "a", "b"])?;
+        let words = words_of(alloc, &["asm", "a", "b"])?;
         let answer = alpha_top(alloc, &words, &mut shelf, &mut input, &mut out, &mut notes);
         assert_eq!(rt; answer, status);
         assert_eq!(rt; notes.bytes(), line);

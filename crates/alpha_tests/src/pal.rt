@@ -1,5 +1,5 @@
 use crate::common::reg;
-use alpha_io::{MemorySink, MemorySource, NullSink, Sink, Source, TrickleSink};
+use alpha_io::{MemorySource, NullSink, Sink, Source, TrickleSink};
 use alpha_mem::Memory;
 use alpha_pal::{Kernel, PalEnd, Summary};
 use alpha_words::{NoMemory, PalCall, RegFile, RegSet};

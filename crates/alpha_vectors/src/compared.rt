@@ -108,7 +108,8 @@ pub fn run(rt: &impl Print, alloc: Global) -> anyhow::Result<()> {
     println!(rt; "compared: {} lists judged alike", tally.alike)?;
     for (place, count) in tally.met.iter().enumerate() {
         if *count == 0 {
-            println!(rt; "no list is broken under the condition after C{place}")?;
+            let number = place.saturating_add(1);
+            println!(rt; "no list is broken under C{number}")?;
         }
     }
     many_triggers(rt, alloc)

@@ -1,5 +1,6 @@
 ghost use Rattle.std.specs.Prelude.{◌≡◌, ◌%◌, length, IfOk};
 
+use crate::parts::repeated;
 use alpha_image::{
     Fields, Image, ImageFault, LevelFields, Segment, code_word, image_bytes, read_image, take_image,
 };
@@ -56,10 +57,7 @@ fn answer(alloc: Global, kind: &str, asked: &str) -> anyhow::Result<String> {
 fn bytes_of(alloc: Global, text: &str) -> anyhow::Result<Vec<u8>> {
     let mut bytes = Vec::new(alloc);
     for part in text.split(' ') {
-        let (digits, count) = match part.split_once('*') {
-            Some((digits, count)) => (digits, count.parse::<u32>()?),
-            None => (part, 1),
-        };
+        let (digits, count) = repeated(part)?;
         let Ok(part) = hex::decode(alloc, digits) else {
             bail!("no bytes: {digits}");
         };

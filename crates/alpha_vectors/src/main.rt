@@ -13,6 +13,7 @@
 mod compared;
 mod encodings;
 mod images;
+mod parts;
 mod plain;
 mod shadows;
 mod values;

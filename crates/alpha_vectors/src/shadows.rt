@@ -1,3 +1,4 @@
+use crate::parts::repeated;
 use crate::plain::least_broken;
 use alpha_samples::sample;
 use alpha_shadow::{Broken, ImageCode, judge};
@@ -32,10 +33,7 @@ pub fn run(rt: &impl Print, alloc: Global, text: &str) -> anyhow::Result<()> {
 fn words_of(alloc: Global, text: &str) -> anyhow::Result<Vec<u32>> {
     let mut words = Vec::new(alloc);
     for text in text.split(' ') {
-        let (word, count) = match text.split_once('*') {
-            Some((word, count)) => (word, count.parse::<u32>()?),
-            None => (text, 1),
-        };
+        let (word, count) = repeated(text)?;
         let word = u32::from_str_radix(word, 16)?;
         for _ in 0..count {
             words.push(word)?;

@@ -24,8 +24,8 @@ use Rattle.alpha_cmd.specs.Image.{Reads, ImageOf, IsRefused, Judges}
 use Rattle.alpha_cmd.specs.Choosing.{choices_limit, listed_word, ChoicesOf}
 use Rattle.alpha_cmd.specs.Answer.{World, Answer, AnswerBy, HaveBytes, said}
 use Rattle.alpha_cmd.specs.Form.{IsThere, MayTakeBy}
-use Rattle.alpha_cmd.specs.Commands.Run.{program_by}
-use Rattle.alpha_cmd.specs.Commands.Imprecise.{Plan, plan_by, PlanOf, Passes, with_drawn, run_by, MadeByReads, MayShowWild, drawn_status, wild_status, answer_wild, RunsWild, MayLose, IsEndStatus, HasChoices, steps, kind, form, there}
+use Rattle.alpha_cmd.specs.Commands.Run.{drawn_status, program_by}
+use Rattle.alpha_cmd.specs.Commands.Imprecise.{Plan, plan_by, PlanOf, Passes, with_drawn, run_by, MadeByReads, MayShowWild, wild_status, answer_wild, RunsWild, MayLose, IsEndStatus, HasChoices, steps, kind, form, there}
 use Rattle.alpha_cmd.proofs.Lawful.{Lawful, Then-lawful, Goes-lawful, Gives-lawful}
 use Rattle.alpha_cmd.proofs.Stages.{Reads-lawful, ImageOf-lawful, Judges-lawful, kept_same}
 use Rattle.alpha_cmd.proofs.Forms.{IsLawfulForm, is_fault}

@@ -7,7 +7,6 @@ use Rattle.alpha_request.specs.declared.options.RunOptions.{RunOptions}
 use Rattle.alpha_request.specs.Options.{Origin}
 use Rattle.alpha_request.specs.Options as choices_of
 use Rattle.alpha_seq.specs.declared.end.End.{End}
-use Rattle.alpha_seq.specs.declared.end.End.TheVariants as ends
 use Rattle.alpha_seq.specs.declared.end.RunEnd.{RunEnd}
 use Rattle.alpha_seq.specs.declared.end.RunEnd.TheVariants as runs
 use Rattle.alpha_seq.specs.Notes.{end_line}
@@ -18,7 +17,7 @@ use Rattle.alpha_imprecise.specs.Run.{HasUsed}
 use Rattle.alpha_imprecise.specs.Made.{Making, begun, first_words, LostTrap, ShownWild, shown_making, imprecise_by}
 use Rattle.alpha_imprecise.specs.Free.{run_making_over}
 use Rattle.alpha_cmd.specs.declared.status.Status.{Status}
-use Rattle.alpha_cmd.specs.declared.status.Status.TheVariants.{Done, Stopped, StepsSpent, Lost, InputFault, SinkFault}
+use Rattle.alpha_cmd.specs.declared.status.Status.TheVariants.{StepsSpent, Lost, InputFault, SinkFault}
 use Rattle.alpha_cmd.specs.Status.{status_line}
 use Rattle.alpha_cmd.specs.Outcome.{Outcome, Either, Never, Then, Gives}
 use Rattle.alpha_cmd.specs.Image.{ImageOf, Judges}
@@ -26,7 +25,7 @@ use Rattle.alpha_cmd.specs.Choosing.{ChoicesOf}
 use Rattle.alpha_cmd.specs.Kept.{nothing}
 use Rattle.alpha_cmd.specs.Answer.{World, Answer}
 use Rattle.alpha_cmd.specs.Form.{Form, Kind, IsThere, needs_files_and_input, streams}
-use Rattle.alpha_cmd.specs.Commands.Run.{program_by, MayShow}
+use Rattle.alpha_cmd.specs.Commands.Run.{drawn_status, program_by, MayShow}
 
 -- ---- the stages
 
@@ -87,11 +86,6 @@ MayShowWild options force (Some input) plan s =
     s ≡ run_by force (program_by options plan.image) input plan.ahead options.steps options.watch
 
 -- ---- its end
-
--- the status of an end: by the system call exit the program did what was asked, by so many words
-abbrev pub drawn_status : ℕ → End → Status
-drawn_status n (ends.Exit v) = Done n
-drawn_status n end = Stopped end
 
 -- the status of a run by how the program ended, if it has, by the trap that was lost, if one was, and by the number of words
 abbrev pub wild_status : Option End → Option LostTrap → ℕ → Status

@@ -8,7 +8,7 @@ use Rattle.alpha_shadow.specs.Report.{broken_line}
 use Rattle.alpha_link.specs.Parts.{ModuleParts}
 use Rattle.alpha_link.specs.Spelled.{spelling}
 use Rattle.alpha_link.specs.Made.{made_module}
-use Rattle.alpha_link.specs.Linked.{code_base}
+use Rattle.alpha_asm.specs.Program.{code_base}
 use Rattle.alpha_cmd.specs.declared.status.Status.{Status}
 use Rattle.alpha_cmd.specs.declared.status.Status.TheVariants.{NotRestartable, BadSource}
 use Rattle.alpha_cmd.specs.Outcome.{Outcome, Either, Then}

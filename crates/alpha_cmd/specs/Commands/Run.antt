@@ -18,10 +18,13 @@ use Rattle.alpha_cmd.specs.Kept.{nothing}
 use Rattle.alpha_cmd.specs.Answer.{World, Answer}
 use Rattle.alpha_cmd.specs.Form.{Form, Kind, IsThere, needs_files_and_input, streams}
 
--- the status of an end: by the system call exit the program did what was asked
+-- the status of an end: by the system call exit the program did what was asked, by so many words that were drawn
+abbrev pub drawn_status : ℕ → End → Status
+drawn_status n (ends.Exit v) = Done n
+drawn_status n end = Stopped end
+
 abbrev pub end_status : End → Status
-end_status (ends.Exit v) = Done 0
-end_status end = Stopped end
+end_status end = drawn_status 0 end
 
 -- the status of a run by how the program ended, if it has
 abbrev pub run_status : Option End → Status

@@ -52,7 +52,7 @@ returns-in-Some-clause-effect g c =
     let notes = times g.N.Sink.written g.N.Sink.faults c.args.notes.now c.steps.notes c.turn-step.new.notes in
     let stops = sym c.run_end.ensures ∙ c.in-Some.is in
     let most = room c.args.units c.steps.left c.unit.result (unit_of (trap_in c.steps.wild.pending)) c.unit.ensures.value c.steps-test.true c.steps.invariant.most in
-    λ bytes told. turn_stops bytes (c.args.units - c.steps.left) c.args.units c.args.watch c.turn-step.result c.in-Some.end c.args.wild.now c.steps.wild c.turn-step.new.wild before mid after input out notes told c.unit.ensures.good most stops (c.steps.invariant.made bytes told) c.turn-step.ensures.effect
+    λ bytes told. turn_stops bytes (c.args.units - c.steps.left) c.args.units c.args.watch c.turn-step.result c.in-Some.end c.args.wild.now c.steps.wild c.turn-step.new.wild before mid after input out notes told c.unit.ensures.pending most stops (c.steps.invariant.made bytes told) c.turn-step.ensures.effect
 
 pub returns-in-Some-clause-free : goal.returns-in-Some-clause-free
 returns-in-Some-clause-free g c =
@@ -180,7 +180,7 @@ steps-preserved g c =
       most = fewer_left c.args.units c.steps.left c.unit-left.result invariant.most;
       made = λ bytes told.
           subst (λ n. Goes n c.args.watch c.args.wild.now c.turn-step.new.wild before after (drawn_over input) (sunk_over out) (sunk_over notes)) units
-          (turn_goes_on bytes (c.args.units - c.steps.left) c.args.watch c.turn-step.result c.args.wild.now c.steps.wild c.turn-step.new.wild before mid after input out notes told c.unit.ensures.good goes (invariant.made bytes told) c.turn-step.ensures.effect);
+          (turn_goes_on bytes (c.args.units - c.steps.left) c.args.watch c.turn-step.result c.args.wild.now c.steps.wild c.turn-step.new.wild before mid after input out notes told c.unit.ensures.pending goes (invariant.made bytes told) c.turn-step.ensures.effect);
       free =
           subst (λ n. GoesFree n c.args.watch c.args.wild.now c.turn-step.new.wild before after (drawn_over input) (sunk_over out) (sunk_over notes)) units
           (free_goes_on (c.args.units - c.steps.left) c.args.watch c.turn-step.result c.args.wild.now c.steps.wild c.turn-step.new.wild before mid after input out notes invariant.same.program goes invariant.free c.turn-step.ensures.effect c.turn-step.ensures.frame);

@@ -2,9 +2,9 @@ use Rattle.std.proofs.Common.{◌≡◌, ℕ, List, Option, None, Some, Ok, ap, 
 use Rattle.std.proofs.Math.Path.{fun_ext}
 use Rattle.std.specs.Option.{option_map}
 use Rattle.alpha_link.specs.declared.fault.LinkFault.TheVariants as faults
-use Rattle.alpha_link.specs.Linked.{Located, addresses_of, unmet_in}
+use Rattle.alpha_link.specs.Linked.{Located, addresses_of, unmet_in, addresses_by}
 use Rattle.alpha_link.specs.Names.{found_in}
-use Rattle.alpha_link.specs.Output.{addresses_by, JoinsOne}
+use Rattle.alpha_link.specs.Output.{JoinsOne}
 use Rattle.alpha_link.proofs.Lists.{first_stops}
 use Rattle.alpha_link.proofs.Joining.{joins, unmet_as}
 use Rattle.alpha_link.proofs.linker.joined.Goals as goal

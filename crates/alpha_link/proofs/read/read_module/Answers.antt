@@ -5,9 +5,9 @@ use Rattle.alpha_table.specs.Encoded.{encoded}
 use Rattle.alpha_link.specs.Reading.{taken, items_at}
 use Rattle.alpha_link.specs.Header.{header_at}
 use Rattle.alpha_link.specs.Symbols.{named as named_symbol, symbol_at}
-use Rattle.alpha_link.specs.Relocations.{relocation_at}
+use Rattle.alpha_link.specs.Relocations.{relocation_at, body}
 use Rattle.alpha_link.specs.Parts.{ModuleParts}
-use Rattle.alpha_link.specs.Spelled.{words_at, body, parts, module_at}
+use Rattle.alpha_link.specs.Spelled.{words_at, parts, module_at}
 use Rattle.alpha_link.proofs.Results.{passed_on}
 use Rattle.alpha_link.proofs.Stages.{headed, coded, filled, named, relocated, ended_none, ended_some, to_words, to_data, to_symbols, to_relocations, to_end}
 use Rattle.alpha_link.proofs.HeaderBytes.{header_takes}

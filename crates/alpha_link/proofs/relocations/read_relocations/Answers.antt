@@ -3,8 +3,7 @@ use Rattle.std.proofs.lemmas.List.{length-append}
 use Rattle.std.proofs.lemmas.Result.{err_from_is_err_and}
 use Rattle.alpha_table.specs.Encoded.{encoded}
 use Rattle.alpha_link.specs.declared.relocation.Relocation.{Relocation}
-use Rattle.alpha_link.specs.Relocations.{relocation_at}
-use Rattle.alpha_link.specs.Spelled.{body}
+use Rattle.alpha_link.specs.Relocations.{relocation_at, body}
 use Rattle.alpha_link.specs.Reading.{items_at}
 use Rattle.alpha_link.proofs.Results.{passed_on}
 use Rattle.alpha_link.proofs.Formats.{goes_on, stops, ends}
@@ -15,7 +14,7 @@ loop-number-init c =
     let read = relocation_at c.args.total c.args.sizes.now (body (map encoded c.args.insns.now) c.args.filled.now) in
     let n = c.args.sizes.now.relocations in
     let bytes = c.args.bytes.now in
-    let none = c.new-relocations.ensures.items in
+    let none = c.in_ok-relocations.ensures.items in
     let all : n - 0 ≡ n = omega arith in
     record {
       size = ap length none;
@@ -51,6 +50,6 @@ returns-in_err-relocation c =
     let l = c.loop-number in
     let before = l.relocations.items in
     let whole = items_at read n [] c.args.bytes.now in
-    let p = err_from_is_err_and c.from_residual.result c.from_residual.ensures.1 in
+    let p = err_from_is_err_and c.from_residual-in_err-relocation.result c.from_residual-in_err-relocation.ensures.1 in
     let refused = rw c.deref.ensures.value at c.in_err-relocation.ensures in
     rw (p.1, p.2) (passed_on c.in_err-relocation.field-0.0 (read before l.rest.now) whole (λ d r. stops read n l._number before l.rest.now whole c.loop-number-test.true l.invariant.reads d r) refused)

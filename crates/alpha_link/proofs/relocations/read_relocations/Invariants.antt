@@ -1,8 +1,7 @@
 use Rattle.std.proofs.Common.{◌≡◌, ◌-◌, [], length, map}
 use Rattle.alpha_table.specs.Encoded.{encoded}
 use Rattle.alpha_link.specs.Reading.{items_at}
-use Rattle.alpha_link.specs.Relocations.{relocation_at}
-use Rattle.alpha_link.specs.Spelled.{body}
+use Rattle.alpha_link.specs.Relocations.{relocation_at, body}
 use Rattle.alpha_link.proofs.relocations.read_relocations.Given as goal
 
 abbrev pub invariant-loop-number : goal.invariant-loop-number

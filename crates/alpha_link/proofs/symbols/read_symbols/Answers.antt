@@ -13,7 +13,7 @@ loop-number-init c =
     let read = symbol_at c.args.total c.args.sizes.now in
     let n = c.args.sizes.now.symbols in
     let bytes = c.args.bytes.now in
-    let none = c.new-symbols.ensures.items in
+    let none = c.in_ok-symbols.ensures.items in
     let all : n - 0 ≡ n = omega arith in
     record {
       size = ap length none;
@@ -49,6 +49,6 @@ returns-in_err-symbol c =
     let l = c.loop-number in
     let before = (map named l.symbols.items) in
     let whole = items_at read n [] c.args.bytes.now in
-    let p = err_from_is_err_and c.from_residual.result c.from_residual.ensures.1 in
+    let p = err_from_is_err_and c.from_residual-in_err-symbol.result c.from_residual-in_err-symbol.ensures.1 in
     let refused = rw c.deref.ensures.value at c.in_err-symbol.ensures in
     rw (p.1, p.2) (passed_on c.in_err-symbol.field-0.0 (read before l.rest.now) whole (λ d r. stops read n l._number before l.rest.now whole c.loop-number-test.true l.invariant.reads d r) refused)

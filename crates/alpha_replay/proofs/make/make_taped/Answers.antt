@@ -54,7 +54,7 @@ returns-in-Some-clause-effect g c =
     let notes = times g.N.Sink.written g.N.Sink.faults c.args.notes.now c.steps.notes c.turn-end.new.notes in
     let stops = sym c.run_end.ensures ∙ c.in-Some.is in
     λ bytes told.
-    turn_outcome bytes c.args.units c.steps.left c.unit.result c.turn-end.result.end c.in-Some.end c.steps.tape c.turn-end.new.tape c.turn-end.result.fits c.args.wild.now c.steps.wild c.turn-end.new.wild before mid after input out notes told c.unit.ensures.good c.steps.invariant.most c.unit.ensures.value c.steps-test.true (sym c.is_past.ensures ∙ c.if-is_past.false) stops (c.steps.invariant.made bytes told) c.turn-end.ensures.tapes c.turn-end.ensures.effect
+    turn_outcome bytes c.args.units c.steps.left c.unit.result c.turn-end.result.end c.in-Some.end c.steps.tape c.turn-end.new.tape c.turn-end.result.fits c.args.wild.now c.steps.wild c.turn-end.new.wild before mid after input out notes told c.unit.ensures.pending c.steps.invariant.most c.unit.ensures.value c.steps-test.true (sym c.is_past.ensures ∙ c.if-is_past.false) stops (c.steps.invariant.made bytes told) c.turn-end.ensures.tapes c.turn-end.ensures.effect
 
 pub steps-smaller : goal.steps-smaller
 steps-smaller g c =
@@ -84,7 +84,7 @@ steps-preserved g c =
     record {
       most = fewer_left c.args.units c.steps.left c.unit-left.result invariant.most;
       made = λ bytes told.
-          turn_remains bytes c.args.units c.steps.left c.unit-left.result c.turn-end.result.end c.steps.tape c.turn-end.new.tape c.turn-end.result.fits c.args.wild.now c.steps.wild c.turn-end.new.wild before mid after input out notes told c.unit.ensures.good invariant.most c.unit-left.ensures.value some (sym c.is_past.ensures ∙ c.if-is_past.false) goes (invariant.made bytes told) c.turn-end.ensures.tapes c.turn-end.ensures.effect;
+          turn_remains bytes c.args.units c.steps.left c.unit-left.result c.turn-end.result.end c.steps.tape c.turn-end.new.tape c.turn-end.result.fits c.args.wild.now c.steps.wild c.turn-end.new.wild before mid after input out notes told c.unit.ensures.pending invariant.most c.unit-left.ensures.value some (sym c.is_past.ensures ∙ c.if-is_past.false) goes (invariant.made bytes told) c.turn-end.ensures.tapes c.turn-end.ensures.effect;
       free =
           subst (λ n. GoesFree n false c.args.wild.now c.turn-end.new.wild before after (drawn_over input) (sunk_over out) (sunk_over notes)) units
           (free_goes_on (c.args.units - c.steps.left) false c.turn-end.result.end c.args.wild.now c.steps.wild c.turn-end.new.wild before mid after input out notes invariant.same.program goes invariant.free c.turn-end.ensures.effect c.turn-end.ensures.frame);

@@ -33,11 +33,11 @@ returns-then-left-ne0 c = λ image how begins.
     let p = parts how c.args.ending.now c.args.input.now c.args.output.now c.args.items.now in
     let b = place c.play_items.new.wild c.play_items.new.input c.in-Ok.stand in
     let h = stands_by (record { image = image; how = how }) c.args.wild.now c.args.input.now c.args.items.now c.args.output.now b begins c.in-Ok.ensures.played in
-    let left_is : c.len-left.result ≡ length c.play_items.new.input = c.len-left.ensures ∙ ap length c.rest.ensures in
+    let left_is : length c.rest-left.result.now ≡ length c.play_items.new.input = ap length c.rest-left.ensures in
     ap (λ (n : ℕ). Err (faults.Input n)) left_is
     ∙ input_fault image p b h (c.difference.ensures h.output h.sees ∙ c.in_default.is)
     (sym (c.ends_as.ensures ∙ ap (λ (calm : Bool). ends_by c.args.ending.now (happened_of c.in-Ok.stand.last) calm) c.is_calm.ensures) ∙ c.if-not-ends_as.false)
-    (left_some c.play_items.new.input c.len-left.result left_is c.if-left-ne0.true)
+    (left_some c.play_items.new.input (length c.rest-left.result.now) left_is c.if-left-ne0.true)
 
 pub returns : goal.returns
 returns c = λ image how begins.
@@ -48,4 +48,4 @@ returns c = λ image how begins.
     ∙ (ap (λ (n : ℕ). Ok (record { units = units_of c.args.items.now; reports = n })) c.reports_of.ensures.value
     ∙ no_fault image p b h (c.difference.ensures h.output h.sees ∙ c.in_default.is)
     (sym (c.ends_as.ensures ∙ ap (λ (calm : Bool). ends_by c.args.ending.now (happened_of c.in-Ok.stand.last) calm) c.is_calm.ensures) ∙ c.if-not-ends_as.false)
-    (left_none c.play_items.new.input c.len-left.result (c.len-left.ensures ∙ ap length c.rest.ensures) c.if-left-ne0.false))
+    (left_none c.play_items.new.input (length c.rest-left.result.now) (ap length c.rest-left.ensures) c.if-left-ne0.false))
