@@ -1,8 +1,9 @@
 #!/usr/bin/env python3
 """Feeds the built program with files of random bytes, damaged images, random word lists, sources of random tokens
 and scripts of random lines. Each call must end with a status of the table, and with the line of that status behind
-whatever it notes. Then each command gets large files and less and less memory: it must end as with enough of it, or
-with status 12, its line and nothing on the output. Prints how often each status came.
+whatever it notes. Then `check`, `dis`, `asm`, `run`, `run --imprecise` and `debug` get large files and less and less
+memory: each must end as with enough of it, or with status 12, its line and nothing on the output. Prints how often
+each status came.
 
     bench/hostile.py [PROGRAM] [COUNT] [SEED]    COUNT: files of each kind, 10,000 if left out
 """

@@ -47,7 +47,10 @@ def main():
         modules = {name: os.path.join(folder, name) for name in ("total", "sum", "put")}
         for name, kept in modules.items():
             subprocess.run([program, "module", os.path.join(TOP, f"examples/modules/{name}.s"), kept], check=True)
-        calls += [["module", os.path.join(TOP, "examples/modules/total.s"), out], ["link", out, *modules.values()]]
+        journal = os.path.join(folder, "journal")
+        subprocess.run([program, "record", image, journal], check=True, capture_output=True)
+        calls += [["module", os.path.join(TOP, "examples/modules/total.s"), out], ["link", out, *modules.values()],
+                  ["fix", os.path.join(TOP, "examples/sum.s"), out], ["record", image, out], ["replay", image, journal]]
         for call in calls:
             def ended(number):
                 environment = {**os.environ, "LD_PRELOAD": library, "REFUSED": str(number)}

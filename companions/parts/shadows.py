@@ -7,7 +7,7 @@ from . import table
 LONGEST = 1_024
 NAMES = {1: "its destination is R31", 2: "a source is lost", 3: "another trigger with the same destination",
          4: "an access by a register that the shadow set", 5: "a store after a load that may meet it",
-         6: "a locked access", 7: "a branch or a jump", 8: "the code ends", 9: "longer than 1,024 words"}
+         6: "a locked access", 7: "a branch or a jump", 8: "the code ends", 9: "more than 1,024 words follow"}
 
 
 class Code:
