@@ -28,7 +28,7 @@ PROGRAM = os.path.join(kit.TOP, "crates/alpha_tool/out/alpha_tool")
 # How the last line of a whole build begins.
 BUILT = "built"
 # As measured of all crates from nothing. A program's check loads all libraries, which is as much work as a part of their lines.
-SECONDS_A_LINE, MEGABYTES_A_LINE, PART_OF_A_LIBRARY = 0.04, 0.09, 1 / 20
+SECONDS_A_LINE, MEGABYTES_A_LINE, PART_OF_A_LIBRARY = 0.025, 0.09, 1 / 20
 
 
 def say(text, log=None):
