@@ -24,7 +24,7 @@ pub fn longword_at(bytes: &[u8], offset: usize) -> u32
     LittleEndian::read_u32(&bytes[offset..])
 }
 
-/// Appends the eight bytes of a number, or none where memory runs out.
+/// Appends the eight bytes of a number. Where memory runs out nothing is said of `out`.
 #[tactic(auto, unfolding(crate::specs::Layout::quadword))]
 pub fn push_quadword(out: &mut Vec<u8>, number: u64) -> Result<(), AllocError>
     ensures ok { OnOk result (out.new.items ≡ out.old.items ++ quadword number) }
@@ -34,7 +34,7 @@ pub fn push_quadword(out: &mut Vec<u8>, number: u64) -> Result<(), AllocError>
     out.extend_from_slice(&bytes)
 }
 
-/// Appends the four bytes of a number, or none where memory runs out.
+/// Appends the four bytes of a number. Where memory runs out nothing is said of `out`.
 #[tactic(auto, unfolding(crate::specs::Layout::longword))]
 pub fn push_longword(out: &mut Vec<u8>, number: u32) -> Result<(), AllocError>
     ensures ok { OnOk result (out.new.items ≡ out.old.items ++ longword number) }

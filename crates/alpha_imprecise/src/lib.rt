@@ -11,13 +11,14 @@
 //!   and draws 2,049 words a unit at most. [`laws_of_free_runs`]: how runs in which each step finds an input of its own
 //!   stand to the run over one input.
 //!
-//! `specs/Moment.antt` has what the machine is at a moment and what it is free to choose, `specs/Step.antt` the
-//! step, `specs/Run.antt` the runs, `specs/Chosen.antt` the choices that are made by words of 64 bits,
-//! `specs/Made.antt` the runs that coming words make, `specs/Free.antt` the runs in which each step finds an input of its
-//! own, as over a source that tells nothing, `specs/Restart.antt` what it means that a program can be
-//! restarted after each trap, and `specs/Shown.antt` what such a program's runs show. `specs/WildEffect.antt` says what
-//! the code's step did against that, for choosers and devices that may tell nothing, `specs/WildRunEffect.antt` what its run did, and `specs/Telling.antt` how a chooser
-//! goes on. `specs/WildTurn.antt` says what a step does together with the lines of a barrier.
+//! `specs/Moment.antt` has what the machine is at a moment and what it is free to choose, `specs/Step.antt` the step,
+//! `specs/Run.antt` the runs, `specs/Chosen.antt` the choices that are made by words of 64 bits, `specs/Made.antt`
+//! the runs that coming words make, `specs/Free.antt` the runs in which each step finds an input of its own, as over
+//! a source that tells nothing, `specs/Restart.antt` what it means that a program can be restarted after each trap,
+//! and `specs/Shown.antt` what such a program's runs show. `specs/WildEffect.antt` says what the code's step did
+//! against that, for choosers and devices that may tell nothing, `specs/WildRunEffect.antt` what its run did, and
+//! `specs/Telling.antt` how a chooser goes on. `specs/WildTurn.antt` says what a step does together with the lines of
+//! a barrier.
 //!
 //! `src/wild.rt` is the machine, `src/pending.rt` its pending trap and `src/end.rt` how a step went; `src/step.rt` has
 //! the step by what it is, `src/look.rt` what the word at the PC would do, `src/spoil.rt` the words

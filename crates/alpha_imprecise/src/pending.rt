@@ -25,7 +25,7 @@ pub struct Pending {
 
 impl Pending {
     /// The word at the PC, if the trap may wait for its execution: fewer than 1,024 words were executed since the
-    /// trigger, it is no barrier, and an access of it doesn't fault.
+    /// trigger, it is no barrier, and an access of it doesn't fault. The contract says the word's class.
     #[inline(always)]
     pub fn waiting_insn(&self, machine: &Machine) -> Option<Insn>
         ensures found { IfSome result (λ insn. WaitsAt machine.now (class_of insn)) }

@@ -6,7 +6,8 @@
 //!   steps until the program ends or a number of them is used up.
 //! - [`StepEnd`] is how a step went, [`RunEnd`] how a run went, [`End`] how a program ends.
 //! - [`Machine::goes_on`], [`Machine::insn`], [`Machine::source`], [`Machine::accessed`], [`Machine::set`] and
-//!   [`Machine::advance`] are the parts of a step that other machines share, with [`memory_access`], [`size`] and [`branch_target`].
+//!   [`Machine::advance`] are the parts of a step that other machines share, with [`memory_access`], [`size`] and
+//!   [`branch_target`].
 //! - [`write_overflow`], [`write_barrier`], [`write_registers`] and [`write_end`] write the lines of an overflow, of a
 //!   barrier, of the registers alone and of an end; [`line_of_end`] is the last of these.
 //! - [`laws_of_steps`]: a step leaves how many registers there are and where the blocks of memory lie, and one that ends
@@ -23,12 +24,12 @@
 //! `specs/StartMemory.antt`, `specs/Executed.antt` and `specs/Turn.antt` say what the helpers of the start, of the step
 //! and of the run do.
 //!
-//! `src/machine.rt` has the machine and `src/end.rt` its answers; `src/step.rt` has the step. Its layers are `src/execute.rt`, which executes each word that is no barrier,
-//! `src/words.rt` and `src/access.rt` with the families of these words, the second with those that have a
-//! displacement from a base register, `src/barrier.rt` with the PAL calls, and `src/parts.rt` with what they share.
-//! `src/look.rt` says what a word would do. `src/start.rt` makes the machine, `src/runs.rt` runs it, `src/lines.rt`
-//! writes the lines, `src/laws.rt` has the laws, and `proofs/Examples.antt` has programs whose runs the definitions
-//! compute.
+//! `src/machine.rt` has the machine and `src/end.rt` its answers; `src/step.rt` has the step. Its layers are
+//! `src/execute.rt`, which executes each word that is no barrier, `src/words.rt` and `src/access.rt` with the
+//! families of these words, the second with those that have a displacement from a base register, `src/barrier.rt`
+//! with the PAL calls, and `src/parts.rt` with what they share. `src/look.rt` says what a word would do.
+//! `src/start.rt` makes the machine, `src/runs.rt` runs it, `src/lines.rt` writes the lines, `src/laws.rt` has the
+//! laws, and `proofs/Examples.antt` has programs whose runs the definitions compute.
 #![tactic(auto)]
 
 mod access;

@@ -17,9 +17,9 @@
 //! `specs/Numbers.antt` has signed numbers and wrapped results, `specs/Bits.antt` a register's bits
 //! and bytes, `specs/Bytes.antt` the byte forms, `specs/Op.antt` the result of each instruction,
 //! `specs/TrapOp.antt` overflow and completed values, `specs/Cond.antt` the conditions,
-//! `specs/Source.antt` second sources, and `specs/Address.antt` the addresses. `src/results.rt` has the table of the instructions; `sums.rt`,
-//! `logic.rt`, `counts.rt`, `shifts.rt` and `bytes.rt` have the work by families, `trap.rt` that of
-//! the `/V` rows.
+//! `specs/Source.antt` second sources, and `specs/Address.antt` the addresses. `src/results.rt` has
+//! the table of the instructions; `sums.rt`, `logic.rt`, `counts.rt`, `shifts.rt` and `bytes.rt`
+//! have the work by families, `trap.rt` that of the `/V` rows.
 #![tactic(auto)]
 
 mod bytes;
