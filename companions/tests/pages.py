@@ -1,0 +1,62 @@
+"""The blocks of commands of the pages, and the usage of each companion."""
+import os
+import shutil
+
+from .helpers import DATA, HERE, Lacking, blocks, companion, needs_program, runs_as_shown, want
+
+
+def companions():
+    """The names of all companions: the files here that can be run, but for the runner of the tests."""
+    return [name for name in sorted(os.listdir(HERE)) if "." not in name and os.path.isfile(os.path.join(HERE, name))]
+
+
+def test_each_companion_has_help_and_refuses_bad_words(_):
+    want({"elf2image", "gas2source", "allbroken", "shadowmap", "where", "shadowfix"} - set(companions()), set(), "companions")
+    for name in companions():
+        out, _ = companion(name, "--help")
+        want("usage: " + name in out, True, name)
+        companion(name, "--no-such-option", status=2)
+
+
+def test_a_file_that_is_not_there_is_refused(_):
+    absent = os.path.join(DATA, "no-such-file")
+    for words in (["elf2image", absent, "x"], ["gas2source", absent], ["allbroken", absent], ["shadowmap", absent],
+                  ["where", "--source", absent, "10000"], ["where", "--map", absent, "10000"], ["shadowfix", absent]):
+        companion(*words, status=1)
+
+
+@needs_program
+def test_the_pages_show_what_the_companions_do(folder):
+    """Runs the blocks of commands in which companions stand."""
+    for page in ("README.md", "docs/trap-shadows.md"):
+        runs_as_shown(folder, page, [block for block in blocks(page) if "$ companions/" in block])
+
+
+@needs_program
+def test_a_c_program_goes_the_way_of_the_page(folder):
+    if shutil.which("alpha-linux-gnu-gcc") is None:
+        raise Lacking("there is no alpha-linux-gnu-gcc on the path")
+    runs_as_shown(folder, "docs/from-a-compiler.md", blocks("docs/from-a-compiler.md"))
+
+
+# What the compiler once made of sum.c, by how its calls on the page end.
+STAND_IN = """#!/bin/sh
+case "$*" in
+*"-S sum.c") cp {data}/sum.s . ;;
+*"start.s sum.fixed.s -o sum.elf") cp {data}/sum.fixed.elf sum.elf ;;
+*"start.s sum.c -o sum.elf") cp {data}/sum.elf . ;;
+*) exit 1 ;;
+esac
+"""
+
+
+@needs_program
+def test_what_the_compiler_made_goes_the_way_of_the_page(folder):
+    """The same without a compiler, but for the last block, in which programs are refused."""
+    os.mkdir(os.path.join(folder, "bin"))
+    compiler = os.path.join(folder, "bin", "alpha-linux-gnu-gcc")
+    with open(compiler, "w", encoding="utf-8") as file:
+        file.write(STAND_IN.format(data=DATA))
+    os.chmod(compiler, 0o755)
+    path = os.path.dirname(compiler) + os.pathsep + os.environ["PATH"]
+    runs_as_shown(folder, "docs/from-a-compiler.md", blocks("docs/from-a-compiler.md")[:-1], PATH=path)
