@@ -89,15 +89,26 @@ def namers(statements, wanted):
             any(named.search(text) for text in statement.operands if not text.startswith('"'))]
 
 
+def high_of(statement):
+    """The symbol with a number whose upper half an instruction makes by itself, or None."""
+    if statement.relocation != "gprelhigh" or len(statement.operands) != 2:
+        return None
+    return gas.expression_of(statement.operands[1].rpartition("(")[0])
+
+
 class Translator:
     """Translates the instructions of one file. `spare_at` says that nothing in it is kept in $28, `has_gp` that $29 is set
-    up in it as the pointer to a table of addresses, which the product hasn't."""
+    up in it as the pointer to a table of addresses, which the product hasn't; `splits` that lower halves of addresses stand
+    in `lda` alone, as the source of a module has them."""
 
-    def __init__(self, spare_at, has_gp):
-        self.spare_at, self.has_gp = spare_at, has_gp
-        self.is_level_two = False
-        # The symbols, with the numbers added, whose halves stand in words apart: (symbol, number) of each.
-        self.highs, self.lows = set(), set()
+    def __init__(self, statements, splits=False):
+        self.spare_at = not namers(statements, AT)
+        self.has_gp = any(map(sets_up_gp, statements))
+        self.splits, self.is_level_two = splits, False
+        # The symbols, with the numbers added, whose halves stand in words apart: (symbol, number) of each. Of the lower
+        # halves it is those that may lie behind the upper half of another number.
+        self.highs = {high for statement in statements if (high := high_of(statement)) is not None}
+        self.lows = set()
 
     def lines(self, statement):
         """The lines for an instruction; none where it only sets up $29, which nothing here needs."""
@@ -199,11 +210,9 @@ class Translator:
     def symbolic(self, name, target, expression, base, relocation):
         symbol = marked(expression)
         if relocation == "gprelhigh" and name == "ldah" and base == GP:
-            self.highs.add(expression)
             return [f"ldah ${target},%hi({symbol})($31)"]
         if relocation == "gprellow" and base not in (None, GP) and name != "ldah":
-            self.lows.add(expression)
-            return [f"{name} ${target},%lo({symbol})(${base})"]
+            return self.by_lower_half(name, target, expression, base)
         if relocation == "literal" and name == "ldq" and base == GP or relocation is None and name == "lda" and base is None:
             return address_lines(target, expression)
         if relocation in ("gprel", "gprel16") and base == GP or relocation is None and base is None:
@@ -217,15 +226,41 @@ class Translator:
             raise Untold("`ldah` with a symbol needs !gprelhigh")
         if name == "lda":
             return address_lines(target, expression)
-        if name.startswith("st") or target == 31 or name.endswith("_l"):
-            if not self.spare_at:
-                raise Untold("this access needs a register for its address, and the file uses $28: compile with -mlarge-data "
-                             "or with -ffixed-28")
-            by = AT
-        else:
-            by = target
-        symbol = marked(expression)
+        by, symbol = self.free(name, target), marked(expression)
+        if self.splits:
+            return [*address_lines(by, expression), f"{name} ${target},0(${by})"]
         return [f"ldah ${by},%hi({symbol})($31)", f"{name} ${target},%lo({symbol})(${by})"]
+
+    def by_lower_half(self, name, target, expression, base):
+        """An access to a symbol's bytes, or their address, where `base` has the upper half of an address near it."""
+        symbol = marked(expression)
+        if not self.splits:
+            self.lows.add(expression)
+            return [f"{name} ${target},%lo({symbol})(${base})"]
+        near = self.half_near(expression)
+        distance = expression.number - near.number
+        if name == "lda" and distance == 0:
+            return [f"lda ${target},%lo({symbol})(${base})"]
+        by = target if name == "lda" else self.free(name, target)
+        return [f"lda ${by},%lo({marked(near)})(${base})", f"{name} ${target},{distance}(${by})"]
+
+    def half_near(self, expression):
+        """The symbol with a number by which an address is made, with a distance added to it. Where the file has one upper half
+        of the symbol it is that one, whose two halves fit together wherever a link puts the data."""
+        highs = [high for high in self.highs if high.symbol == expression.symbol]
+        if len(highs) == 1 and abs(expression.number - highs[0].number) <= 32_767:
+            return highs[0]
+        self.lows.add(expression)
+        return expression
+
+    def free(self, name, target):
+        """A register for the address of an access: what it loads, or $28 where nothing in the file is kept there."""
+        if not name.startswith("st") and target != 31 and not name.endswith("_l"):
+            return target
+        if not self.spare_at:
+            raise Untold("this access needs a register for its address, and the file uses $28: compile with " +
+                         ("-ffixed-28" if self.splits else "-mlarge-data or with -ffixed-28"))
+        return AT
 
     @staticmethod
     def branch(name, operands, relocation):

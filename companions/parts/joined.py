@@ -2,17 +2,24 @@
 import re
 
 from . import places, units
-from .instructions import MARK
+from .instructions import DIVISIONS, MARK
 
 WIDEST, WHOLE = 1_000, 4
 MARKED = re.compile(f"{MARK}([^{MARK}]*){MARK}([+-][0-9]+)")
+# A label of the source language.
+LABEL = re.compile(r"[A-Za-z_][\w.]*", re.ASCII)
+# Functions that gcc calls also where it is told that there is no C library.
+OF_LIBRARY = {"memcpy", "memmove", "memset", "memcmp"}
+# The base of a module's data is a multiple of this, and so is each address where the upper half of an address changes.
+PAGE = 8_192
 
 
 class Joined:
-    """Several units with their names made those of one source."""
+    """Several units with their names made those of one source. Where it is the source of a module, `prefix` is what its local
+    labels begin with: names that are no local labels stay as they are, whether the module defines them or not."""
 
-    def __init__(self, parts, faults):
-        self.units, self.faults = parts, faults
+    def __init__(self, parts, faults, prefix=None):
+        self.units, self.faults, self.prefix = parts, faults, prefix
         self.owners, self.names, self.taken, self.mentioned = {}, {}, set(), {}
         for unit in parts:
             for name in unit.globals & (set(unit.labels) | set(unit.synonyms)):
@@ -40,10 +47,10 @@ class Joined:
 
     def name_for(self, unit, name):
         """The name in the source of a name of a unit, None where it is one of all."""
+        if unit is None and self.prefix is not None:
+            return self.kept(name)
         if (unit, name) not in self.names:
-            plain = re.sub(r"[^\w.]", "_", name.lstrip("$."), flags=re.ASCII)
-            if not re.match(r"[A-Za-z_]", plain):
-                plain = f"L{plain}"
+            plain = plain_label(name if self.prefix is None else f"{self.prefix}.{name.lstrip('$.')}")
             wanted, count = plain, 1
             while wanted in self.taken:
                 count += 1
@@ -51,6 +58,13 @@ class Joined:
             self.taken.add(wanted)
             self.names[unit, name] = wanted
         return self.names[unit, name]
+
+    def kept(self, name):
+        """A name that modules have in common, which must be a label as it is."""
+        if not LABEL.fullmatch(name):
+            owner = self.owners.get(name, self.units[0])
+            self.faults.add(owner.path, owner.labels.get(name, 1), f"{name} is a name for other modules, and no label here")
+        return name
 
     def resolved(self, unit, name, steps=0):
         """The name in the source that a name of a unit means, or None where nothing defines it."""
@@ -61,6 +75,8 @@ class Joined:
         if name in self.shared:
             return self.name_for(None, name)
         owner = self.owners.get(name)
+        if owner is None and self.prefix is not None and LABEL.fullmatch(name):
+            return name
         return None if owner is None or owner is unit or steps >= 64 else self.resolved(owner, name, steps + 1)
 
     def text(self, unit, text, note):
@@ -69,18 +85,18 @@ class Joined:
             name = self.resolved(unit, match[1])
             if name is None:
                 line = int(re.match(r".*?:([0-9]+)", note)[1])
-                self.faults.add(unit.path, line, f"nothing defines {match[1]}")
+                self.faults.add(unit.path, line, f"nothing defines {match[1]}{remedy(match[1])}")
                 return match[1]
             return name if int(match[2]) == 0 else name + match[2]
         return MARKED.sub(named, text)
 
     def lines(self, entry):
-        """The lines of the source."""
-        if entry not in self.owners:
+        """The lines of the source. That of a module has no entry."""
+        if self.prefix is None and entry not in self.owners:
             self.faults.add(self.units[0].path, 1, f"no file defines the entry {entry} with .globl: give companions/start.s as a "
                             "further file, or say --entry NAME")
             return []
-        lines = [f"\t.entry {self.resolved(self.owners[entry], entry)}", "\t.code"]
+        lines = ["\t.code"] if self.prefix is not None else [f"\t.entry {self.resolved(self.owners[entry], entry)}", "\t.code"]
         for unit, section in self.of_kind(units.CODE):
             lines += self.section_lines(unit, section)
         data = [line for unit, section in self.of_kind(units.DATA) for line in self.section_lines(unit, section)]
@@ -94,14 +110,17 @@ class Joined:
         must be the same in the source, as they were where the compiler laid out the data."""
         laid = places.Source("the source", "\n".join(lines))
         at = {name: address for names in (laid.names, laid.functions) for address, name, _ in names.rows}
+        half = upper if self.prefix is None else page
         for unit in self.units:
             highs, lows = unit.translator.highs, unit.translator.lows
-            for low in sorted(lows - highs):
-                address = at[self.resolved(unit, low.symbol)]
+            for low in sorted(lows - highs if self.prefix is None else lows):
+                address = at.get(self.resolved(unit, low.symbol))
                 for high in highs:
-                    if high.symbol == low.symbol and upper(address + high.number) != upper(address + low.number):
+                    if high.symbol == low.symbol and (address is None or
+                                                      half(address + high.number) != half(address + low.number)):
                         self.faults.add(unit.path, 1, f"{low.symbol}{low.number:+d} is reached by the upper half of the address "
-                                        f"of {high.symbol}{high.number:+d}, which is another one here")
+                                        f"of {high.symbol}{high.number:+d}, which " +
+                                        ("is another one here" if self.prefix is None else "may be another one after a link"))
 
     def of_kind(self, kind):
         return [(unit, section) for unit in self.units for section in unit.sections.values()
@@ -130,7 +149,8 @@ class Joined:
         if isinstance(item, units.Label):
             if not self.is_named(unit, item.name):
                 return []
-            return [f"{self.name_for(None if item.name in unit.globals else unit, item.name)}:"]
+            name = self.name_for(None if item.name in unit.globals else unit, item.name)
+            return [f"{name}:", *self.further_names(unit, item.name)]
         if isinstance(item, units.Line):
             return ["\t" + self.text(unit, item.text, item.note)]
         if isinstance(item, units.Align):
@@ -141,6 +161,12 @@ class Joined:
             return self.value_texts(unit, item)
         content = item.content if isinstance(item, units.Bytes) else bytes(item.count)
         return byte_texts(content)
+
+    def further_names(self, unit, label):
+        """The labels of a module for names that are set to be a label's, by which other modules may know it."""
+        if self.prefix is None:
+            return []
+        return [f"{self.kept(name)}:" for name, meant in unit.synonyms.items() if meant == label and name in unit.globals]
 
     def zeros(self, unit, item):
         """The number of bytes of an item, which must all be 0."""
@@ -177,9 +203,28 @@ class Joined:
         return lines
 
 
+def plain_label(name):
+    """A label that reads like a name."""
+    plain = re.sub(r"[^\w.]", "_", name.lstrip("$."), flags=re.ASCII)
+    return plain if re.match(r"[A-Za-z_]", plain) else f"L{plain}"
+
+
+def remedy(name):
+    """What to do where nothing defines a name that compilers call by themselves."""
+    if name.startswith("__") and name[2:] in DIVISIONS:
+        return ": give companions/divide.s as a further file"
+    if name in OF_LIBRARY:
+        return ": gcc calls it by itself, so a further file must have it, compiled with -fno-tree-loop-distribute-patterns"
+    return ""
+
+
 def upper(address):
     """The %hi of an address."""
     return (address + 32_768) // 65_536
+
+
+def page(address):
+    return address // PAGE
 
 
 def byte_texts(content):

@@ -33,14 +33,13 @@ class Section:
 class Unit:
     """What a file says. `synonyms` are names set to be other names, `common` the size and alignment of shared symbols."""
 
-    def __init__(self, path, text, faults):
+    def __init__(self, path, text, faults, is_module=False):
         self.path, self.name, self.faults = path, os.path.basename(path), faults
         self.globals, self.labels, self.synonyms, self.common = set(), {}, {}, {}
         self.sections, self.stack = {}, []
-        self.numbered, self.sources, self.place, self.functions = {}, {}, "", set()
+        self.numbered, self.sources, self.place, self.functions, self.locals = {}, {}, "", set(), set()
         statements = list(gas.statements(text))
-        keeps_at = bool(instructions.namers(statements, instructions.AT))
-        self.translator = instructions.Translator(not keeps_at, any(map(instructions.sets_up_gp, statements)))
+        self.translator = instructions.Translator(statements, is_module)
         self.section = self.before = self.known(".text", CODE)
         self.last_label = None
         for statement in statements:
@@ -48,6 +47,7 @@ class Unit:
                 self.take(statement)
             except instructions.Untold as untold:
                 faults.add(path, statement.line, str(untold))
+        self.globals -= self.locals
 
     def note(self, line):
         return f"{self.name}:{line}" + (self.place if self.section.kind == CODE else "")
@@ -98,6 +98,8 @@ class Unit:
         name, operands = statement.name, statement.operands
         if name in (".globl", ".global", ".weak"):
             self.globals.update(operands)
+        elif name == ".local":
+            self.locals.update(operands)
         elif name == ".ent" or name == ".type" and operands[1:] == ["@function"]:
             self.functions.update(operands[:1])
         elif name == ".file":
