@@ -1,10 +1,11 @@
-"""Where an address comes from: the line of a source, the line of a listing, the symbol of a map."""
+"""Where an address comes from: the line of a source or of those of modules, the line of a listing, the symbol of a map."""
 import bisect
 import os
 import re
 
-from . import files, gas
+from . import files, fitting, gas
 
+CODE_BASE, DATA_BASE = 0x10000, 0x10000000
 FIELDS = (".codebase", ".database", ".segment")
 SIZES = {".byte": 1, ".word": 2, ".long": 4, ".quad": 8}
 MAP_LINE = re.compile(r"([0-9a-f]{16}) ([0-9a-f]{8,16}) (func|object|label) (\S.*)")
@@ -39,21 +40,23 @@ class Names:
 
 
 class Source:
-    """The lines of a source by their addresses, laid out as docs/source.md says. It takes a source that `asm` takes."""
+    """The lines of a source by their addresses, laid out as docs/source.md says. It takes a source that `asm` takes, or one
+    that `module` takes with the bases that a link gives it."""
 
-    def __init__(self, path, text=None):
+    def __init__(self, path, text=None, code=CODE_BASE, data=DATA_BASE):
         self.path, self.lines, self.names, self.functions = path, {}, Names(), Names()
         self.text = (files.read_text(path) if text is None else text).split("\n")
         statements = list(gas.statements("\n".join(line.removesuffix("\r") for line in self.text)))
-        at = {"code": 0x10000, "data": 0x10000000}
+        at = {"code": code, "data": data}
+        self.has_entry = any(statement.name == ".entry" for statement in statements)
         for statement in statements:
             if statement.name in FIELDS[:2]:
                 at["code" if statement.name == ".codebase" else "data"] = self.number(statement)
         self.begin, section = at["data"], "code"
-        code_base, self.ends = at["code"], {}
+        self.code_base, self.ends = at["code"], {}
         for statement in statements:
             section = self.lay(statement, at, section)
-            self.ends[code_base], self.ends[self.begin] = at["code"], at["data"]
+            self.ends[self.code_base], self.ends[self.begin] = at["code"], at["data"]
 
     def refuse(self, statement, why):
         raise files.Refused(f"{self.path}:{statement.line}: {why}: is it a source that `asm` takes?")
@@ -92,9 +95,9 @@ class Source:
             at["data"] += -(at["data"] - self.begin) % step
         return section
 
-    def has(self, address):
+    def has(self, address, with_end=True):
         """Whether the code or a segment of the data has the address. That of its end counts, where a label may stand."""
-        return any(start <= address <= end for start, end in self.ends.items())
+        return any(start <= address < end or with_end and address == end for start, end in self.ends.items())
 
     def tell(self, address, with_text):
         """The line of an address, what its comment says of where it was made from, and its text where it is wanted."""
@@ -107,19 +110,45 @@ class Source:
         return f"{os.path.basename(self.path)}:{line}" + (f" ({origin[1]})" if origin else "") + (f": {code}" if with_text else "")
 
 
-class Places:
-    """What is told of an image: a source, a map, its listing, each where it is given."""
+def laid_out(paths):
+    """The sources of the paths: one, or those of modules in the order of their link, each behind the one before it."""
+    sources, code, data = [], CODE_BASE, DATA_BASE
+    for path in paths:
+        source = Source(path, None, code, data)
+        sources.append(source)
+        code = source.ends.get(source.code_base, code)
+        data = -(-max([data, *(end for start, end in source.ends.items() if start >= DATA_BASE)]) // 8_192) * 8_192
+    return sources
 
-    def __init__(self, source=None, symbols=None, listing=None, base=0):
-        self.source = Source(source) if source is not None else None
+
+class Places:
+    """What is told of an image: a source or those of its modules, a map, its listing, each where it is given."""
+
+    def __init__(self, sources=(), symbols=None, listing=None, base=0):
+        self.sources = laid_out(sources or ())
         self.listing, self.base = listing, base
         self.names = read_map(symbols) if symbols is not None else None
+
+    def hold(self, asked, path):
+        """Refuses sources of which the image of the path wasn't made."""
+        if self.sources:
+            fitting.hold(asked, path, self.sources)
+
+    def source_of(self, address):
+        """The source that has an address: one where it isn't the end before another's, or None."""
+        found = [source for source in self.sources if source.has(address, False)]
+        found += [source for source in self.sources if source.has(address)]
+        return found[0] if found else None
+
+    def line(self, address, with_text):
+        """The line of the source of an address, or None."""
+        source = self.source_of(address)
+        return None if source is None else source.tell(address, with_text)
 
     def tell(self, address, with_text=False):
         """All that is known of an address: the symbol, the line of the source, the line of the listing."""
         told = [self.near(address)]
-        if self.source is not None:
-            told.append(self.source.tell(address, with_text))
+        told.append(self.line(address, with_text))
         if self.listing is not None:
             told.append(self.listed(address))
         return ", ".join(text for text in told if text)
@@ -128,10 +157,10 @@ class Places:
         """The symbol of the map, or the function or label of the source, at an address or before it."""
         if self.names is not None:
             return self.names.near(address)
-        if self.source is None or not self.source.has(address):
+        source = self.source_of(address)
+        if source is None:
             return None
-        in_code = address in self.source.lines
-        return in_code and self.source.functions.near(address) or self.source.names.near(address)
+        return address in source.lines and source.functions.near(address) or source.names.near(address)
 
     def listed(self, address):
         """The line of the listing, by its number, with its text."""
@@ -155,6 +184,8 @@ def read_map(path):
 
 def with_places(parser):
     """The arguments for where an image comes from."""
-    parser.add_argument("--source", metavar="FILE", help="the source that the image was assembled of")
+    parser.add_argument("--source", metavar="FILE", action="append",
+                        help="the source that the image was assembled of; once for each module where it was linked, in the order "
+                        "of the link")
     parser.add_argument("--map", metavar="FILE", help="the map of symbols that elf2image kept")
     return parser
