@@ -66,7 +66,7 @@ def test_a_changed_line_is_named(folder):
     changes = [("addq/v $1,$2,$3", "addq/v $1,$2,$4", "a.as:5: this line makes 40220c04 at 0000000000010008, where"),
                ("br t", "br s", "a.as:4:"), (".byte 7", ".byte 8", "another byte at 0000000010000008"), ("\ttrapb\n", "", "5 code words"),
                (".byte 7", ".byte 7,7", "data bytes"), ("\t.code", "\t.codebase 0x12000\n\t.code", "begins at 0x10000, by"),
-               ("lda $1", "ldq $1,", "source kind 1 line 3 "), (".entry s", "# s", "source kind 5 line 3 ")]
+               ("lda $1", "ldq $1,", "source kind 1 line 3 "), ("lda $1", "ldq $1", "a.as:3:")]
     for old, new, said in changes:
         write(source, text.replace(old, new).encode())
         fits(asked, made, [source], said)
