@@ -4,7 +4,7 @@
 	.set nomacro
 	.text
 $Ltext0:
-	.file 0 "/work/c/companions/companions/data" "sum.c"
+	.file 0 "." "sum.c"
 	.align 2
 	.align 4
 	.ent print
@@ -499,7 +499,7 @@ $LASF3:
 	.string	"main"
 	.section	.debug_line_str,"MS",@progbits,1
 $LASF1:
-	.string	"/work/c/companions/companions/data"
+	.string	"."
 $LASF0:
 	.string	"sum.c"
 	.ident	"GCC: (Debian 12.2.0-13) 12.2.0"

@@ -1,8 +1,10 @@
 """The blocks of commands of the pages, and the usage of each companion."""
 import os
+import re
 import shutil
+import subprocess
 
-from .helpers import DATA, HERE, Lacking, blocks, companion, needs_program, runs_as_shown, want
+from .helpers import DATA, HERE, Lacking, blocks, companion, data, needs_program, runs_as_shown, want
 
 
 def companions():
@@ -28,7 +30,7 @@ def test_a_file_that_is_not_there_is_refused(_):
 @needs_program
 def test_the_pages_show_what_the_companions_do(folder):
     """Runs the blocks of commands in which companions stand."""
-    for page in ("README.md", "docs/trap-shadows.md"):
+    for page in ("README.md", "docs/trap-shadows.md", "docs/commands.md"):
         runs_as_shown(folder, page, [block for block in blocks(page) if "$ companions/" in block])
 
 
@@ -39,10 +41,23 @@ def test_a_c_program_goes_the_way_of_the_page(folder):
     runs_as_shown(folder, "docs/from-a-compiler.md", blocks("docs/from-a-compiler.md"))
 
 
-# What the compiler once made of sum.c, by how its calls on the page end.
+def test_qemu_ends_at_the_first_overflow(folder):
+    """By the signal SIGFPE, whose number is 8; a shell tells 128 more."""
+    if shutil.which("qemu-alpha") is None:
+        raise Lacking("there is no qemu-alpha on the path")
+    path = os.path.join(folder, "sum.elf")
+    shutil.copy(data("sum.elf"), path)
+    os.chmod(path, 0o755)
+    done = subprocess.run(["qemu-alpha", path], input=b"hello, world\n", capture_output=True, check=False)
+    want((done.returncode, done.stdout), (-8, b""), "status and output")
+
+
+# What the compiler once made, by how its calls on the page end.
 STAND_IN = """#!/bin/sh
+for last; do :; done
 case "$*" in
 *"-S sum.c") cp {data}/sum.s . ;;
+*"-S main.c" | *"-S numbers.c" | *"-S print.c") cp {data}/three/${{last%.c}}.s . ;;
 *"start.s sum.fixed.s -o sum.elf") cp {data}/sum.fixed.elf sum.elf ;;
 *"start.s sum.c -o sum.elf") cp {data}/sum.elf . ;;
 *) exit 1 ;;
@@ -52,11 +67,12 @@ esac
 
 @needs_program
 def test_what_the_compiler_made_goes_the_way_of_the_page(folder):
-    """The same without a compiler, but for the last block, in which programs are refused."""
+    """The same without a compiler, but for the blocks that need its other tools, and the last, in which programs are refused."""
     os.mkdir(os.path.join(folder, "bin"))
     compiler = os.path.join(folder, "bin", "alpha-linux-gnu-gcc")
     with open(compiler, "w", encoding="utf-8") as file:
         file.write(STAND_IN.format(data=DATA))
     os.chmod(compiler, 0o755)
     path = os.path.dirname(compiler) + os.pathsep + os.environ["PATH"]
-    runs_as_shown(folder, "docs/from-a-compiler.md", blocks("docs/from-a-compiler.md")[:-1], PATH=path)
+    runnable = [block for block in blocks("docs/from-a-compiler.md") if not re.search(r"addr2line|half\.c", block)]
+    runs_as_shown(folder, "docs/from-a-compiler.md", runnable, PATH=path)

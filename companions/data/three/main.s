@@ -4,7 +4,7 @@
 	.set nomacro
 	.text
 $Ltext0:
-	.file 0 "/tmp/writer/road" "companions/data/three/main.c"
+	.file 0 "." "main.c"
 	.section	.rodata.str1.1,"aMS",@progbits,1
 $LC0:
 	.string	"numbers"
@@ -24,7 +24,7 @@ main:
 	.frame $30,32,$26,0
 	.mask 0x4000600,-32
 $LFB2:
-	.file 1 "companions/data/three/main.c"
+	.file 1 "main.c"
 	.loc 1 16 1
 	.cfi_startproc
 	ldah $29,0($27)		!gpdisp!2
@@ -41,7 +41,7 @@ $main..ng:
 	lda $10,buffer($3)		!gprellow
 $LBB8:
 $LBB9:
-	.file 2 "companions/data/three/three.h"
+	.file 2 "three.h"
 	.loc 2 11 19
 	lda $0,3($31)
 $LBE9:
@@ -67,7 +67,7 @@ $LBB11:
 	lda $18,4095($31)
 	.loc 2 16 5
 	.set	macro
- # 16 "companions/data/three/three.h" 1
+ # 16 "three.h" 1
 	callsys
  # 0 "" 2
 	.loc 2 17 22
@@ -523,8 +523,8 @@ $LASF7:
 	.string	"take"
 	.section	.debug_line_str,"MS",@progbits,1
 $LASF1:
-	.string	"/tmp/writer/road"
+	.string	"."
 $LASF0:
-	.string	"companions/data/three/main.c"
+	.string	"main.c"
 	.ident	"GCC: (Debian 12.2.0-13) 12.2.0"
 	.section	.note.GNU-stack,"",@progbits

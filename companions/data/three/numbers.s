@@ -4,7 +4,7 @@
 	.set nomacro
 	.text
 $Ltext0:
-	.file 0 "/tmp/writer/road" "companions/data/three/numbers.c"
+	.file 0 "." "numbers.c"
 	.align 2
 	.align 4
 	.globl note
@@ -13,7 +13,7 @@ note:
 	.eflag 48
 	.frame $30,0,$26,0
 $LFB1:
-	.file 1 "companions/data/three/numbers.c"
+	.file 1 "numbers.c"
 	.loc 1 8 1
 	.cfi_startproc
 	ldah $29,0($27)		!gpdisp!1
@@ -310,8 +310,8 @@ $LASF2:
 	.string	"product"
 	.section	.debug_line_str,"MS",@progbits,1
 $LASF1:
-	.string	"/tmp/writer/road"
+	.string	"."
 $LASF0:
-	.string	"companions/data/three/numbers.c"
+	.string	"numbers.c"
 	.ident	"GCC: (Debian 12.2.0-13) 12.2.0"
 	.section	.note.GNU-stack,"",@progbits

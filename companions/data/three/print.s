@@ -4,7 +4,7 @@
 	.set nomacro
 	.text
 $Ltext0:
-	.file 0 "/tmp/writer/road" "companions/data/three/print.c"
+	.file 0 "." "print.c"
 	.align 2
 	.align 4
 	.globl lines
@@ -13,7 +13,7 @@ lines:
 	.eflag 48
 	.frame $30,0,$26,0
 $LFB1:
-	.file 1 "companions/data/three/print.c"
+	.file 1 "print.c"
 	.loc 1 8 1
 	.cfi_startproc
 	ldah $29,0($27)		!gpdisp!1
@@ -168,14 +168,14 @@ $L7:
 	subqv $18,$17,$18
 $LBB4:
 $LBB5:
-	.file 2 "companions/data/three/three.h"
+	.file 2 "three.h"
 	.loc 2 11 19
 	lda $0,4($31)
 	.loc 2 12 19
 	lda $16,1($31)
 	.loc 2 16 5
 	.set	macro
- # 16 "companions/data/three/three.h" 1
+ # 16 "three.h" 1
 	callsys
  # 0 "" 2
 	.set	nomacro
@@ -384,8 +384,8 @@ $LASF5:
 	.string	"call"
 	.section	.debug_line_str,"MS",@progbits,1
 $LASF1:
-	.string	"/tmp/writer/road"
+	.string	"."
 $LASF0:
-	.string	"companions/data/three/print.c"
+	.string	"print.c"
 	.ident	"GCC: (Debian 12.2.0-13) 12.2.0"
 	.section	.note.GNU-stack,"",@progbits
