@@ -162,6 +162,9 @@ class Translator:
 
     @staticmethod
     def unknown(name):
+        if name == "stt":
+            return "`stt` is of floating point, which the product doesn't have: where a function with variable arguments saves " \
+                "registers by it, compile with -mno-fp-regs"
         if name.startswith(FLOATING):
             return f"`{name}` is of floating point, which the product doesn't have"
         if name in ("rpcc", "rc", "rs", "wh64", "wh64en", "ecb"):

@@ -30,7 +30,7 @@ def test_a_file_that_is_not_there_is_refused(_):
 @needs_program
 def test_the_pages_show_what_the_companions_do(folder):
     """Runs the blocks of commands in which companions stand."""
-    for page in ("README.md", "docs/trap-shadows.md", "docs/commands.md"):
+    for page in ("README.md", "docs/trap-shadows.md"):
         runs_as_shown(folder, page, [block for block in blocks(page) if "$ companions/" in block])
 
 
