@@ -1,24 +1,24 @@
 """Whether an image was made of some sources: its words and bytes against those that the program makes of them."""
-import os
 from collections import namedtuple
 
 from . import files, image, module, program
 
-# What is made of a source. `words` and `data` are pairs of a value and the bits of it that a link leaves.
+# What is made of a source. `words` has pairs of a word and those of its bits that a link leaves as they are, `data` pairs of
+# a byte and whether a link leaves it; of an image with a level, `zeroed` has the sizes of its segments instead.
 Made = namedtuple("Made", "words data zeroed")
 OF_LINK = {module.BRANCH: 0xFFE00000, module.HIGH: 0xFFFF0000, module.LOW: 0xFFFF0000}
-PAGE = 8_192
 
 
 def hold(asked, path, sources):
     """Refuses sources of which the image of the path wasn't made. They are laid out, several as the modules of a link."""
     given = image.read_image(path)
-    made = [assembled(asked, sources[0])] if len(sources) == 1 and sources[0].has_entry else [of_module(asked, one) for one in sources]
-    advice = "is it the source of that image?" if len(sources) == 1 else "are these the sources of its modules, in the order of the link?"
+    is_one = len(sources) == 1
+    made = [assembled(asked, one) if is_one and one.has_entry else of_module(asked, one) for one in sources]
+    advice = "is it the source of that image?" if is_one else "are these the sources of its modules, in the order of the link?"
     count = sum(len(one.words) for one in made)
     if count != len(given.words):
         raise files.Refused(f"{path} has {len(given.words)} code words, and {told(sources)} {count}: {advice}" +
-                            (" An image that was linked needs --source for each module" if len(sources) == 1 else ""))
+                            (" An image that was linked needs --source for each module" if is_one else ""))
     if given.code_base != sources[0].code_base:
         raise files.Refused(f"{path}: the code begins at {given.code_base:#x}, by {told(sources)} at {sources[0].code_base:#x}: {advice}")
     for source, one in zip(sources, made):
@@ -40,21 +40,21 @@ def hold_words(path, given, source, made, advice):
         there = given.words[first + place]
         if (there ^ word) & kept:
             address = given.address(first + place)
-            raise files.Refused(f"{source.path}:{source.lines[address]}: this line makes {word:08x} at {address:016x}, where {path} "
-                                f"has {there:08x}: {advice}")
+            raise files.Refused(f"{source.path}:{source.lines[address]}: this line makes {word:08x} at {address:016x}, where "
+                                f"{path} has {there:08x}: {advice}")
 
 
 def hold_data(path, given, bases, made, why):
     """Of an image with a level the sizes alone are looked at: its segments have their bases from the source."""
     if given.level:
-        wanted, there = made[0].zeroed, [(segment.base, len(segment.data), segment.zeroed) for segment in given.segments]
-        if wanted != there:
-            raise files.Refused(f"{path} has segments {there} (base, bytes, zeroed bytes), and {wanted} are made of {why}")
+        there = [(segment.base, len(segment.data), segment.zeroed) for segment in given.segments]
+        if made[0].zeroed != there:
+            raise files.Refused(f"{path} has the segments {there} (base, bytes, zeroed bytes), and {made[0].zeroed} are made of {why}")
         return
     segment, = given.segments
     ends = [(base + len(one.data), one.zeroed) for base, one in zip(bases, made)]
     if segment.base != bases[0] or (segment.base + len(segment.data), segment.zeroed) != ends[-1]:
-        raise files.Refused(f"{path} has {len(segment.data)} data bytes from {segment.base:#x} on, other ones than are made of {why}")
+        raise files.Refused(f"{path} has {len(segment.data)} data bytes from {segment.base:#x} on, and others are made of {why}")
     for base, one in zip(bases, made):
         at = base - segment.base
         for offset, (byte, kept) in enumerate(one.data):
@@ -68,10 +68,11 @@ def assembled(asked, source):
         out = scratch.file("made.img", b"")
         refuse(source, "asm", asked.call("asm", source.path, out))
         made = image.read_image(out)
+    words = [(word, 0xFFFFFFFF) for word in made.words]
     if made.level:
-        return Made([(word, 0xFFFFFFFF) for word in made.words], [], [(one.base, len(one.data), one.zeroed) for one in made.segments])
+        return Made(words, [], [(one.base, len(one.data), one.zeroed) for one in made.segments])
     segment, = made.segments
-    return Made([(word, 0xFFFFFFFF) for word in made.words], [(byte, True) for byte in segment.data], segment.zeroed)
+    return Made(words, [(byte, True) for byte in segment.data], segment.zeroed)
 
 
 def of_module(asked, source):

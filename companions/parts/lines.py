@@ -184,8 +184,8 @@ def by_line(block, said):
             is_meant = any(pattern_of(span).fullmatch(said.text) for span in spans)
         if is_meant and (spans or said.values.get("K") in kinds):
             found.append(row)
-    # A row with a form in general stands above those of the kinds.
-    return found if not found or "K" not in said.values or len(found) > 1 or said.template.startswith(("journal", "norun")) else []
+    # A row with the form of all kinds stands above the rows of each, and alone explains nothing.
+    return [] if all(" kind K " in row[column] for row in found) else found
 
 
 def row_text(block, row, page, said):
@@ -250,9 +250,9 @@ class Known:
 
     def bad_word(self, letter, number):
         if letter == "S":
-            word = f"in hexadecimal {number:08x}"
             known = table.GNU_BARRIERS.get(number)
-            return f"{word}, GNU's word of {table.insn_of(known).name}, which is {known:08x} here" if known else f"{word}, {table.reason(number)}"
+            why = f"GNU's word of {table.insn_of(known).name}, which is {known:08x} here" if known else table.reason(number)
+            return f"in hexadecimal {number:08x}, {why}"
         if letter == "F" and self.options.image is not None:
             given = image.read_image(self.options.image)
             return f"the word at {given.address(number):016x}"

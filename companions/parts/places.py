@@ -5,7 +5,7 @@ import re
 
 from . import files, fitting, gas
 
-CODE_BASE, DATA_BASE = 0x10000, 0x10000000
+CODE_BASE, DATA_BASE, PAGE = 0x10000, 0x10000000, 8_192
 FIELDS = (".codebase", ".database", ".segment")
 SIZES = {".byte": 1, ".word": 2, ".long": 4, ".quad": 8}
 MAP_LINE = re.compile(r"([0-9a-f]{16}) ([0-9a-f]{8,16}) (func|object|label) (\S.*)")
@@ -117,7 +117,7 @@ def laid_out(paths):
         source = Source(path, None, code, data)
         sources.append(source)
         code = source.ends.get(source.code_base, code)
-        data = -(-max([data, *(end for start, end in source.ends.items() if start >= DATA_BASE)]) // 8_192) * 8_192
+        data = -(-source.ends.get(source.begin, data) // PAGE) * PAGE
     return sources
 
 

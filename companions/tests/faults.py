@@ -38,7 +38,7 @@ def told(folder, content, *words):
 def test_each_faulty_line_is_told_once(folder):
     found, out, notes = told(folder, BAD.encode())
     want(found, WANTED, "faults")
-    want((out.splitlines()[-1], notes), ("14 faults", ""), "the last line")
+    want((out.splitlines()[-1], "companions/gas2source makes a source" in notes), ("14 faults", True), "the last line, and the advice")
     want("a.s:4:10: a number outside its range (kind 1 line 4 column 10 detail 4)\n            addq $1,256,$2\n                    ^\n" in out,
          True, out)
 

@@ -81,7 +81,7 @@ def test_a_source_with_a_level_is_held_by_its_segments(folder):
     want(asked.call("asm", source, made), (0, b"", ""), "asm")
     fits(asked, made, [source])
     write(source, text.replace(".zero 9", ".zero 8").encode())
-    fits(asked, made, [source], "has segments")
+    fits(asked, made, [source], "has the segments")
 
 
 @needs_program
