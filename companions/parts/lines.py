@@ -202,8 +202,10 @@ def filled(text, said):
     """A text with what the line has in place of each letter. An A that begins a sentence is the article."""
     def value(match):
         is_article = match[0] == "A" and re.search(r"(^|[.:] |\A)\Z", text[:match.start()])
-        return match[0] if is_article or said is None else said.values.get(match[0], match[0])
-    return FILLED.sub(value, text)
+        return match[0] if is_article else said.values.get(match[0], match[0])
+    if said is None:
+        return text
+    return FILLED.sub(value, text.replace("Cn", f"C{said.values.get('n', 'n')}"))
 
 
 class Known:
