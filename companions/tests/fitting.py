@@ -1,7 +1,8 @@
 """Sources that an image was made of, and others: where, shadowmap and allbroken."""
 import os
+import random
 
-from parts import files, module, places, program
+from parts import files, image, module, places, program
 from .helpers import ASKED, Failed, companion, needs_program, read, want, write
 from .modules import linked, modules
 
@@ -120,3 +121,39 @@ def test_damaged_images_and_sources_are_refused(folder):
     for count, one in enumerate([b"", b"\0" * 9, b"\xff\xfe\t.entry s\n", content, b"\t.align\n", b".zero x\n", b".codebase\n"]):
         write(bad, one)
         companion_on(NAMES[count % 3], made, [bad], status=1)
+
+
+def random_module(chosen, number):
+    """The lines of a module with labels in its code and its data, and the names of these labels."""
+    lines, names = ["\t.code"], []
+    for n in range(chosen.randrange(4)):
+        names.append(f"c{number}_{n}")
+        lines += [f"{names[-1]}:\tnop"] + ["\tlda $1,1($31)"] * chosen.randrange(3)
+    lines.append("\t.data")
+    values = ["\t.byte 1,2,3", '\t.ascii "a\\x41,\\"b"', "\t.quad 5", "\t.align 3", "\t.align 13", "\t.word 7"]
+    for n in range(chosen.randrange(6)):
+        names.append(f"d{number}_{n}")
+        lines += [f"{names[-1]}:", chosen.choice(values)]
+    if chosen.randrange(2):
+        names.append(f"z{number}")
+        lines.append(f"{names[-1]}:\t.zero {chosen.choice((0, 1, 8191, 8192, 20000))}")
+    return lines, names
+
+
+@needs_program
+def test_labels_of_modules_stand_where_the_link_puts_them(folder):
+    """The last module has the address of each label of the others as a quadword, which the link fills in."""
+    asked, chosen = program.Program(ASKED), random.Random(19)
+    for _ in range(4):
+        made = [random_module(chosen, number) for number in range(4)]
+        names = [name for _, part in made for name in part]
+        made.append((["_start:\tcallsys", "\t.data", *(f"\t.quad {name}" for name in names)], []))
+        sources = [os.path.join(folder, f"{number}.as") for number in range(len(made))]
+        for source, (lines, _) in zip(sources, made):
+            write(source, "".join(f"{line}\n" for line in lines).encode())
+        path = linked(asked, folder, sources)
+        fits(asked, path, sources)
+        laid = places.laid_out(sources)
+        table = image.read_image(path).segments[0].data[laid[-1].begin - laid[0].begin:]
+        addresses = {name: address for source in laid for address, name, _ in source.names.rows}
+        want([addresses[name] for name in names], [int.from_bytes(table[8 * n:8 * n + 8], "little") for n in range(len(names))], "labels")

@@ -1,8 +1,10 @@
 """gas2source --module: parts of a program that are compiled, judged and linked apart."""
 import os
+import shutil
+import subprocess
 
 from parts import image, program
-from .helpers import ASKED, DATA, HERE, companion, needs_program, read, want
+from .helpers import ASKED, DATA, HERE, Lacking, companion, needs_program, read, want
 
 PARTS = ("main", "numbers", "print")
 # Numbers whose product is more than 2^63, and what comes of them, worked by hand: 12 * 3,000,000 * 70,000,000,000 * 9 is
@@ -11,11 +13,11 @@ GIVEN = b"12 3000000 70000000000 9\n"
 PUT = b"numbers 4\nsum 70003000021\nproduct 4233255926290448384\nmean 17500750005\n"
 
 
-def modules(folder, repaired=True):
+def modules(folder, repaired=True, texts=os.path.join(DATA, "three")):
     """The sources of the modules of the program of three parts, in the order of its link, by name."""
     made = {}
     for name in ("start", *PARTS, "divide"):
-        text = os.path.join(DATA if name in PARTS else HERE, "three" if name in PARTS else "", f"{name}.s")
+        text = os.path.join(texts if name in PARTS else HERE, f"{name}.s")
         if name in PARTS and repaired:
             fixed = os.path.join(folder, f"{name}.s")
             companion("shadowfix", text, "-o", fixed)
@@ -41,9 +43,27 @@ def test_three_parts_of_c_are_judged_apart_and_linked(folder):
     asked = program.Program(ASKED)
     made = linked(asked, folder, modules(folder).values())
     want(asked.verdict(made), None, "the verdict of the whole")
+    first = runs(asked, made)
+    want(asked.call("run", "--imprecise", "--seed", "3", made, given=GIVEN), first, "run --imprecise")
+
+
+def runs(asked, made):
+    """The answer of a run, whose output must be that which was worked by hand."""
     first = asked.call("run", made, given=GIVEN)
     want((first[0], first[1], first[2].split("\n")[-2]), (0, PUT, "exit 4"), "run")
-    want(asked.call("run", "--imprecise", "--seed", "3", made, given=GIVEN), first, "run --imprecise")
+    return first
+
+
+@needs_program
+def test_other_options_of_the_compiler_make_modules_that_run_alike(folder):
+    if shutil.which("alpha-linux-gnu-gcc") is None:
+        raise Lacking("there is no alpha-linux-gnu-gcc on the path")
+    for options in (["-O0"], ["-O3", "-msmall-data"], ["-Os", "-mno-explicit-relocs"], ["-O2", "-fPIC", "-fsection-anchors"]):
+        texts = os.path.join(folder, "texts")
+        os.makedirs(texts, exist_ok=True)
+        subprocess.run(["alpha-linux-gnu-gcc", *options, "-ftrapv", "-ffixed-28", "-ffreestanding", "-fno-jump-tables", "-S",
+                        *(os.path.join(DATA, "three", f"{name}.c") for name in PARTS)], cwd=texts, check=True)
+        runs(program.Program(ASKED), linked(program.Program(ASKED), folder, modules(folder, texts=texts).values()))
 
 
 @needs_program
