@@ -1,14 +1,14 @@
 """The keeper's road: verdicts of functions, ECOFF files, ELF files of images, and repairs that move no word."""
 import os
+import random
 import re
 import shutil
 import struct
 import subprocess
 import sys
 
-from parts import ecoff, elf, functions, image, program
-from .helpers import ASKED, HERE, TOP, Lacking, blocks, companion, data, needs_program, read, rows, runs_alike, runs_as_shown, want, write
-from .helpers import Failed, write_image
+from parts import elf, image, program, table
+from .helpers import ASKED, HERE, TOP, Failed, Lacking, blocks, companion, data, needs_program, read, rows, runs_as_shown, want, write
 
 RAW = os.path.join(TOP, "examples", "raw_image.py")
 AWAY = 0x120000000
@@ -178,7 +178,6 @@ def test_static_procedures_of_ecoff_files_are_seen(folder):
 @needs_program
 def test_damaged_files_give_functions_or_a_line(folder):
     """Cut short anywhere, or with other bytes, a file gives a table or a line on standard error."""
-    import random
     chosen, path, out = random.Random(8), os.path.join(folder, "a"), os.path.join(folder, "b")
     wholes = [read(data("sort.ecoff"), "rb"), written_ecoff(), read(data("sum.elf"), "rb")]
     for content in wholes:
@@ -216,3 +215,38 @@ def ends_well(name, *words):
     notes = done.stderr.decode("utf-8", "replace")
     if done.returncode not in (0, 1) or "Traceback" in notes or (done.returncode == 1) != bool(notes.strip()) and name != "shadowfix":
         raise Failed(f"{name} {' '.join(words)}: status {done.returncode}: {notes}")
+
+
+TOOLS = ("qemu-alpha", "alpha-linux-gnu-as", "alpha-linux-gnu-ld", "alpha-linux-gnu-objcopy")
+
+
+@needs_program
+def test_old_code_goes_the_way_of_the_page(folder):
+    missing = [tool for tool in TOOLS if shutil.which(tool) is None]
+    if missing:
+        raise Lacking(f"there is no {', '.join(missing)} on the path")
+    runs_as_shown(folder, "docs/old-code.md", blocks("docs/old-code.md"))
+
+
+@needs_program
+def test_a_listing_is_a_text_for_gnu_as(folder):
+    """Every word that GNU as once made comes out of its listing again, but for the hints of jumps."""
+    if shutil.which("alpha-linux-gnu-as") is None or shutil.which("alpha-linux-gnu-objcopy") is None:
+        raise Lacking("there is no alpha-linux-gnu-as, or no alpha-linux-gnu-objcopy, on the path")
+    made, text, again, code = (os.path.join(folder, name) for name in ("a.img", "a.s", "a.o", "a.code"))
+    words = [int(word, 16) for _, word in rows("encodings.tsv")]
+    write(made, image.Image(words, 0x10000, 0x10000, [], 65_536, 2).spelled())
+    listing = subprocess.run([ASKED, "dis", made], capture_output=True, check=True).stdout
+    labelled = subprocess.run(["awk", "-f", os.path.join(TOP, "examples", "labels.awk")], input=listing, capture_output=True, check=True)
+    turned = subprocess.run(["sed", "-E", "-f", os.path.join(TOP, "examples", "to-gnu.sed")], input=labelled.stdout, capture_output=True,
+                            check=True)
+    write(text, turned.stdout)
+    subprocess.run(["alpha-linux-gnu-as", text, "-o", again], check=True)
+    subprocess.run(["alpha-linux-gnu-objcopy", "-O", "binary", "-j", ".text", again, code], check=True)
+    found = [table.GNU_BARRIERS.get(word, word) for word, in struct.iter_unpack("<I", read(code, "rb"))]
+    want([without_hint(word) for word in found], [without_hint(word) for word in words], "words")
+
+
+def without_hint(word):
+    """A word; of a jump that isn't a return, with a hint of 0."""
+    return word & ~0x3FFF if word >> 26 == 0x1A and word >> 14 & 3 != 2 else word

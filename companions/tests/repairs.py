@@ -79,7 +79,7 @@ def test_shadowfix_repairs_and_says_what_it_cannot(folder):
         with open(path, "w", encoding="ascii", newline="") as file:
             file.write(text)
         want(companion("shadowfix", path)[0], wanted, text)
-    for text, line, said in [("\taddqv $1,$2,$1\n\tmov $at,$2\n", 2, "$28"), ("\taddqv $1,$2,$1\n\tbeq $1,.-4\n", 2, "label"),
+    for text, line, said in [("\taddqv $1,$2,$1\n\tbeq $1,.-4\n", 2, "label"),
                              ("\taddqv $1,$2,$f1\n", 1, "floating")]:
         with open(path, "w", encoding="ascii") as file:
             file.write(text)
