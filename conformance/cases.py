@@ -1,0 +1,146 @@
+"""What the suite has: which images, how each is run, which journals are recorded of it, and which journals are refused.
+
+An image is that of the source of its name. What it is for is said by the comment at the head of the source. Sources that
+would be long and alike are made here.
+"""
+import random
+import struct
+from collections import namedtuple
+
+ALL = ("wrap", "saturate", "stop")
+# How an image is run: by which completions, for how many steps, over which input, and whether the registers at barriers are
+# asked for; and which journals of it are recorded, by each of these completions.
+Case = namedtuple("Case", "completions steps given is_watched journals")
+PLAIN = Case(("wrap",), 100_000, b"", True, ())
+# How a recorded run chooses: by a seed, or by words of 64 bits. `at-once` reports each trap before the next word, `late` as
+# late as possible, and leaves ones in every destination.
+CHOICES = {"at-once": b"", "late": b"\xff" * 32_768, "astray": struct.pack("<3Q", 0x10000008, 1, 0x77),
+           "behind": struct.pack("<4Q", 5, 1, 6, 0), "second": struct.pack("<7Q", 5, 5, 6, 0, 0, 0, 0)}
+SOME, MANY = ("1", "2", "late"), ("1", "2", "3", "at-once", "late")
+
+# ---- values: what operate instructions give
+
+CORNERS = (0, 1, 2, 7, 0x7FFFFFFF, 0x80000000, 0xFFFFFFFF, 0x123456789ABCDEF, 0x8877665544332211, (1 << 63) - 1, 1 << 63,
+           (1 << 64) - 1)
+ARITHMETIC = "addl addq subl subq mull mulq umulh s4addl s4addq s4subl s4subq s8addl s8addq s8subl s8subq".split()
+TRIGGERS = "addl/v addq/v subl/v subq/v mull/v mulq/v".split()
+COMPARISONS = "cmpeq cmplt cmple cmpult cmpule cmpbge and bic bis ornot xor eqv".split()
+MOVES = "cmoveq cmovne cmovlt cmovle cmovgt cmovge cmovlbs cmovlbc".split()
+EXTRACTS = "extbl extwl extll extql extwh extlh extqh insbl inswl insll insql inswh inslh insqh".split()
+MASKS = "mskbl mskwl mskll mskql mskwh msklh mskqh zap zapnot sll srl sra sextb sextw".split()
+COUNTS = "ctpop ctlz cttz implver sextb sextw addq".split()
+UNARY = {"sextb", "sextw", "amask", "ctpop", "ctlz", "cttz"}
+VALUES = {"arithmetic": (ARITHMETIC, 1), "triggers": (TRIGGERS, 1), "comparisons": (COMPARISONS, 1), "moves": (MOVES, 1),
+          "extracts": (EXTRACTS, 1), "masks": (MASKS, 1), "features": (["amask", "implver"], 1), "counts": (COUNTS, 2)}
+
+
+def lines_of(name, number):
+    """The line of an instruction on $1 and $2 into $3, and the one with a literal of its own for $2, where it has one."""
+    if name == "implver":
+        return [f"{name} $3"]
+    first = "" if name in UNARY else "$1,"
+    if name in ("ctpop", "ctlz", "cttz"):
+        return [f"{name} $2,$3"]
+    return [f"{name} {first}$2,$3", f"{name} {first}{37 * number % 256},$3"]
+
+
+def values_source(names, level):
+    """A program that reads three quadwords, a, b and c, and writes what each line gives with a in $1, b in $2 and c in $3
+    before it, until the input ends."""
+    lines = [line for number, name in enumerate(names, 1) for line in lines_of(name, number)]
+    said = ["# a, b and c of each 24 bytes of the input in $1, $2 and $3: a quadword of output for each of these lines' $3:"]
+    said += ["# " + "; ".join(lines[n:n + 6]) for n in range(0, len(lines), 6)]
+    body = []
+    for number, line in enumerate(lines):
+        body += ["ldq $3,16($9)", line, f"stq $3,{24 + 8 * number}($9)"] + (["trapb"] if "/v" in line else [])
+    calls = ["lda $0,4($31)", "lda $16,1($31)", "lda $17,24($9)", f"lda $18,{8 * len(lines)}($31)", "callsys", "br next",
+             "end: clr $16", "lda $0,1($31)", "callsys"]
+    head = ["ldah $9,0x1000($31)", "next: lda $0,3($31)", "clr $16", "mov $9,$17", "lda $18,24($31)", "callsys",
+            "subq $0,24,$4", "bne $4,end", "ldq $1,0($9)", "ldq $2,8($9)"]
+    code = [f"start: {head[0]}", *head[1:], *body, *calls]
+    data = [".level 2", ".segment 0x10000000"] if level == 2 else [".data"]
+    return "\n".join(said + data + [f".zero {24 + 8 * len(lines)}", ".code", *code, ".entry start"]) + "\n"
+
+
+def long_source(words, condition):
+    """A shadow of so many words behind its trigger."""
+    head = [f"# {condition}: {words} words stand between the trigger and its barrier.", ".code", "start: lda $1,-1($31)",
+            "srl $1,1,$1", "lda $2,1($31)", "addq/v $1,$2,$3"]
+    tail = ["trapb", "addq $3,$4,$16", "lda $0,1($31)", "callsys", ".entry start"]
+    return "\n".join([*head, *["lda $4,4($31)"] * words, *tail]) + "\n"
+
+
+def made_sources():
+    """The sources that are made here, by name."""
+    made = {f"values-{name}": values_source(*what) for name, what in VALUES.items()}
+    made["shadow-c9"] = long_source(1_025, "C9")
+    made["shadow-c9-repaired"] = long_source(1_024, "As shadow-c9, with one word less")
+    return made
+
+
+def rows(triples):
+    return b"".join(struct.pack("<3Q", *(value % (1 << 64) for value in triple)) for triple in triples)
+
+
+def pairs():
+    """Corners with corners, and others."""
+    chosen = random.Random(58)
+    found = [(a, b, 0x5555AAAA) for a in CORNERS for b in CORNERS if a <= b or (a + b) % 3 == 0]
+    return rows(found + [tuple(chosen.getrandbits(64) for _ in range(3)) for _ in range(8)])
+
+
+def shifts():
+    """Values with each number of bytes and some of bits, and with bits that mean nothing."""
+    return rows([(a, b, 0x5555AAAA) for a in (0x8877665544332211, 0x123456789ABCDEF) for b in
+                 (0, 1, 2, 3, 4, 5, 6, 7, 8, 15, 31, 32, 33, 62, 63, 64, 0xF9, 0x80, 0x8000, -1, 1 << 63)])
+
+
+def quadwords(*values):
+    return b"".join(struct.pack("<Q", value % (1 << 64)) for value in values)
+
+
+# ---- how each image is run
+
+CASES = {
+    "values-arithmetic": PLAIN._replace(given=pairs(), is_watched=False),
+    "values-triggers": PLAIN._replace(given=pairs(), is_watched=False, completions=("wrap", "saturate")),
+    "values-comparisons": PLAIN._replace(given=pairs(), is_watched=False),
+    "values-moves": PLAIN._replace(given=pairs(), is_watched=False),
+    "values-extracts": PLAIN._replace(given=shifts(), is_watched=False),
+    "values-masks": PLAIN._replace(given=shifts(), is_watched=False),
+    "values-features": PLAIN._replace(given=shifts(), is_watched=False),
+    "values-counts": PLAIN._replace(given=pairs(), is_watched=False),
+    "reads": PLAIN._replace(given=b"twenty bytes, or so\n"),
+    "locks": PLAIN._replace(completions=ALL, journals=SOME),
+    "completions": PLAIN._replace(completions=ALL, journals=MANY),
+    "late-masks": PLAIN._replace(completions=ALL, journals=MANY),
+    "late-loop": PLAIN._replace(completions=ALL, journals=MANY,
+                                given=quadwords(5, 1 << 62, 1 << 62, -7, (1 << 63) - 1, -3, 0x80000000, 1 << 63, 12) + b"end"),
+    "end-loop": PLAIN._replace(steps=10),
+    "end-stop": PLAIN._replace(completions=ALL, journals=SOME),
+    "end-exit": PLAIN._replace(journals=("1",)),
+    "end-bpt": PLAIN._replace(journals=("1",)),
+    "end-return": PLAIN._replace(journals=("1",)),
+    "end-nowhere": PLAIN._replace(journals=("1",)),
+    "end-odd": PLAIN._replace(journals=("1",)),
+    "calls": PLAIN._replace(journals=("1",)),
+    "shadow-c1-second": PLAIN._replace(journals=(*SOME, "second")),
+    "shadow-c4": PLAIN._replace(journals=(*SOME, "astray")),
+    "shadow-c7": PLAIN._replace(journals=(*SOME, "at-once", "behind")),
+    "shadow-c9": PLAIN._replace(is_watched=False, journals=("1", "late")),
+    "shadow-c9-repaired": PLAIN._replace(is_watched=False, journals=("1", "late")),
+}
+
+
+def case_of(name):
+    if name not in CASES and name.startswith("shadow-"):
+        is_repaired = name.endswith("-repaired")
+        return PLAIN._replace(completions=("wrap", "stop") if is_repaired else ("wrap",), journals=("1", "late") if is_repaired else SOME)
+    return CASES.get(name, PLAIN)
+
+
+# The images of which qemu-alpha gives the same output and exit value, once each /V word is one without: it ends a program at
+# an overflow, and without /V an overflow wraps. What isn't here asks for what Linux does otherwise, or for more registers
+# than an exit value shows.
+UNDER_QEMU = {"memory", "branches", "jumps", "barriers", "reads", "completions", "late-masks", "late-loop",
+              *(f"values-{name}" for name in VALUES)}

@@ -1,0 +1,4 @@
+# A branch to the address before the code.
+        .code
+start:  br $1,.-4
+        .entry start

@@ -1,0 +1,5 @@
+# A signal: gentrap is 2.
+        .code
+start:  nop
+        gentrap
+        .entry start

@@ -1,0 +1,12 @@
+# Two triggers, of which the second has the destination R31: it can't be in a mask. C1.
+        .code
+start:  lda $1,-1($31)
+        srl $1,1,$1             # 2^63 - 1
+        lda $2,1($31)
+        addq/v $1,$2,$3
+        addq/v $1,$1,$31
+        trapb
+        mov $3,$16
+        lda $0,1($31)
+        callsys
+        .entry start
