@@ -117,7 +117,8 @@ def is_shown(wrote, shown):
 
 
 def status_told(command, shown):
-    if "./alpha" not in command or "|" in command.rpartition("./alpha")[2] or not shown:
+    call = re.search(r".*\./(?:alpha|look)\b(.*)", command, re.S)
+    if not call or "|" in call[1] or not shown:
         return 0
     return next((status for status, line in TOLD if re.match(line, shown[-1])), 0)
 
@@ -146,9 +147,10 @@ def hold_blocks(page, program, counts):
         for name in os.listdir(TOP):
             if name == "examples":
                 shutil.copytree(f"{TOP}/{name}", f"{folder}/{name}")
-            elif name != "alpha":
+            elif name not in ("alpha", "look"):
                 os.symlink(f"{TOP}/{name}", f"{folder}/{name}")
-        os.symlink(program, f"{folder}/alpha")
+        for name in ("alpha", "look"):
+            os.symlink(program, f"{folder}/{name}")
         for block in page.blocks:
             if block[1][:1] == ["console"]:
                 hold_block(page, block, folder, counts)

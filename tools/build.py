@@ -1,8 +1,8 @@
 #!/usr/bin/env python3
-"""Proves every crate that the program stands on, builds the program, and runs it with the words given. ./alpha calls this
-where the program is missing or older than its sources.
+"""Proves every crate that the program stands on, and builds the program. ./alpha calls this where the program is missing or
+was made of other sources.
 
-    tools/build.py [WORDS]
+    tools/build.py
 
 Crates that don't stand on one another are proved side by side, by as many processors as memory allows (RT_JOBS=N: by N),
 those with the longest chain of others behind them first; processors that are left over share a crate's functions. What is
@@ -22,9 +22,11 @@ import time
 sys.dont_write_bytecode = True
 import kit
 
-FAILED = 70
+FAILED = kit.NO_PROGRAM
 LOG = os.path.join(kit.TOP, ".alpha-build.log")
 PROGRAM = os.path.join(kit.TOP, "crates/alpha_tool/out/alpha_tool")
+# How many builds a call makes where sources are changed during each of them.
+ROUNDS = 4
 # How the last line of a whole build begins.
 BUILT = "built"
 # As measured of all crates from nothing. A program's check loads all libraries, which is as much work as a part of their lines.
@@ -56,17 +58,6 @@ class Named:
 
     def flush(self):
         self.log.flush()
-
-
-def look_at(rt, tool):
-    """A sum of all that the program is made from, and the crates whose kept work is that of their sources and of all
-    below. Each source is read once for it."""
-    stamp = rt.Crate.stamp
-    rt.Crate.stamp = functools.lru_cache(maxsize=None)(stamp)
-    try:
-        return tool.stamp(), {it for it in tool.below() if it.is_built()}
-    finally:
-        rt.Crate.stamp = stamp
 
 
 def open_log():
@@ -103,7 +94,8 @@ class Build:
         self.crates = [*tool.below(), tool]
         self.seconds, self.counting = {}, threading.Lock()
 
-    def run(self, start, stamp, done):
+    def run(self, stamp, done):
+        start = time.time()
         left = [it for it in self.crates if it not in done]
         tell_beforehand(self.rt, self.crates, left, self.log)
         self.count = len(done)
@@ -113,7 +105,7 @@ class Build:
             work = functools.partial(self.prove, crate)
             tasks[crate.name, "proof"] = waits, kit.lines_of(crate), self.rt.need(crate), work
         self.rt.in_lanes(tasks)
-        self.replace(start, stamp)
+        self.replace(stamp)
         chain = kit.longest_chain(self.crates, lambda it: self.seconds.get(it, 0))
         chain = [it for it in chain if it in self.seconds]
         say(f"the longest chain: {', '.join(f'{it.name} {self.seconds[it]:.0f}' for it in chain)};"
@@ -143,43 +135,41 @@ class Build:
         made = f"{PROGRAM}.new"
         return self.tool.compile(flags, f"{made}.o") or self.tool.link(f"{made}.o", os.path.relpath(made, self.tool.folder))
 
-    def replace(self, start, stamp):
-        """Puts the new program in the place of the old one. It is as old as this build, so that sources that were
-        changed meanwhile are newer; where none was, `rt run` takes it as its own."""
+    def replace(self, stamp):
+        """Puts the new program in the place of the old one. Where no source was changed meanwhile it has its stamp, so that
+        `rt run` takes it as its own too."""
         os.remove(f"{PROGRAM}.new.o")
-        os.utime(f"{PROGRAM}.new", (start, start))
         os.replace(f"{PROGRAM}.new", PROGRAM)
-        if look_at(self.rt, self.tool) == (stamp, set(self.tool.below())):
-            with open(f"{PROGRAM}.stamp", "w", encoding="utf-8") as file:
-                file.write(stamp + self.rt.rtlib.sum_of(PROGRAM))
+        if kit.look_at(self.rt, self.tool) == (stamp, set(self.tool.below())):
+            kit.put_stamp(self.rt, PROGRAM, stamp)
 
 
-def main(words):
+def build(rt, tool):
+    """Builds the program, once more where sources are changed meanwhile, until it is that of the sources as they stand."""
+    for _ in range(ROUNDS):
+        stamp, done = kit.look_at(rt, tool)
+        if kit.has_stamp(rt, PROGRAM, stamp):
+            return
+        with open_log() as log:
+            Build(rt, tool, log).run(stamp, done)
+    if not kit.has_stamp(rt, PROGRAM, kit.look_at(rt, tool)[0]):
+        give_up("the sources were changed during each build: call again when they rest")
+
+
+def main():
     # As the kit's commands: an interruption ends all that was started.
     signal.signal(signal.SIGINT, signal.SIG_DFL)
     try:
         rt = kit.load()
         if rt is None:
-            give_up("the Rattle kit is missing, without which nothing can be proved: its command rt isn't on the path")
+            give_up(f"{kit.MISSING}, without which nothing can be proved")
         rt.rtlib.guarded()
-        tool = rt.Crate(f"{kit.TOP}/crates/alpha_tool", kit.TOP, {})
-        rt.read_files(tool)
+        tool = kit.tool(rt)
         _locks = rt.rtlib.lock([*tool.below(), tool])
-        start = time.time()
-        stamp, done = look_at(rt, tool)
-        if rt.rtlib.text_of(f"{PROGRAM}.stamp") == stamp + rt.rtlib.sum_of(PROGRAM):
-            # Its sources have a later date and the same text.
-            os.utime(PROGRAM, (start, start))
-        else:
-            with open_log() as log:
-                Build(rt, tool, log).run(start, stamp, done)
+        build(rt, tool)
     except (SystemExit, OSError) as error:
         give_up(f"the build failed: {error}")
-    # Python ignores these two, which the program would inherit.
-    for it in (signal.SIGPIPE, signal.SIGXFSZ):
-        signal.signal(it, signal.SIG_DFL)
-    os.execv(PROGRAM, [PROGRAM, *words])
 
 
 if __name__ == "__main__":
-    main(sys.argv[1:])
+    main()

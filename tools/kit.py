@@ -1,5 +1,6 @@
 """The kit's command `rt` as a module: its crates, its stamps and its lanes, by which scripts here prove crates side by
-side and measure the gate."""
+side, make the program and measure the gate."""
+import functools
 import importlib.machinery
 import importlib.util
 import os
@@ -7,6 +8,9 @@ import pathlib
 import shutil
 
 TOP = os.path.dirname(os.path.dirname(os.path.realpath(__file__)))
+# The status of ./alpha and ./look where there is no program, which no command has.
+NO_PROGRAM = 70
+MISSING = "the Rattle kit is missing: its command rt isn't on the path"
 
 
 def load():
@@ -21,6 +25,34 @@ def load():
     rt.rtlib.Crate = rt.Crate
     rt.Crate.allowed = rt.handles_of(TOP)
     return rt
+
+
+def tool(rt):
+    """The crate of the program."""
+    made = rt.Crate(f"{TOP}/crates/alpha_tool", TOP, {})
+    rt.read_files(made)
+    return made
+
+
+def look_at(rt, tool):
+    """A sum of all that the program is made from, and the crates whose kept work is that of their sources and of all
+    below. Each source is read once for it."""
+    stamp = rt.Crate.stamp
+    rt.Crate.stamp = functools.lru_cache(maxsize=None)(stamp)
+    try:
+        return tool.stamp(), {it for it in tool.below() if it.is_built()}
+    finally:
+        rt.Crate.stamp = stamp
+
+
+def has_stamp(rt, program, stamp):
+    """Whether the file is the program that was made at this sum of its sources."""
+    return os.access(program, os.X_OK) and rt.rtlib.text_of(f"{program}.stamp") == stamp + rt.rtlib.sum_of(program)
+
+
+def put_stamp(rt, program, stamp):
+    with open(f"{program}.stamp", "w", encoding="utf-8") as file:
+        file.write(stamp + rt.rtlib.sum_of(program))
 
 
 def lines_of(crate):

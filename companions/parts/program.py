@@ -18,7 +18,8 @@ class Program:
         if not os.access(path, os.X_OK) or os.path.isdir(path):
             raise files.Refused(f"{path}: no program is there; say --alpha PROGRAM, or set the variable ALPHA to its path")
         self.path = os.path.abspath(path)
-        if files.read_bytes(path)[:2] == b"#!" and not os.path.exists(os.path.join(os.path.dirname(self.path), BUILT)):
+        is_script = os.path.basename(path) != "look" and files.read_bytes(path)[:2] == b"#!"
+        if is_script and not os.path.exists(os.path.join(os.path.dirname(self.path), BUILT)):
             print(f"{self.path} builds the program first, which proves all of it and takes minutes", file=sys.stderr)
 
     def call(self, *words, given=b""):
