@@ -1,5 +1,6 @@
 pub mod Faults
 pub mod Files
+pub mod Keeping
 pub mod Line
 pub mod ReadWhole
 pub mod ShelfState

@@ -1,9 +1,11 @@
 ghost use Rattle.std.specs.Prelude.{◌≡◌};
 ghost use Rattle.std.specs.Io.{ReadsAtMost};
 
+use crate::again::read_again;
 use crate::fault::counted;
+use crate::keep::keep_file;
 use crate::{Failed, Shelf};
-use std::io::{Read, Seek, SeekFrom};
+use std::io::{Seek, SeekFrom};
 use std::marker::Model;
 use std::rt::Files;
 use std::{fs, io};
@@ -74,7 +76,7 @@ impl<R: Files + AllocGlobal> DiskShelf<R> {
         ensures same { self.new ≡ self.old }
     {
         let mut begun = self.begun_at(name, at)?;
-        let count = begun.file.read(buf)?;
+        let count = read_again(&mut begun.file, buf)?;
         begun.at = at.saturating_add(count as u64);
         if count > 0 {
             self.begun = Some(begun);
@@ -99,7 +101,7 @@ impl<R: Files + AllocGlobal> Shelf for DiskShelf<R> {
 
     fn keep(&mut self, name: &str, bytes: &[u8]) -> Result<(), Failed> {
         self.begun = None;
-        let answer = fs::write(&self.files, name, bytes);
+        let answer = keep_file(&self.files, name, bytes);
         counted(answer, &mut self.faults)
     }
 }

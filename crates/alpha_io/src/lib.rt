@@ -25,12 +25,15 @@
 //! object in memory.
 #![tactic(auto)]
 
+mod again;
 mod disk;
 mod fault;
+mod keep;
 mod laws;
 mod line;
 mod memory;
 mod read;
+mod replace;
 mod shelf;
 mod sink;
 mod source;

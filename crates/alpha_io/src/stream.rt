@@ -1,5 +1,6 @@
 ghost use Rattle.std.specs.Prelude.{◌≡◌};
 
+use crate::again::{read_again, write_again};
 use crate::fault::{counted, next_count};
 use crate::{Failed, Sink, Source};
 use std::io::{Read, Write};
@@ -38,7 +39,7 @@ impl<R: Read> Source for ReadSource<R> {
     ghost faults = { λ s. s };
 
     fn take(&mut self, buf: &mut [u8]) -> Result<usize, Failed> {
-        let answer = self.reader.read(buf);
+        let answer = read_again(&mut self.reader, buf);
         counted(answer, &mut self.faults)
     }
 }
@@ -76,7 +77,7 @@ impl<W: Write> Sink for WriteSink<W> {
     ghost faults = { λ s. s };
 
     fn put(&mut self, bytes: &[u8]) -> Result<usize, Failed> {
-        match self.writer.write(bytes) {
+        match write_again(&mut self.writer, bytes) {
             Ok(count) if count > 0 => Ok(count),
             _ => {
                 self.faults = next_count(self.faults);

@@ -1,0 +1,40 @@
+-- What is called, one after the other, on a new file that is to take another one's name.
+use Rattle.std.specs.Prelude.{◌≡◌, ⊤, List, [], ◌∷◌, ◌++◌, ℕ, Option, None, Some, Result, MatchResult}
+
+-- a call that succeeded, a removal that was tried, or any other call that failed
+pub data Call : Type 0 where
+  Wrote : List ℕ → Call
+  Synced : Call
+  Renamed : Call
+  Removed : Call
+  Failed : Call
+
+-- where calls are told, these came next
+abbrev pub Adds : Option (List Call) → Option (List Call) → List Call → Type 0
+Adds None new calls = ⊤
+Adds (Some old) None calls = ⊥
+Adds (Some old) (Some new) calls = new ≡ old ++ calls
+
+-- this call came next, and failed at an `Err`
+abbrev pub Makes : {T E : Type 0} → Option (List Call) → Option (List Call) → Call → Result T E → Type 0
+Makes old new call result = MatchResult result (λ _. Adds old new (call ∷ [])) (λ _. Adds old new (Failed ∷ []))
+
+-- the calls that end with the new file under the name: all bytes are written and synced before
+abbrev pub replacing : List ℕ → List Call
+replacing bytes = Wrote bytes ∷ Synced ∷ Renamed ∷ []
+
+-- A front of these calls succeeded, and the next one failed; so the new file never had the name.
+pub record BreaksOff (old new : Option (List Call)) (bytes : List ℕ) : Type 0 where
+  pub done : List Call
+  pub next : Call
+  pub rest : List Call
+  pub front : done ++ next ∷ rest ≡ replacing bytes
+  pub calls : Adds old new (done ++ Failed ∷ [])
+
+-- The same, and it was removed behind that.
+pub record GivesUp (old new : Option (List Call)) (bytes : List ℕ) : Type 0 where
+  pub done : List Call
+  pub next : Call
+  pub rest : List Call
+  pub front : done ++ next ∷ rest ≡ replacing bytes
+  pub calls : Adds old new (done ++ Failed ∷ Removed ∷ [])
