@@ -1,3 +1,4 @@
+mod Waiting
 mod Words
 mod Printing
 mod Sinks
@@ -5,6 +6,7 @@ mod Steps
 mod Sessions
 mod Hearing
 mod Scripts
+mod Pieces
 mod Underway
 mod Opening
 pub mod Transcripts

@@ -1,5 +1,5 @@
 -- A session from the start, against the transcript.
-use Rattle.std.proofs.Common.{◌≡◌, ℕ, List, [], ◌++◌, sym, ap, subst}
+use Rattle.std.proofs.Common.{◌≡◌, ℕ, List, [], ◌++◌, refl, sym, ap, subst}
 use Rattle.alpha_io.specs.Sunk.{Sunk, Puts, Partly}
 use Rattle.alpha_io.proofs.Sinks.{Partly-whole}
 use Rattle.alpha_image.specs.Parts.{Parts}
@@ -11,6 +11,7 @@ use Rattle.alpha_debug.specs.Session.{Session}
 use Rattle.alpha_debug.specs.Script.{Transcript, transcript, transcript_from, script_limit}
 use Rattle.alpha_debug.specs.Effects.{setting_of, IsOpened, told_from, Reads, Tells, ReadingFails, TellingFails, TellEffect}
 use Rattle.alpha_debug.specs.DebugEffect.{Follows, IsWhole, IsUnread, IsUnwritten, DebugEffect}
+use Rattle.alpha_debug.proofs.Sinks.{unblocked, Puts-gathered}
 
 -- the transcript is that from the start
 told-is : (image : Parts) (d : Debugger) (script : List ℕ) → IsOpened image d → told_from d [] script_limit [] script ≡ transcript (setting_of d) script
@@ -26,7 +27,7 @@ follows image d script taken rest opens reads = record {
   most = reads.most;
 }
 
-whole : (end : DebugEnd) (image : Parts) (d : Debugger) (script : Drawn) (out : Sunk) → IsOpened image d → Tells d end script out → IsWhole end image script out
+whole : (end : DebugEnd) (image : Parts) (d : Debugger) (script : Drawn) (out : Sunk) → IsOpened image d → Tells d end script (unblocked out) → IsWhole end image script out
 whole end image d script out opens tells =
     let t : Transcript = told_from d [] script_limit [] (tells.taken ++ tells.rest) in
     let is : t ≡ record { text = tells.put; end = end } = tells.is [] in
@@ -34,24 +35,25 @@ whole end image d script out opens tells =
       told = t;
       follows = follows image d script tells.taken tells.rest opens tells.reads;
       same = tells.same;
-      wrote = subst (λ (u : Transcript). Puts out u.text) (sym is) tells.wrote;
+      wrote = subst (λ (u : Transcript). Puts out u.text) (sym is) (Puts-gathered (unblocked out) tells.put refl refl tells.wrote);
       end_is = ap (λ (u : Transcript). u.end) is;
     }
 
-unread : (image : Parts) (d : Debugger) (script : Drawn) (out : Sunk) → IsOpened image d → ReadingFails d script out → IsUnread image script out
+unread : (image : Parts) (d : Debugger) (script : Drawn) (out : Sunk) → IsOpened image d → ReadingFails d script (unblocked out) → IsUnread image script out
 unread image d script out opens fails =
     let t : Transcript = told_from d [] script_limit [] (fails.taken ++ fails.rest) in
     let more = fails.more [] in
+    let wrote : Puts out fails.put = Puts-gathered (unblocked out) fails.put refl refl fails.wrote in
     record {
       told = t;
       follows = follows image d script fails.taken fails.rest opens fails.reads;
       later = fails.later;
       cause = fails.cause;
-      part = subst (Partly out) (sym more.is) (Partly-whole out fails.put more.bytes fails.wrote);
-      same = fails.wrote.same;
+      part = subst (Partly out) (sym more.is) (Partly-whole out fails.put more.bytes wrote);
+      same = wrote.same;
     }
 
-unwritten : (image : Parts) (d : Debugger) (script : Drawn) (out : Sunk) → IsOpened image d → TellingFails d script out → IsUnwritten image script out
+unwritten : (image : Parts) (d : Debugger) (script : Drawn) (out : Sunk) → IsOpened image d → TellingFails d script (unblocked out) → IsUnwritten image script out
 unwritten image d script out opens fails =
     let t : Transcript = told_from d [] script_limit [] (fails.taken ++ fails.rest) in
     let breaks = fails.breaks [] in
@@ -63,7 +65,7 @@ unwritten image d script out opens fails =
       cause = breaks.stops.failed;
     }
 
-pub opened_effect : (end : DebugEnd) (image : Parts) (d : Debugger) (script : Drawn) (out : Sunk) → IsOpened image d → TellEffect end d script out → DebugEffect end image script out
+pub opened_effect : (end : DebugEnd) (image : Parts) (d : Debugger) (script : Drawn) (out : Sunk) → IsOpened image d → TellEffect end d script (unblocked out) → DebugEffect end image script out
 opened_effect Done image d script out opens did = whole Done image d script out opens did
 opened_effect TooLarge image d script out opens did = whole TooLarge image d script out opens did
 opened_effect InputFault image d script out opens did = unread image d script out opens did

@@ -5,7 +5,6 @@ use Rattle.std.proofs.Math.Seq.{take-suc}
 use Rattle.std.proofs.lemmas.List.{length-append, length-take, take_all, take-append-le}
 use Rattle.std.proofs.lemmas.List.Elements.{All-append, All-cons}
 use Rattle.std.specs.Str.Lines.{strip_carriage_return}
-use Rattle.alpha_io.specs.Sunk.{Sunk, sunk_by, Puts}
 use Rattle.alpha_debug.specs.declared.command.Command.{Command}
 use Rattle.alpha_debug.specs.declared.debugger.Debugger.{Debugger}
 use Rattle.alpha_debug.specs.declared.debugger.Talk.{Talk}
@@ -13,13 +12,14 @@ use Rattle.alpha_debug.specs.declared.debugger.Talk.TheVariants.{GoesOn, Quits}
 use Rattle.alpha_debug.specs.Command.{command_of}
 use Rattle.alpha_debug.specs.Session.{Setting, Session, text_of, answer}
 use Rattle.alpha_debug.specs.Script.{Transcript, lines_within, answers, closed}
+use Rattle.alpha_debug.specs.Gathered.{Gathered, gathered_by, Gathers}
 use Rattle.alpha_debug.specs.Effects.{Breaks, session_of, setting_of, left_by, Answers, AnswerFails, IsHeld, told_from, told_after, Hears, HearFails}
-use Rattle.alpha_debug.proofs.Sinks.{Breaks-more, Breaks-after, Puts-both}
+use Rattle.alpha_debug.proofs.Sinks.{Breaks-more, Breaks-after, Gathers-both}
 use Rattle.alpha_debug.proofs.Hearing.{NoFeed, told-other, told-feed, told-over, held-line, answers-grows}
 
 -- ---- no bytes
 
-pub hears_none : (begun held : List ℕ) (d : Debugger) (out : Sunk) → IsHeld begun held → Puts out [] → Hears [] begun GoesOn d d held out
+pub hears_none : (begun held : List ℕ) (d : Debugger) (out : Gathered) → IsHeld begun held → Gathers out [] → Hears [] begun GoesOn d d held out
 hears_none begun held d out is_held none = record {
   put = [];
   line = begun;
@@ -42,7 +42,7 @@ line-command : (begun held line : List ℕ) → IsHeld begun held → line ≡ s
 line-command begun held line is_held e =
     ap command_of e ∙ (ap (λ (l : List ℕ). command_of (strip_carriage_return l)) is_held.front ∙ held-line begun)
 
-pub hears_feed : (begun held line : List ℕ) (talk : Talk) (old new : Debugger) (out : Sunk) → IsHeld begun held → line ≡ strip_carriage_return held → setting_of new ≡ setting_of old
+pub hears_feed : (begun held line : List ℕ) (talk : Talk) (old new : Debugger) (out : Gathered) → IsHeld begun held → line ≡ strip_carriage_return held → setting_of new ≡ setting_of old
     → Answers (command_of line) talk old new out → Hears (10 ∷ []) begun talk old new [] out
 hears_feed begun held line talk old new out is_held e same answers_is = record {
   put = answers_is.bytes;
@@ -59,7 +59,7 @@ hears_feed begun held line talk old new out is_held e same answers_is = record {
       ∙ after-feed talk old new (text ++ answers_is.bytes) n rest same)));
 }
 
-pub hear_feed_fails : (begun held line : List ℕ) (old : Debugger) (out : Sunk) → IsHeld begun held → line ≡ strip_carriage_return held
+pub hear_feed_fails : (begun held line : List ℕ) (old : Debugger) (out : Gathered) → IsHeld begun held → line ≡ strip_carriage_return held
     → AnswerFails (command_of line) old out → HearFails (10 ∷ []) begun old out
 hear_feed_fails begun held line old out is_held e fails text most rest l =
     let n : ℕ = most - 1 in
@@ -78,7 +78,7 @@ hear_feed_fails begun held line old out is_held e fails text most rest l =
 all-one : (b : ℕ) → (b == 10) ≡ false → NoFeed (b ∷ [])
 all-one b other = All-cons (λ x. (x == 10) ≡ false) b [] other (λ k d l. absurd (omega arith))
 
-pub hears_other : (b : ℕ) (begun held : List ℕ) (d : Debugger) (out : Sunk) → (b == 10) ≡ false → NoFeed begun → held ≡ take 1026 (begun ++ b ∷ []) → Puts out []
+pub hears_other : (b : ℕ) (begun held : List ℕ) (d : Debugger) (out : Gathered) → (b == 10) ≡ false → NoFeed begun → held ≡ take 1026 (begun ++ b ∷ []) → Gathers out []
     → Hears (b ∷ []) begun GoesOn d d held out
 hears_other b begun held d out other line front none = record {
   put = [];
@@ -109,7 +109,7 @@ held_full b begun held front full =
 
 -- ---- bytes behind bytes
 
-module _ {K : Type 0} (written : K → Option (List ℕ)) (faults : K → ℕ) (o p q : K) (xs ys begun : List ℕ) (a b c : Debugger) (held_b : List ℕ) (first : Hears xs begun GoesOn a b held_b (sunk_by written faults o p)) where
+module _ {K : Type 0} (written : K → Option (List ℕ)) (faults : K → ℕ) (o p q : K × List ℕ) (xs ys begun : List ℕ) (a b c : Debugger) (held_b : List ℕ) (first : Hears xs begun GoesOn a b held_b (gathered_by written faults o p)) where
   -- the transcript behind the first bytes
   behind : (text : List ℕ) (most : ℕ) (rest : List ℕ) → length (xs ++ ys) ≤ most
       → told_from a text most begun ((xs ++ ys) ++ rest) ≡ told_from b (text ++ first.put) (most - length xs) first.line (ys ++ rest)
@@ -117,11 +117,11 @@ module _ {K : Type 0} (written : K → Option (List ℕ)) (faults : K → ℕ) (
       ap (λ (s : List ℕ). told_from a text most begun s) (append_assoc xs ys rest)
       ∙ first.is text most (ys ++ rest) (omega (arith, l, length-append xs ys))
 
-  pub hears_then : (talk : Talk) (held_c : List ℕ) → Hears ys first.line talk b c held_c (sunk_by written faults p q) → Hears (xs ++ ys) begun talk a c held_c (sunk_by written faults o q)
+  pub hears_then : (talk : Talk) (held_c : List ℕ) → Hears ys first.line talk b c held_c (gathered_by written faults p q) → Hears (xs ++ ys) begun talk a c held_c (gathered_by written faults o q)
   hears_then talk held_c second = record {
     put = first.put ++ second.put;
     line = second.line;
-    wrote = Puts-both written faults o p q first.put second.put first.wrote second.wrote;
+    wrote = Gathers-both written faults o p q first.put second.put first.wrote second.wrote;
     held_is = second.held_is;
     is = λ text most rest l.
         let left : (most - length xs) - length ys ≡ most - length (xs ++ ys) = omega (arith, l, length-append xs ys) in
@@ -131,14 +131,14 @@ module _ {K : Type 0} (written : K → Option (List ℕ)) (faults : K → ℕ) (
         ∙ ap (λ (t : List ℕ). told_after talk c t (most - length (xs ++ ys)) second.line rest) (append_assoc text first.put second.put)));
   }
 
-  pub hear_fails_then : HearFails ys first.line b (sunk_by written faults p q) → HearFails (xs ++ ys) begun a (sunk_by written faults o q)
+  pub hear_fails_then : HearFails ys first.line b (gathered_by written faults p q) → HearFails (xs ++ ys) begun a (gathered_by written faults o q)
   hear_fails_then fails text most rest l =
-      subst (λ (t : Transcript). Breaks (sunk_by written faults o q) text t.text) (sym (behind text most rest l))
+      subst (λ (t : Transcript). Breaks (gathered_by written faults o q) text t.text) (sym (behind text most rest l))
       (Breaks-after written faults o p q first.put text (told_from b (text ++ first.put) (most - length xs) first.line (ys ++ rest)).text first.wrote
       (fails (text ++ first.put) (most - length xs) rest (omega (arith, l, length-append xs ys))))
 
 -- behind `quit` nothing is heard
-pub hears_quit : (xs ys begun : List ℕ) (a c : Debugger) (held : List ℕ) (out : Sunk) → Hears xs begun Quits a c held out → Hears (xs ++ ys) begun Quits a c held out
+pub hears_quit : (xs ys begun : List ℕ) (a c : Debugger) (held : List ℕ) (out : Gathered) → Hears xs begun Quits a c held out → Hears (xs ++ ys) begun Quits a c held out
 hears_quit xs ys begun a c held out first = record {
   put = first.put;
   line = first.line;
@@ -150,7 +150,7 @@ hears_quit xs ys begun a c held out first = record {
 }
 
 -- nor behind a fault
-pub hear_fails_more : (xs ys begun : List ℕ) (a : Debugger) (out : Sunk) → HearFails xs begun a out → HearFails (xs ++ ys) begun a out
+pub hear_fails_more : (xs ys begun : List ℕ) (a : Debugger) (out : Gathered) → HearFails xs begun a out → HearFails (xs ++ ys) begun a out
 hear_fails_more xs ys begun a out fails text most rest l =
     subst (λ (s : List ℕ). Breaks out text (told_from a text most begun s).text) (sym (append_assoc xs ys rest))
     (fails text most (ys ++ rest) (omega (arith, l, length-append xs ys)))

@@ -1,7 +1,6 @@
 -- What commands do to a session, one after another.
 use Rattle.std.specs.Prelude.{◌==◌}
 use Rattle.std.proofs.Common.{◌≡◌, ◌∙◌, ℕ, codes, length, Bool, true, false, cond, List, [], ◌∷◌, ◌++◌, Option, Some, None, refl, ap, append_assoc}
-use Rattle.alpha_io.specs.Sunk.{Sunk, sunk_by, Puts}
 use Rattle.alpha_seq.specs.declared.end.End.{End}
 use Rattle.alpha_seq.specs.declared.machine.Machine.{Machine}
 use Rattle.alpha_seq.specs.State.{State}
@@ -21,8 +20,9 @@ use Rattle.alpha_debug.specs.declared.debugger.Talk.TheVariants.{GoesOn}
 use Rattle.alpha_debug.specs.Command.{most_steps}
 use Rattle.alpha_debug.specs.Lines.{ended, where_line}
 use Rattle.alpha_debug.specs.Session.{Setting, Session, IsVerdict, text_of, saying, walk, if_going, going, saying_where, travel, has_point, most_points, ok, is_shown, shown, answer}
-use Rattle.alpha_debug.specs.Effects.{Grows, Stops, session_of, setting_of, IsOpened, Makes, Fails, Answers, AnswerFails}
-use Rattle.alpha_debug.proofs.Sinks.{Grows-same, Grows-by, Grows-trans, Breaks-more, Breaks-after, Puts-both}
+use Rattle.alpha_debug.specs.Gathered.{Gathered, gathered_by, Gathers, Stops}
+use Rattle.alpha_debug.specs.Effects.{Grows, session_of, setting_of, IsOpened, Makes, Fails, Answers, AnswerFails}
+use Rattle.alpha_debug.proofs.Sinks.{Grows-same, Grows-by, Grows-trans, Breaks-more, Breaks-after, Gathers-both}
 use Rattle.alpha_debug.proofs.Steps.{walk-grows}
 
 -- ---- what is said
@@ -32,10 +32,10 @@ pub saying-is : (d : Debugger) (text bytes : List ℕ) → saying (session_of d 
 saying-is d text bytes = refl
 
 -- a session that says what it writes
-pub Makes-said : (bytes : List ℕ) (d : Debugger) (out : Sunk) → Puts out bytes → Makes (λ s. saying s bytes) d d out
+pub Makes-said : (bytes : List ℕ) (d : Debugger) (out : Gathered) → Gathers out bytes → Makes (λ s. saying s bytes) d d out
 Makes-said bytes d out wrote = record { bytes = bytes; wrote = wrote; is = λ text. refl }
 
-pub Fails-said : (bytes : List ℕ) (d : Debugger) (out : Sunk) → Stops out bytes → Fails (λ s. saying s bytes) d out
+pub Fails-said : (bytes : List ℕ) (d : Debugger) (out : Gathered) → Stops out bytes → Fails (λ s. saying s bytes) d out
 Fails-said bytes d out stops text = record { bytes = bytes; is = refl; stops = stops }
 
 -- ---- what is written stays
@@ -76,24 +76,24 @@ answer-grows g Unknown s = Grows-by (text_of s) _
 
 -- ---- steps, and the place
 
-module _ {K : Type 0} (written : K → Option (List ℕ)) (faults : K → ℕ) (o p q : K) (becomes : Session → Session) (old new : Debugger) where
-  pub where_said : Makes becomes old new (sunk_by written faults o p) → Puts (sunk_by written faults p q) (where_line new.end new.machine.pc)
-      → Makes (λ s. saying_where (becomes s)) old new (sunk_by written faults o q)
+module _ {K : Type 0} (written : K → Option (List ℕ)) (faults : K → ℕ) (o p q : K × List ℕ) (becomes : Session → Session) (old new : Debugger) where
+  pub where_said : Makes becomes old new (gathered_by written faults o p) → Gathers (gathered_by written faults p q) (where_line new.end new.machine.pc)
+      → Makes (λ s. saying_where (becomes s)) old new (gathered_by written faults o q)
   where_said makes wrote = record {
     bytes = makes.bytes ++ where_line new.end new.machine.pc;
-    wrote = Puts-both written faults o p q makes.bytes (where_line new.end new.machine.pc) makes.wrote wrote;
+    wrote = Gathers-both written faults o p q makes.bytes (where_line new.end new.machine.pc) makes.wrote wrote;
     is = λ text.
         ap saying_where (makes.is text)
         ∙ ap (λ (l : List ℕ). session_of new l) (append_assoc text makes.bytes (where_line new.end new.machine.pc));
   }
 
-  pub where_fails : Makes becomes old new (sunk_by written faults o p) → Stops (sunk_by written faults p q) (where_line new.end new.machine.pc)
-      → Fails (λ s. saying_where (becomes s)) old (sunk_by written faults o q)
+  pub where_fails : Makes becomes old new (gathered_by written faults o p) → Stops (gathered_by written faults p q) (where_line new.end new.machine.pc)
+      → Fails (λ s. saying_where (becomes s)) old (gathered_by written faults o q)
   where_fails makes stops text =
       Breaks-after written faults o p q makes.bytes text (text_of (saying_where (becomes (session_of old text)))) makes.wrote
       (record { bytes = where_line new.end new.machine.pc; is = ap (λ (s : Session). text_of (saying_where s)) (makes.is text); stops = stops })
 
-pub saying_where_fails : (becomes : Session → Session) (old : Debugger) (out : Sunk) → Fails becomes old out → Fails (λ s. saying_where (becomes s)) old out
+pub saying_where_fails : (becomes : Session → Session) (old : Debugger) (out : Gathered) → Fails becomes old out → Fails (λ s. saying_where (becomes s)) old out
 saying_where_fails becomes old out fails text =
     Breaks-more out text (text_of (becomes (session_of old text))) (text_of (saying_where (becomes (session_of old text)))) (fails text) (saying_where-grows (becomes (session_of old text)))
 
@@ -130,7 +130,7 @@ answer-shown g Shadow s e = refl
 answer-shown g Log s e = refl
 answer-shown g Unknown s e = refl
 
-pub Answers-shown : (command : Command) (d : Debugger) (out : Sunk) → is_shown command ≡ true → Puts out (shown (setting_of d) command (state_of d.machine [] []))
+pub Answers-shown : (command : Command) (d : Debugger) (out : Gathered) → is_shown command ≡ true → Gathers out (shown (setting_of d) command (state_of d.machine [] []))
     → Answers command GoesOn d d out
 Answers-shown command d out e wrote = record {
   bytes = shown (setting_of d) command (state_of d.machine [] []);
@@ -140,7 +140,7 @@ Answers-shown command d out e wrote = record {
       ∙ ap (λ (l : List ℕ). saying (session_of d text) l) (shown-same (setting_of d) command d.machine text);
 }
 
-pub AnswerFails-shown : (command : Command) (d : Debugger) (out : Sunk) → is_shown command ≡ true → Stops out (shown (setting_of d) command (state_of d.machine [] []))
+pub AnswerFails-shown : (command : Command) (d : Debugger) (out : Gathered) → is_shown command ≡ true → Stops out (shown (setting_of d) command (state_of d.machine [] []))
     → AnswerFails command d out
 AnswerFails-shown command d out e stops text = record {
   bytes = shown (setting_of d) command (state_of d.machine [] []);
@@ -149,7 +149,7 @@ AnswerFails-shown command d out e stops text = record {
 }
 
 -- a command that is answered by what a function of sessions makes
-pub Answers-made : (command : Command) (becomes : Session → Session) (old new : Debugger) (out : Sunk) → ((s : Session) → answer (setting_of old) command s ≡ becomes s)
+pub Answers-made : (command : Command) (becomes : Session → Session) (old new : Debugger) (out : Gathered) → ((s : Session) → answer (setting_of old) command s ≡ becomes s)
     → Makes becomes old new out → Answers command GoesOn old new out
 Answers-made command becomes old new out same makes = record { bytes = makes.bytes; wrote = makes.wrote; is = λ text. same (session_of old text) ∙ makes.is text }
 

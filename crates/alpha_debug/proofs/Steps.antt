@@ -1,7 +1,8 @@
 -- Steps of the machine over an empty input.
-use Rattle.std.proofs.Common.{◌≡◌, ◌∙◌, ℕ, zero, suc, ◌⊎◌, Bool, true, false, cond, List, [], ◌++◌, Option, None, refl, sym, ap, subst, append_assoc, append-nil, ⊎_elim, arith}
+use Rattle.std.proofs.Common.{◌≡◌, ◌∙◌, ℕ, zero, suc, ◌⊎◌, Bool, true, false, cond, List, [], ◌∷◌, ◌++◌, Option, None, Some, refl, sym, ap, subst, append_assoc, append-nil, ⊎_elim, arith}
 use Rattle.alpha_words.specs.Regs.{reg}
-use Rattle.alpha_io.specs.Sunk.{Sunk, sunk_by, Puts}
+use Rattle.alpha_io.specs.declared.sink.Sink.{Ghosts}
+use Rattle.alpha_io.specs.Sunk.{Sunk, sunk, Puts}
 use Rattle.alpha_mem.specs.Memory.{bytes_at}
 use Rattle.alpha_seq.specs.declared.machine.Machine.{Machine}
 use Rattle.alpha_seq.specs.State.{Program, State, Event, Stepped, stepped}
@@ -9,18 +10,21 @@ use Rattle.alpha_seq.specs.Step.{step_from}
 use Rattle.alpha_seq.specs.Run.{end_of}
 use Rattle.alpha_seq.specs.Machine.{program_of, state_of, Stays}
 use Rattle.alpha_seq.specs.Devices.{Drawn, Idles}
-use Rattle.alpha_seq.specs.StepEffect.{OutputFails, LineFails}
+use Rattle.alpha_pal.specs.CallEffect.{Takes}
+use Rattle.alpha_seq.specs.StepEffect.{Steps, OutputFails, LineFails}
 use Rattle.alpha_seq.proofs.Growing.{after-begins, wrote_all}
 use Rattle.alpha_debug.specs.declared.travel.Until.{Until}
 use Rattle.alpha_debug.specs.Session.{is_last, Walked, walk}
-use Rattle.alpha_debug.specs.Effects.{Grows, Breaks, Moves, MoveBreaks, Walks, WalkBreaks}
-use Rattle.alpha_debug.proofs.Sinks.{Grows-same, Grows-trans, Breaks-more, Breaks-after, Puts-both}
+use Rattle.alpha_debug.specs.Gathered.{Gathered, gathered, gathered_by, Gathers, Stops}
+use Rattle.alpha_debug.specs.Effects.{Grows, Breaks, Moves, MoveBreaks, IsUnmade, Walks, WalkBreaks}
+use Rattle.alpha_debug.proofs.Sinks.{unblocked, Grows-same, Grows-trans, Breaks-more, Breaks-before, Breaks-after, Gathers-both, Stops-after}
+use Rattle.alpha_debug.proofs.Waiting.{Gathers-flushed}
 
 -- ---- one step
 
 -- a write whose sink failed; the notes never fail
 pub sink_fault : (old new : Machine) (input : Drawn) (out notes : Sunk) → notes.before ≡ 0 → notes.now ≡ 0
-    → (OutputFails old new input out × Idles notes) ⊎ LineFails old new input out notes → MoveBreaks old out
+    → (OutputFails old new input out × Idles notes) ⊎ LineFails old new input out notes → MoveBreaks old (unblocked out)
 sink_fault old new input out notes first last did =
     ⊎_elim
     (λ (fails : OutputFails old new input out × Idles notes).
@@ -35,9 +39,58 @@ sink_fault old new input out notes first last did =
     (λ (fails : LineFails old new input out notes). absurd (let cause = fails.cause in omega arith))
     did
 
+-- the step wasn't made
+pub sink_fault_unmade : (old new : Machine) (input : Drawn) (out notes : Sunk) → notes.before ≡ 0 → notes.now ≡ 0
+    → (OutputFails old new input out × Idles notes) ⊎ LineFails old new input out notes → IsUnmade old new
+sink_fault_unmade old new input out notes first last did =
+    ⊎_elim
+    (λ (fails : OutputFails old new input out × Idles notes). fails.0.same)
+    (λ (fails : LineFails old new input out notes). absurd (let cause = fails.cause in omega arith))
+    did
+
+none-left : (taken rest : List ℕ) → [] ≡ taken ++ rest → (taken ++ rest ≡ []) × (rest ≡ [])
+none-left [] rest e = (sym e, sym e)
+none-left (x ∷ taken) rest e = absurd cc
+
+-- a step over an empty input
+pub moved : (event : Event) (old new : Machine) (input : Drawn) (out : Sunk) → input.old ≡ Some [] → Steps event old new input out → Moves event old new (unblocked out)
+moved event old new input out none steps =
+    let took : Takes (Some []) input.new steps.taken steps.rest = subst (λ (left : Option (List ℕ)). Takes left input.new steps.taken steps.rest) none steps.took.took in
+    let empty = none-left steps.taken steps.rest took.0 in
+    record {
+      bytes = steps.bytes;
+      wrote = record { put = steps.bytes; puts = steps.wrote; whole = sym (append-nil steps.bytes) };
+      is = λ text.
+          ap (λ (l : List ℕ). step_from (program_of old) (state_of old l text)) (sym empty.0)
+          ∙ (steps.is text ∙ ap (λ (l : List ℕ). stepped (state_of new l (text ++ steps.bytes)) event) empty.1);
+    }
+
 -- what a step has put stays
 pub step-grows : (g : Program) (s : State) → Grows s.outside.output (step_from g s).state.outside.output
 step-grows g s = let begins = after-begins g s 1 0 (omega arith) in record { bytes = begins.output.tail; is = begins.output.is }
+
+-- the sink failed before a step
+pub breaks_before : (m : Machine) (s : Gathered) → Stops s [] → MoveBreaks m s
+breaks_before m s stops text =
+    Breaks-before s text (step_from (program_of m) (state_of m [] text)).state.outside.output stops (step-grows (program_of m) (state_of m [] text))
+
+module _ {K : Type 0} (g : Ghosts K) (o p q : K) (waited : List ℕ) (old mid : Machine) (unmade : IsUnmade old mid) (first : Puts (sunk g o p) waited) where
+  -- a step that was made anew, past the block
+  pub moved_past : (event : Event) (new : Machine) → Moves event mid new (gathered g p [] q []) → Moves event old new (gathered g o waited q [])
+  moved_past event new move = record {
+    bytes = move.bytes;
+    wrote = Gathers-both g.written g.faults (o, waited) (p, []) (q, []) [] move.bytes (Gathers-flushed g o p waited first) move.wrote;
+    is = λ text. ap (λ (m : Machine). step_from (program_of m) (state_of m [] text)) (sym unmade) ∙ move.is text;
+  }
+
+  pub breaks_past : (waits : List ℕ) → MoveBreaks mid (gathered g p [] q []) → MoveBreaks old (gathered g o waited q waits)
+  breaks_past waits breaks text =
+      let second = breaks text in
+      record {
+        bytes = second.bytes;
+        is = ap (λ (m : Machine). (step_from (program_of m) (state_of m [] text)).state.outside.output) (sym unmade) ∙ second.is;
+        stops = Stops-after g.written g.faults (o, waited) (p, []) (q, waits) [] second.bytes (Gathers-flushed g o p waited first) second.stops;
+      }
 
 -- ---- more steps
 
@@ -87,14 +140,14 @@ first-grows g wanted points n s =
 -- ---- the machine underway
 
 -- the steps so far lead to where the machine stands, and the others go on from there
-pub record Walking (wanted : Until) (points : List ℕ) (most left : ℕ) (old mid : Machine) (out : Sunk) : Type 0 where
+pub record Walking (wanted : Until) (points : List ℕ) (most left : ℕ) (old mid : Machine) (out : Gathered) : Type 0 where
   pub bytes : List ℕ
-  pub wrote : Puts out bytes
+  pub wrote : Gathers out bytes
   pub is : (text : List ℕ)
       → walk (program_of old) wanted points most (state_of old [] text)
       ≡ walk (program_of old) wanted points left (state_of mid [] (text ++ bytes))
 
-pub walking_start : (wanted : Until) (points : List ℕ) (most left : ℕ) (m : Machine) (out : Sunk) → left ≡ most → Puts out [] → Walking wanted points most left m m out
+pub walking_start : (wanted : Until) (points : List ℕ) (most left : ℕ) (m : Machine) (out : Gathered) → left ≡ most → Gathers out [] → Walking wanted points most left m m out
 walking_start wanted points most left m out e none = record {
   bytes = [];
   wrote = none;
@@ -103,9 +156,9 @@ walking_start wanted points most left m out e none = record {
       ∙ ap (λ (l : List ℕ). walk (program_of m) wanted points left (state_of m [] l)) (sym (append-nil text));
 }
 
-module _ {K : Type 0} (written : K → Option (List ℕ)) (faults : K → ℕ) (o p q : K) (wanted : Until) (points : List ℕ) (most left : ℕ) (old mid new : Machine) (event : Event) where
+module _ {K : Type 0} (written : K → Option (List ℕ)) (faults : K → ℕ) (o p q : K × List ℕ) (wanted : Until) (points : List ℕ) (most left : ℕ) (old mid new : Machine) (event : Event) where
   -- one step more, and how the walk goes on behind it
-  pub walked : Stays old mid → (move : Moves event mid new (sunk_by written faults p q)) → (walking : Walking wanted points most (suc left) old mid (sunk_by written faults o p)) → (text : List ℕ)
+  pub walked : Stays old mid → (move : Moves event mid new (gathered_by written faults p q)) → (walking : Walking wanted points most (suc left) old mid (gathered_by written faults o p)) → (text : List ℕ)
       → walk (program_of old) wanted points most (state_of old [] text)
       ≡ walk-by (is_last wanted points event new.pc) (program_of old) wanted points left (stepped (state_of new [] (text ++ (walking.bytes ++ move.bytes))) event)
   walked same move walking text =
@@ -114,41 +167,41 @@ module _ {K : Type 0} (written : K → Option (List ℕ)) (faults : K → ℕ) (
       (ap (λ (g : Program). step_from g (state_of mid [] (text ++ walking.bytes))) (sym same.program)
       ∙ (move.is (text ++ walking.bytes) ∙ ap (λ (l : List ℕ). stepped (state_of new [] l) event) (append_assoc text walking.bytes move.bytes)))
 
-  pub walking_on : Stays old mid → Walking wanted points most (suc left) old mid (sunk_by written faults o p) → Moves event mid new (sunk_by written faults p q)
-      → is_last wanted points event new.pc ≡ false → Walking wanted points most left old new (sunk_by written faults o q)
+  pub walking_on : Stays old mid → Walking wanted points most (suc left) old mid (gathered_by written faults o p) → Moves event mid new (gathered_by written faults p q)
+      → is_last wanted points event new.pc ≡ false → Walking wanted points most left old new (gathered_by written faults o q)
   walking_on same walking move goes = record {
     bytes = walking.bytes ++ move.bytes;
-    wrote = Puts-both written faults o p q walking.bytes move.bytes walking.wrote move.wrote;
+    wrote = Gathers-both written faults o p q walking.bytes move.bytes walking.wrote move.wrote;
     is = λ text.
         walked same move walking text
         ∙ ap (λ (b : Bool). walk-by b (program_of old) wanted points left (stepped (state_of new [] (text ++ (walking.bytes ++ move.bytes))) event)) goes;
   }
 
-  pub walking_ends : Stays old mid → Walking wanted points most (suc left) old mid (sunk_by written faults o p) → Moves event mid new (sunk_by written faults p q)
-      → is_last wanted points event new.pc ≡ true → Walks wanted points most (end_of event) old new (sunk_by written faults o q)
+  pub walking_ends : Stays old mid → Walking wanted points most (suc left) old mid (gathered_by written faults o p) → Moves event mid new (gathered_by written faults p q)
+      → is_last wanted points event new.pc ≡ true → Walks wanted points most (end_of event) old new (gathered_by written faults o q)
   walking_ends same walking move ends = record {
     bytes = walking.bytes ++ move.bytes;
-    wrote = Puts-both written faults o p q walking.bytes move.bytes walking.wrote move.wrote;
+    wrote = Gathers-both written faults o p q walking.bytes move.bytes walking.wrote move.wrote;
     is = λ text.
         walked same move walking text
         ∙ ap (λ (b : Bool). walk-by b (program_of old) wanted points left (stepped (state_of new [] (text ++ (walking.bytes ++ move.bytes))) event)) ends;
   }
 
-module _ {K : Type 0} (written : K → Option (List ℕ)) (faults : K → ℕ) (o p q : K) (wanted : Until) (points : List ℕ) (most left : ℕ) (old mid : Machine) where
+module _ {K : Type 0} (written : K → Option (List ℕ)) (faults : K → ℕ) (o p q : K × List ℕ) (wanted : Until) (points : List ℕ) (most left : ℕ) (old mid : Machine) where
   -- the sink failed in the next step
-  pub walking_breaks : Stays old mid → Walking wanted points most (suc left) old mid (sunk_by written faults o p) → MoveBreaks mid (sunk_by written faults p q)
-      → WalkBreaks wanted points most old (sunk_by written faults o q)
+  pub walking_breaks : Stays old mid → Walking wanted points most (suc left) old mid (gathered_by written faults o p) → MoveBreaks mid (gathered_by written faults p q)
+      → WalkBreaks wanted points most old (gathered_by written faults o q)
   walking_breaks same walking breaks text =
       let s : State = state_of mid [] (text ++ walking.bytes) in
       let g : Program = program_of old in
-      let step : Breaks (sunk_by written faults p q) (text ++ walking.bytes) (step_from g s).state.outside.output =
-      subst (λ (h : Program). Breaks (sunk_by written faults p q) (text ++ walking.bytes) (step_from h s).state.outside.output) same.program (breaks (text ++ walking.bytes)) in
-      let more = Breaks-more (sunk_by written faults p q) (text ++ walking.bytes) (step_from g s).state.outside.output (walk g wanted points (suc left) s).state.outside.output step (first-grows g wanted points left s) in
-      subst (λ (w : Walked). Breaks (sunk_by written faults o q) text w.state.outside.output) (sym (walking.is text))
+      let step : Breaks (gathered_by written faults p q) (text ++ walking.bytes) (step_from g s).state.outside.output =
+      subst (λ (h : Program). Breaks (gathered_by written faults p q) (text ++ walking.bytes) (step_from h s).state.outside.output) same.program (breaks (text ++ walking.bytes)) in
+      let more = Breaks-more (gathered_by written faults p q) (text ++ walking.bytes) (step_from g s).state.outside.output (walk g wanted points (suc left) s).state.outside.output step (first-grows g wanted points left s) in
+      subst (λ (w : Walked). Breaks (gathered_by written faults o q) text w.state.outside.output) (sym (walking.is text))
       (Breaks-after written faults o p q walking.bytes text (walk g wanted points (suc left) s).state.outside.output walking.wrote more)
 
 -- no step is left
-pub walking_spent : (wanted : Until) (points : List ℕ) (most left : ℕ) (old mid : Machine) (out : Sunk) → left ≡ 0
+pub walking_spent : (wanted : Until) (points : List ℕ) (most left : ℕ) (old mid : Machine) (out : Gathered) → left ≡ 0
     → Walking wanted points most left old mid out → Walks wanted points most None old mid out
 walking_spent wanted points most left old mid out none walking = record {
   bytes = walking.bytes;

@@ -4,7 +4,6 @@ use Rattle.std.proofs.lemmas.List.{length-append}
 use Rattle.std.specs.Io.KnownBytes.{Consumes, Keeps, IsAtEnd}
 use Rattle.std.proofs.KnownBytes.{Consumes-trans, Consumes-kept}
 use Rattle.alpha_io.specs.Faults.{Rose}
-use Rattle.alpha_io.specs.Sunk.{Sunk, sunk_by, Puts}
 use Rattle.alpha_io.proofs.Counts.{Rose-earlier}
 use Rattle.alpha_pal.specs.CallEffect.{Takes}
 use Rattle.alpha_seq.specs.Devices.{Drawn, drawn_by}
@@ -17,8 +16,9 @@ use Rattle.alpha_debug.specs.declared.end.DebugEnd.TheVariants.{Done, InputFault
 use Rattle.alpha_debug.specs.Command.{command_of}
 use Rattle.alpha_debug.specs.Session.{Session, text_of, answer}
 use Rattle.alpha_debug.specs.Script.{Transcript}
+use Rattle.alpha_debug.specs.Gathered.{Gathered, gathered_by, Gathers}
 use Rattle.alpha_debug.specs.Effects.{Grows, Breaks, session_of, setting_of, Remains, left_by, Answers, AnswerFails, IsHeld, told_from, Hears, HearFails, Closes, CloseFails, CloseEffect, Reads, Tells, ReadingFails, TellingFails, TellEffect}
-use Rattle.alpha_debug.proofs.Sinks.{Breaks-after, Puts-both}
+use Rattle.alpha_debug.proofs.Sinks.{Breaks-after, Gathers-both}
 use Rattle.alpha_debug.proofs.Hearing.{told-end, told-large, told-grows, held-last}
 
 -- ---- the end of a script
@@ -27,7 +27,7 @@ text-left : (talk : Talk) (d : Debugger) (text : List ℕ) → text_of (left_by 
 text-left talk d text = refl
 
 -- the last line is answered as the line in hand
-pub Closes-answered : (begun held : List ℕ) (talk : Talk) (old new : Debugger) (out : Sunk) → IsHeld begun held → Answers (command_of held) talk old new out → Closes begun old out
+pub Closes-answered : (begun held : List ℕ) (talk : Talk) (old new : Debugger) (out : Gathered) → IsHeld begun held → Answers (command_of held) talk old new out → Closes begun old out
 Closes-answered begun held talk old new out is_held answers = record {
   put = answers.bytes;
   wrote = answers.wrote;
@@ -38,7 +38,7 @@ Closes-answered begun held talk old new out is_held answers = record {
       ∙ ap (λ (s : Session). record { text = text_of s; end = Done }) (answers.is text));
 }
 
-pub Closes-failed : (begun held : List ℕ) (old : Debugger) (out : Sunk) → IsHeld begun held → AnswerFails (command_of held) old out → CloseFails begun old out
+pub Closes-failed : (begun held : List ℕ) (old : Debugger) (out : Gathered) → IsHeld begun held → AnswerFails (command_of held) old out → CloseFails begun old out
 Closes-failed begun held old out is_held fails text most =
     let line : command_of begun ≡ command_of held = sym (ap command_of is_held.front ∙ held-last begun) in
     let whole : told_from old text most begun [] ≡ record { text = text_of (answer (setting_of old) (command_of held) (session_of old text)); end = Done } =
@@ -67,19 +67,19 @@ left_none (Some xs) (Some ys) (Some zs) taken p q e = (p ∙ ap (λ (l : List �
 
 -- These bytes of the script were taken without a fault, and these were put; the rest of the transcript is that from how
 -- the session stands, behind the line in hand.
-pub record Underway (first d : Debugger) (held : List ℕ) (most : ℕ) (script : Drawn) (out : Sunk) : Type 0 where
+pub record Underway (first d : Debugger) (held : List ℕ) (most : ℕ) (script : Drawn) (out : Gathered) : Type 0 where
   pub taken : List ℕ
   pub put : List ℕ
   pub line : List ℕ
   pub took : Consumes script.old script.new taken
   pub same : script.now ≡ script.before
   pub count : length taken + most ≡ 1048576
-  pub wrote : Puts out put
+  pub wrote : Gathers out put
   pub held_is : IsHeld line held
   pub remains : Remains first d
   pub is : (text rest : List ℕ) → told_from first text 1048576 [] (taken ++ rest) ≡ told_from d (text ++ put) most line rest
 
-pub underway_start : (d : Debugger) (held : List ℕ) (script : Drawn) (out : Sunk) → held ≡ [] → Consumes script.old script.new [] → script.now ≡ script.before → Puts out []
+pub underway_start : (d : Debugger) (held : List ℕ) (script : Drawn) (out : Gathered) → held ≡ [] → Consumes script.old script.new [] → script.now ≡ script.before → Gathers out []
     → Underway d d held 1048576 script out
 underway_start d held script out empty took same none = record {
   taken = [];
@@ -94,8 +94,8 @@ underway_start d held script out empty took same none = record {
   is = λ text rest. ap (λ (t : List ℕ). told_from d t 1048576 [] rest) (sym (append-nil text));
 }
 
-module _ {S K : Type 0} (left : S → Option (List ℕ)) (counts : S → ℕ) (written : K → Option (List ℕ)) (faults : K → ℕ) (r s t : S) (o p q : K)
-    (first d : Debugger) (held : List ℕ) (most : ℕ) (u : Underway first d held most (drawn_by left counts r s) (sunk_by written faults o p)) where
+module _ {S K : Type 0} (left : S → Option (List ℕ)) (counts : S → ℕ) (written : K → Option (List ℕ)) (faults : K → ℕ) (r s t : S) (o p q : K × List ℕ)
+    (first d : Debugger) (held : List ℕ) (most : ℕ) (u : Underway first d held most (drawn_by left counts r s) (gathered_by written faults o p)) where
   -- the transcript behind a piece of the script
   behind : (bytes text rest : List ℕ) → told_from first text 1048576 [] ((u.taken ++ bytes) ++ rest) ≡ told_from d (text ++ u.put) most u.line (bytes ++ rest)
   behind bytes text rest = ap (λ (l : List ℕ). told_from first text 1048576 [] l) (append_assoc u.taken bytes rest) ∙ u.is text (bytes ++ rest)
@@ -107,7 +107,7 @@ module _ {S K : Type 0} (left : S → Option (List ℕ)) (counts : S → ℕ) (w
   reads-more bytes took fits l = record { took = l.took; most = omega (arith, u.count, length-append u.taken bytes) }
 
   pub underway_more : (bytes : List ℕ) (new : Debugger) (held_new : List ℕ) (less : ℕ) → Consumes (left s) (left t) bytes → counts t ≡ counts s → length bytes ≤ most → less ≡ most - length bytes
-      → Hears bytes u.line GoesOn d new held_new (sunk_by written faults p q) → Remains d new → Underway first new held_new less (drawn_by left counts r t) (sunk_by written faults o q)
+      → Hears bytes u.line GoesOn d new held_new (gathered_by written faults p q) → Remains d new → Underway first new held_new less (drawn_by left counts r t) (gathered_by written faults o q)
   underway_more bytes new held_new less took same fits e hears remains = record {
     taken = u.taken ++ bytes;
     put = u.put ++ hears.put;
@@ -115,7 +115,7 @@ module _ {S K : Type 0} (left : S → Option (List ℕ)) (counts : S → ℕ) (w
     took = took-more bytes took;
     same = same ∙ u.same;
     count = omega (arith, e, u.count, length-append u.taken bytes);
-    wrote = Puts-both written faults o p q u.put hears.put u.wrote hears.wrote;
+    wrote = Gathers-both written faults o p q u.put hears.put u.wrote hears.wrote;
     held_is = hears.held_is;
     remains = record { setting = remains.setting ∙ u.remains.setting; mode = remains.mode ∙ u.remains.mode };
     is = λ text rest.
@@ -127,7 +127,7 @@ module _ {S K : Type 0} (left : S → Option (List ℕ)) (counts : S → ℕ) (w
 
   -- `quit` came
   pub underway_quit : (bytes : List ℕ) (new : Debugger) (held_new : List ℕ) → Consumes (left s) (left t) bytes → counts t ≡ counts s → length bytes ≤ most
-      → Hears bytes u.line Quits d new held_new (sunk_by written faults p q) → Tells first Done (drawn_by left counts r t) (sunk_by written faults o q)
+      → Hears bytes u.line Quits d new held_new (gathered_by written faults p q) → Tells first Done (drawn_by left counts r t) (gathered_by written faults o q)
   underway_quit bytes new held_new took same fits hears =
       let l = left_of (left r) (left t) (u.taken ++ bytes) (took-more bytes took) in
       record {
@@ -136,7 +136,7 @@ module _ {S K : Type 0} (left : S → Option (List ℕ)) (counts : S → ℕ) (w
         put = u.put ++ hears.put;
         reads = reads-more bytes took (omega (arith, fits)) l;
         same = same ∙ u.same;
-        wrote = Puts-both written faults o p q u.put hears.put u.wrote hears.wrote;
+        wrote = Gathers-both written faults o p q u.put hears.put u.wrote hears.wrote;
         is = λ text.
             behind bytes text l.rest
             ∙ (hears.is (text ++ u.put) most l.rest fits
@@ -145,7 +145,7 @@ module _ {S K : Type 0} (left : S → Option (List ℕ)) (counts : S → ℕ) (w
 
   -- the sink failed
   pub underway_fails : (bytes : List ℕ) → Consumes (left s) (left t) bytes → counts t ≡ counts s → length bytes ≤ most
-      → HearFails bytes u.line d (sunk_by written faults p q) → TellingFails first (drawn_by left counts r t) (sunk_by written faults o q)
+      → HearFails bytes u.line d (gathered_by written faults p q) → TellingFails first (drawn_by left counts r t) (gathered_by written faults o q)
   underway_fails bytes took same fits fails =
       let l = left_of (left r) (left t) (u.taken ++ bytes) (took-more bytes took) in
       record {
@@ -155,11 +155,11 @@ module _ {S K : Type 0} (left : S → Option (List ℕ)) (counts : S → ℕ) (w
         same = same ∙ u.same;
         breaks = λ text.
             Breaks-after written faults o p q u.put text (told_from first text 1048576 [] ((u.taken ++ bytes) ++ l.rest)).text u.wrote
-            (subst (λ (x : Transcript). Breaks (sunk_by written faults p q) (text ++ u.put) x.text) (sym (behind bytes text l.rest)) (fails (text ++ u.put) most l.rest fits));
+            (subst (λ (x : Transcript). Breaks (gathered_by written faults p q) (text ++ u.put) x.text) (sym (behind bytes text l.rest)) (fails (text ++ u.put) most l.rest fits));
       }
 
   -- the script failed
-  pub underway_unread : Keeps (left s) (left t) → counts s ≤ counts t → Rose (counts s) (counts t) → ReadingFails first (drawn_by left counts r t) (sunk_by written faults o p)
+  pub underway_unread : Keeps (left s) (left t) → counts s ≤ counts t → Rose (counts s) (counts t) → ReadingFails first (drawn_by left counts r t) (gathered_by written faults o p)
   underway_unread stays later cause =
       let took : Consumes (left r) (left t) u.taken = Consumes-kept (left r) (left s) (left t) u.taken u.took stays in
       let l = left_of (left r) (left t) u.taken took in
@@ -176,23 +176,23 @@ module _ {S K : Type 0} (left : S → Option (List ℕ)) (counts : S → ℕ) (w
       }
 
   -- the script has ended
-  pub underway_end : Consumes (left s) (left t) [] → IsAtEnd (left s) → counts t ≡ counts s → Closes u.line d (sunk_by written faults p q)
-      → Tells first Done (drawn_by left counts r t) (sunk_by written faults o q)
+  pub underway_end : Consumes (left s) (left t) [] → IsAtEnd (left s) → counts t ≡ counts s → Closes u.line d (gathered_by written faults p q)
+      → Tells first Done (drawn_by left counts r t) (gathered_by written faults o q)
   underway_end took ended same closes = record {
     taken = u.taken;
     rest = [];
     put = u.put ++ closes.put;
     reads = record { took = left_none (left r) (left s) (left t) u.taken u.took took ended; most = omega (arith, u.count) };
     same = same ∙ u.same;
-    wrote = Puts-both written faults o p q u.put closes.put u.wrote closes.wrote;
+    wrote = Gathers-both written faults o p q u.put closes.put u.wrote closes.wrote;
     is = λ text.
         u.is text []
         ∙ (closes.is (text ++ u.put) most
         ∙ ap (λ (x : List ℕ). record { text = x; end = Done }) (append_assoc text u.put closes.put));
   }
 
-  pub underway_end_fails : Consumes (left s) (left t) [] → IsAtEnd (left s) → counts t ≡ counts s → CloseFails u.line d (sunk_by written faults p q)
-      → TellingFails first (drawn_by left counts r t) (sunk_by written faults o q)
+  pub underway_end_fails : Consumes (left s) (left t) [] → IsAtEnd (left s) → counts t ≡ counts s → CloseFails u.line d (gathered_by written faults p q)
+      → TellingFails first (drawn_by left counts r t) (gathered_by written faults o q)
   underway_end_fails took ended same fails = record {
     taken = u.taken;
     rest = [];
@@ -200,12 +200,12 @@ module _ {S K : Type 0} (left : S → Option (List ℕ)) (counts : S → ℕ) (w
     same = same ∙ u.same;
     breaks = λ text.
         Breaks-after written faults o p q u.put text (told_from first text 1048576 [] (u.taken ++ [])).text u.wrote
-        (subst (λ (x : Transcript). Breaks (sunk_by written faults p q) (text ++ u.put) x.text) (sym (u.is text [])) (fails (text ++ u.put) most));
+        (subst (λ (x : Transcript). Breaks (gathered_by written faults p q) (text ++ u.put) x.text) (sym (u.is text [])) (fails (text ++ u.put) most));
   }
 
   -- the end of the script, by the answer
-  pub underway_closed : (end : DebugEnd) → Consumes (left s) (left t) [] → IsAtEnd (left s) → counts t ≡ counts s → CloseEffect end u.line d (sunk_by written faults p q)
-      → TellEffect end first (drawn_by left counts r t) (sunk_by written faults o q)
+  pub underway_closed : (end : DebugEnd) → Consumes (left s) (left t) [] → IsAtEnd (left s) → counts t ≡ counts s → CloseEffect end u.line d (gathered_by written faults p q)
+      → TellEffect end first (drawn_by left counts r t) (gathered_by written faults o q)
   underway_closed Done took ended same did = underway_end took ended same did
   underway_closed SinkFault took ended same did = underway_end_fails took ended same did
   underway_closed InputFault took ended same did = absurd did
@@ -213,7 +213,7 @@ module _ {S K : Type 0} (left : S → Option (List ℕ)) (counts : S → ℕ) (w
   underway_closed NoMemory took ended same did = absurd did
 
   -- the script goes on past the bytes that count
-  pub underway_large : (b : ℕ) → most ≡ 0 → Consumes (left s) (left t) (b ∷ []) → counts t ≡ counts s → Tells first TooLarge (drawn_by left counts r t) (sunk_by written faults o p)
+  pub underway_large : (b : ℕ) → most ≡ 0 → Consumes (left s) (left t) (b ∷ []) → counts t ≡ counts s → Tells first TooLarge (drawn_by left counts r t) (gathered_by written faults o p)
   underway_large b none took same =
       let l = left_of (left r) (left t) (u.taken ++ b ∷ []) (took-more (b ∷ []) took) in
       record {

@@ -1,7 +1,6 @@
--- What the code of a session did against its definition, where the sink may tell nothing.
+-- What the code of a session did against its definition, where the sink may tell nothing. What was written may still wait in a block.
 use Rattle.std.specs.Prelude.{◌≡◌, ℕ, ◌+◌, ◌-◌, ◌≤◌, ◌==◌, Bool, true, false, IsTrue, List, [], ◌++◌, length, All, take, Option}
 use Rattle.alpha_io.specs.Faults.{Rose}
-use Rattle.alpha_io.specs.Sunk.{Sunk, Puts, Partly, HasFailed}
 use Rattle.alpha_pal.specs.CallEffect.{Takes}
 use Rattle.alpha_image.specs.Parts.{Parts}
 use Rattle.alpha_seq.specs.Devices.{Drawn}
@@ -19,15 +18,11 @@ use Rattle.alpha_debug.specs.declared.debugger.Talk.{Talk}
 use Rattle.alpha_debug.specs.declared.debugger.Talk.TheVariants.{GoesOn, Quits}
 use Rattle.alpha_debug.specs.declared.end.DebugEnd.{DebugEnd}
 use Rattle.alpha_debug.specs.declared.end.DebugEnd.TheVariants.{Done, InputFault, SinkFault, TooLarge, NoMemory}
+use Rattle.alpha_debug.specs.Gathered.{Gathered, Gathers, Stops}
 use Rattle.alpha_debug.specs.Session.{Setting, Session, IsSetting, opened, text_of, walk, answer}
 use Rattle.alpha_debug.specs.Script.{Transcript, transcript_from, script_limit}
 
 -- ---- writing
-
--- the sink failed, with a prefix of these bytes written
-pub record Stops (s : Sunk) (bytes : List ℕ) : Type 0 where
-  pub part : Partly s bytes
-  pub failed : HasFailed s
 
 -- a text goes on with some bytes
 pub record Grows (front text : List ℕ) : Type 0 where
@@ -35,7 +30,7 @@ pub record Grows (front text : List ℕ) : Type 0 where
   pub is : text ≡ front ++ bytes
 
 -- the sink failed, with a prefix written of what a text has behind its front
-pub record Breaks (s : Sunk) (front text : List ℕ) : Type 0 where
+pub record Breaks (s : Gathered) (front text : List ℕ) : Type 0 where
   pub bytes : List ℕ
   pub is : text ≡ front ++ bytes
   pub stops : Stops s bytes
@@ -49,26 +44,30 @@ event_of (moves.Overflow at) = Overflowed at
 event_of (moves.Ended end) = Ends end
 
 -- the step of the definition, with what it puts
-pub record Moves (event : Event) (old new : Machine) (out : Sunk) : Type 0 where
+pub record Moves (event : Event) (old new : Machine) (out : Gathered) : Type 0 where
   pub bytes : List ℕ
-  pub wrote : Puts out bytes
+  pub wrote : Gathers out bytes
   pub is : (text : List ℕ)
       → step_from (program_of old) (state_of old [] text) ≡ stepped (state_of new [] (text ++ bytes)) event
 
 -- the sink failed in a step
-abbrev pub MoveBreaks : Machine → Sunk → Type 0
+-- a step that wasn't made: all is as before but for the kernel
+abbrev pub IsUnmade : Machine → Machine → Type 0
+IsUnmade old new = new ≡ record old { kernel = new.kernel }
+
+abbrev pub MoveBreaks : Machine → Gathered → Type 0
 MoveBreaks old out = (text : List ℕ)
     → Breaks out text (step_from (program_of old) (state_of old [] text)).state.outside.output
 
 -- the steps of the definition
-pub record Walks (wanted : Until) (points : List ℕ) (most : ℕ) (end : Option End) (old new : Machine) (out : Sunk) : Type 0 where
+pub record Walks (wanted : Until) (points : List ℕ) (most : ℕ) (end : Option End) (old new : Machine) (out : Gathered) : Type 0 where
   pub bytes : List ℕ
-  pub wrote : Puts out bytes
+  pub wrote : Gathers out bytes
   pub is : (text : List ℕ)
       → walk (program_of old) wanted points most (state_of old [] text)
       ≡ record { state = state_of new [] (text ++ bytes); end = end }
 
-abbrev pub WalkBreaks : Until → List ℕ → ℕ → Machine → Sunk → Type 0
+abbrev pub WalkBreaks : Until → List ℕ → ℕ → Machine → Gathered → Type 0
 WalkBreaks wanted points most old out = (text : List ℕ)
     → Breaks out text (walk (program_of old) wanted points most (state_of old [] text)).state.outside.output
 
@@ -87,13 +86,13 @@ pub record Remains (old new : Debugger) : Type 0 where
   pub mode : new.machine.kernel.user ≡ old.machine.kernel.user
 
 -- it did what the definition says, and wrote what that says
-pub record Makes (becomes : Session → Session) (old new : Debugger) (out : Sunk) : Type 0 where
+pub record Makes (becomes : Session → Session) (old new : Debugger) (out : Gathered) : Type 0 where
   pub bytes : List ℕ
-  pub wrote : Puts out bytes
+  pub wrote : Gathers out bytes
   pub is : (text : List ℕ) → becomes (session_of old text) ≡ session_of new (text ++ bytes)
 
 -- the sink failed, with a prefix written of what the definition says
-abbrev pub Fails : (Session → Session) → Debugger → Sunk → Type 0
+abbrev pub Fails : (Session → Session) → Debugger → Gathered → Type 0
 Fails becomes old out = (text : List ℕ) → Breaks out text (text_of (becomes (session_of old text)))
 
 -- a session whose program stands at its start
@@ -113,12 +112,12 @@ abbrev pub left_by : Talk → Debugger → List ℕ → Session
 left_by talk d text = record (session_of d text) { over = has_quit talk }
 
 -- it answered a command as the definition does
-pub record Answers (command : Command) (talk : Talk) (old new : Debugger) (out : Sunk) : Type 0 where
+pub record Answers (command : Command) (talk : Talk) (old new : Debugger) (out : Gathered) : Type 0 where
   pub bytes : List ℕ
-  pub wrote : Puts out bytes
+  pub wrote : Gathers out bytes
   pub is : (text : List ℕ) → answer (setting_of old) command (session_of old text) ≡ left_by talk new (text ++ bytes)
 
-abbrev pub AnswerFails : Command → Debugger → Sunk → Type 0
+abbrev pub AnswerFails : Command → Debugger → Gathered → Type 0
 AnswerFails command old out = Fails (answer (setting_of old) command) old out
 
 -- ---- a script
@@ -138,29 +137,29 @@ told_after GoesOn d text most begun rest = told_from d text most begun rest
 told_after Quits d text most begun rest = record { text = text; end = Done }
 
 -- it answered the lines that end within some bytes of a script, behind a line begun
-pub record Hears (bytes begun : List ℕ) (talk : Talk) (old new : Debugger) (held : List ℕ) (out : Sunk) : Type 0 where
+pub record Hears (bytes begun : List ℕ) (talk : Talk) (old new : Debugger) (held : List ℕ) (out : Gathered) : Type 0 where
   pub put : List ℕ
   pub line : List ℕ
-  pub wrote : Puts out put
+  pub wrote : Gathers out put
   pub held_is : IsHeld line held
   pub is : (text : List ℕ) (most : ℕ) (rest : List ℕ) → length bytes ≤ most
       → told_from old text most begun (bytes ++ rest) ≡ told_after talk new (text ++ put) (most - length bytes) line rest
 
-abbrev pub HearFails : List ℕ → List ℕ → Debugger → Sunk → Type 0
+abbrev pub HearFails : List ℕ → List ℕ → Debugger → Gathered → Type 0
 HearFails bytes begun old out = (text : List ℕ) (most : ℕ) (rest : List ℕ) → length bytes ≤ most
     → Breaks out text (told_from old text most begun (bytes ++ rest)).text
 
 -- the last line of a script was answered, which no line feed ends
-pub record Closes (begun : List ℕ) (d : Debugger) (out : Sunk) : Type 0 where
+pub record Closes (begun : List ℕ) (d : Debugger) (out : Gathered) : Type 0 where
   pub put : List ℕ
-  pub wrote : Puts out put
+  pub wrote : Gathers out put
   pub is : (text : List ℕ) (most : ℕ) → told_from d text most begun [] ≡ record { text = text ++ put; end = Done }
 
-abbrev pub CloseFails : List ℕ → Debugger → Sunk → Type 0
+abbrev pub CloseFails : List ℕ → Debugger → Gathered → Type 0
 CloseFails begun d out = (text : List ℕ) (most : ℕ) → Breaks out text (told_from d text most begun []).text
 
 -- what the end of a script did, by its answer
-abbrev pub CloseEffect : DebugEnd → List ℕ → Debugger → Sunk → Type 0
+abbrev pub CloseEffect : DebugEnd → List ℕ → Debugger → Gathered → Type 0
 CloseEffect Done begun d out = Closes begun d out
 CloseEffect SinkFault begun d out = CloseFails begun d out
 CloseEffect end begun d out = ⊥
@@ -173,28 +172,28 @@ pub record Reads (script : Drawn) (taken rest : List ℕ) : Type 0 where
   pub most : length taken ≤ script_limit + 1
 
 -- a session to its end
-pub record Tells (d : Debugger) (end : DebugEnd) (script : Drawn) (out : Sunk) : Type 0 where
+pub record Tells (d : Debugger) (end : DebugEnd) (script : Drawn) (out : Gathered) : Type 0 where
   pub taken : List ℕ
   pub rest : List ℕ
   pub put : List ℕ
   pub reads : Reads script taken rest
   pub same : script.now ≡ script.before
-  pub wrote : Puts out put
+  pub wrote : Gathers out put
   pub is : (text : List ℕ) → told_from d text script_limit [] (taken ++ rest) ≡ record { text = text ++ put; end = end }
 
 -- a session whose script failed: it has written a prefix of the transcript
-pub record ReadingFails (d : Debugger) (script : Drawn) (out : Sunk) : Type 0 where
+pub record ReadingFails (d : Debugger) (script : Drawn) (out : Gathered) : Type 0 where
   pub taken : List ℕ
   pub rest : List ℕ
   pub put : List ℕ
   pub reads : Reads script taken rest
   pub later : script.before ≤ script.now
   pub cause : Rose script.before script.now
-  pub wrote : Puts out put
+  pub wrote : Gathers out put
   pub more : (text : List ℕ) → Grows (text ++ put) (told_from d text script_limit [] (taken ++ rest)).text
 
 -- a session whose sink failed
-pub record TellingFails (d : Debugger) (script : Drawn) (out : Sunk) : Type 0 where
+pub record TellingFails (d : Debugger) (script : Drawn) (out : Gathered) : Type 0 where
   pub taken : List ℕ
   pub rest : List ℕ
   pub reads : Reads script taken rest
@@ -202,7 +201,7 @@ pub record TellingFails (d : Debugger) (script : Drawn) (out : Sunk) : Type 0 wh
   pub breaks : (text : List ℕ) → Breaks out text (told_from d text script_limit [] (taken ++ rest)).text
 
 -- what a session did that was made, by its answer
-abbrev pub TellEffect : DebugEnd → Debugger → Drawn → Sunk → Type 0
+abbrev pub TellEffect : DebugEnd → Debugger → Drawn → Gathered → Type 0
 TellEffect Done d script out = Tells d Done script out
 TellEffect TooLarge d script out = Tells d TooLarge script out
 TellEffect InputFault d script out = ReadingFails d script out

@@ -1,16 +1,19 @@
 ghost use Rattle.std.specs.Prelude.{[], IsTrue, IfOk, OnOk, OnErr};
-ghost use Rattle.alpha_io.specs.Sunk.{sunk, Puts};
+ghost use Rattle.alpha_debug.specs.Gathered.{gathered, Gathers, Stops};
 ghost use Rattle.alpha_seq.specs.Machine.{state_of};
 ghost use Rattle.alpha_debug.specs.Session.{IsVerdict, going, travel, adding, clearing, is_shown, shown};
-ghost use Rattle.alpha_debug.specs.Effects.{setting_of, IsOpened, Stops, Remains, Makes, Fails, Answers, AnswerFails};
+ghost use Rattle.alpha_debug.specs.Effects.{setting_of, IsOpened, Remains, Makes, Fails, Answers, AnswerFails};
 
+use crate::block::Block;
 use crate::breakpoints::{MOST_POINTS, Points, has_point, remove_point};
 use crate::command::{Command, MOST_STEPS};
-use crate::print::{log_line, print_code, print_memory, say, verdict_line, where_line};
+use crate::print::{
+    log_line, print_code, print_memory, print_registers, say, verdict_line, where_line,
+};
 use crate::travel::{Until, walk};
 use alpha_image::Image;
 use alpha_io::{Failed, Sink};
-use alpha_seq::{End, Machine, write_registers};
+use alpha_seq::{End, Machine};
 use alpha_shadow::{Broken, ImageCode, judge};
 use alpha_words::{Completion, NoMemory};
 use arrayvec::ArrayVec;
@@ -54,107 +57,131 @@ impl Debugger {
     }
 
     /// Answers a command.
-    pub fn answer<K: Sink>(&mut self, command: Command, out: &mut K) -> Result<Talk, Failed>
+    pub fn answer<K: Sink>(
+        &mut self,
+        command: Command,
+        block: &mut Block,
+        out: &mut K,
+    ) -> Result<Talk, Failed>
         requires { IsTrue self.old.machine.kernel.user }
         ensures ok { IfOk result (λ talk. Answers command talk self.old self.new
-            (sunk K.Sink out.old out.new)) }
+            (gathered K.Sink out.old block.old out.new block.new)) }
         ensures refused { OnErr result (AnswerFails command self.old
-            (sunk K.Sink out.old out.new)) }
+            (gathered K.Sink out.old block.old out.new block.new)) }
         ensures same { Remains self.old self.new }
     {
         match command {
             Command::Nothing => {}
-            Command::Step(n) => self.travel(Until::Spent, n, out)?,
-            Command::Go => self.travel(Until::Breakpoint, MOST_STEPS, out)?,
-            Command::Barrier => self.travel(Until::Barrier, MOST_STEPS, out)?,
-            Command::Break(at) => self.add(at, out)?,
-            Command::Clear(at) => self.clear(at, out)?,
+            Command::Step(n) => self.travel(Until::Spent, n, block, out)?,
+            Command::Go => self.travel(Until::Breakpoint, MOST_STEPS, block, out)?,
+            Command::Barrier => self.travel(Until::Barrier, MOST_STEPS, block, out)?,
+            Command::Break(at) => self.add(at, block, out)?,
+            Command::Clear(at) => self.clear(at, block, out)?,
             Command::Quit => return Ok(Talk::Quits),
-            command => self.show(command, out)?,
+            command => self.show(command, block, out)?,
         }
         Ok(Talk::GoesOn)
     }
 
     // Makes steps, and says where the program stands.
-    fn travel<K: Sink>(&mut self, until: Until, most: u64, out: &mut K) -> Result<(), Failed>
+    fn travel<K: Sink>(
+        &mut self,
+        until: Until,
+        most: u64,
+        block: &mut Block,
+        out: &mut K,
+    ) -> Result<(), Failed>
         requires { IsTrue self.old.machine.kernel.user }
         ensures ok { OnOk result (Makes (travel (setting_of self.old) until most) self.old self.new
-            (sunk K.Sink out.old out.new)) }
+            (gathered K.Sink out.old block.old out.new block.new)) }
         ensures refused { OnErr result (Fails (travel (setting_of self.old) until most) self.old
-            (sunk K.Sink out.old out.new)) }
+            (gathered K.Sink out.old block.old out.new block.new)) }
         ensures same { Remains self.old self.new }
     {
-        self.make_steps(until, most, out)?;
-        say(where_line(self.end, self.machine.pc).as_bytes(), out)
+        self.make_steps(until, most, block, out)?;
+        say(where_line(self.end, self.machine.pc).as_bytes(), block, out)
     }
 
     // Makes steps, unless the program has ended.
-    fn make_steps<K: Sink>(&mut self, until: Until, most: u64, out: &mut K) -> Result<(), Failed>
+    fn make_steps<K: Sink>(
+        &mut self,
+        until: Until,
+        most: u64,
+        block: &mut Block,
+        out: &mut K,
+    ) -> Result<(), Failed>
         requires { IsTrue self.old.machine.kernel.user }
         ensures ok { OnOk result (Makes (going (setting_of self.old) until most) self.old self.new
-            (sunk K.Sink out.old out.new)) }
+            (gathered K.Sink out.old block.old out.new block.new)) }
         ensures refused { OnErr result (Fails (going (setting_of self.old) until most) self.old
-            (sunk K.Sink out.old out.new)) }
+            (gathered K.Sink out.old block.old out.new block.new)) }
         ensures same { Remains self.old self.new }
     {
         if self.end.is_some() {
             return Ok(());
         }
-        self.end = walk(&mut self.machine, until, self.points.as_slice(), most, out)?;
+        self.end = walk(
+            &mut self.machine,
+            until,
+            self.points.as_slice(),
+            most,
+            block,
+            out,
+        )?;
         Ok(())
     }
 
     // Adds a breakpoint.
-    fn add<K: Sink>(&mut self, at: u64, out: &mut K) -> Result<(), Failed>
+    fn add<K: Sink>(&mut self, at: u64, block: &mut Block, out: &mut K) -> Result<(), Failed>
         ensures ok { OnOk result (Makes (λ s. adding s at) self.old self.new
-            (sunk K.Sink out.old out.new)) }
+            (gathered K.Sink out.old block.old out.new block.new)) }
         ensures refused { OnErr result (Fails (λ s. adding s at) self.old
-            (sunk K.Sink out.old out.new)) }
+            (gathered K.Sink out.old block.old out.new block.new)) }
         ensures same { Remains self.old self.new }
     {
         if has_point(self.points.as_slice(), at) {
-            return say(b"ok\n", out);
+            return say(b"ok\n", block, out);
         }
         if self.points.len() == MOST_POINTS {
-            return say(b"full\n", out);
+            return say(b"full\n", block, out);
         }
         self.points.push(at);
-        say(b"ok\n", out)
+        say(b"ok\n", block, out)
     }
 
     // Removes a breakpoint.
-    fn clear<K: Sink>(&mut self, at: u64, out: &mut K) -> Result<(), Failed>
+    fn clear<K: Sink>(&mut self, at: u64, block: &mut Block, out: &mut K) -> Result<(), Failed>
         ensures ok { OnOk result (Makes (λ s. clearing s at) self.old self.new
-            (sunk K.Sink out.old out.new)) }
+            (gathered K.Sink out.old block.old out.new block.new)) }
         ensures refused { OnErr result (Fails (λ s. clearing s at) self.old
-            (sunk K.Sink out.old out.new)) }
+            (gathered K.Sink out.old block.old out.new block.new)) }
         ensures same { Remains self.old self.new }
     {
         remove_point(&mut self.points, at);
-        say(b"ok\n", out)
+        say(b"ok\n", block, out)
     }
 
     // Answers a command that changes nothing but what is written.
-    fn show<K: Sink>(&self, command: Command, out: &mut K) -> Result<(), Failed>
+    fn show<K: Sink>(&self, command: Command, block: &mut Block, out: &mut K) -> Result<(), Failed>
         requires { IsTrue (is_shown command) }
-        ensures ok { OnOk result (Puts (sunk K.Sink out.old out.new)
+        ensures ok { OnOk result (Gathers (gathered K.Sink out.old block.old out.new block.new)
             (shown (setting_of self.now) command (state_of self.now.machine [] []))) }
-        ensures refused { OnErr result (Stops (sunk K.Sink out.old out.new)
+        ensures refused { OnErr result (Stops (gathered K.Sink out.old block.old out.new block.new)
             (shown (setting_of self.now) command (state_of self.now.machine [] []))) }
     {
         match command {
-            Command::Registers => write_registers(&self.machine.regs, out),
-            Command::Memory(at, count) => print_memory(&self.machine.memory, at, count, out),
-            Command::Listing(at, count) => print_code(&self.machine.image, at, count, out),
+            Command::Registers => print_registers(&self.machine.regs, block, out),
+            Command::Memory(at, count) => print_memory(&self.machine.memory, at, count, block, out),
+            Command::Listing(at, count) => print_code(&self.machine.image, at, count, block, out),
             Command::Shadow => {
                 let line = verdict_line(self.verdict, self.machine.image.code_base());
-                say(line.as_bytes(), out)
+                say(line.as_bytes(), block, out)
             }
             Command::Log => {
                 let line = log_line(self.machine.overflows, self.machine.last);
-                say(line.as_bytes(), out)
+                say(line.as_bytes(), block, out)
             }
-            _ => say(b"?\n", out),
+            _ => say(b"?\n", block, out),
         }
     }
 }

@@ -17,6 +17,7 @@
 //! `src/script.rt` cuts the script into lines, in pieces of a fixed size, and `src/transcript.rt` is the whole.
 #![tactic(auto)]
 
+mod block;
 mod breakpoints;
 mod command;
 mod debugger;

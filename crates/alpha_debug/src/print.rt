@@ -1,27 +1,51 @@
 ghost use Rattle.std.specs.Prelude.{◌≡◌, ◌≤◌, ◌<◌, ◌+◌, ◌*◌, ◌^◌, ◌++◌, length, OnOk, OnErr, Some, slice_index};
 ghost use Rattle.hex.specs.Hex.{encode_lower};
 ghost use Rattle.alpha_io.specs.declared.line.TheConstants.{LINE_ROOM};
-ghost use Rattle.alpha_io.specs.Sunk.{sunk, Puts};
+ghost use Rattle.alpha_debug.specs.Gathered.{gathered, Gathers, Stops};
 ghost use Rattle.alpha_image.specs.Parts.{place_of};
-ghost use Rattle.alpha_debug.specs.Effects.{Stops};
+ghost use Rattle.alpha_seq.specs.Notes.{register_lines};
 ghost use Rattle.alpha_debug.specs.Lines.{where_line, memory_line, bytes_lines, memory_lines, code_line, code_lines, verdict_line, log_line};
 
+use crate::block::Block;
 use alpha_image::Image;
-use alpha_io::{Failed, Line, Sink, write_whole};
+use alpha_io::{Failed, Line, Sink};
 use alpha_mem::Memory;
-use alpha_seq::{End, line_of_end};
+use alpha_seq::{End, line_of_end, write_registers};
 use alpha_shadow::{Broken, line_of_broken};
 use alpha_text::{LineBuf, write_line};
+use alpha_words::RegFile;
 
 // How many bytes a line of `mem` has at most.
 const ROW: usize = 16;
 
-/// Puts all of the bytes; where the output fails, a front of them.
-pub(crate) fn say<K: Sink>(bytes: &[u8], out: &mut K) -> Result<(), Failed>
-    ensures ok { OnOk result (Puts (sunk K.Sink out.old out.new) bytes.now) }
-    ensures refused { OnErr result (Stops (sunk K.Sink out.old out.new) bytes.now) }
+/// Takes all of the bytes: they wait in the block until it is full.
+pub(crate) fn say<K: Sink>(bytes: &[u8], block: &mut Block, out: &mut K) -> Result<(), Failed>
+    ensures ok { OnOk result (Gathers (gathered K.Sink out.old block.old out.new block.new) bytes.now) }
+    ensures refused { OnErr result (Stops (gathered K.Sink out.old block.old out.new block.new) bytes.now) }
 {
-    write_whole(out, bytes)
+    block.gather(bytes, out)
+}
+
+/// Takes the lines of the registers.
+pub(crate) fn print_registers<K: Sink>(
+    regs: &RegFile,
+    block: &mut Block,
+    out: &mut K,
+) -> Result<(), Failed>
+    ensures ok { OnOk result (Gathers (gathered K.Sink out.old block.old out.new block.new)
+        (register_lines regs.now)) }
+    ensures refused { OnErr result (Stops (gathered K.Sink out.old block.old out.new block.new)
+        (register_lines regs.now)) }
+{
+    let waiting = block.len();
+    match write_registers(regs, block) {
+        Ok(()) => Ok(()),
+        Err(Failed) => {
+            block.cut(waiting);
+            block.flush(out)?;
+            write_registers(regs, out)
+        }
+    }
 }
 
 /// `pc A`, or the line of the end.
@@ -69,37 +93,38 @@ pub(crate) fn verdict_line(verdict: Option<Broken>, code_base: u64) -> Line
     }
 }
 
-/// Appends the bytes of a range in lines of sixteen, or `bad range`.
+/// Takes the bytes of a range in lines of sixteen, or `bad range`.
 pub(crate) fn print_memory<K: Sink>(
     memory: &Memory,
     at: u64,
     count: u64,
+    block: &mut Block,
     out: &mut K,
 ) -> Result<(), Failed>
-    ensures ok { OnOk result (Puts (sunk K.Sink out.old out.new)
+    ensures ok { OnOk result (Gathers (gathered K.Sink out.old block.old out.new block.new)
         (memory_lines memory.now at count)) }
-    ensures refused { OnErr result (Stops (sunk K.Sink out.old out.new)
+    ensures refused { OnErr result (Stops (gathered K.Sink out.old block.old out.new block.new)
         (memory_lines memory.now at count)) }
 {
     match memory.bytes(at, count) {
-        Some(bytes) => print_bytes(at, bytes, out),
-        None => say(b"bad range\n", out),
+        Some(bytes) => print_bytes(at, bytes, block, out),
+        None => say(b"bad range\n", block, out),
     }
 }
 
-// Appends bytes in lines of sixteen, the first of which stand at an address.
-fn print_bytes<K: Sink>(at: u64, bytes: &[u8], out: &mut K) -> Result<(), Failed>
+// Takes bytes in lines of sixteen, the first of which stand at an address.
+fn print_bytes<K: Sink>(at: u64, bytes: &[u8], block: &mut Block, out: &mut K) -> Result<(), Failed>
     requires { at + length bytes.now < 2 ^ 64 }
-    ensures ok { OnOk result (Puts (sunk K.Sink out.old out.new)
+    ensures ok { OnOk result (Gathers (gathered K.Sink out.old block.old out.new block.new)
         (bytes_lines at bytes.now)) }
-    ensures refused { OnErr result (Stops (sunk K.Sink out.old out.new)
+    ensures refused { OnErr result (Stops (gathered K.Sink out.old block.old out.new block.new)
         (bytes_lines at bytes.now)) }
 {
     for k in 0..bytes.len().div_ceil(ROW) {
         let front = ROW * k;
         let end = bytes.len().min(front + ROW);
         let line = memory_line(at + front as u64, &bytes[front..end]);
-        say(line.as_bytes(), out)?;
+        say(line.as_bytes(), block, out)?;
     }
     Ok(())
 }
@@ -118,37 +143,44 @@ fn memory_line(at: u64, bytes: &[u8]) -> Line
     line
 }
 
-/// Appends the canonical lines of code words with their addresses, from an address on to the end of the code at most, or
+/// Takes the canonical lines of code words with their addresses, from an address on to the end of the code at most, or
 /// `bad range`.
 pub(crate) fn print_code<K: Sink>(
     image: &Image,
     at: u64,
     count: u64,
+    block: &mut Block,
     out: &mut K,
 ) -> Result<(), Failed>
-    ensures ok { OnOk result (Puts (sunk K.Sink out.old out.new)
+    ensures ok { OnOk result (Gathers (gathered K.Sink out.old block.old out.new block.new)
         (code_lines image.now (place_of image.now at) count)) }
-    ensures refused { OnErr result (Stops (sunk K.Sink out.old out.new)
+    ensures refused { OnErr result (Stops (gathered K.Sink out.old block.old out.new block.new)
         (code_lines image.now (place_of image.now at) count)) }
 {
     match image.place_of(at) {
-        Some(place) => print_words(image, place, count, out),
-        None => say(b"bad range\n", out),
+        Some(place) => print_words(image, place, count, block, out),
+        None => say(b"bad range\n", block, out),
     }
 }
 
-// Appends the lines of code words from a place on.
-fn print_words<K: Sink>(image: &Image, place: u32, count: u64, out: &mut K) -> Result<(), Failed>
+// Takes the lines of code words from a place on.
+fn print_words<K: Sink>(
+    image: &Image,
+    place: u32,
+    count: u64,
+    block: &mut Block,
+    out: &mut K,
+) -> Result<(), Failed>
     requires { place < length image.now.words }
-    ensures ok { OnOk result (Puts (sunk K.Sink out.old out.new)
+    ensures ok { OnOk result (Gathers (gathered K.Sink out.old block.old out.new block.new)
         (code_lines image.now (Some place) count)) }
-    ensures refused { OnErr result (Stops (sunk K.Sink out.old out.new)
+    ensures refused { OnErr result (Stops (gathered K.Sink out.old block.old out.new block.new)
         (code_lines image.now (Some place) count)) }
 {
     let count = count.min(u64::from(image.words() - place));
     for k in 0..count {
         let line = code_line(image, place + k as u32);
-        say(line.as_bytes(), out)?;
+        say(line.as_bytes(), block, out)?;
     }
     Ok(())
 }

@@ -1,10 +1,13 @@
-ghost use Rattle.std.specs.Prelude.{◌≡◌, IsTrue, List, ℕ};
+ghost use Rattle.std.specs.Prelude.{◌≡◌, [], IsTrue, List, ℕ, IfOk, OnErr};
 ghost use Rattle.alpha_io.specs.Sunk.{sunk};
 ghost use Rattle.alpha_seq.specs.Devices.{drawn};
 ghost use Rattle.alpha_debug.specs.DebugEffect.{DebugEffect};
-ghost use Rattle.alpha_debug.specs.Effects.{IsHeld, CloseEffect, TellEffect};
+ghost use Rattle.alpha_debug.specs.Command.{command_of};
+ghost use Rattle.alpha_debug.specs.Gathered.{gathered};
+ghost use Rattle.alpha_debug.specs.Effects.{Remains, IsHeld, Answers, AnswerFails, Hears, HearFails, CloseEffect, TellEffect};
 
 use crate::DebugEnd;
+use crate::block::Block;
 use crate::debugger::{Debugger, Talk};
 use crate::script::{Held, answer_line, hear};
 use alpha_image::Image;
@@ -49,7 +52,7 @@ fn converse<S: Source, K: Sink>(debugger: &mut Debugger, script: &mut S, out: &m
     requires { IsTrue debugger.old.machine.kernel.user }
     ensures { TellEffect result debugger.old
         (drawn S.Source script.old script.new)
-        (sunk K.Sink out.old out.new) }
+        (gathered K.Sink out.old [] out.new []) }
 {
     let mut held = ArrayVec::new();
     let mut space = [0; PIECE];
@@ -63,7 +66,7 @@ fn converse<S: Source, K: Sink>(debugger: &mut Debugger, script: &mut S, out: &m
         if count == 0 {
             return close(debugger, &held, out);
         }
-        match hear(debugger, &mut held, &piece[..count], out) {
+        match hear_piece(debugger, &mut held, &piece[..count], out) {
             Ok(Talk::GoesOn) => {}
             Ok(Talk::Quits) => return DebugEnd::Done,
             Err(Failed) => return DebugEnd::SinkFault,
@@ -78,14 +81,50 @@ fn converse<S: Source, K: Sink>(debugger: &mut Debugger, script: &mut S, out: &m
     }
 }
 
+// Answers the lines that end within these further bytes of the script, to a `quit`, and puts all answers.
+fn hear_piece<K: Sink>(
+    debugger: &mut Debugger,
+    held: &mut Held,
+    bytes: &[u8],
+    out: &mut K,
+) -> Result<Talk, Failed>
+    requires { IsTrue debugger.old.machine.kernel.user }
+    ensures ok { (begun : List ℕ) → IsHeld begun held.old.items
+        → IfOk result (λ talk. Hears bytes.now begun talk debugger.old debugger.new held.new.items
+        (gathered K.Sink out.old [] out.new [])) }
+    ensures refused { (begun : List ℕ) → IsHeld begun held.old.items
+        → OnErr result (HearFails bytes.now begun debugger.old
+        (gathered K.Sink out.old [] out.new [])) }
+    ensures same { Remains debugger.old debugger.new }
+{
+    let mut block = Block::new();
+    let talk = hear(debugger, held, bytes, &mut block, out)?;
+    block.flush(out)?;
+    Ok(talk)
+}
+
 // Ends a session at the end of the script: what stands behind its last line feed is answered.
 fn close<K: Sink>(debugger: &mut Debugger, held: &Held, out: &mut K) -> DebugEnd
     requires { IsTrue debugger.old.machine.kernel.user }
     ensures { (begun : List ℕ) → IsHeld begun held.now.items → CloseEffect result begun debugger.old
-        (sunk K.Sink out.old out.new) }
+        (gathered K.Sink out.old [] out.new []) }
 {
-    match answer_line(debugger, held.as_slice(), out) {
+    match answer_last(debugger, held.as_slice(), out) {
         Ok(_) => DebugEnd::Done,
         Err(Failed) => DebugEnd::SinkFault,
     }
+}
+
+// Answers a line, and puts the answer.
+fn answer_last<K: Sink>(debugger: &mut Debugger, line: &[u8], out: &mut K) -> Result<Talk, Failed>
+    requires { IsTrue debugger.old.machine.kernel.user }
+    ensures ok { IfOk result (λ talk. Answers (command_of line.now) talk debugger.old debugger.new
+        (gathered K.Sink out.old [] out.new [])) }
+    ensures refused { OnErr result (AnswerFails (command_of line.now) debugger.old
+        (gathered K.Sink out.old [] out.new [])) }
+{
+    let mut block = Block::new();
+    let talk = answer_line(debugger, line, &mut block, out)?;
+    block.flush(out)?;
+    Ok(talk)
 }

@@ -1,10 +1,11 @@
-ghost use Rattle.std.specs.Prelude.{◌≡◌, IsTrue, IfOk, OnErr};
-ghost use Rattle.alpha_io.specs.Sunk.{sunk};
+ghost use Rattle.std.specs.Prelude.{◌≡◌, [], IsTrue, IfOk, OnErr};
 ghost use Rattle.alpha_seq.specs.Machine.{Stays};
 ghost use Rattle.alpha_seq.specs.Run.{end_of};
+ghost use Rattle.alpha_debug.specs.Gathered.{gathered};
 ghost use Rattle.alpha_debug.specs.Session.{is_reached, is_last};
-ghost use Rattle.alpha_debug.specs.Effects.{event_of, Moves, MoveBreaks, Walks, WalkBreaks};
+ghost use Rattle.alpha_debug.specs.Effects.{event_of, Moves, MoveBreaks, IsUnmade, Walks, WalkBreaks};
 
+use crate::block::Block;
 use crate::breakpoints::has_point;
 use crate::input::NoInput;
 use alpha_io::{Failed, NullSink, Sink};
@@ -40,17 +41,18 @@ pub(crate) fn walk<K: Sink>(
     until: Until,
     points: &[u64],
     most: u64,
+    block: &mut Block,
     out: &mut K,
 ) -> Result<Option<End>, Failed>
     requires { IsTrue machine.old.kernel.user }
     ensures ok { IfOk result (λ end. Walks until points.now most end machine.old machine.new
-        (sunk K.Sink out.old out.new)) }
+        (gathered K.Sink out.old block.old out.new block.new)) }
     ensures refused { OnErr result (WalkBreaks until points.now most machine.old
-        (sunk K.Sink out.old out.new)) }
+        (gathered K.Sink out.old block.old out.new block.new)) }
     ensures same { Stays machine.old machine.new }
 {
     for _ in 0..most {
-        let moved = step(machine, out)?;
+        let moved = step(machine, block, out)?;
         if is_last(until, points, moved, machine.pc) {
             return Ok(end_of(moved));
         }
@@ -58,13 +60,35 @@ pub(crate) fn walk<K: Sink>(
     Ok(None)
 }
 
-// Makes one step over an empty input, without notes.
-fn step<K: Sink>(machine: &mut Machine, out: &mut K) -> Result<Moved, Failed>
+// Makes one step, whose output waits in the block where it fits. Where it doesn't, the step wasn't made: what waits is
+// put, and the step is made anew over the sink itself.
+fn step<K: Sink>(machine: &mut Machine, block: &mut Block, out: &mut K) -> Result<Moved, Failed>
     requires { IsTrue machine.old.kernel.user }
     ensures ok { IfOk result (λ moved. Moves (event_of moved) machine.old machine.new
-        (sunk K.Sink out.old out.new)) }
+        (gathered K.Sink out.old block.old out.new block.new)) }
     ensures refused { OnErr result (MoveBreaks machine.old
-        (sunk K.Sink out.old out.new)) }
+        (gathered K.Sink out.old block.old out.new block.new)) }
+    ensures same { Stays machine.old machine.new }
+{
+    let waiting = block.len();
+    match step_into(machine, block) {
+        Ok(moved) => Ok(moved),
+        Err(Failed) => {
+            block.cut(waiting);
+            block.flush(out)?;
+            step_into(machine, out)
+        }
+    }
+}
+
+// Makes one step over an empty input, without notes. Where the output fails the step wasn't made.
+fn step_into<K: Sink>(machine: &mut Machine, out: &mut K) -> Result<Moved, Failed>
+    requires { IsTrue machine.old.kernel.user }
+    ensures ok { IfOk result (λ moved. Moves (event_of moved) machine.old machine.new
+        (gathered K.Sink out.old [] out.new [])) }
+    ensures refused { OnErr result (MoveBreaks machine.old
+        (gathered K.Sink out.old [] out.new [])) }
+    ensures unmade { OnErr result (IsUnmade machine.old machine.new) }
     ensures same { Stays machine.old machine.new }
 {
     match machine.step(&mut NoInput, out, &mut NullSink::new()) {

@@ -1,7 +1,7 @@
 use Rattle.std.proofs.Common.{ℕ, List, take}
-use Rattle.alpha_io.specs.Sunk.{sunk}
 use Rattle.alpha_debug.specs.declared.debugger.Talk.TheVariants.{GoesOn}
 use Rattle.alpha_debug.specs.Effects.{Remains, IsHeld, Hears}
+use Rattle.alpha_debug.specs.Gathered.{gathered}
 use Rattle.alpha_debug.proofs.script.hear.Given as goal
 
 -- the bytes so far were heard
@@ -10,5 +10,5 @@ invariant-loop-byte g l = record {
   same : Remains l.initial.debugger l.debugger;
   hears : (begun : List ℕ) → IsHeld begun l.initial.held.items
       → Hears (take l.byte-index l.bytes) begun GoesOn l.initial.debugger l.debugger l.held.items
-      (sunk g.K.Sink l.initial.out l.out);
+      (gathered g.K.Sink l.initial.out l.initial.block l.out l.block);
 }

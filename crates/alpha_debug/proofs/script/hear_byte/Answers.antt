@@ -3,16 +3,15 @@ use Rattle.std.proofs.Common.{◌≡◌, ◌∙◌, ◌<◌, ℕ, List, [], ◌�
 use Rattle.std.proofs.lemmas.Bool.{ne_eqb}
 use Rattle.std.proofs.lemmas.Bool.Decides.{nat_tests}
 use Rattle.std.specs.Str.Lines.{strip_carriage_return}
-use Rattle.alpha_io.specs.Sunk.{sunk}
-use Rattle.alpha_io.proofs.Sinks.{Puts-none}
 use Rattle.alpha_debug.specs.Effects.{Hears, HearFails}
-use Rattle.alpha_debug.proofs.Sinks.{OnErr-any}
+use Rattle.alpha_debug.proofs.Sinks.{Gathers-none, OnErr-any}
 use Rattle.alpha_debug.proofs.Scripts.{hears_feed, hear_feed_fails, hears_other, held_more, held_full}
+use Rattle.alpha_debug.specs.Gathered.{gathered}
 use Rattle.alpha_debug.proofs.script.hear_byte.Goals as goal
 
 pub returns-in_err-talk-clause-refused : goal.returns-in_err-talk-clause-refused
 returns-in_err-talk-clause-refused g c =
-    let out = sunk g.K.Sink c.args.out.now c.answer_line.new.out in
+    let out = gathered g.K.Sink c.args.out.now c.args.block.now c.answer_line.new.out c.answer_line.new.block in
     let held = c.args.held.now.items in
     let line : c.without_return.result.now ≡ strip_carriage_return held = c.without_return.ensures ∙ ap strip_carriage_return c.as_slice.ensures.value in
     let feed : c.args.byte ≡ 10 = omega (arith, c.if-byte-eq10.true) in
@@ -23,7 +22,7 @@ returns-in_err-talk-clause-refused g c =
 
 pub returns-in_ok-talk-clause-ok : goal.returns-in_ok-talk-clause-ok
 returns-in_ok-talk-clause-ok g c =
-    let out = sunk g.K.Sink c.args.out.now c.answer_line.new.out in
+    let out = gathered g.K.Sink c.args.out.now c.args.block.now c.answer_line.new.out c.answer_line.new.block in
     let held = c.args.held.now.items in
     let old = c.args.debugger.now in
     let new = c.answer_line.new.debugger in
@@ -37,22 +36,22 @@ returns-in_ok-talk-clause-ok g c =
 
 pub returns-then-not-is_full-clause-ok : goal.returns-then-not-is_full-clause-ok
 returns-then-not-is_full-clause-ok g c =
-    let out = sunk g.K.Sink c.args.out.now c.args.out.now in
+    let out = gathered g.K.Sink c.args.out.now c.args.block.now c.args.out.now c.args.block.now in
     let held = c.args.held.now.items in
     let other : (c.args.byte == 10) ≡ false = ne_eqb c.args.byte 10 (λ e. omega (arith, c.if-byte-eq10.false)) in
     let room : length held < 1026 = grind (arith, nat_tests) in
     λ begun is_held.
     hears_other c.args.byte begun c.push.new.self.items c.args.debugger.now out other is_held.line
     (held_more c.args.byte begun held c.push.new.self.items is_held.front room c.push.ensures.items)
-    (Puts-none (g.K.Sink.written c.args.out.now) (g.K.Sink.faults c.args.out.now))
+    (Gathers-none g.K.Sink c.args.out.now c.args.block.now)
 
 pub returns-else-not-is_full-clause-ok : goal.returns-else-not-is_full-clause-ok
 returns-else-not-is_full-clause-ok g c =
-    let out = sunk g.K.Sink c.args.out.now c.args.out.now in
+    let out = gathered g.K.Sink c.args.out.now c.args.block.now c.args.out.now c.args.block.now in
     let held = c.args.held.now.items in
     let other : (c.args.byte == 10) ≡ false = ne_eqb c.args.byte 10 (λ e. omega (arith, c.if-byte-eq10.false)) in
     let full : length held ≡ 1026 = grind (arith, nat_tests) in
     λ begun is_held.
     hears_other c.args.byte begun held c.args.debugger.now out other is_held.line
     (held_full c.args.byte begun held is_held.front full)
-    (Puts-none (g.K.Sink.written c.args.out.now) (g.K.Sink.faults c.args.out.now))
+    (Gathers-none g.K.Sink c.args.out.now c.args.block.now)

@@ -1,13 +1,14 @@
-use Rattle.alpha_io.specs.Sunk.{sunk}
+use Rattle.std.proofs.Common.{[]}
 use Rattle.alpha_seq.specs.Devices.{drawn}
 use Rattle.alpha_debug.proofs.Underway.{Underway}
+use Rattle.alpha_debug.specs.Gathered.{gathered}
 use Rattle.alpha_debug.proofs.transcript.converse.Given as goal
 
 abbrev pub invariant-loop-most : goal.invariant-loop-most
 invariant-loop-most g l =
     Underway l.initial.debugger l.debugger l.held.items l.most
     (drawn g.S.Source l.initial.script l.script)
-    (sunk g.K.Sink l.initial.out l.out)
+    (gathered g.K.Sink l.initial.out [] l.out [])
 
 abbrev pub decreases-loop-most : goal.decreases-loop-most
 decreases-loop-most g l = l.most

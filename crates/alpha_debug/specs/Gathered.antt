@@ -1,0 +1,33 @@
+-- What a call did to a sink and to the block of bytes that wait to be put to it.
+use Rattle.std.specs.Prelude.{◌≡◌, ℕ, List, ◌++◌, Option}
+use Rattle.alpha_io.specs.declared.sink.Sink.{Ghosts}
+use Rattle.alpha_io.specs.Sunk.{Sunk, sunk_by, Puts, Partly, HasFailed}
+
+-- what the sink got, and the bytes in the block before the call and after it
+pub record Gathered : Type 0 where
+  pub sink : Sunk
+  pub old : List ℕ
+  pub new : List ℕ
+
+-- by what the sink tells and its count, of a sink with its block before and after
+abbrev pub gathered_by : {K : Type 0} → (K → Option (List ℕ)) → (K → ℕ) → K × List ℕ → K × List ℕ → Gathered
+gathered_by written faults old new = record { sink = sunk_by written faults old.0 new.0; old = old.1; new = new.1 }
+
+-- by the ghosts of the sink's type
+abbrev pub gathered : {K : Type 0} → Ghosts K → K → List ℕ → K → List ℕ → Gathered
+gathered g old waited new waits = gathered_by g.written g.faults (old, waited) (new, waits)
+
+-- these bytes were taken without a fault: of all that waited and these behind it the first were put, and the others wait
+pub record Gathers (s : Gathered) (bytes : List ℕ) : Type 0 where
+  pub put : List ℕ
+  pub puts : Puts s.sink put
+  pub whole : s.old ++ bytes ≡ put ++ s.new
+
+-- the sink failed, with a prefix of these bytes written
+pub record CutShort (s : Sunk) (bytes : List ℕ) : Type 0 where
+  pub part : Partly s bytes
+  pub failed : HasFailed s
+
+-- the sink failed, with a prefix written of what waited and of these bytes behind it
+abbrev pub Stops : Gathered → List ℕ → Type 0
+Stops s bytes = CutShort s.sink (s.old ++ bytes)
