@@ -1,15 +1,15 @@
 -- What was answered to a piece of a script, behind which all that waited is put.
-use Rattle.std.proofs.Common.{◌≡◌, ◌-◌, ◌≤◌, ℕ, List, [], ◌++◌, length, refl, sym, ap, subst, append-nil}
+use Rattle.std.proofs.Common.{◌-◌, ℕ, List, [], ◌++◌, length, refl, sym, ap, subst, append-nil}
 use Rattle.alpha_io.specs.declared.sink.Sink.{Ghosts}
 use Rattle.alpha_io.specs.Sunk.{sunk, Puts}
 use Rattle.alpha_debug.specs.declared.command.Command.{Command}
 use Rattle.alpha_debug.specs.declared.debugger.Debugger.{Debugger}
 use Rattle.alpha_debug.specs.declared.debugger.Talk.{Talk}
 use Rattle.alpha_debug.specs.declared.debugger.Talk.TheVariants.{GoesOn, Quits}
-use Rattle.alpha_debug.specs.Session.{Session, text_of}
+use Rattle.alpha_debug.specs.Session.{text_of}
 use Rattle.alpha_debug.specs.Script.{Transcript}
 use Rattle.alpha_debug.specs.Gathered.{gathered, Gathers, Stops}
-use Rattle.alpha_debug.specs.Effects.{Grows, Breaks, Answers, AnswerFails, Hears, HearFails, told_from, told_after}
+use Rattle.alpha_debug.specs.Effects.{Grows, Breaks, Answers, AnswerFails, Hears, HearFails, told_after}
 use Rattle.alpha_debug.proofs.Sinks.{Grows-same, Breaks-more, Gathers-both, Stops-after}
 use Rattle.alpha_debug.proofs.Waiting.{Gathers-flushed}
 use Rattle.alpha_debug.proofs.Hearing.{told-grows}

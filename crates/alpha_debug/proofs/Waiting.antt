@@ -1,5 +1,5 @@
 -- What waits in a block, and what is put past it.
-use Rattle.std.proofs.Common.{◌≡◌, ◌∙◌, ℕ, List, [], ◌++◌, length, take, Option, Some, Result, Ok, Err, OnOk, OnErr, refl, sym, ap, append-nil, arith}
+use Rattle.std.proofs.Common.{◌≡◌, ◌∙◌, ℕ, List, [], ◌++◌, length, take, Some, Result, Ok, Err, OnOk, OnErr, refl, sym, ap, append-nil, arith}
 use Rattle.std.proofs.Math.Seq.{take-append_seam}
 use Rattle.std.specs.Io.KnownBytes.{Appends}
 use Rattle.alpha_io.specs.declared.sink.Sink.{Ghosts}

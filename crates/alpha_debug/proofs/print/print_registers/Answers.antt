@@ -1,4 +1,4 @@
-use Rattle.std.proofs.Common.{◌≡◌, ◌∙◌, List, ℕ, [], take, OnOk, OnErr, sym, ap, subst}
+use Rattle.std.proofs.Common.{◌≡◌, ◌∙◌, List, ℕ, [], take, OnOk, sym, ap, subst}
 use Rattle.alpha_io.specs.Sunk.{sunk, Puts}
 use Rattle.alpha_seq.specs.Notes.{register_lines}
 use Rattle.alpha_debug.specs.Gathered.{gathered, Gathers, Stops}

@@ -2,7 +2,7 @@ use Rattle.std.proofs.Common.{◌≡◌, ◌∙◌, ℕ, List, [], take, IfOk, s
 use Rattle.alpha_io.specs.Sunk.{sunk, Puts}
 use Rattle.alpha_debug.specs.declared.travel.Moved.{Moved}
 use Rattle.alpha_debug.specs.Gathered.{gathered, Stops}
-use Rattle.alpha_debug.specs.Effects.{event_of, Moves, MoveBreaks}
+use Rattle.alpha_debug.specs.Effects.{event_of, Moves}
 use Rattle.alpha_debug.proofs.Sinks.{OnErr-any, IfOk-map, OnErr-map}
 use Rattle.alpha_debug.proofs.Waiting.{cut-back}
 use Rattle.alpha_debug.proofs.Steps.{breaks_before, moved_past, breaks_past}

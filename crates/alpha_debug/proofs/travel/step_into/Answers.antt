@@ -1,5 +1,5 @@
 use Rattle.std.proofs.Common.{refl}
-use Rattle.alpha_debug.proofs.Steps.{sink_fault, sink_fault_unmade, moved}
+use Rattle.alpha_debug.proofs.Steps.{sink_fault, moved}
 use Rattle.alpha_debug.proofs.travel.step_into.Goals as goal
 
 pub returns-in-SinkFault-clause-refused : goal.returns-in-SinkFault-clause-refused
