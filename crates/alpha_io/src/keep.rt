@@ -61,11 +61,17 @@ fn new_beside<'a, R: Files + AllocGlobal>(
     let Some(new) = made_at(files, place)? else {
         return Ok(None);
     };
-    if takes_after_old(&new) {
-        return Ok(Some(new));
+    match takes_after_old(&new) {
+        Ok(true) => Ok(Some(new)),
+        Ok(false) => {
+            files.remove_file(new.path.as_str())?;
+            Ok(None)
+        }
+        Err(error) => {
+            let _ = files.remove_file(new.path.as_str());
+            Err(error)
+        }
     }
-    files.remove_file(new.path.as_str())?;
-    Ok(None)
 }
 
 // The place that a name leads to, or `None` where no file can be made beside it or take its name.
@@ -121,7 +127,12 @@ fn made_at<'a, R: Files + AllocGlobal>(
         let path = numbered(files, place.path.as_path(), number)?;
         match how.open(files, path.as_str()) {
             Ok(file) => {
-                return Ok(Some(Beside { files, file, path, place }));
+                return Ok(Some(Beside {
+                    files,
+                    file,
+                    path,
+                    place,
+                }));
             }
             Err(error) => match error.kind() {
                 ErrorKind::AlreadyExists => {}
@@ -139,19 +150,29 @@ fn numbered<R: AllocGlobal>(files: &R, path: Path<'_>, number: u32) -> io::Resul
     Ok(path.with_file_name(files.alloc(), name.as_str())?)
 }
 
-// Gives a new file the owner and the mode of the old one, if there is one, and says whether it has them.
-fn takes_after_old<R: Files>(new: &Beside<R>) -> bool {
-    match &new.place.old {
-        Some(old) => take_after(new, old).is_ok(),
-        None => true,
+// Gives a new file the owner and the mode of the old one, if there is one, and answers whether it has them.
+fn takes_after_old<R: Files>(new: &Beside<R>) -> io::Result<bool> {
+    let Some(old) = &new.place.old else {
+        return Ok(true);
+    };
+    let made = OpenFile::metadata(&new.file)?;
+    if made.dev() != old.dev() {
+        // The old file is mounted by itself, and no other one can take its name.
+        return Ok(false);
+    }
+    match take_after(new, &made, old) {
+        Ok(()) => Ok(true),
+        Err(error) => match error.kind() {
+            ErrorKind::PermissionDenied | ErrorKind::InvalidInput | ErrorKind::Unsupported => Ok(
+                false,
+            ),
+            _ => Err(error),
+        },
     }
 }
 
-fn take_after<R: Files>(new: &Beside<R>, old: &Metadata) -> io::Result<()> {
-    let made = OpenFile::metadata(&new.file)?;
-    if made.dev() != old.dev() {
-        return Err(Error::from(ErrorKind::CrossesDevices));
-    }
+// The owner comes first, since the system may change the mode with it.
+fn take_after<R: Files>(new: &Beside<R>, made: &Metadata, old: &Metadata) -> io::Result<()> {
     if made.uid() != old.uid() || made.gid() != old.gid() {
         let path = new.path.as_str();
         new.files.chown(path, Some(old.uid()), Some(old.gid()))?;
@@ -165,7 +186,11 @@ fn take_after<R: Files>(new: &Beside<R>, old: &Metadata) -> io::Result<()> {
 // Writes over the file of that name, where it stands. A regular file is stored as well.
 fn write_in_place<R: Files>(files: &R, name: &str, bytes: &[u8]) -> io::Result<()> {
     let mut how = OpenOptions::new();
-    let mut file = how.write(true).create(true).truncate(true).open(files, name)?;
+    let mut file = how
+        .write(true)
+        .create(true)
+        .truncate(true)
+        .open(files, name)?;
     file.write_all(bytes)?;
     if OpenFile::metadata(&file)?.is_file() {
         file.sync_all()?;
@@ -187,7 +212,10 @@ impl<R: Files> NewFile for Beside<R> {
     }
 
     fn rename(&mut self) -> Result<(), Failed> {
-        done(self.files.rename(self.path.as_str(), self.place.path.as_str()))
+        done(
+            self.files
+                .rename(self.path.as_str(), self.place.path.as_str()),
+        )
     }
 
     fn remove(&mut self) {

@@ -20,6 +20,8 @@ mod fix;
 #[cfg(test)]
 mod io;
 #[cfg(test)]
+mod keep;
+#[cfg(test)]
 mod link;
 #[cfg(test)]
 mod mem;
