@@ -49,7 +49,7 @@ pub(crate) fn read_lines<'a>(
     ensures refused { IfErr result (λ fault. fault ≢ faults.NoMemory
         → first_refused kind [] (lines source.now) ≡ Some fault) }
 {
-    let mut pass = Pass::new(alloc, source);
+    let mut pass = Pass::new(alloc);
     let mut rest = source;
     while !rest.is_empty() {
         let (line, more) = first_line(rest);

@@ -17,15 +17,14 @@
 //!
 //! `lines.rt` cuts a source into lines; `statement.rt` says what a statement asks, apart from where it
 //! stands; `place.rt` is the place that a line stands at, `fields.rt` the field statements, `label.rt`
-//! the labels, `output.rt` the instructions and data bytes, which `data.rt` holds without their
+//! and `labels.rt` the labels, `output.rt` the instructions and data bytes, which `data.rt` holds without their
 //! paddings, `patch.rt` the addresses that are put in later, and `pass.rt` the state with the steps that
 //! each line takes. The image takes the instructions and the data bytes as they are: nothing is encoded
 //! or decoded.
 //!
 //! [`Section`], [`Spot`], [`Use`] and [`Displacement`] are what its definitions speak of, for crates that
 //! cite them, and [`Labels`], [`Patch`] and [`Need`] what [`Unlinked`] has. [`Use::displacement`],
-//! [`displaced`], [`put_quad`] and [`padding`] put addresses in and round sizes, and [`Label`] and
-//! [`Seeded`] are the keys and the hash of a map of labels, for a crate that links. [`CODE_BASE`],
+//! [`displaced`], [`put_quad`] and [`padding`] put addresses in and round sizes. [`CODE_BASE`],
 //! [`DATA_BASE`] and [`STACK_BYTES`] are what an image has without statements of them.
 //!
 //! `specs/Statement.antt` has what a statement asks, `specs/Layout.antt` where each item stands,
@@ -43,6 +42,7 @@ mod fault;
 mod fields;
 mod kind;
 mod label;
+mod labels;
 mod laws;
 mod line_kind;
 mod lines;
@@ -59,7 +59,7 @@ pub use assembler::assemble;
 pub use bases::put_quad;
 pub use fault::AsmFault;
 pub use kind::SourceKind;
-pub use label::{Label, Labels, Seeded};
+pub use label::Labels;
 pub use laws::laws_of_sources;
 pub use line_kind::LineKind;
 pub use patch::{Displacement, Need, Patch, displaced};

@@ -41,7 +41,7 @@ pub(crate) struct Pass<'a> {
 
 impl<'a> Pass<'a> {
     /// Before the first line.
-    pub(crate) fn new(alloc: Global, source: &[u8]) -> Pass<'a>
+    pub(crate) fn new(alloc: Global) -> Pass<'a>
         ensures stands { Stands [] result }
         ensures bounded { IsBounded result }
         ensures line { result.line ≡ 0 }
@@ -50,7 +50,7 @@ impl<'a> Pass<'a> {
             line: 0,
             place: Place::start(alloc),
             output: Output::new(alloc),
-            labels: Labels::new(alloc, source),
+            labels: Labels::empty(alloc),
             fields: FieldsRead::NONE,
         }
     }

@@ -68,6 +68,7 @@
 //! `specs/Output.antt` say what the linker holds on its way.
 #![tactic(auto)]
 
+mod addresses;
 mod fault;
 mod header;
 mod judged;

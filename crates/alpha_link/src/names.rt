@@ -8,29 +8,15 @@ ghost use Rattle.alpha_link.specs.Linked.{address_in, address_of, is_defined, re
 ghost use Rattle.alpha_link.specs.Names.{found_in};
 
 use crate::LinkFault;
+use crate::addresses::Addresses;
 use crate::located::Located;
 use crate::symbol::{Symbol, SymbolSection};
-use alpha_asm::{Label, Seeded};
 use std::alloc::{AllocError, Global};
-use std::collections::HashMap;
-use std::hash::{DefaultHasher, Hasher};
 
 /// The addresses of names.
 #[derive(Drop)]
 pub(crate) struct Names<'m> {
-    addresses: HashMap<Label<'m>, u64, Seeded>,
-}
-
-// The hash of names, seeded by all names of all modules.
-fn seeded(places: &[Located<'_>]) -> Seeded {
-    let mut whole = DefaultHasher::new();
-    for located in places {
-        let module = located.module;
-        for symbol in &module.symbols {
-            whole.write(symbol.name);
-        }
-    }
-    Seeded::behind(whole)
+    addresses: Addresses<'m>,
 }
 
 impl SymbolSection {
@@ -56,7 +42,7 @@ impl<'m> Names<'m> {
             option_map (λ p. faults.Duplicate p.0 p.1) (repeated [] places.now) ≡ Some fault) }
     {
         let mut names = Names {
-            addresses: HashMap::with_hasher(alloc, seeded(places)),
+            addresses: Addresses::empty(alloc),
         };
         for located in places {
             if let Some(number) = names.repeated(located) {
@@ -68,24 +54,10 @@ impl<'m> Names<'m> {
     }
 
     /// The address of a name.
-    pub(crate) fn address(&self, name: &'m [u8]) -> Option<u64>
+    pub(crate) fn address(&self, name: &[u8]) -> Option<u64>
         ensures { result ≡ found_in self.now name.now }
     {
-        self.addresses.get(&Label { name }).copied()
-    }
-
-    // Gives a name an address, unless it has one.
-    fn define(&mut self, name: &'m [u8], address: u64) -> Result<(), AllocError>
-        ensures { OnOk result ((other : List ℕ) → found_in self.new other
-            ≡ option_or (found_in self.old other)
-            (if bytes_eq name.entry.now other then Some address else None)) }
-    {
-        let label = Label { name };
-        if self.addresses.contains_key(&label) {
-            return Ok(());
-        }
-        self.addresses.insert(label, address)?;
-        Ok(())
+        self.addresses.get(name)
     }
 
     // Gives the names that a module defines their addresses, unless they have one.
@@ -97,7 +69,7 @@ impl<'m> Names<'m> {
         let module = located.module;
         for symbol in &module.symbols {
             if let Some(address) = located.address(symbol) {
-                self.define(symbol.name, address)?;
+                self.addresses.define(symbol.name, address)?;
             }
         }
         Ok(())

@@ -13,7 +13,7 @@ returns-clause-stands c = record {
   code = c.new.ensures.code;
   bytes = c.new.ensures.bytes;
   patches = c.new.ensures.patches;
-  labels = c.new-2.ensures;
+  labels = c.empty.ensures;
   fields = refl;
   sound = let e : seen (length c.new.result.code.items) c.start.result ≡ start = ap (λ l. seen (length l) c.start.result) c.new.ensures.code ∙ c.start.ensures.place in
       rw (e, c.new.ensures.bytes) (record { filled = (refl, refl); fresh = λ h. (refl, refl, refl) });

@@ -1,0 +1,4 @@
+pub mod Searching
+pub mod Finding
+pub mod Naming
+pub mod Values

@@ -1,0 +1,56 @@
+use Rattle.std.proofs.Common.{◌≡◌, ◌++◌, ◌∷◌, [], List, ℕ, true, Bool, subst, ap, sym, ◌∙◌, length, refl}
+use Rattle.std.specs.Prelude.{position, is_none, None}
+use Rattle.std.specs.Borrow.{Bor}
+use Rattle.std.specs.Str.{bytes_eq}
+use Rattle.alpha_names.specs.Finder.{number_in, is_named, Grows}
+use Rattle.alpha_names.specs.Names.{AreFoundBy}
+use Rattle.alpha_names.proofs.Naming.{is_position, found_more, found_still, none_found}
+use Rattle.alpha_names.proofs.names.Names.add.Goals as goal
+
+pub invariant_of-self : goal.invariant_of-self
+invariant_of-self c = λ number name e. c.in_err-add.ensures.same _ name number (c.self.invariant number name e)
+
+pub invariant_of-self-then-not-branch : goal.invariant_of-self-then-not-branch
+invariant_of-self-then-not-branch c = λ number name e. c.in_ok-add.ensures.again c.if-not-branch.true _ name number (c.self.invariant number name e)
+
+pub returns-then-not-branch-clause-value : goal.returns-then-not-branch-clause-value
+returns-then-not-branch-clause-value c =
+    let name : List ℕ = c.args.name.now in
+    sym c.if-not-branch.true ∙ (c.in_ok-add.ensures.value
+    ∙ ap is_none (ap (λ (ns : List (Bor (List ℕ))). number_in c.self.inside.numbers (is_named ns name) name) c.deref.ensures.value
+    ∙ (is_position c.self.inside.names.items c.self.inside.numbers c.self.invariant name ∙ ap (position (bytes_eq name)) c.self.view_is)))
+
+pub invariant_of-self-in_err-push : goal.invariant_of-self-in_err-push
+invariant_of-self-in_err-push c =
+    let name : List ℕ = c.args.name.now in
+    let items : List (Bor (List ℕ)) = c.self.inside.names.items in
+    let old = number_in c.self.inside.numbers in
+    let new = number_in c.add.new.self in
+    let P : List (Bor (List ℕ)) → Type 0 = λ ns. AreFoundBy ns new in
+    let Q : List (Bor (List ℕ)) → Type 0 = λ ns. Grows old new name (length ns) in
+    let absent : old (is_named items name) name ≡ None =
+        none_found (old (is_named items name) name) (sym c.if-not-branch.false ∙ (c.in_ok-add.ensures.value
+        ∙ ap (λ (ns : List (Bor (List ℕ))). is_none (old (is_named ns name) name)) c.deref.ensures.value)) in
+    subst P (sym c.in_err-push.ensures.items)
+    (found_still items name old new c.self.invariant absent (subst Q c.deref.ensures.value (c.in_ok-add.ensures.ok c.if-not-branch.false)))
+
+pub invariant_of-self-2 : goal.invariant_of-self-2
+invariant_of-self-2 c =
+    let name : List ℕ = c.args.name.now in
+    let items : List (Bor (List ℕ)) = c.self.inside.names.items in
+    let old = number_in c.self.inside.numbers in
+    let new = number_in c.add.new.self in
+    let P : List (Bor (List ℕ)) → Type 0 = λ ns. AreFoundBy ns new in
+    let Q : List (Bor (List ℕ)) → Type 0 = λ ns. Grows old new name (length ns) in
+    let absent : old (is_named items name) name ≡ None =
+        none_found (old (is_named items name) name) (sym c.if-not-branch.false ∙ (c.in_ok-add.ensures.value
+        ∙ ap (λ (ns : List (Bor (List ℕ))). is_none (old (is_named ns name) name)) c.deref.ensures.value)) in
+    subst P (sym c.in_ok-push.ensures.items)
+    (found_more items c.args.name old new c.self.invariant absent (subst Q c.deref.ensures.value (c.in_ok-add.ensures.ok c.if-not-branch.false)))
+
+pub returns-clause-value : goal.returns-clause-value
+returns-clause-value c =
+    let name : List ℕ = c.args.name.now in
+    sym c.if-not-branch.false ∙ (c.in_ok-add.ensures.value
+    ∙ ap is_none (ap (λ (ns : List (Bor (List ℕ))). number_in c.self.inside.numbers (is_named ns name) name) c.deref.ensures.value
+    ∙ (is_position c.self.inside.names.items c.self.inside.numbers c.self.invariant name ∙ ap (position (bytes_eq name)) c.self.view_is)))

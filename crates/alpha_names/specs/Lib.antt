@@ -1,0 +1,5 @@
+pub mod Hashes
+pub mod Tree
+pub mod Finder
+pub mod Names
+pub mod Values

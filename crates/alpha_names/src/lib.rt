@@ -1,0 +1,16 @@
+//! Names with numbers, in tables that whoever chooses the names can't crowd.
+//!
+//! [`Names`] gives each name that is added a number, from 0 in the order in which they are added, and finds a
+//! name's number and a number's name.
+//!
+//! `tree.rt` has the tables, trees over the bits of a hash, in which a look-up goes over 20 slots at most,
+//! whatever the names are; `hash.rt` has the two hashes, and `names.rt` the names.
+#![tactic(auto)]
+
+mod crowd;
+mod hash;
+mod names;
+mod numbers;
+mod tree;
+
+pub use names::Names;
