@@ -113,8 +113,8 @@ value_added {X} values names name value alike none other =
     ∙ (at_end values value (length names) (sym alike) ∙ sym (ap (λ (b : Bool). if b then Some value else value_of values names other) held))))
     (λ fails.
     let apart : bytes_eq other name ≡ false =
-        by_bool (bytes_eq other name) (bytes_eq other name ≡ false)
-        (λ held. absurd (not_both (bytes_eq name other) ((bytes_eq-Decides name other).1 (sym ((bytes_eq-Decides other name).0 held))) fails)) (λ e. e) in
+    by_bool (bytes_eq other name) (bytes_eq other name ≡ false)
+    (λ held. absurd (not_both (bytes_eq name other) ((bytes_eq-Decides name other).1 (sym ((bytes_eq-Decides other name).0 held))) fails)) (λ e. e) in
     by_option (position (bytes_eq other) names) (option_and_then (slice_get more) (place_after (bytes_eq other) names name (position (bytes_eq other) names))
     ≡ (if bytes_eq name other then Some value else value_of values names other))
     (λ gone. ap (λ (o : Option ℕ). option_and_then (slice_get more) (place_after (bytes_eq other) names name o)) gone

@@ -26,9 +26,9 @@ returns-in-Ok-true c = λ other.
     let names : List (List ℕ) = c.args.self.now.names in
     let addresses : List ℕ = c.args.self.now.addresses.items in
     let more : c.add.new.self ≡ names ++ name ∷ [] =
-        c.in-Ok-true.ensures.names ∙ ap (λ (b : Bool). if b then names ++ name ∷ [] else names) c.in-Ok-true.field-0-test in
+    c.in-Ok-true.ensures.names ∙ ap (λ (b : Bool). if b then names ++ name ∷ [] else names) c.in-Ok-true.field-0-test in
     let absent : position (bytes_eq name) names ≡ None =
-        none_found (position (bytes_eq name) names) (sym c.in-Ok-true.field-0-test ∙ c.in-Ok-true.ensures.value) in
+    none_found (position (bytes_eq name) names) (sym c.in-Ok-true.field-0-test ∙ c.in-Ok-true.ensures.value) in
     name_more name other c.args.address (value_of addresses names) (value_of c.push.new.self.items c.add.new.self other)
     (ap (λ (o : Option ℕ). is_some (option_and_then (slice_get addresses) o)) absent)
     (ap (λ (ns : List (List ℕ)). value_of c.push.new.self.items ns other) more
@@ -41,14 +41,14 @@ returns-in-Ok-false c = λ other.
     let names : List (List ℕ) = c.args.self.now.names in
     let addresses : List ℕ = c.args.self.now.addresses.items in
     let same : c.add.new.self ≡ names =
-        c.in-Ok-false.ensures.names ∙ ap (λ (b : Bool). if b then names ++ name ∷ [] else names) c.in-Ok-false.field-0-test in
+    c.in-Ok-false.ensures.names ∙ ap (λ (b : Bool). if b then names ++ name ∷ [] else names) c.in-Ok-false.field-0-test in
     let count : vec_len c.push.new.self - 1 ≡ length addresses = omega (arith, c.in_ok-push.ensures.len, c.args.self.now.addresses.ok.0) in
     let back : c.pop.new.self.items ≡ addresses =
-        c.pop.ensures.rest ∙ (ap (λ (n : ℕ). take n c.push.new.self.items) count
-        ∙ (ap (take (length addresses)) c.in_ok-push.ensures.items ∙ front_of addresses c.args.address)) in
+    c.pop.ensures.rest ∙ (ap (λ (n : ℕ). take n c.push.new.self.items) count
+    ∙ (ap (take (length addresses)) c.in_ok-push.ensures.items ∙ front_of addresses c.args.address)) in
     let present : true ≡ is_some (value_of addresses names name) =
-        some_found (position (bytes_eq name) names) (sym c.in-Ok-false.field-0-test ∙ c.in-Ok-false.ensures.value)
-        ∙ has_value addresses names name c.args.self.now.alike in
+    some_found (position (bytes_eq name) names) (sym c.in-Ok-false.field-0-test ∙ c.in-Ok-false.ensures.value)
+    ∙ has_value addresses names name c.args.self.now.alike in
     ap (λ (ns : List (List ℕ)). value_of c.pop.new.self.items ns other) same
     ∙ (ap (λ (vs : List ℕ). value_of vs names other) back
     ∙ kept (value_of addresses names other) (bytes_eq name other) c.args.address

@@ -29,8 +29,8 @@ invariant_of-self-in_err-push c =
     let P : List (Bor (List ℕ)) → Type 0 = λ ns. AreFoundBy ns new in
     let Q : List (Bor (List ℕ)) → Type 0 = λ ns. Grows old new name (length ns) in
     let absent : old (is_named items name) name ≡ None =
-        none_found (old (is_named items name) name) (sym c.if-not-branch.false ∙ (c.in_ok-add.ensures.value
-        ∙ ap (λ (ns : List (Bor (List ℕ))). is_none (old (is_named ns name) name)) c.deref.ensures.value)) in
+    none_found (old (is_named items name) name) (sym c.if-not-branch.false ∙ (c.in_ok-add.ensures.value
+    ∙ ap (λ (ns : List (Bor (List ℕ))). is_none (old (is_named ns name) name)) c.deref.ensures.value)) in
     subst P (sym c.in_err-push.ensures.items)
     (found_still items name old new c.self.invariant absent (subst Q c.deref.ensures.value (c.in_ok-add.ensures.ok c.if-not-branch.false)))
 
@@ -43,8 +43,8 @@ invariant_of-self-2 c =
     let P : List (Bor (List ℕ)) → Type 0 = λ ns. AreFoundBy ns new in
     let Q : List (Bor (List ℕ)) → Type 0 = λ ns. Grows old new name (length ns) in
     let absent : old (is_named items name) name ≡ None =
-        none_found (old (is_named items name) name) (sym c.if-not-branch.false ∙ (c.in_ok-add.ensures.value
-        ∙ ap (λ (ns : List (Bor (List ℕ))). is_none (old (is_named ns name) name)) c.deref.ensures.value)) in
+    none_found (old (is_named items name) name) (sym c.if-not-branch.false ∙ (c.in_ok-add.ensures.value
+    ∙ ap (λ (ns : List (Bor (List ℕ))). is_none (old (is_named ns name) name)) c.deref.ensures.value)) in
     subst P (sym c.in_ok-push.ensures.items)
     (found_more items c.args.name old new c.self.invariant absent (subst Q c.deref.ensures.value (c.in_ok-add.ensures.ok c.if-not-branch.false)))
 
