@@ -1,5 +1,5 @@
 -- Numbers of names that are found in two trees and a map, and what another number changes of them.
-use Rattle.std.proofs.Common.{◌≡◌, ◌≢◌, ℕ, ◌<◌, ◌++◌, ◌∷◌, [], List, length, map, Bool, true, false, cond, Option, None, Some, nat_eq, if◌then◌else◌, refl, ap, sym, ◌∙◌, Result, Ok, Err, subst}
+use Rattle.std.proofs.Common.{◌≡◌, ℕ, List, Bool, true, false, cond, Option, None, Some, if◌then◌else◌, refl, ap, sym, ◌∙◌, Result, Ok, Err}
 use Rattle.std.proofs.Math.Path.{fun_ext}
 use Rattle.std.specs.Prelude.{OnOk, OnErr, IfOk}
 use Rattle.std.specs.Borrow.{Bor}
@@ -13,9 +13,8 @@ use Rattle.alpha_names.specs.declared.crowd.Crowd.{Crowd}
 use Rattle.alpha_names.specs.declared.tree.Slot.{Slot}
 use Rattle.alpha_names.specs.declared.tree.Look.{Look}
 use Rattle.alpha_names.specs.declared.tree.Look.TheVariants.{Free, Taken, Deep}
-use Rattle.alpha_names.specs.Hashes.{slow_hash}
-use Rattle.alpha_names.specs.Tree.{slot_in, seek_in, Fills}
-use Rattle.alpha_names.specs.Finder.{Finder, taken_or, found_by, if_right, other_number, number_in_crowd, IsOnly, Keeps, Grows}
+use Rattle.alpha_names.specs.Tree.{seek_in, Fills}
+use Rattle.alpha_names.specs.Finder.{Finder, taken_or, found_by, if_right, other_number, IsOnly, Keeps, Grows}
 use Rattle.alpha_names.proofs.Searching.{by_bool, not_both, is_free, kept_in, filled_in}
 
 pub none_is_some : {X : Type 0} (x : X) → None ≡ Some x → ⊥

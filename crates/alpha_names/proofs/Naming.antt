@@ -1,5 +1,5 @@
 -- Names that are all found, each with its number.
-use Rattle.std.proofs.Common.{◌≡◌, ◌≢◌, ℕ, zero, suc, ◌<◌, ◌≤◌, ◌++◌, ◌∷◌, [], List, length, map, get_or, Bool, true, false, cond, nat_lt, Option, None, Some, if◌then◌else◌, refl, ap, sym, ◌∙◌, arith}
+use Rattle.std.proofs.Common.{◌≡◌, ℕ, zero, suc, ◌<◌, ◌≤◌, ◌++◌, ◌∷◌, [], List, length, map, get_or, Bool, true, false, cond, nat_lt, Option, None, Some, if◌then◌else◌, refl, ap, sym, ◌∙◌, arith}
 use Rattle.std.proofs.Math.Path.{fun_ext}
 use Rattle.std.specs.Prelude.{slice_get, position, option_map, is_none, is_some, unwrap_or, IfSome}
 use Rattle.std.specs.List.{position_or_len}
@@ -14,7 +14,7 @@ use Rattle.alpha_names.specs.declared.tree.Look.{Look}
 use Rattle.alpha_names.specs.declared.tree.Look.TheVariants.{Free, Taken, Deep}
 use Rattle.alpha_names.specs.Tree.{slot_in, seek_in}
 use Rattle.alpha_names.specs.Hashes.{quick_hash, slow_hash}
-use Rattle.alpha_names.specs.Finder.{Finder, reads, is_named, taken_or, if_right, other_number, number_in_crowd, number_in, IsOnly, Keeps, Grows}
+use Rattle.alpha_names.specs.Finder.{Finder, reads, is_named, taken_or, if_right, other_number, number_in_crowd, number_in, Grows}
 use Rattle.alpha_names.specs.Names.{AreFoundBy}
 use Rattle.alpha_names.specs.declared.numbers.Numbers.{Numbers}
 use Rattle.std.specs.BTreeMap.{get_by}

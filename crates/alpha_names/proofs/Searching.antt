@@ -1,10 +1,10 @@
 -- Searches in trees, and what a filled slot changes of them.
 use Rattle.std.proofs.lemmas.Bool.{eqb-true}
-use Rattle.std.proofs.Common.{◌≡◌, ◌≢◌, ℕ, zero, suc, ◌+◌, ◌/◌, ◌%◌, ◌^◌, ◌<◌, Bool, true, false, nat_eq, if◌then◌else◌, refl, ap, sym, ◌∙◌, arith}
+use Rattle.std.proofs.Common.{◌≡◌, ℕ, zero, suc, ◌+◌, ◌/◌, ◌%◌, ◌^◌, ◌<◌, Bool, true, false, nat_eq, if◌then◌else◌, refl, ap, sym, ◌∙◌, arith}
 use Rattle.alpha_names.specs.declared.tree.Slot.{Slot}
 use Rattle.alpha_names.specs.declared.tree.Look.{Look}
 use Rattle.alpha_names.specs.declared.tree.Look.TheVariants.{Free, Taken, Deep}
-use Rattle.alpha_names.specs.Tree.{met, seek, seek_in, HasNumber, Fills}
+use Rattle.alpha_names.specs.Tree.{met, seek, seek_in, Fills}
 
 pub by_bool : (b : Bool) (P : Type 0) → (b ≡ true → P) → (b ≡ false → P) → P
 by_bool true P held fails = held refl

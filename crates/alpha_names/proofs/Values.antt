@@ -1,6 +1,6 @@
 -- Values of names, as names are added.
-use Rattle.std.proofs.Common.{◌≡◌, ℕ, zero, suc, ◌+◌, ◌<◌, ◌≤◌, ◌++◌, ◌∷◌, [], List, length, map, get_or, Bool, true, false, cond, nat_lt, nat_eq, Option, None, Some, if◌then◌else◌, not, ◌||◌, refl, ap, sym, ◌∙◌, arith, add-one, length-append}
-use Rattle.std.specs.Prelude.{slice_get, position, is_some, is_none, IfSome}
+use Rattle.std.proofs.Common.{◌≡◌, ℕ, zero, suc, ◌+◌, ◌<◌, ◌≤◌, ◌++◌, ◌∷◌, [], List, length, map, get_or, Bool, true, false, cond, nat_lt, nat_eq, Option, None, Some, if◌then◌else◌, not, refl, ap, sym, ◌∙◌, arith, length-append}
+use Rattle.std.specs.Prelude.{slice_get, position, is_some, IfSome}
 use Rattle.std.specs.Borrow.{Bor}
 use Rattle.std.specs.List.{list_any, position_or_len}
 use Rattle.std.specs.Option.{option_and_then}
@@ -9,11 +9,11 @@ use Rattle.std.proofs.lemmas.Bool.{eqb-true, eqb-false}
 use Rattle.std.proofs.lemmas.List.Sums.{prefix_len-le-length}
 use Rattle.std.proofs.lemmas.List.Folds.{position_or_len_push}
 use Rattle.std.proofs.lemmas.List.Quantifiers.{position-Some}
-use Rattle.std.proofs.lemmas.Option.{slice_get-get_or, slice_get_past}
+use Rattle.std.proofs.lemmas.Option.{slice_get-get_or}
 use Rattle.std.proofs.lemmas.Slice.Eq.{bytes_eq-Decides}
 use Rattle.alpha_names.specs.Values.{value_of}
 use Rattle.alpha_names.proofs.Searching.{by_bool, not_both}
-use Rattle.alpha_names.proofs.Naming.{by_option, none_there}
+use Rattle.alpha_names.proofs.Naming.{by_option}
 
 inside_some : {X : Type 0} (values : List X) (k : ℕ) → k < length values → is_some (slice_get values k) ≡ true
 inside_some [] k h = absurd (omega arith)

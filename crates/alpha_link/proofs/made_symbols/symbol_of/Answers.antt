@@ -1,9 +1,6 @@
-use Rattle.std.proofs.Common.{◌≡◌, ℕ, zero, suc, List, [], ◌∷◌, ◌++◌, Option, None, Some, ap, sym, ◌∙◌, subst}
-use Rattle.std.specs.Prelude.{slice_get, IfSome}
-use Rattle.std.specs.Option.{option_and_then}
-use Rattle.std.specs.List.{AllByRecursion}
+use Rattle.std.proofs.Common.{Option, ap, sym, ◌∙◌, subst}
+use Rattle.std.specs.Prelude.{IfSome}
 use Rattle.alpha_asm.specs.declared.place.Spot.{Spot}
-use Rattle.alpha_asm.specs.Labels.{spot_named, label_names}
 use Rattle.alpha_link.specs.Made.{symbol_at_spot}
 use Rattle.alpha_link.specs.Unlinked.{IsNear}
 use Rattle.alpha_link.proofs.Numbered.{spot_by_number}

@@ -1,4 +1,4 @@
-use Rattle.std.proofs.Common.{◌≡◌, ℕ, ap, sym, ◌∙◌}
+use Rattle.std.proofs.Common.{ℕ, ap, sym, ◌∙◌}
 use Rattle.alpha_names.specs.Hashes.{slow_hash}
 use Rattle.alpha_names.specs.Tree.{slot_in, seek_in}
 use Rattle.alpha_names.specs.Finder.{Grows, Keeps, number_in_crowd, other_number}

@@ -4,7 +4,6 @@ use Rattle.std.specs.Borrow.{Bor}
 use Rattle.std.specs.Str.{bytes_eq}
 use Rattle.std.proofs.lemmas.Option.{slice_get-map}
 use Rattle.alpha_names.proofs.Naming.{numbered_so}
-use Rattle.alpha_names.proofs.Values.{value_added, any_has_place}
 use Rattle.alpha_names.proofs.names.Names.get.Goals as goal
 
 pub returns-clause-value : goal.returns-clause-value

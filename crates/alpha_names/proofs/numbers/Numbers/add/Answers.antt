@@ -1,11 +1,8 @@
-use Rattle.std.proofs.Common.{◌≡◌, ℕ, Bool, true, false, Result, Ok, Err, ap, sym, ◌∙◌, length}
-use Rattle.std.specs.Prelude.{IfOk, OnErr}
+use Rattle.std.proofs.Common.{◌≡◌, ℕ, true, false, ap, sym, ◌∙◌, length}
 use Rattle.alpha_names.specs.Hashes.{quick_hash}
 use Rattle.alpha_names.specs.Tree.{slot_in, seek_in}
 use Rattle.alpha_names.specs.Finder.{Grows, Keeps, number_in, number_in_crowd}
 use Rattle.alpha_names.specs.declared.numbers.Numbers.{Numbers}
-use Rattle.alpha_names.specs.declared.tree.Look.{Look}
-use Rattle.alpha_names.specs.declared.tree.Look.TheVariants.{Taken}
 use Rattle.alpha_names.proofs.Searching.{is_free}
 use Rattle.alpha_names.proofs.Finding.{grows_free, grows_elsewhere, keeps_elsewhere, if_ok, on_err, not_free}
 use Rattle.alpha_names.proofs.numbers.Numbers.add.Goals as goal

@@ -1,8 +1,6 @@
-use Rattle.std.proofs.Common.{◌≡◌, ◌+◌, ◌-◌, ◌/◌, ◌%◌, ◌<◌, ◌^◌, suc, zero, sym, ap, ◌∙◌, ℕ, nat_eq, Bool, true, false, if◌then◌else◌, arith}
+use Rattle.std.proofs.Common.{◌≡◌, ◌+◌, ◌-◌, ◌/◌, ◌%◌, ◌^◌, sym, ap, ◌∙◌, ℕ, arith}
 use Rattle.alpha_names.specs.Tree.{slot_in, seek, met}
 use Rattle.alpha_names.specs.declared.tree.Slot.{Slot}
-use Rattle.alpha_names.specs.declared.tree.Look.{Look}
-use Rattle.alpha_names.specs.declared.tree.Look.TheVariants.{Free, Taken, Deep}
 use Rattle.alpha_names.proofs.Searching.{seek_next, seek_in_is, met_free, met_taken, met_else, seek_none}
 use Rattle.alpha_names.proofs.tree.Tree.seek.Goals as goal
 
