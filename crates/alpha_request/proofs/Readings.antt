@@ -17,7 +17,8 @@ use Rattle.alpha_request.specs.declared.name.Name.TheVariants as names
 use Rattle.alpha_request.specs.declared.request.Refusal.{Refusal}
 use Rattle.alpha_request.specs.declared.request.Refusal.TheVariants.{BadWords, NoMemory}
 use Rattle.alpha_request.specs.Command.{Command}
-use Rattle.alpha_request.specs.Asked.{app_of_name, asked, asked_as, command_in, matches_on, name_of, unless_faulty}
+use Rattle.alpha_request.specs.Asked.{app_of_name, asked, asked_as, command_in, name_of}
+use Rattle.alpha_request.specs.Matched.{matches_on, unless_faulty}
 use Rattle.alpha_request.specs.Reading.{Matches, Reads}
 
 -- each command is simple, and no argument has a rule on another

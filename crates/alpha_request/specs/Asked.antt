@@ -4,13 +4,12 @@ use Rattle.std.specs.Prelude.{List, [], ◌∷◌, codes, Option, Some, None, if
 use Rattle.std.specs.Option.{option_and_then}
 use Rattle.std.specs.Str.{bytes_eq}
 use Rattle.clap.specs.Walk.{Row, Text}
-use Rattle.clap.specs.Simple.{App, matches_of}
-use Rattle.clap.specs.Faults.{fault_of}
-use Rattle.clap.specs.Kinds.{Kinds}
+use Rattle.clap.specs.Simple.{App}
 use Rattle.alpha_request.specs.declared.name.Name.{Name}
 use Rattle.alpha_request.specs.declared.name.Name.TheVariants as names
 use Rattle.alpha_request.specs.Command.{Command}
 use Rattle.alpha_request.specs.Commands.{spoken}
+use Rattle.alpha_request.specs.Matched.{matches_on}
 
 -- the command that a word names
 abbrev pub name_of : Text → Option Name
@@ -33,15 +32,6 @@ app_of_name name = (spoken name).app
 
 abbrev pub command_in : Name → List Row → Option Command
 command_in name = (spoken name).made
-
--- rows where there is no fault
-abbrev pub unless_faulty : Kinds → List Row → Option (List Row)
-unless_faulty [] rows = Some rows
-unless_faulty (fault ∷ others) rows = None
-
--- the matches on words, where clap's definition finds no fault in them
-unfoldable pub matches_on : App → List Text → Option (List Row)
-matches_on app words = unless_faulty (fault_of app words) (matches_of app words)
 
 -- what words whose first one has this name ask for
 unfoldable pub asked_as : Name → List Text → Option Command

@@ -7,8 +7,10 @@
 //! - [`request_of`] reads the words. The first is a command's name exactly. `clap` reads the others
 //!   by the definition that it has of a simple command, which has no subcommands, no help and no
 //!   version flag. Then the product's own rules decide. So words ask for one command at most, and
-//!   which one is a function of them (`specs/Asked.antt`, `asked`). [`laws_of_trial_words`] says how
-//!   many blocks a trial has that they ask for.
+//!   which one is a function of them (`specs/Asked.antt`, `asked`). [`laws_of_words`] says that what
+//!   they ask for is told by the words of one command alone (`specs/AsksBy.antt`), and what plain words
+//!   ask for (`specs/Plain.antt`). [`laws_of_trial_words`] says how many blocks a trial has that they
+//!   ask for.
 //!
 //! `words.rt` has the words, `name.rt` the names of the commands, `matches.rt` what is read of the
 //! matches of `clap`, and `request.rt` the requests. The words of a command are one module of
@@ -29,7 +31,7 @@ mod request;
 mod words;
 
 pub use files::FileNames;
-pub use laws::laws_of_trial_words;
+pub use laws::{laws_of_trial_words, laws_of_words};
 pub use options::{Choices, RunOptions};
 pub use request::{Refusal, Request, request_of};
 pub use words::Words;
