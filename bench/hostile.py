@@ -2,8 +2,8 @@
 """Feeds the built program with files of random bytes, damaged images, random word lists, sources of random tokens
 and scripts of random lines. Each call must end with a status of the table, and with the line of that status behind
 whatever it notes. Then `check`, `dis`, `asm`, `run`, `run --imprecise` and `debug` get large files and less and less
-memory: each must end as with enough of it, or with status 12, its line and nothing on the output. Prints how often
-each status came.
+memory: each must end as with enough of it, or with status 12, its line and nothing on the output, or without a line
+where memory ran out before the words were gathered. Prints how often each status came.
 
     bench/hostile.py [PROGRAM] [COUNT] [SEED]    COUNT: files of each kind, 10,000 if left out
 """
@@ -91,7 +91,7 @@ def little_memory(program, folder):
             answer = ended.returncode, ended.stdout, ended.stderr
             own = own or answer
             seen[ended.returncode] += 1
-            if answer not in (own, (12, b"", b"no memory\n")):
+            if answer not in (own, (12, b"", b"no memory\n"), (12, b"", b"")):
                 wrong += 1
                 print(f"{name}: with {kibibytes} KiB: status {answer[0]}, {answer[2][-200:]!r}")
         print(f"{name} with little memory: " + ", ".join(f"status {status} {times} times" for status, times in sorted(seen.items())))

@@ -4,7 +4,6 @@
 
 use alpha_cmd::{Status, alpha_main};
 use alpha_io::{DiskShelf, ReadSource, WriteSink};
-use alpha_words::NoMemory;
 use std::env;
 use std::io::ErrorKind;
 use std::process::ExitCode;
@@ -20,22 +19,25 @@ fn main(rt: HostRuntime) -> ExitCode {
             &mut WriteSink::new(rt.stdout()),
             &mut WriteSink::new(rt.stderr()),
         ),
-        Err(NoMemory) => Status::NoMemory,
+        Err(status) => status,
     };
     ExitCode::from(status.number())
 }
 
-// All that stands on the command line, or nothing where a part of it isn't text: then the words are bad.
-fn arguments(rt: &(impl Env + AllocGlobal)) -> Result<Vec<String>, NoMemory> {
+// All that stands on the command line. Where a part of it isn't text the words are bad; then, and where
+// memory runs out here, the status is all that the program answers.
+fn arguments(rt: &(impl Env + AllocGlobal)) -> Result<Vec<String>, Status> {
     let mut all = Vec::new(rt.alloc());
     match env::args(rt) {
         Ok(arguments) => {
             for word in arguments {
-                all.push(word)?;
+                if all.push(word).is_err() {
+                    return Err(Status::NoMemory);
+                }
             }
+            Ok(all)
         }
-        Err(error) if error.kind() == ErrorKind::OutOfMemory => return Err(NoMemory),
-        Err(_) => {}
+        Err(error) if error.kind() == ErrorKind::OutOfMemory => Err(Status::NoMemory),
+        Err(_) => Err(Status::BadWords),
     }
-    Ok(all)
 }
