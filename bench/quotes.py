@@ -5,9 +5,9 @@
 - Each law, a function `laws_of_..` or `limits_of_..`, is in the index of docs/theorems.md with its crate, each law of
   the index is one, and the section of its crate names each of its clauses.
 - Each must-fail edit that a table of docs/theorems.md names is there.
-- Each file of a reading order has as many lines as the table says, and the order of a clause has just the files of
-  definitions that it reaches (bench/reading.py).
-- Each clause of the table of clauses reaches as many lines of definitions as it says.
+- Each file of a reading order has as many lines as the table says, and each order has just the files of definitions
+  that its clauses reach (bench/reading.py).
+- Each clause of the table of clauses reaches as many lines as it says: of definitions, of clap, and of types of the code.
 - Each name of a table of names stands in its file, and each fact or type that a quoted clause names is quoted too, or in
   that table.
 
@@ -31,11 +31,11 @@ EDIT = re.compile(r"^\| `(alpha_\w+)` \| `(\w+)` \|", re.M)
 COUNTED = re.compile(r"^\| `(crates/\S+\.(?:antt|rt))` \| ([\d,]+) \|", re.M)
 PART = re.compile(r"^\*\*\d\. ", re.M)
 # What the kit defines: the page says in its table of notation what each means.
-OF_THE_KIT = set("All Bool Global IfErr IfSome IsSome List None Ok OnOk Option Result Some Type".split())
+OF_THE_KIT = set("All Bool Global IfErr IfSome IsSome List None Ok OnOk Option Result Some Type Unit".split())
 FACT = re.compile(r"(?<![\w.])[A-Z]\w+")
 DEFINED = re.compile(r"pub (?:record )?(\w+) ")
 NAMED = re.compile(r"^\| `(crates/\S+\.(?:antt|rt))` \| (`[^|]*) \|$", re.M)
-REACHED = re.compile(r"^\| `(\w+)` of `(\w+)` of `(alpha_\w+)`([^|\n]*) \| (.* files) \| (.*) \|$", re.M)
+REACHED = re.compile(r"^\| `(\w+)` of `(\w+)` of `(alpha_\w+)`([^|\n]*) \| ([\d,]+ lines of \d+ files) \| ([^|\n]*) \| ([^|\n]*) \| ([^|\n]*) \|$", re.M)
 CLAUSE = re.compile(r"ensures (\w+) \{")
 
 
@@ -90,46 +90,49 @@ def check_counts(text, write, wrong):
 
 
 def reached(crate, function, clause):
-    """What a clause reaches, and the whole files of that with all that they import."""
+    """What a clause reaches."""
     rows, names, modules = reading.clauses(crate, function)
-    files = reading.reading(dict(rows).get(clause, ""), names, modules)
-    everything = reading.whole(files)
-    lines = sum(len(file.body) for file in everything)
-    return f"{sum(files.values()):,} lines of {len(files)} files", f"{lines:,} lines of {len(everything)}"
+    return reading.Counts(dict(rows).get(clause, ""), names, modules)
 
 
 def check_reached(text, write, wrong):
     def checked(found):
         clause, function, crate, words, *said = found.groups()
-        now = reached(crate, function, clause)
+        now = reached(crate, function, clause).told()
         if list(now) == said:
             return found.group()
         if not write:
-            wrong.append(f"{clause} of {function} reaches {now[0]}, whole {now[1]}")
-        return f"| `{clause}` of `{function}` of `{crate}`{words} | {now[0]} | {now[1]} |"
+            wrong.append(f"{clause} of {function} reaches {' | '.join(now)}")
+        return f"| `{clause}` of `{function}` of `{crate}`{words} | {' | '.join(now)} |"
 
     return REACHED.sub(checked, text)
 
 
 def check_orders(text, wrong):
-    """Holds the three reading orders against what their clauses reach."""
+    """Holds the reading orders against what their clauses reach."""
     def section(title):
         return text.split(f"\n### {title}", 1)[1].split("\n### ", 1)[0]
 
     def files(part):
         return {path for path, _ in COUNTED.findall(part) if "/specs/" in path}
 
-    _, *law = [files(part) for part in PART.split(section("For the law"))]
-    restarts, alike = files(section("For `restarts`, besides")), files(section("For `alike`, besides"))
-    shadow = {path for path in law[2] if "alpha_shadow" in path}
-    orders = (("alpha_restart", "laws_of_restarts", "accepted", set().union(*law)),
-              ("alpha_cmd", "alpha_top", "restarts", set().union(*law) - shadow | restarts),
-              ("alpha_cmd", "alpha_top", "alike", set().union(*law[1:]) | restarts | alike))
-    for crate, function, clause, listed in orders:
-        rows, names, modules = reading.clauses(crate, function)
-        there = {str(file.path.relative_to(TOP)) for file in reading.reading(dict(rows)[clause], names, modules)}
-        wrong.extend(f"the reading order of {clause} lacks {path}" for path in sorted(there - listed))
-        wrong.extend(f"{clause} doesn't reach {path}" for path in sorted(listed - there))
+    def there(function, *clauses, crate="alpha_cmd"):
+        every = [reached(crate, function, clause).own for clause in clauses]
+        return {str(file.path.relative_to(TOP)) for own in every for file in own}
+
+    def hold(name, listed, reaches):
+        wrong.extend(f"the reading order of {name} lacks {path}" for path in sorted(reaches - listed))
+        wrong.extend(f"{name} doesn't reach {path}" for path in sorted(listed - reaches))
+
+    _, *parts = [files(part) for part in PART.split(section("For the law"))]
+    law, shadow = set().union(*parts), {path for path in parts[2] if "alpha_shadow" in path}
+    checked = law - shadow | files(section("For `checked`, besides"))
+    ran = set().union(*parts[1:]) | files(section("For `ran`, besides"))
+    general = checked | ran | files(section("For `restarts` and `sequential`, besides"))
+    hold("the law", law, there("laws_of_restarts", "accepted", crate="alpha_restart"))
+    hold("checked", checked, there("alpha_top", "checked"))
+    hold("ran", ran, there("alpha_top", "ran"))
+    hold("restarts and sequential", general, there("alpha_top", "checked", "ran", "restarts", "sequential"))
 
 
 def check_names(text, wrong):

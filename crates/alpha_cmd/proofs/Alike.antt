@@ -33,7 +33,8 @@ use Rattle.alpha_cmd.specs.Commands.Run.{program_by, run_by_reads, MayShow, answ
 use Rattle.alpha_cmd.specs.Commands.Imprecise as wilds
 use Rattle.alpha_cmd.specs.Commands.Imprecise.{Plan, plan_by, PlanOf, Passes, with_drawn, run_by, MayShowWild, answer_wild, RunsWild}
 use Rattle.alpha_cmd.specs.Tried.{TriedBy, IsGiven}
-use Rattle.alpha_cmd.specs.Alike.{but_drawn, undrawn, IsChecked, HasWords}
+use Rattle.alpha_cmd.specs.Drawn.{but_drawn}
+use Rattle.alpha_cmd.specs.Alike.{undrawn, IsChecked, HasWords}
 use Rattle.alpha_cmd.proofs.Forms.{done_goes}
 use Rattle.alpha_cmd.proofs.Commands.Check.{lawful}
 use Rattle.alpha_cmd.proofs.Commands.Run.{shown_answer}

@@ -14,12 +14,14 @@ pub mod KeptReplay
 pub mod Lawful
 pub mod Listed
 pub mod ModuleWords
+pub mod Promised
 pub mod Ran
 pub mod ReadsNothing
 pub mod ReplayedRuns
 pub mod Stages
 pub mod Tested
 pub mod Told
+pub mod ToldRuns
 pub mod Tried
 pub mod Trying
 pub mod Untold

@@ -20,7 +20,8 @@ use Rattle.alpha_cmd.specs.declared.status.Status.TheVariants.{NoMemory}
 use Rattle.alpha_cmd.specs.Outcome.{Outcome, goes, stops}
 use Rattle.alpha_cmd.specs.Image.{ImageOf}
 use Rattle.alpha_cmd.specs.Asks.{Asks}
-use Rattle.alpha_cmd.specs.Alike.{but_drawn, undrawn, HasWords, IsChecked}
+use Rattle.alpha_cmd.specs.Drawn.{but_drawn}
+use Rattle.alpha_cmd.specs.Alike.{undrawn, HasWords, IsChecked}
 use Rattle.alpha_cmd.specs.Answer.{World, Answer, AnswerBy, answer_of, IsAnswered}
 use Rattle.alpha_cmd.specs.Commands.Imprecise as wilds
 use Rattle.alpha_cmd.specs.Commands.Run as runs

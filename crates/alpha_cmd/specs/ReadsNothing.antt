@@ -1,11 +1,20 @@
 -- Programs that read nothing, and the one answer of their runs.
-use Rattle.std.specs.Prelude.{ℕ, List, [], Option, None}
+use Rattle.std.specs.Prelude.{ℕ, Bool, List, [], Option, None, IsSome}
 use Rattle.alpha_image.specs.Parts.{Parts}
+use Rattle.alpha_request.specs.Options.{Origin}
 use Rattle.alpha_request.specs.declared.options.RunOptions.{RunOptions}
+use Rattle.alpha_request.specs.Commands.Run as run_words
 use Rattle.alpha_seq.specs.Start.{start}
 use Rattle.alpha_seq.specs.Run.{sequential}
 use Rattle.alpha_seq.specs.Inputs.{IsUnread}
+use Rattle.alpha_cmd.specs.declared.status.Status.{Status}
+use Rattle.alpha_cmd.specs.Alike.{HasWords, IsChecked}
 use Rattle.alpha_cmd.specs.Answer.{Answer}
+use Rattle.alpha_cmd.specs.Call.{Call, Quiet}
+use Rattle.alpha_cmd.specs.Drawn.{but_drawn}
+use Rattle.alpha_cmd.specs.Gave.{told, Gave}
+use Rattle.alpha_cmd.specs.Image.{ImageOf}
+use Rattle.alpha_cmd.specs.Outcome.{goes}
 use Rattle.alpha_cmd.specs.Commands.Run.{program_by, answer_shown}
 
 -- None of the steps that are asked for looks at the input: none is a system call that asks for a good read. The run over no
@@ -17,3 +26,18 @@ ReadsNothing options image = IsUnread (program_by options image) (start (program
 abbrev pub answer_unread : RunOptions → Parts → Option (List ℕ) → Answer
 answer_unread options image input =
     record (answer_shown None (sequential (program_by options image) [] options.steps options.watch)) { left = input }
+
+-- A run of a told file whose program reads nothing gives that answer, if no device fails, whatever the source tells or doesn't
+-- tell.
+abbrev pub Unread : List (List ℕ) → Status → Call → Type 0
+Unread words status c = (options : RunOptions) (file : List ℕ) (image : Parts) → run_words.Asks words options file
+    → IsSome c.shelf.old → ImageOf c.shelf.old file (goes image) → ReadsNothing options image
+    → Quiet c → Gave (answer_unread options image c.input.old) status c
+
+-- So does a run of the imprecise machine of such a file that a check accepts, but for the number of words that it draws.
+abbrev pub UnreadAlike : List (List ℕ) → Status → Call → Type 0
+UnreadAlike words status c = (options : RunOptions) (choices : Origin) (force : Bool) (file : List ℕ) (image : Parts)
+    → run_words.AsksImprecise words options choices force file
+    → IsSome c.shelf.old → ImageOf c.shelf.old file (goes image) → ReadsNothing options image
+    → HasWords c.shelf.old choices → IsChecked file (told c)
+    → Quiet c → Gave (answer_unread options image c.input.old) (but_drawn status) c

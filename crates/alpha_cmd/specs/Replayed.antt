@@ -7,6 +7,9 @@ use Rattle.alpha_replay.specs.declared.replaying.Replayed.{Replayed}
 use Rattle.alpha_replay.specs.Journal.{Parts, IsJournal}
 use Rattle.alpha_replay.specs.Journal as journals
 use Rattle.alpha_replay.specs.Replay.{replayed, IsRun, IsSequential}
+use Rattle.alpha_request.specs.Commands.Replay as replay_words
+use Rattle.alpha_cmd.specs.declared.status.Status.{Status}
+use Rattle.alpha_cmd.specs.declared.status.Status.TheVariants.{Done}
 
 -- The file spells an image and the journal's file a journal, which lists a run of the imprecise machine on it: it takes the
 -- journal's whole input, puts its output and ends as it says. Where the image is accepted too, the sequential machine does
@@ -22,3 +25,7 @@ pub record ShowsRun (file journal : List ℕ) (files : Files) : Type 0 where
   pub replays : replayed image listed ≡ Ok answer
   pub runs : IsRun image listed answer.units
   pub alike : IsAccepted image.words → IsSequential image listed answer.units
+
+abbrev pub ShowsRuns : List (List ℕ) → Status → Files → Type 0
+ShowsRuns words status files = (file journal : List ℕ) → replay_words.Asks words file journal → status ≡ Done 0
+    → ShowsRun file journal files

@@ -136,6 +136,10 @@ pub record Row : Type 0 where
 abbrev pub row : ℕ → List ℕ → Class → Row
 row number line class = record { number = number; line = line; class = class }
 
+-- that of a run whose steps are all made
+abbrev pub spent_line : List ℕ
+spent_line = codes "steps" ++ 10 ∷ []
+
 -- the line of a broken place needs the image's code base, and a failed sink gets none
 abbrev pub row_of : Status → Row
 row_of (Done n) = row 0 [] done
@@ -144,7 +148,7 @@ row_of BadWords = row 2 (codes "words" ++ 10 ∷ []) refused
 row_of (BadSource fault) = row 3 (refusal_line (codes "source") fault) refused
 row_of (BadImage fault) = row 4 (fault_line fault) refused
 row_of (Stopped end) = row 5 (end_line end) ended
-row_of StepsSpent = row 6 (codes "steps" ++ 10 ∷ []) ended
+row_of StepsSpent = row 6 spent_line ended
 row_of (Lost lost) = row 7 (lost_line lost.trap_pc lost.mask) ended
 row_of ShelfFault = row 8 (codes "shelf" ++ 10 ∷ []) failed
 row_of InputFault = row 9 (codes "input" ++ 10 ∷ []) failed

@@ -1,15 +1,25 @@
 //! The program, but for its real devices.
 
-ghost use Rattle.std.specs.Prelude.{◌≡◌, ◌≢◌, [], IfOk, OnOk, map, string_bytes};
-ghost use Rattle.alpha_io.specs.Faults.{Rose};
+ghost use Rattle.std.specs.Prelude.{◌≡◌, ◌⊎◌, [], IfOk, OnOk, map, string_bytes};
 ghost use Rattle.alpha_io.specs.Shelved.{shelved};
-ghost use Rattle.alpha_io.specs.Sunk.{sunk};
+ghost use Rattle.alpha_seq.specs.Devices.{drawn};
+ghost use Rattle.alpha_cmd.specs.Alike.{Alike};
 ghost use Rattle.alpha_cmd.specs.Answer.{world};
+ghost use Rattle.alpha_cmd.specs.Asks.{Asks};
+ghost use Rattle.alpha_cmd.specs.Call.{called};
 ghost use Rattle.alpha_cmd.specs.Called.{words_in};
-ghost use Rattle.alpha_cmd.specs.Ends.{Ends, EndsPart};
-ghost use Rattle.alpha_cmd.specs.Tried.{TriedBy};
+ghost use Rattle.alpha_cmd.specs.Checked.{Checked};
+ghost use Rattle.alpha_cmd.specs.Commands.Link.{KeepsLinks};
+ghost use Rattle.alpha_cmd.specs.Commands.Module.{KeepsModules};
+ghost use Rattle.alpha_cmd.specs.Commands.Record.{KeepsUnder};
+ghost use Rattle.alpha_cmd.specs.Fixed.{Fixes};
+ghost use Rattle.alpha_cmd.specs.Promises.{EndsWhole, EndsCut, GivesOne, GivesThe, ServesUnder, SparesFiles, TakesInput, DrawsUnder, LeavesScript, EndsAsked, LosesNone};
+ghost use Rattle.alpha_cmd.specs.ReadsNothing.{Unread, UnreadAlike};
+ghost use Rattle.alpha_cmd.specs.Replayed.{ShowsRuns};
+ghost use Rattle.alpha_cmd.specs.Restarts.{Restarts, Accepts};
+ghost use Rattle.alpha_cmd.specs.Sequential.{Sequential};
+ghost use Rattle.alpha_cmd.specs.ToldRun.{Ran};
 
-use crate::decision::Decision;
 use crate::{Status, alpha_top};
 use alpha_io::{Shelf, Sink, Source};
 use alpha_request::Words;
@@ -17,7 +27,8 @@ use alpha_words::NoMemory;
 use std::alloc::Global;
 
 /// Does what all that stands on the command line asks, the program's name first, as [`alpha_top`] does
-/// it of the words behind that name.
+/// it of the words behind that name. Where memory runs out before these are gathered, it answers `NoMemory`,
+/// and nothing is written.
 pub fn alpha_main<H: Shelf, S: Source, K: Sink, N: Sink>(
     alloc: Global,
     arguments: &[String],
@@ -26,22 +37,61 @@ pub fn alpha_main<H: Shelf, S: Source, K: Sink, N: Sink>(
     out: &mut K,
     notes: &mut N,
 ) -> Status
-    ensures whole { result ≢ Status.SinkFault
-        → Ends (TriedBy (Rose (H.faults shelf.old) (H.faults shelf.new))
-        (Rose (S.faults input.old) (S.faults input.new)) (words_in arguments.now)
-        (world H.Shelf S.Source shelf.old input.old)) result (S.left input.new)
-        (shelved H.Shelf shelf.old shelf.new)
-        (sunk K.Sink out.old out.new) (sunk N.Sink notes.old notes.new) }
-    ensures part { result ≡ Status.SinkFault
-        → EndsPart (TriedBy (Rose (H.faults shelf.old) (H.faults shelf.new))
-        (Rose (S.faults input.old) (S.faults input.new)) (words_in arguments.now)
-        (world H.Shelf S.Source shelf.old input.old))
-        (shelved H.Shelf shelf.old shelf.new)
-        (sunk K.Sink out.old out.new) (sunk N.Sink notes.old notes.new) }
+    // All that the words behind the program's name ask for was done, or memory ran out before these were
+    // gathered, and nothing was done or written.
+    ensures whole { EndsWhole (words_in arguments.now) result
+        (called H.Shelf S.Source K.Sink N.Sink shelf.old shelf.new input.old
+        input.new out.old out.new notes.old notes.new)
+        ⊎ ((result ≡ Status.NoMemory) × (shelf.new ≡ shelf.old) × (input.new ≡ input.old)
+        × (out.new ≡ out.old) × (notes.new ≡ notes.old)) }
+
+    // The others are those of `alpha_top`, of the same words.
+    ensures part { EndsCut (words_in arguments.now) result
+        (called H.Shelf S.Source K.Sink N.Sink shelf.old shelf.new input.old
+        input.new out.old out.new notes.old notes.new) }
+    ensures shelf { ServesUnder result (shelved H.Shelf shelf.old shelf.new) }
+    ensures files { SparesFiles (words_in arguments.now) result (H.files shelf.old) (H.files shelf.new) }
+    ensures input { (input.new ≡ input.old) ⊎ TakesInput (words_in arguments.now) result }
+    ensures source { DrawsUnder result (drawn S.Source input.old input.new) }
+    ensures ended { EndsAsked (words_in arguments.now) result }
+    ensures found { LosesNone (words_in arguments.now) result }
+    ensures script { LeavesScript (words_in arguments.now) (drawn S.Source input.old input.new) }
+    ensures given { GivesOne (words_in arguments.now) result
+        (called H.Shelf S.Source K.Sink N.Sink shelf.old shelf.new input.old
+        input.new out.old out.new notes.old notes.new) }
+    ensures exact { GivesThe (words_in arguments.now) result
+        (called H.Shelf S.Source K.Sink N.Sink shelf.old shelf.new input.old
+        input.new out.old out.new notes.old notes.new) }
+    ensures restarts { Restarts (words_in arguments.now) result (H.files shelf.old) }
+    ensures checked { Checked (words_in arguments.now) result (H.files shelf.old) }
+    ensures accepted { Accepts (words_in arguments.now) result
+        (called H.Shelf S.Source K.Sink N.Sink shelf.old shelf.new input.old
+        input.new out.old out.new notes.old notes.new) }
+    ensures sequential { Sequential (words_in arguments.now) result
+        (called H.Shelf S.Source K.Sink N.Sink shelf.old shelf.new input.old
+        input.new out.old out.new notes.old notes.new) }
+    ensures ran { Ran (words_in arguments.now) result
+        (called H.Shelf S.Source K.Sink N.Sink shelf.old shelf.new input.old
+        input.new out.old out.new notes.old notes.new) }
+    ensures alike { Alike (words_in arguments.now) result
+        (called H.Shelf S.Source K.Sink N.Sink shelf.old shelf.new input.old
+        input.new out.old out.new notes.old notes.new) }
+    ensures unread { Unread (words_in arguments.now) result
+        (called H.Shelf S.Source K.Sink N.Sink shelf.old shelf.new input.old
+        input.new out.old out.new notes.old notes.new) }
+    ensures unread_alike { UnreadAlike (words_in arguments.now) result
+        (called H.Shelf S.Source K.Sink N.Sink shelf.old shelf.new input.old
+        input.new out.old out.new notes.old notes.new) }
+    ensures fixed { Fixes (words_in arguments.now) result (H.files shelf.old) (H.files shelf.new) }
+    ensures modules { KeepsModules (words_in arguments.now) result (H.files shelf.old) (H.files shelf.new) }
+    ensures links { KeepsLinks (words_in arguments.now) result (H.files shelf.old) (H.files shelf.new) }
+    ensures replays { ShowsRuns (words_in arguments.now) result (H.files shelf.old) }
+    ensures recorded { KeepsUnder (Asks (words_in arguments.now)) result (world H.Shelf S.Source shelf.old input.old)
+        (H.files shelf.new) }
 {
     match words_of(alloc, arguments) {
         Ok(words) => alpha_top(alloc, &words, shelf, input, out, notes),
-        Err(_) => Decision::said(Status::NoMemory).deliver(out, notes),
+        Err(NoMemory) => Status::NoMemory,
     }
 }
 

@@ -1,4 +1,4 @@
-ghost use Rattle.std.specs.Prelude.{◌≡◌, ◌≤◌, ℕ, Bool, List, length, IsSome};
+ghost use Rattle.std.specs.Prelude.{◌≡◌, ◌≤◌, ◌↔◌, ℕ, Bool, List, length, Some, IsSome};
 ghost use Rattle.alpha_io.specs.Files.{Files, HasFile};
 ghost use Rattle.alpha_image.specs.Parts.{Parts, IsImage, spelling};
 ghost use Rattle.alpha_shadow.specs.Broken.{IsAccepted};
@@ -21,6 +21,8 @@ ghost use Rattle.alpha_cmd.specs.Commands.Record.{KeepsRun};
 ghost use Rattle.alpha_cmd.specs.Commands.Replay as replays;
 ghost use Rattle.alpha_cmd.specs.Commands.Run as runs;
 ghost use Rattle.alpha_cmd.specs.ReadsNothing.{ReadsNothing, answer_unread};
+ghost use Rattle.alpha_cmd.specs.Sequential.{HaveWords};
+ghost use Rattle.alpha_cmd.specs.ToldRun.{answer_told};
 ghost use Rattle.alpha_cmd.specs.Tried.{AreTold, IsAnswer};
 
 /// The laws of answers: words have one answer where what their command reads is told, the files and
@@ -59,6 +61,20 @@ pub fn laws_of_restarts()
         → HasWords w.files choices → IsChecked file w
         → AnswerBy (runs.steps options file) w a
         → AnswerBy (wilds.steps options choices force file) w b → undrawn b ≡ a }
+{}
+
+/// The laws of told runs, by which the clauses `sequential` and `alike` of [`alpha_top`](crate::alpha_top) say
+/// the same. Choices have words where a file that they name is there and within its limit. Where `check FILE`
+/// is done and the input is told, FILE spells an accepted image, and the answer of `run FILE` is that of the
+/// sequential run of this image.
+pub fn laws_of_told_runs()
+    ensures words { (files : Files) (choices : Origin) → HaveWords files choices
+        ↔ HasWords files choices }
+    ensures answer { (options : RunOptions) (file bytes : List ℕ) (w : World) (a : Answer)
+        → IsSome w.files → w.input ≡ Some bytes → IsChecked file w
+        → AnswerBy (runs.steps options file) w a
+        → (image : Parts) × IsImage image × IsAccepted image.words
+        × HasFile w.files file (spelling image) × (a ≡ answer_told options image bytes) }
 {}
 
 /// The laws of programs that read nothing in the steps that are asked for. Where the image of a told file is

@@ -15,7 +15,8 @@
 //!   the image of its file.
 //! - [`laws_of_restarts`] says that accepted images can be restarted, and so that a run of the
 //!   imprecise machine of a file that `check` accepts has the answer of the sequential run, but for
-//!   the number of words that it draws (`specs/Alike.antt`). [`laws_of_records`] says that a journal
+//!   the number of words that it draws (`specs/Alike.antt`). [`laws_of_told_runs`] says that this is the
+//!   answer of the sequential run of the image which the file spells (`specs/ToldRun.antt`). [`laws_of_records`] says that a journal
 //!   that `record` has kept is never refused by `replay`. [`laws_of_accepted_files`] says that a
 //!   file which spells an accepted image meets what those laws ask.
 //! - [`laws_of_unread_inputs`] says that a program which reads nothing has one answer over every source,
@@ -62,7 +63,7 @@ pub use entry::alpha_main;
 pub use image::{IMAGE_LIMIT, image_of};
 pub use laws::{
     laws_of_accepted_files, laws_of_answers, laws_of_kept_modules, laws_of_listed_files,
-    laws_of_records, laws_of_restarts, laws_of_unread_inputs,
+    laws_of_records, laws_of_restarts, laws_of_told_runs, laws_of_unread_inputs,
 };
 pub use link::MODULE_LIMIT;
 pub use status::Status;

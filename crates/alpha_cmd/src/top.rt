@@ -1,35 +1,31 @@
-ghost use Rattle.std.specs.Prelude.{◌≡◌, ◌≢◌, ◌<◌, ◌≤◌, ◌⊎◌, ℕ, Bool, false, List, IfOk, IsSome};
-ghost use Rattle.alpha_io.specs.Faults.{Rose, Calm};
-ghost use Rattle.alpha_io.specs.Files.{HasFile, KeepsFiles};
+ghost use Rattle.std.specs.Prelude.{◌≡◌, ◌≢◌, ◌<◌, ◌≤◌, ◌⊎◌, ℕ, List, IfOk};
+ghost use Rattle.alpha_io.specs.Faults.{Rose};
+ghost use Rattle.alpha_io.specs.Files.{KeepsFiles};
 ghost use Rattle.alpha_io.specs.Shelved.{shelved};
-ghost use Rattle.alpha_io.specs.Sunk.{sunk, IsCalm};
-ghost use Rattle.alpha_image.specs.Parts.{Parts, IsImage, spelling};
+ghost use Rattle.alpha_io.specs.Sunk.{sunk};
 ghost use Rattle.alpha_request.specs.Command as commands;
 ghost use Rattle.alpha_request.specs.Command.{Command, command_of};
-ghost use Rattle.alpha_request.specs.Options.{Origin};
-ghost use Rattle.alpha_request.specs.declared.options.RunOptions.{RunOptions};
 ghost use Rattle.alpha_seq.specs.Devices.{drawn};
-ghost use Rattle.alpha_imprecise.specs.Restart.{IsRestartable};
-ghost use Rattle.alpha_shadow.specs.Broken.{IsAccepted};
-ghost use Rattle.alpha_trap.specs.declared.handler.Lost.{Lost};
-ghost use Rattle.alpha_cmd.specs.Alike.{but_drawn, HasWords, IsChecked};
-ghost use Rattle.alpha_cmd.specs.Answer.{Answer, AnswerBy, world, IsAnswered};
+ghost use Rattle.alpha_cmd.specs.Alike.{Alike};
+ghost use Rattle.alpha_cmd.specs.Answer.{world};
 ghost use Rattle.alpha_cmd.specs.Asks.{Asks};
-ghost use Rattle.alpha_cmd.specs.Commands.{form_of, EndsBy, MayTake, Spares};
+ghost use Rattle.alpha_cmd.specs.Call.{called};
+ghost use Rattle.alpha_cmd.specs.Checked.{Checked};
+ghost use Rattle.alpha_cmd.specs.Commands.{form_of, MayTake, Spares};
 ghost use Rattle.alpha_cmd.specs.Commands.Debug.{LeavesTail, script_most};
-ghost use Rattle.alpha_cmd.specs.Commands.Link.{KeepsLink};
-ghost use Rattle.alpha_cmd.specs.Commands.Module.{KeepsModule};
+ghost use Rattle.alpha_cmd.specs.Commands.Link.{KeepsLinks};
+ghost use Rattle.alpha_cmd.specs.Commands.Module.{KeepsModules};
 ghost use Rattle.alpha_cmd.specs.Commands.Record.{KeepsUnder};
-ghost use Rattle.alpha_cmd.specs.Commands.Run as runs;
-ghost use Rattle.alpha_cmd.specs.Ends.{Decides, Ends, EndsPart, status_in};
-ghost use Rattle.alpha_cmd.specs.Fixed.{IsFixed};
+ghost use Rattle.alpha_cmd.specs.Ends.{Decides, status_in};
+ghost use Rattle.alpha_cmd.specs.Fixed.{Fixes};
 ghost use Rattle.alpha_cmd.specs.Kept.{Serves};
-ghost use Rattle.alpha_cmd.specs.Image.{ImageOf};
-ghost use Rattle.alpha_cmd.specs.Outcome.{goes};
-ghost use Rattle.alpha_cmd.specs.ReadsNothing.{ReadsNothing, answer_unread};
-ghost use Rattle.alpha_cmd.specs.Replayed.{ShowsRun};
-ghost use Rattle.alpha_cmd.specs.Status.{class_of, ended};
-ghost use Rattle.alpha_cmd.specs.Tried.{AreTold, IsAnswer, IsGiven, TriedBy};
+ghost use Rattle.alpha_cmd.specs.Promises.{EndsWhole, EndsCut, GivesOne, GivesThe, ServesUnder, SparesFiles, TakesInput, DrawsUnder, LeavesScript, EndsAsked, LosesNone};
+ghost use Rattle.alpha_cmd.specs.ReadsNothing.{Unread, UnreadAlike};
+ghost use Rattle.alpha_cmd.specs.Replayed.{ShowsRuns};
+ghost use Rattle.alpha_cmd.specs.Restarts.{Restarts, Accepts};
+ghost use Rattle.alpha_cmd.specs.Sequential.{Sequential};
+ghost use Rattle.alpha_cmd.specs.ToldRun.{Ran};
+ghost use Rattle.alpha_cmd.specs.Tried.{TriedBy};
 ghost use Rattle.alpha_cmd.specs.Tries.{CountStays, TriesBy};
 
 use crate::Status;
@@ -80,167 +76,103 @@ pub fn alpha_top<H: Shelf, S: Source, K: Sink, N: Sink>(
 ) -> Status
     // The status, all that is written and the input left are an answer to the words, or what a fault
     // of the shelf or of the input or want of memory leaves of it.
-    ensures whole { result ≢ Status.SinkFault
-        → Ends (TriedBy (Rose (H.faults shelf.old) (H.faults shelf.new))
-        (Rose (S.faults input.old) (S.faults input.new)) words.now
-        (world H.Shelf S.Source shelf.old input.old)) result (S.left input.new)
-        (shelved H.Shelf shelf.old shelf.new)
-        (sunk K.Sink out.old out.new) (sunk N.Sink notes.old notes.new) }
+    ensures whole { EndsWhole words.now result
+        (called H.Shelf S.Source K.Sink N.Sink shelf.old shelf.new input.old
+        input.new out.old out.new notes.old notes.new) }
 
     // Where something couldn't be written, a sink failed, and a prefix of that was written.
-    ensures part { result ≡ Status.SinkFault
-        → EndsPart (TriedBy (Rose (H.faults shelf.old) (H.faults shelf.new))
-        (Rose (S.faults input.old) (S.faults input.new)) words.now
-        (world H.Shelf S.Source shelf.old input.old))
-        (shelved H.Shelf shelf.old shelf.new)
-        (sunk K.Sink out.old out.new) (sunk N.Sink notes.old notes.new) }
+    ensures part { EndsCut words.now result
+        (called H.Shelf S.Source K.Sink N.Sink shelf.old shelf.new input.old
+        input.new out.old out.new notes.old notes.new) }
 
     // The shelf fails only under its status, or under that of a sink. Told files stay, but for the
     // one that a command keeps.
-    ensures shelf { Serves (shelved H.Shelf shelf.old shelf.new)
-        ((result ≢ Status.ShelfFault) × (result ≢ Status.SinkFault)) }
-    ensures files { KeepsFiles (H.files shelf.old) (H.files shelf.new)
-        ⊎ ((command : Command) × Asks words.now command
-        × Spares command result (H.files shelf.old) (H.files shelf.new)) }
+    ensures shelf { ServesUnder result (shelved H.Shelf shelf.old shelf.new) }
+    ensures files { SparesFiles words.now result (H.files shelf.old) (H.files shelf.new) }
 
     // Input is not touched, but by a run or a session that was begun, and it fails only under its
     // status, or under that of a sink.
-    ensures input { (input.new ≡ input.old)
-        ⊎ ((command : Command) × Asks words.now command × MayTake command result) }
-    ensures source { CountStays (drawn S.Source input.old input.new)
-        ((result ≢ Status.InputFault) × (result ≢ Status.SinkFault)) }
+    ensures input { (input.new ≡ input.old) ⊎ TakesInput words.now result }
+    ensures source { DrawsUnder result (drawn S.Source input.old input.new) }
 
     // The status of a program that didn't end by exit, or that wasn't run to its end, is one of the
     // end of the words' command. So a run of the imprecise machine never loses a trap, whatever the
     // input tells, unless the verdict is passed over.
-    ensures ended { class_of result ≡ ended
-        → (command : Command) × Asks words.now command × EndsBy command result }
-    ensures found { (options : RunOptions) (choices : Origin) (file : List ℕ) (lost : Lost)
-        → Asks words.now (commands.imprecise options choices false file)
-        → result ≢ Status.Lost lost }
+    ensures ended { EndsAsked words.now result }
+    ensures found { LosesNone words.now result }
 
     // Of a script no more is taken than the bytes that count and one.
-    ensures script { (file : List ℕ) → Asks words.now (commands.debug file)
-        → LeavesTail script_most (S.left input.old) (S.left input.new) }
+    ensures script { LeavesScript words.now (drawn S.Source input.old input.new) }
 
     // Where no device fails, one of the words' answers is given, or memory ran out.
-    ensures given { Calm (H.faults shelf.old) (H.faults shelf.new)
-        → Calm (S.faults input.old) (S.faults input.new)
-        → IsCalm (sunk K.Sink out.old out.new)
-        → IsCalm (sunk N.Sink notes.old notes.new)
-        → IsGiven words.now (world H.Shelf S.Source shelf.old input.old) result
-        (S.left input.new) (shelved H.Shelf shelf.old shelf.new)
-        (sunk K.Sink out.old out.new) (sunk N.Sink notes.old notes.new) }
+    ensures given { GivesOne words.now result
+        (called H.Shelf S.Source K.Sink N.Sink shelf.old shelf.new input.old
+        input.new out.old out.new notes.old notes.new) }
 
     // Where what the words' command reads is told and no device fails, the words' answer is given,
     // or memory ran out.
-    ensures exact { (a : Answer)
-        → AreTold words.now (world H.Shelf S.Source shelf.old input.old)
-        → Calm (H.faults shelf.old) (H.faults shelf.new)
-        → Calm (S.faults input.old) (S.faults input.new)
-        → IsCalm (sunk K.Sink out.old out.new)
-        → IsCalm (sunk N.Sink notes.old notes.new)
-        → IsAnswer words.now (world H.Shelf S.Source shelf.old input.old) a
-        → IsAnswered a result (S.left input.new)
-        (shelved H.Shelf shelf.old shelf.new)
-        (sunk K.Sink out.old out.new)
-        (sunk N.Sink notes.old notes.new) ⊎ (result ≡ Status.NoMemory) }
+    ensures exact { GivesThe words.now result
+        (called H.Shelf S.Source K.Sink N.Sink shelf.old shelf.new input.old
+        input.new out.old out.new notes.old notes.new) }
 
-    // Where a check is done, its file spells an image that can be restarted after each late trap.
-    ensures restarts { (file : List ℕ) → Asks words.now (commands.check file)
-        → result ≡ Status.Done 0
-        → (image : Parts) × IsImage image × HasFile (H.files shelf.old) file (spelling image)
-        × IsRestartable image }
-
-    // Where barriers were put into a source, the file kept is that source with a barrier at each cut of
-    // its code. Its image is accepted and can be restarted, and needs each of the barriers.
-    ensures fixed { (file out : List ℕ) → Asks words.now (commands.fix file out)
-        → result ≡ Status.Done 0
-        → (source text : List ℕ) × HasFile (H.files shelf.old) file source
-        × HasFile (H.files shelf.new) out text × IsFixed source text }
+    // Where a check is done, its file spells an image that can be restarted after each late trap. So it
+    // is of the two plain words `check FILE`.
+    ensures restarts { Restarts words.now result (H.files shelf.old) }
+    ensures checked { Checked words.now result (H.files shelf.old) }
 
     // Where the shelf tells that the file spells an accepted image and no device fails, a check of it
     // is done, or memory ran out.
-    ensures accepted { (image : Parts) (file : List ℕ) → Asks words.now (commands.check file)
-        → IsImage image → IsAccepted image.words → IsSome (H.files shelf.old)
-        → HasFile (H.files shelf.old) file (spelling image)
-        → Calm (H.faults shelf.old) (H.faults shelf.new)
-        → Calm (S.faults input.old) (S.faults input.new)
-        → IsCalm (sunk K.Sink out.old out.new)
-        → IsCalm (sunk N.Sink notes.old notes.new)
-        → (result ≡ Status.Done 0) ⊎ (result ≡ Status.NoMemory) }
+    ensures accepted { Accepts words.now result
+        (called H.Shelf S.Source K.Sink N.Sink shelf.old shelf.new input.old
+        input.new out.old out.new notes.old notes.new) }
+
+    // A run of the imprecise machine of a told file that spells an accepted image, over a told input,
+    // has the answer of the sequential run of that image, whatever words it draws and whether the
+    // verdict is passed over: only the number of words, which the status carries where the program has
+    // exited, is its own. So it is of the plain words `run FILE` and `run --imprecise FILE`.
+    ensures sequential { Sequential words.now result
+        (called H.Shelf S.Source K.Sink N.Sink shelf.old shelf.new input.old
+        input.new out.old out.new notes.old notes.new) }
+    ensures ran { Ran words.now result
+        (called H.Shelf S.Source K.Sink N.Sink shelf.old shelf.new input.old
+        input.new out.old out.new notes.old notes.new) }
+
+    // The same of a file that a check accepts, by the answer of `run` with the same options.
+    ensures alike { Alike words.now result
+        (called H.Shelf S.Source K.Sink N.Sink shelf.old shelf.new input.old
+        input.new out.old out.new notes.old notes.new) }
+
+    // A run of a told file whose program reads nothing in the steps that are asked for has the answer of
+    // the sequential run over no input, whatever the source tells or doesn't tell. So has a run of the
+    // imprecise machine of such a file that a check accepts, but for the number of words that it draws.
+    ensures unread { Unread words.now result
+        (called H.Shelf S.Source K.Sink N.Sink shelf.old shelf.new input.old
+        input.new out.old out.new notes.old notes.new) }
+    ensures unread_alike { UnreadAlike words.now result
+        (called H.Shelf S.Source K.Sink N.Sink shelf.old shelf.new input.old
+        input.new out.old out.new notes.old notes.new) }
+
+    // Where barriers were put into a source, the file kept is that source with a barrier at each cut of
+    // its code. Its image is accepted and can be restarted, and needs each of the barriers.
+    ensures fixed { Fixes words.now result (H.files shelf.old) (H.files shelf.new) }
 
     // Where a module is made, the file that is kept spells the one that the source makes, and no place
     // of its code is broken.
-    ensures modules { (file name : List ℕ) → Asks words.now (commands.make_module file name)
-        → result ≡ Status.Done 0
-        → KeepsModule file name (H.files shelf.old) (H.files shelf.new) }
+    ensures modules { KeepsModules words.now result (H.files shelf.old) (H.files shelf.new) }
 
     // Where modules are linked, each of the files spells one, and the file that is kept spells the image
     // that they link to. Where no place of any module's code is broken, the image is accepted and can be
     // restarted.
-    ensures links { (entry name : List ℕ) (files : List (List ℕ))
-        → Asks words.now (commands.link entry name files)
-        → result ≡ Status.Done 0
-        → KeepsLink entry name files (H.files shelf.old) (H.files shelf.new) }
+    ensures links { KeepsLinks words.now result (H.files shelf.old) (H.files shelf.new) }
 
     // Where a replay is done, its file spells an image, and its journal lists a run of it: over the
     // journal's input, with its output and its end. On an accepted image the sequential run is that too.
-    ensures replays { (file journal : List ℕ) → Asks words.now (commands.replay file journal)
-        → result ≡ Status.Done 0 → ShowsRun file journal (H.files shelf.old) }
+    ensures replays { ShowsRuns words.now result (H.files shelf.old) }
 
     // Under the status of a run's end a journal was kept, and it is a good one. Where the input is told,
     // it is that of the run that the words make, to its end or to all its units.
-    ensures recorded { KeepsUnder (Asks words.now) result
-        (world H.Shelf S.Source shelf.old input.old) (H.files shelf.new) }
-
-    // A run of the imprecise machine of a file that a check accepts has the answer of the sequential
-    // run with the same options, whatever words it draws and whether the verdict is passed over: only
-    // the number of words, which the status carries where the program has exited, is its own.
-    ensures alike { (options : RunOptions) (choices : Origin) (force : Bool) (file : List ℕ)
-        (a : Answer) → Asks words.now (commands.imprecise options choices force file)
-        → let w = world H.Shelf S.Source shelf.old input.old in
-        IsSome w.files → IsSome w.input → HasWords w.files choices → IsChecked file w
-        → AnswerBy (runs.steps options file) w a
-        → Calm (H.faults shelf.old) (H.faults shelf.new)
-        → Calm (S.faults input.old) (S.faults input.new)
-        → IsCalm (sunk K.Sink out.old out.new)
-        → IsCalm (sunk N.Sink notes.old notes.new)
-        → IsAnswered a (but_drawn result) (S.left input.new)
-        (shelved H.Shelf shelf.old shelf.new)
-        (sunk K.Sink out.old out.new)
-        (sunk N.Sink notes.old notes.new) ⊎ (result ≡ Status.NoMemory) }
-
-    // A run of a told file whose program reads nothing in the steps that are asked for has the answer of
-    // the sequential run over no input, whatever the source tells or doesn't tell.
-    ensures unread { (options : RunOptions) (file : List ℕ) (image : Parts)
-        → Asks words.now (commands.run options file)
-        → IsSome (H.files shelf.old) → ImageOf (H.files shelf.old) file (goes image)
-        → ReadsNothing options image
-        → Calm (H.faults shelf.old) (H.faults shelf.new)
-        → Calm (S.faults input.old) (S.faults input.new)
-        → IsCalm (sunk K.Sink out.old out.new)
-        → IsCalm (sunk N.Sink notes.old notes.new)
-        → IsAnswered (answer_unread options image (S.left input.old)) result (S.left input.new)
-        (shelved H.Shelf shelf.old shelf.new)
-        (sunk K.Sink out.old out.new)
-        (sunk N.Sink notes.old notes.new) ⊎ (result ≡ Status.NoMemory) }
-
-    // So has a run of the imprecise machine of such a file that a check accepts, but for the number of
-    // words that it draws.
-    ensures unread_alike { (options : RunOptions) (choices : Origin) (force : Bool) (file : List ℕ)
-        (image : Parts) → Asks words.now (commands.imprecise options choices force file)
-        → let w = world H.Shelf S.Source shelf.old input.old in
-        IsSome w.files → ImageOf w.files file (goes image) → ReadsNothing options image
-        → HasWords w.files choices → IsChecked file w
-        → Calm (H.faults shelf.old) (H.faults shelf.new)
-        → Calm (S.faults input.old) (S.faults input.new)
-        → IsCalm (sunk K.Sink out.old out.new)
-        → IsCalm (sunk N.Sink notes.old notes.new)
-        → IsAnswered (answer_unread options image w.input) (but_drawn result) (S.left input.new)
-        (shelved H.Shelf shelf.old shelf.new)
-        (sunk K.Sink out.old out.new)
-        (sunk N.Sink notes.old notes.new) ⊎ (result ≡ Status.NoMemory) }
+    ensures recorded { KeepsUnder (Asks words.now) result (world H.Shelf S.Source shelf.old input.old)
+        (H.files shelf.new) }
 {
     match decide(alloc, words, shelf, input, out, notes) {
         Ok(decision) => decision.deliver(out, notes),

@@ -12,8 +12,9 @@ use Rattle.alpha_link.specs.Parts.{ModuleParts, IsModule}
 use Rattle.alpha_link.specs.Spelled.{module_at, spelling}
 use Rattle.alpha_link.specs.Linked.{linked}
 use Rattle.alpha_link.specs.Made.{made_module}
+use Rattle.alpha_request.specs.Commands.Link as link_words
 use Rattle.alpha_cmd.specs.declared.status.Status.{Status}
-use Rattle.alpha_cmd.specs.declared.status.Status.TheVariants.{BadModule, BadLink}
+use Rattle.alpha_cmd.specs.declared.status.Status.TheVariants.{Done, BadModule, BadLink}
 use Rattle.alpha_cmd.specs.Outcome.{Outcome, Either, Then, Each}
 use Rattle.alpha_cmd.specs.Status.{Says}
 use Rattle.alpha_cmd.specs.Image.{Reads}
@@ -100,3 +101,8 @@ pub record KeepsLink (entry out : List ℕ) (names : List (List ℕ)) (old new :
   pub kept : HasFile new out (images.spelling image)
   pub accepted : All (λ m. IsAccepted m.words) modules → IsAccepted image.words × IsRestartable image
   pub restarts : IsSome old → All (HasAccepted old) names → IsAccepted image.words × IsRestartable image
+
+-- that is so where the command is done
+abbrev pub KeepsLinks : List (List ℕ) → Status → Files → Files → Type 0
+KeepsLinks words status old new = (entry out : List ℕ) (files : List (List ℕ)) → link_words.Asks words entry out files
+    → status ≡ Done 0 → KeepsLink entry out files old new

@@ -9,8 +9,9 @@ use Rattle.alpha_link.specs.Parts.{ModuleParts}
 use Rattle.alpha_link.specs.Spelled.{spelling}
 use Rattle.alpha_link.specs.Made.{made_module}
 use Rattle.alpha_asm.specs.Program.{code_base}
+use Rattle.alpha_request.specs.Commands.Module as module_words
 use Rattle.alpha_cmd.specs.declared.status.Status.{Status}
-use Rattle.alpha_cmd.specs.declared.status.Status.TheVariants.{NotRestartable, BadSource}
+use Rattle.alpha_cmd.specs.declared.status.Status.TheVariants.{Done, NotRestartable, BadSource}
 use Rattle.alpha_cmd.specs.Outcome.{Outcome, Either, Then}
 use Rattle.alpha_cmd.specs.Status.{Says}
 use Rattle.alpha_cmd.specs.Image.{Reads}
@@ -61,3 +62,8 @@ pub record KeepsModule (file out : List ℕ) (old new : Files) : Type 0 where
   pub made : made_module source ≡ Ok parts
   pub accepted : IsAccepted parts.words
   pub kept : HasFile new out (spelling parts)
+
+-- it is kept where the command is done
+abbrev pub KeepsModules : List (List ℕ) → Status → Files → Files → Type 0
+KeepsModules words status old new = (file out : List ℕ) → module_words.Asks words file out → status ≡ Done 0
+    → KeepsModule file out old new

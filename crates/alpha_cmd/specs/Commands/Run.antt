@@ -11,7 +11,7 @@ use Rattle.alpha_seq.specs.Run.{Run, started, Shown, shown, sequential}
 use Rattle.alpha_seq.specs.Inputs.{run_over, HasMade}
 use Rattle.alpha_cmd.specs.declared.status.Status.{Status}
 use Rattle.alpha_cmd.specs.declared.status.Status.TheVariants.{Done, Stopped, StepsSpent}
-use Rattle.alpha_cmd.specs.Status.{status_line}
+use Rattle.alpha_cmd.specs.Status.{spent_line}
 use Rattle.alpha_cmd.specs.Outcome.{Outcome, Either, Never, Then}
 use Rattle.alpha_cmd.specs.Image.{ImageOf}
 use Rattle.alpha_cmd.specs.Kept.{nothing}
@@ -33,7 +33,7 @@ run_status (Some end) = end_status end
 
 -- its last line
 abbrev pub run_line : Option End → List ℕ
-run_line None = status_line StepsSpent
+run_line None = spent_line
 run_line (Some end) = end_line end
 
 -- an image with the options' way to complete an overflow

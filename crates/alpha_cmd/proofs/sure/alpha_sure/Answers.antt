@@ -5,7 +5,7 @@ use Rattle.alpha_cmd.proofs.sure.alpha_sure.Goals as goal
 
 pub returns-clause-answer : goal.returns-clause-answer
 returns-clause-answer c = λ a is.
-    ⊎_elim (λ h. inl h.status_is) (λ (h : c.alpha_top.result ≡ NoMemory). inr h) (c.alpha_top.ensures.exact a (told_sure c.args.words.now _ _ _) Calm-none Calm-none Calm-none Calm-none is)
+    ⊎_elim (λ h. inl h.status_is) (λ (h : c.alpha_top.result ≡ NoMemory). inr h) (c.alpha_top.ensures.exact a (told_sure c.args.words.now _ _ _) (record { shelf = Calm-none; input = Calm-none; out = Calm-none; notes = Calm-none }) is)
 
 pub returns-clause-streams : goal.returns-clause-streams
 returns-clause-streams c =

@@ -1,0 +1,36 @@
+-- What a run of an accepted image over a told input answers, by either machine.
+use Rattle.std.specs.Prelude.{◌≡◌, ◌⊎◌, ℕ, List, [], ◌∷◌, Some, IsSome, codes}
+use Rattle.alpha_io.specs.Files.{HasFile}
+use Rattle.alpha_image.specs.Parts.{Parts, IsImage, spelling}
+use Rattle.alpha_shadow.specs.Broken.{IsAccepted}
+use Rattle.alpha_request.specs.declared.options.RunOptions.{RunOptions}
+use Rattle.alpha_request.specs.Plain.{IsPlain, defaults}
+use Rattle.alpha_seq.specs.Run.{sequential}
+use Rattle.alpha_cmd.specs.declared.status.Status.{Status}
+use Rattle.alpha_cmd.specs.Answer.{Answer}
+use Rattle.alpha_cmd.specs.Call.{Call, Quiet}
+use Rattle.alpha_cmd.specs.Commands.Run.{program_by, answer_shown}
+use Rattle.alpha_cmd.specs.Drawn.{but_drawn}
+use Rattle.alpha_cmd.specs.Gave.{Gave}
+
+-- the status, the output and the notes of the sequential run of the image over the input, and the input that it leaves
+abbrev pub answer_told : RunOptions → Parts → List ℕ → Answer
+answer_told options image input = answer_shown (Some input) (sequential (program_by options image) input options.steps options.watch)
+
+-- the shelf tells that the file spells this accepted image, and the source that its input is these bytes
+pub record TellsAccepted (image : Parts) (file bytes : List ℕ) (c : Call) : Type 0 where
+  pub good : IsImage image
+  pub accepted : IsAccepted image.words
+  pub told : IsSome c.shelf.old
+  pub there : HasFile c.shelf.old file (spelling image)
+  pub input : c.input.old ≡ Some bytes
+
+-- plain words that ask for a run of the file, by either machine
+abbrev pub AskRun : List (List ℕ) → List ℕ → Type 0
+AskRun words file = (words ≡ codes "run" ∷ file ∷ []) ⊎ (words ≡ codes "run" ∷ codes "--imprecise" ∷ file ∷ [])
+
+-- Where no device fails, such words give the answer of the sequential run, whichever machine they ask for. Only the number of
+-- words that the imprecise machine draws, which its status carries where the program has exited, is its own.
+abbrev pub Ran : List (List ℕ) → Status → Call → Type 0
+Ran words status c = (file bytes : List ℕ) (image : Parts) → AskRun words file → IsPlain file
+    → TellsAccepted image file bytes c → Quiet c → Gave (answer_told defaults image bytes) (but_drawn status) c
