@@ -2,7 +2,7 @@
 //! call succeeds where memory is there. They use the crates as whoever stands on them does, and are proved without proving
 //! these again.
 //!
-//! Tests of commands are cases of `alpha_cases`, those of images lines of `alpha_vectors/data/images.tsv`.
+//! Tests of commands are cases in `alpha_vectors/data`, those of images lines of its `images.tsv`.
 #![tactic(auto)]
 
 #[cfg(test)]

@@ -1,5 +1,4 @@
-//! Makes the calls of the files in data/ over devices in memory, and prints which of them answer
-//! otherwise than they should.
+//! Calls of the program over devices in memory: files of cases, each with what its calls should answer.
 //!
 //! A file is a list of cases. A case has files, and calls of the program over them. Each line begins
 //! with a word that says what it is; lines that begin with four spaces belong to the line before, and
@@ -25,7 +24,6 @@
 //! | `notes`, with lines | all of the notes; nothing where they are left out |
 //! | `keeps FILE SAME` | afterwards the file holds the bytes of this other one |
 //! | `until DEVICE` | the call is made over and over, with call 0, 1, .. of this device failing, until the status comes; each time before the device's own status came, with a front of the output |
-#![tactic(auto)]
 
 mod call;
 mod case;
@@ -51,11 +49,12 @@ const FILES: [&str; 14] = [
     "failing.cases",
 ];
 
-fn main(rt: HostRuntime) -> anyhow::Result<()> {
+/// Makes the calls of all files of cases, and prints which of them answer otherwise than they should.
+pub fn run(rt: &HostRuntime) -> anyhow::Result<()> {
     let mut right = 0u64;
     for file in FILES {
-        let text = fs::read_to_string(&rt, file)?;
-        right = right.saturating_add(case::run(&rt, rt.alloc(), text.as_str())?);
+        let text = fs::read_to_string(rt, file)?;
+        right = right.saturating_add(case::run(rt, rt.alloc(), text.as_str())?);
     }
     println!(rt; "{right} calls answered as they should")?;
     Ok(())

@@ -1,24 +1,18 @@
-//! Makes calls of the program over the real devices, one after another, and writes behind what each
-//! one wrote its exit status. Each line of the file `calls` has all that stands on one command line; what
-//! goes to the notes is written to the output too.
-#![tactic(auto)]
+//! Calls of the program over the real devices, one after another.
 
 use alpha_cmd::alpha_main;
 use alpha_io::{DiskShelf, ReadSource, WriteSink};
 use std::alloc::Global;
-use std::fs;
 
-// The file of the calls.
-const CALLS: &str = "calls";
-
-fn main(rt: HostRuntime) -> anyhow::Result<()> {
-    let text = fs::read_to_string(&rt, CALLS)?;
+/// Makes each call and writes its exit status behind what it wrote. A line has all that stands on one
+/// command line; what goes to the notes is written to the output too.
+pub fn run(rt: &HostRuntime, text: &str) -> anyhow::Result<()> {
     for line in text.lines() {
         let arguments = arguments_of(rt.alloc(), line)?;
         let status = alpha_main(
             rt.alloc(),
             arguments.as_slice(),
-            &mut DiskShelf::new(&rt),
+            &mut DiskShelf::new(rt),
             &mut ReadSource::new(rt.stdin()),
             &mut WriteSink::new(rt.stdout()),
             &mut WriteSink::new(rt.stdout()),

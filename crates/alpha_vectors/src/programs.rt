@@ -1,14 +1,8 @@
-//! Runs programs from outside on the sequential machine, and prints what differs.
-//!
-//! `data/programs.tsv` has a line a program; its head says where the programs come from, and what its columns are.
-//! Each program runs over its input, which comes in small pieces. What it puts out, its notes and how it ends are
-//! held against what was measured. Where the number of its steps is known, it ends within so many steps, and not
-//! within one less.
-#![tactic(auto)]
+//! Programs from outside on the sequential machine.
 
 use alpha_image::read_image;
 use alpha_io::{MemorySink, MemorySource};
-use alpha_seq::{Machine, RunEnd, run, write_end};
+use alpha_seq::{Machine, RunEnd, write_end};
 use alpha_words::Completion;
 use anyhow::{anyhow, bail};
 use std::alloc::Global;
@@ -31,8 +25,10 @@ struct Ran {
     notes: MemorySink,
 }
 
-fn main(rt: HostRuntime) -> anyhow::Result<()> {
-    let text = fs::read_to_string(&rt, "programs.tsv")?;
+/// Runs the program of each line over its input, which comes in small pieces. What it puts out, its
+/// notes and how it ends are held against what was measured. Where the number of its steps is known,
+/// it ends within so many steps, and not within one less. What differs is printed.
+pub fn run(rt: &HostRuntime, text: &str) -> anyhow::Result<()> {
     let mut same = 0u64;
     for line in text.lines().filter(|line| !line.starts_with('#')) {
         let mut columns = line.split('\t');
@@ -42,16 +38,16 @@ fn main(rt: HostRuntime) -> anyhow::Result<()> {
         let notes = columns.next().ok_or(anyhow!("no notes"))?;
         let end = columns.next().ok_or(anyhow!("no end"))?;
         let steps = columns.next().and_then(|steps| steps.parse::<u64>().ok());
-        let bytes = fs::read(&rt, image)?;
+        let bytes = fs::read(rt, image)?;
         let ran = run_image(
             rt.alloc(),
             bytes.as_slice(),
-            fs::read(&rt, input)?,
+            fs::read(rt, input)?,
             steps.unwrap_or(MOST_STEPS),
         )?;
-        if ran.output.bytes() != fs::read(&rt, output)?.as_slice() {
+        if ran.output.bytes() != fs::read(rt, output)?.as_slice() {
             println!(rt; "{image}: another output")?;
-        } else if notes != "-" && ran.notes.bytes() != fs::read(&rt, notes)?.as_slice() {
+        } else if notes != "-" && ran.notes.bytes() != fs::read(rt, notes)?.as_slice() {
             println!(rt; "{image}: other notes")?;
         } else if !ends_with(ran.notes.bytes(), end.as_bytes()) {
             println!(rt; "{image}: another end")?;
@@ -59,7 +55,7 @@ fn main(rt: HostRuntime) -> anyhow::Result<()> {
             && run_image(
                 rt.alloc(),
                 bytes.as_slice(),
-                fs::read(&rt, input)?,
+                fs::read(rt, input)?,
                 steps.saturating_sub(1),
             )?
             .end != RunEnd::Spent
@@ -84,7 +80,7 @@ fn run_image(alloc: Global, image: &[u8], input: Vec<u8>, steps: u64) -> anyhow:
     let mut input = MemorySource::new(input, PIECE, Vec::new(alloc));
     let mut output = sink(alloc)?;
     let mut notes = sink(alloc)?;
-    let end = run(
+    let end = alpha_seq::run(
         &mut machine,
         &mut input,
         &mut output,
