@@ -9,11 +9,12 @@ import sys
 from collections import namedtuple
 
 from . import files, table
+from .image import MOST_DATA
 
 sys.path.insert(0, os.path.join(files.TOP, "bench"))
 from worked import OPERATES  # noqa: E402  (behind the path)
 
-MASK, TOP_OF_STACK, MOST_WAITED = (1 << 64) - 1, 1 << 30, 1_024
+MASK, TOP_OF_STACK, MOST_WAITED, MOST_STACK = (1 << 64) - 1, 1 << 30, 1_024, 1_048_576
 SIGNALS = {"bpt": 0, "bugchk": 1, "gentrap": 2}
 NO_CALL, BAD_DESCRIPTOR, BAD_RANGE = 78, 9, 14
 TESTS = {"eq": lambda value: value == 0, "ne": lambda value: value != 0, "lt": lambda value: value >> 63 == 1,
@@ -39,6 +40,8 @@ class Machine:
     where no trap is pending, else how many words were executed since its trigger; `mask` has the trap's registers."""
 
     def __init__(self, image, completion, given):
+        if sum(len(one.data) + one.zeroed for one in image.segments) > MOST_DATA or image.stack > MOST_STACK or image.level > 2:
+            raise files.Refused("it is no image: its level is above 2, or its data or its stack has more bytes than one may have")
         known = {number: word_of(number) for number in set(image.words)}
         self.words = [known[number] for number in image.words]
         self.image, self.completion, self.level = image, completion, image.level or 1

@@ -1,5 +1,6 @@
 """The suite for emulators (conformance/), run against one that is right and against wrong ones; and journals."""
 import os
+import random
 import re
 import shlex
 import shutil
@@ -7,7 +8,7 @@ import struct
 import subprocess
 import sys
 
-from parts import files, image, journal, playing, table
+from parts import files, image, journal, machine, playing, table
 from .helpers import ASKED, HERE, TOP, Failed, Lacking, companion, needs_program, read, rows, want, write
 
 SUITE = os.path.join(TOP, "conformance")
@@ -137,7 +138,7 @@ def test_each_of_these_wrong_emulators_is_caught(folder):
         words = {"run": ["--run", made + RUN], "follow": ["--follow", made + FOLLOW],
                  "record": ["--record", made + RECORD, "--judge", emulator() + FOLLOW]}[how]
         status, said = against(*words, "--only", only, "--first")
-        want((status, "and so on" in said), (1, True), f"{what}: {said}")
+        want((status, "ended at the first difference" in said), (1, True), f"{what}: {said}")
         # It is told by what the suite wants, and not by a fault of Python.
         want(re.search("Error|Exception", said), None, f"{what}: {said}")
 
@@ -234,6 +235,35 @@ def test_damaged_journals_and_texts_are_refused(folder):
     companion("journal", "first", path, status=2)
     companion("journal", "make", os.path.join(folder, "no-such-file"), out, status=1)
     companion("emulate", "run", path, status=1)
+
+
+def test_other_bytes_are_refused_or_run(_):
+    """Images and journals with other bytes: each is refused in a line, or runs."""
+    chosen = random.Random(7)
+    for name in ("segments", "layout", "late-two"):
+        content = read(in_suite(f"images/{name}.img"), "rb")
+        for _ in range(150):
+            try:
+                made = machine.Machine(image.image_of(other_bytes(chosen, content), name), "wrap", b"")
+                for _ in range(50):
+                    if made.end is None:
+                        made.step()
+            except files.Refused as refused:
+                want("\n" in str(refused), False, str(refused))
+    whole, content = image.read_image(in_suite("images/late-two.img")), read(in_suite("journals/late-masks.wrap.1.journal"), "rb")
+    for _ in range(300):
+        try:
+            playing.Replay(whole, journal.journal_of(other_bytes(chosen, content))).play()
+        except journal.BadJournal as bad:
+            want(bad.line.startswith("journal kind "), True, bad.line)
+
+
+def other_bytes(chosen, content):
+    """The content with three other bytes, of which some are in its head."""
+    other = bytearray(content)
+    for end in (50, len(other), len(other)):
+        other[chosen.randrange(end)] = chosen.choice((0, 1, 2, 0x7F, 0x80, 0xFF))
+    return bytes(other)
 
 
 def test_the_model_refuses_each_journal_as_the_suite_says(_):
