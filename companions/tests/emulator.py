@@ -98,7 +98,8 @@ def test_the_program_accepts_the_journals_of_that_emulator(_):
 
 # What is wrong, the file of parts/ or bench/ with it, the right text and the wrong one, how it is run, and what shows it.
 WRONG = [
-    ("a longword isn't extended by its sign", "machine.py", "value - (value >> 31 << 32) if size == 4 else value", "value", "run", "/memory"),
+    ("a longword isn't extended by its sign", "machine.py",
+     "value - (value >> 31 << 32) if size == 4 else value", "value", "run", "/memory"),
     ("an overflow leaves the lock flag", "machine.py", "self.overflowed_at, self.lock = self.image.address(place), None",
      "self.overflowed_at = self.image.address(place)", "run", "/locks.wrap"),
     ("a system call leaves the lock flag", "machine.py", "self.call()\n            self.lock = None", "self.call()", "run", "/locks.stop"),
