@@ -1,0 +1,101 @@
+#!/usr/bin/env python3
+"""Counts the host instructions of `asm`, `module`, `fix` and `link` for names that are chosen to be dear to look up, beside
+plain names of the same length, at 25,000, 50,000 and 100,000 of them. Of a source each line has a label and a branch to
+the next one; of `link` one module has all names as symbols.
+
+    bench/crowd.py [PROGRAM]     counts
+    bench/crowd.py NAMES COUNT   writes a source of so many labels: plain16, product, plain32, hash or way
+"""
+import itertools
+import os
+import string
+import struct
+import sys
+import tempfile
+
+from link import module, symbol
+from measure import NOP, instructions, the_program
+
+COUNTS = (25_000, 50_000, 100_000)
+SOME = string.ascii_letters + string.digits + "_"
+# Names of 32 bytes that begin so have one quick hash: the third eight bytes are the state of the hasher behind the first
+# sixteen, so that what it multiplies next has a factor of 0.
+ONE_HASH = "crowd_0000100431jxd8Xp31"
+# With a factor of 1 the hash is the last eight bytes, but for a constant. Where their last four are alike too, all names
+# go one way through the first tree.
+ONE_WAY = "crowd_0000100431kxd8Xp31"
+
+
+def letters(number, count):
+    """A number in so many letters, the lowest first."""
+    text = ""
+    for _ in range(count):
+        number, letter = divmod(number, 26)
+        text += string.ascii_lowercase[letter]
+    return text
+
+
+def products(count):
+    """Names of 16 bytes whose hash is a product of two factors, one of which has few bits set."""
+    parts = itertools.product("abc", "1AQaq", SOME, "abc", "1AQaq", SOME)
+    return [f"{a}m{b}{c}{d}m{e}{f}5xJo9y7." for a, b, c, d, e, f in itertools.islice(parts, count)]
+
+
+NAMES = {
+    "plain16": lambda count: [f"name_of{number:09d}" for number in range(count)],
+    "product": products,
+    "plain32": lambda count: [f"a_label_of_32_bytes_in__{letters(number, 8)}" for number in range(count)],
+    "hash": lambda count: [ONE_HASH + letters(number, 8) for number in range(count)],
+    "way": lambda count: [ONE_WAY + letters(number, 4) + "zzzz" for number in range(count)],
+}
+PLAIN = {"product": "plain16", "hash": "plain32", "way": "plain32"}
+
+
+def source(names):
+    lines = [f"{name}: br $31,{after}\n" for name, after in zip(names, names[1:] + names[:1])]
+    return ("".join(lines) + f".entry {names[0]}\n").encode()
+
+
+def symbols(names):
+    """A module of one word whose symbols are these names, all at its start, and `start`."""
+    all_names = sorted([name.encode() for name in names] + [b"start"])
+    return module(struct.pack("<I", NOP), b"", [symbol(0, name) for name in all_names], [])
+
+
+def count(program, folder, kind, number):
+    """The host instructions for each of so many names, by command."""
+    names = NAMES[kind](number)
+    paths = {name: os.path.join(folder, name) for name in ("source", "module", "out")}
+    for name, contents in (("source", source(names)), ("module", symbols(names))):
+        with open(paths[name], "wb") as file:
+            file.write(contents)
+    calls = {
+        "asm": ["asm", paths["source"], paths["out"]],
+        "module": ["module", paths["source"], paths["out"]],
+        "fix": ["fix", paths["source"], paths["out"]],
+        "link": ["link", paths["out"], paths["module"]],
+    }
+    return {command: instructions([program, *words]) / number for command, words in calls.items()}
+
+
+def main():
+    if len(sys.argv) == 3 and sys.argv[1] in NAMES and sys.argv[2].isdigit() and int(sys.argv[2]) > 0:
+        sys.stdout.write(source(NAMES[sys.argv[1]](int(sys.argv[2]))).decode())
+        return
+    if len(sys.argv) > 2:
+        sys.exit("usage: bench/crowd.py [PROGRAM] | bench/crowd.py NAMES COUNT, NAMES one of " + ", ".join(NAMES))
+    program = the_program()
+    with tempfile.TemporaryDirectory() as folder:
+        taken = {}
+        for kind in NAMES:
+            for number in COUNTS:
+                taken[kind, number] = count(program, folder, kind, number)
+                rows = []
+                for command, each in taken[kind, number].items():
+                    times = f", {each / taken[PLAIN[kind], number][command]:.2f} times plain names" if kind in PLAIN else ""
+                    rows.append(f"{command} {each:,.0f}{times}")
+                print(f"{number} names, {kind}: " + "; ".join(rows), flush=True)
+
+
+if __name__ == "__main__":
+    main()
