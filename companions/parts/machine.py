@@ -173,7 +173,7 @@ class Machine:
             self.store(address, size, self.regs[word.ra])
         else:
             value = int.from_bytes(self.bytes_at(address, size), "little")
-            self.set(word.ra, value)
+            self.set(word.ra, value - (value >> 31 << 32) if size == 4 else value)
             self.lock = address // 16 if word.kind == table.LOCKED else self.lock
 
     def bytes_at(self, address, count):
