@@ -167,7 +167,7 @@ def test_static_procedures_of_ecoff_files_are_seen(folder):
     if shutil.which("alpha-linux-gnu-nm"):
         shown = subprocess.run(["alpha-linux-gnu-nm", path], capture_output=True, text=True, check=True).stdout
         want(f"{AWAY:016x} T first\n" in shown, True, shown)
-    for content, said in [(written_ecoff(0x3007), "-non_shared"), (written_ecoff(0x1005), "object file"), (b"\x88\x01" + bytes(200), "objz")]:
+    for content, said in [(written_ecoff(0x3007), "-non_shared"), (written_ecoff(0x1005), "object file"), (b"\x88\x01" + bytes(200), "compressed")]:
         write(path, content)
         want(said in companion("elf2image", path, out, status=1)[1], True, said)
     write(path, written_ecoff(0x3007))
