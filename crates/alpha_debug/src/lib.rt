@@ -6,14 +6,17 @@
 //!
 //! The commands are `step`, `go`, `barrier`, `break`, `clear`, `regs`, `mem`, `dis`, `shadow`, `log` and `quit`; any other
 //! line is answered by `?`. The program runs on the sequential machine, over an empty input, and its output goes where the
-//! answers go, as it comes. An overflow is completed by wrapping.
+//! answers go, in their order. An overflow is completed by wrapping. What is written waits in a block of 16 KiB, which is
+//! put where it is full, before more of the script is asked for, and at the end.
 //!
 //! `specs/Command.antt` says what a line says, `specs/Lines.antt` what the lines of the answers are, `specs/Session.antt`
 //! how a session stands and what it answers to a command, `specs/Script.antt` what the transcript of a script is.
-//! `specs/Effects.antt` says what the code did against these, where devices may tell nothing.
+//! `specs/Effects.antt` says what the code did against these, where devices may tell nothing, and `specs/Gathered.antt`
+//! what was put and what waits.
 //!
 //! `src/command.rt` reads a line, `src/word.rt` its words and numbers. `src/debugger.rt` has the session and answers a
-//! command; `src/travel.rt` makes the steps, `src/breakpoints.rt` has the breakpoints, `src/print.rt` writes the lines.
+//! command; `src/travel.rt` makes the steps, `src/breakpoints.rt` has the breakpoints, `src/print.rt` writes the lines,
+//! `src/block.rt` has the block that they wait in.
 //! `src/script.rt` cuts the script into lines, in pieces of a fixed size, and `src/transcript.rt` is the whole.
 #![tactic(auto)]
 

@@ -16,6 +16,10 @@ use std::{fs, io};
 /// A file that is read piece by piece is opened once: it stays open where a piece was read of it, until
 /// its end was read or another piece or a `keep` is asked for. So a pipe is read too, from its start
 /// to its end, and once.
+///
+/// A file that is kept is replaced whole by a new one beside it, whose bytes the system has stored, or stays as it
+/// was. What is no regular file is written in place, and so is a file whose folder takes no new one, or whose owner
+/// or mode a new one can't have.
 #[derive(Drop)]
 pub struct DiskShelf<R: Files + AllocGlobal> {
     files: R,

@@ -1,10 +1,11 @@
 use crate::Failed;
 use crate::replace::{NewFile, replace};
+use arrayvec::ArrayString;
+use itoa::Buffer;
 use std::fs::{Metadata, OpenFile, OpenOptions};
 use std::io;
 use std::io::{Error, ErrorKind, Write};
 use std::os::unix::fs::{MetadataExt, OpenOptionsExt};
-use std::path::{Path, PathBuf};
 use std::rt::Files;
 
 // How many names are tried for a new file.
@@ -13,10 +14,16 @@ const MOST_NAMES: u32 = 100;
 // How many symbolic links are followed one behind the other, as Linux does.
 const MOST_LINKS: u32 = 40;
 
+// The longest name that Linux takes, which needs no memory here: so a keep doesn't fail for want of it, but
+// where the name is a symbolic link.
+const NAME_ROOM: usize = 4_096;
+
+type Name = ArrayString<NAME_ROOM>;
+
 // A name that no symbolic link stands for, and the regular file that has it, if there is one.
 #[derive(Drop)]
 struct Place {
-    path: PathBuf,
+    path: Name,
     old: Option<Metadata>,
 }
 
@@ -25,7 +32,7 @@ struct Place {
 struct Beside<R: Files> {
     files: R,
     file: R::File,
-    path: PathBuf,
+    path: Name,
     place: Place,
 }
 
@@ -82,16 +89,14 @@ fn place_of<R: Files + AllocGlobal>(files: &R, name: &str) -> io::Result<Option<
         Err(error) if error.kind() == ErrorKind::NotFound => None,
         Err(error) => return Err(error),
     };
-    let mut path = PathBuf::from_str(files.alloc(), name)?;
+    let mut path = copied(name)?;
     for _ in 0..MOST_LINKS {
         match files.symlink_metadata(path.as_str()) {
             Ok(found) if found.is_symlink() => {
                 if is_of_proc(files, &found) {
                     return Ok(None);
                 }
-                let next = files.read_link(files.alloc(), path.as_str())?;
-                path.pop();
-                path.push(next.as_str())?;
+                path = behind_link(files, path.as_str())?;
             }
             Ok(_) => return Ok(Some(Place { path, old })),
             Err(error) if error.kind() == ErrorKind::NotFound => {
@@ -101,6 +106,16 @@ fn place_of<R: Files + AllocGlobal>(files: &R, name: &str) -> io::Result<Option<
         }
     }
     Err(Error::from(ErrorKind::FilesystemLoop))
+}
+
+// The name that a symbolic link says.
+fn behind_link<R: Files + AllocGlobal>(files: &R, link: &str) -> io::Result<Name> {
+    let next = files.read_link(files.alloc(), link)?;
+    if next.is_absolute() {
+        copied(next.as_str())
+    } else {
+        in_folder_of(link, next.as_str())
+    }
 }
 
 // Whether a link stands for an open file, as those that /dev/stdout leads to: such a file is written in
@@ -124,7 +139,7 @@ fn made_at<'a, R: Files + AllocGlobal>(
         how.mode(0o600);
     }
     for number in 0..MOST_NAMES {
-        let path = numbered(files, place.path.as_path(), number)?;
+        let path = numbered(place.path.as_str(), number)?;
         match how.open(files, path.as_str()) {
             Ok(file) => {
                 return Ok(Some(Beside {
@@ -144,10 +159,35 @@ fn made_at<'a, R: Files + AllocGlobal>(
     Err(Error::from(ErrorKind::AlreadyExists))
 }
 
-// The name of a new file: `.alpha-keep-` and a number, in the folder of the place.
-fn numbered<R: AllocGlobal>(files: &R, path: Path<'_>, number: u32) -> io::Result<PathBuf> {
-    let name = format!(in files.alloc(); ".alpha-keep-{number}")?;
-    Ok(path.with_file_name(files.alloc(), name.as_str())?)
+// The name of a new file: `.alpha-keep-` and a number, in the folder of the path.
+fn numbered(path: &str, number: u32) -> io::Result<Name> {
+    let mut name = in_folder_of(path, ".alpha-keep-")?;
+    push(&mut name, Buffer::new().format(number))?;
+    Ok(name)
+}
+
+// A name in the folder of a path.
+fn in_folder_of(path: &str, name: &str) -> io::Result<Name> {
+    let mut all = Name::new();
+    if let Some((folder, _)) = path.rsplit_once('/') {
+        push(&mut all, folder)?;
+        push(&mut all, "/")?;
+    }
+    push(&mut all, name)?;
+    Ok(all)
+}
+
+fn copied(text: &str) -> io::Result<Name> {
+    let mut all = Name::new();
+    push(&mut all, text)?;
+    Ok(all)
+}
+
+fn push(all: &mut Name, text: &str) -> io::Result<()> {
+    match all.try_push_str(text) {
+        Ok(()) => Ok(()),
+        Err(_) => Err(Error::from(ErrorKind::InvalidFilename)),
+    }
 }
 
 // Gives a new file the owner and the mode of the old one, if there is one, and answers whether it has them.

@@ -7,12 +7,16 @@
 //! - In memory: [`MemorySource`] and [`SureSource`], [`MemorySink`], [`TrickleSink`] and
 //!   [`NullSink`], [`MemoryShelf`] and [`SureShelf`]. The sure ones and the null one never fail.
 //! - On a real system: [`ReadSource`] over a reader, [`WriteSink`] over a writer, [`DiskShelf`] over
-//!   the file system. They tell nothing.
+//!   the file system. They tell nothing. A read or a write that a signal interrupts is made again.
 //!
 //! The laws: a count of faults never falls. An `Ok` leaves it, and a call answers `Failed` only
 //! where it rose or stands at the last value of a `u64`. Two refusals of a shelf that tells its
 //! files are no faults: of a piece of a file that isn't there, and of a file that isn't taken. What
 //! is told changes only as an `Ok` says; a `keep` that failed may leave anything under its name.
+//!
+//! `DiskShelf` promises no more, and does more: a file is replaced whole or stays as it was. `src/replace.rt` has
+//! the order of the calls, whose clause over calls that are told says so by `specs/Keeping.antt`; `src/keep.rt`
+//! makes these calls on a file system, and says which files are written in place. `src/again.rt` makes calls again.
 //!
 //! The functions of `src/laws.rt` do nothing: their contracts are the laws over calls in a row.
 //! [`laws_of_counts`]: a count that rose stays risen, and isn't calm. [`laws_of_prefixes`] and

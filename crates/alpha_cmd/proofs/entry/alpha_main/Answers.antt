@@ -1,4 +1,4 @@
-use Rattle.std.proofs.Common.{◌≡◌, ℕ, List, refl, subst, inl, inr, arith}
+use Rattle.std.proofs.Common.{◌≡◌, ◌⊎◌, ℕ, List, refl, subst, inl, inr, arith}
 use Rattle.alpha_io.proofs.Shelved.{KeepsFiles-refl}
 use Rattle.alpha_cmd.specs.declared.status.Status.TheVariants.{Done, SinkFault, NoMemory}
 use Rattle.alpha_seq.specs.Devices.{drawn}
@@ -11,7 +11,7 @@ use Rattle.alpha_cmd.specs.Commands.Link.{KeepsLinks}
 use Rattle.alpha_cmd.specs.Commands.Module.{KeepsModules}
 use Rattle.alpha_cmd.specs.Commands.Record.{KeepsUnder}
 use Rattle.alpha_cmd.specs.Fixed.{Fixes}
-use Rattle.alpha_cmd.specs.Promises.{EndsWhole, EndsCut, GivesOne, GivesThe, SparesFiles, LeavesScript, EndsAsked, LosesNone}
+use Rattle.alpha_cmd.specs.Promises.{EndsWhole, EndsCut, GivesOne, GivesThe, SparesFiles, TakesInput, LeavesScript, EndsAsked, LosesNone}
 use Rattle.alpha_cmd.specs.ReadsNothing.{Unread, UnreadAlike}
 use Rattle.alpha_cmd.specs.Replayed.{ShowsRuns}
 use Rattle.alpha_cmd.specs.Restarts.{Restarts, Accepts}
@@ -188,6 +188,12 @@ returns-in-Ok-clause-recorded g c =
     (λ (words : List (List ℕ)).
     KeepsUnder (Asks words) c.alpha_top.result (world g.H.Shelf g.S.Source c.args.shelf.now c.args.input.now) (g.H.Shelf.files c.alpha_top.new.shelf))
     c.in-Ok.ensures c.alpha_top.ensures.recorded
+
+pub returns-in-Ok-clause-input : goal.returns-in-Ok-clause-input
+returns-in-Ok-clause-input g c =
+    subst
+    (λ (words : List (List ℕ)). (c.alpha_top.new.input ≡ c.args.input.now) ⊎ TakesInput words c.alpha_top.result)
+    c.in-Ok.ensures c.alpha_top.ensures.input
 
 -- ---- memory ran out before the words were gathered
 

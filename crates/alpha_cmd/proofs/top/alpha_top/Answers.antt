@@ -118,12 +118,20 @@ returns-in-Err-clause-found g c =
 
 pub returns-in-Ok-clause-given : goal.returns-in-Ok-clause-given
 returns-in-Ok-clause-given g c =
+    let w = world g.H.Shelf g.S.Source c.args.shelf.now c.args.input.now in
+    let shelf = Rose (g.H.Shelf.faults c.args.shelf.now) (g.H.Shelf.faults c.decide.new.shelf) in
+    let input = Rose (g.S.Source.faults c.args.input.now) (g.S.Source.faults c.decide.new.input) in
     promised.gives_one c.args.words.now c.deliver.result
     (called g.H.Shelf g.S.Source g.K.Sink g.N.Sink c.args.shelf.now c.decide.new.shelf c.args.input.now c.decide.new.input c.args.out.now c.deliver.new.out c.args.notes.now c.deliver.new.notes)
     (returns-in-Ok-clause-whole g c) (returns-in-Ok-clause-part g c)
     (⊎_elim
     (λ (e : c.deliver.result ≡ SinkFault). inl e)
-    (λ (e : c.deliver.result ≡ c.in-Ok.decision.status). inr (λ failed. deliver-requires g c (sym e ∙ failed)))
+    (λ (e : c.deliver.result ≡ c.in-Ok.decision.status).
+    inr (λ failed.
+    Leaves-not_sink shelf input c.args.words.now w (answer_in (g.S.Source.left c.decide.new.input) c.in-Ok.decision)
+    (shelved g.H.Shelf c.args.shelf.now c.decide.new.shelf)
+    (sunk g.K.Sink c.args.out.now c.decide.new.out) (sunk g.N.Sink c.args.notes.now c.decide.new.notes)
+    c.in-Ok.ensures.tried (sym e ∙ failed)))
     c.deliver.ensures.status)
 
 pub returns-in-Err-clause-given : goal.returns-in-Err-clause-given
