@@ -2,20 +2,20 @@
 """Holds the pages against the sources that they quote.
 
 - A block whose fence says `rattle:FILE` stands in FILE word for word.
-- Each law, a function `laws_of_..` or `limits_of_..`, is in the index of docs/theorems.md with its crate, each law of
-  the index is one, and the section of its crate names each of its clauses.
-- Each must-fail edit that a table of docs/theorems.md names is there.
-- Each file of a reading order has as many lines as the table says, and each order has just the files of definitions
-  that its clauses reach (bench/reading.py).
-- Each clause of the table of clauses reaches as many lines as it says: of definitions, of clap, and of types of the code.
-- Each name of a table of names stands in its file, and each fact or type that a quoted clause names is quoted too, or in
-  that table.
+- Of docs/theorems.md and docs/promises.md: each clause that is named with its function and its crate is there; each
+  fact or type that a quoted clause names stands where the first lines of its file say; and each row of a table of
+  clauses says how much its clause reaches: of definitions, of clap, and of types of the code (bench/reading.py).
+- Each clause of `alpha_top` is named on one of the two.
+- Of docs/theorems.md: the reading order has just the files of definitions that its clauses reach, each with its lines
+  and with those of the clauses that reach it, and each name of a quoted clause is in one of them; each promise of the
+  table from claim to clause begins with words of README.md, and its clauses are there; each must-fail edit is there.
 
     bench/quotes.py [--write]
 
-With `--write` these tables get the numbers of lines, and a block whose first words are `ensures NAME` the clause as it
-stands in its file; whoever does so reads the words beside it again. It ends with 1 where something is wrong.
+With `--write` these tables get their numbers and clauses, and a block whose first words are `ensures NAME` the clause
+as it stands in its file; whoever does so reads the words beside it again. It ends with 1 where something is wrong.
 """
+import functools
 import pathlib
 import re
 import sys
@@ -24,19 +24,22 @@ import reading
 
 TOP = pathlib.Path(__file__).resolve().parent.parent
 THEOREMS = TOP / "docs" / "theorems.md"
+PROMISES = TOP / "docs" / "promises.md"
 BLOCK = re.compile(r"^```rattle:(\S+)\n(.*?)^```$", re.M | re.S)
-LAW = re.compile(r"^pub fn ((?:laws|limits)_of_\w+)\(\)(.*?)^\{\}$", re.M | re.S)
-INDEXED = re.compile(r"^\| `((?:laws|limits)_of_\w+)` \| `(alpha_\w+)` \|", re.M)
+LAW = re.compile(r"(?:laws|limits)_of_\w+")
 EDIT = re.compile(r"^\| `(alpha_\w+)` \| `(\w+)` \|", re.M)
-COUNTED = re.compile(r"^\| `(crates/\S+\.(?:antt|rt))` \| ([\d,]+) \|", re.M)
-PART = re.compile(r"^\*\*\d\. ", re.M)
-# What the kit defines: the page says in its table of notation what each means.
-OF_THE_KIT = set("All Bool Global IfErr IfSome IsSome List None Ok OnOk Option Result Some Type Unit".split())
-FACT = re.compile(r"(?<![\w.])[A-Z]\w+")
-DEFINED = re.compile(r"pub (?:record )?(\w+) ")
-NAMED = re.compile(r"^\| `(crates/\S+\.(?:antt|rt))` \| (`[^|]*) \|$", re.M)
+ORDERED = re.compile(r"^\| `(crates/\S+\.antt)` \| ([\d,]+) \| ([^|\n]*) \|", re.M)
+PROMISED = re.compile(r"^\| ([^|\n]+) \| ([^|\n]+) \| [^|\n]+ \|$", re.M)
+CITED = re.compile(r"((?:`\w+`(?:, | and ))*`\w+`) of `(\w+)` of `(alpha_\w+)`")
 REACHED = re.compile(r"^\| `(\w+)` of `(\w+)` of `(alpha_\w+)`([^|\n]*) \| ([\d,]+ lines of \d+ files) \| ([^|\n]*) \| ([^|\n]*) \| ([^|\n]*) \|$", re.M)
 CLAUSE = re.compile(r"ensures (\w+) \{")
+# What the language itself has.
+BUILT_IN = {("", name) for name in ("Type", "Unit", "Result", "Option")}
+ARGUMENTS = re.compile(r"^\w+ ([^=\n]*?) =", re.M)
+FACT = re.compile(r"(?<![\w.])(?:([a-z]\w*)\.)?([A-Z]\w+)")
+# The clauses of the reading order, by the words that its column has for them.
+READ = {"law": ("alpha_restart", "laws_of_restarts", "accepted"), "checked": ("alpha_cmd", "alpha_top", "checked"),
+        "ran": ("alpha_cmd", "alpha_top", "ran")}
 
 
 def words(text):
@@ -74,25 +77,17 @@ def check_blocks(page, text, write, wrong):
     return BLOCK.sub(checked, text)
 
 
-def check_counts(text, write, wrong):
-    def checked(found):
-        path, said = found.groups()
-        file = TOP / path
-        count = f"{len(file.read_text().splitlines()):,}" if file.exists() else "none"
-        if count == said:
-            return found.group()
-        if not write or count == "none":
-            wrong.append(f"{path} has {count} lines, not {said}")
-            return found.group()
-        return f"| `{path}` | {count} |"
-
-    return COUNTED.sub(checked, text)
+@functools.cache
+def clauses(crate, function):
+    """What stands in each clause of a function, by its name, with the imports of its file."""
+    rows, names, modules = reading.clauses(crate, function)
+    return dict(rows), names, modules
 
 
 def reached(crate, function, clause):
     """What a clause reaches."""
-    rows, names, modules = reading.clauses(crate, function)
-    return reading.Counts(dict(rows).get(clause, ""), names, modules)
+    rows, names, modules = clauses(crate, function)
+    return reading.Counts(rows.get(clause, ""), names, modules)
 
 
 def check_reached(text, write, wrong):
@@ -108,79 +103,101 @@ def check_reached(text, write, wrong):
     return REACHED.sub(checked, text)
 
 
-def check_orders(text, wrong):
-    """Holds the reading orders against what their clauses reach."""
-    def section(title):
-        return text.split(f"\n### {title}", 1)[1].split("\n### ", 1)[0]
+def check_order(text, write, wrong):
+    """Holds the reading order against what its clauses reach."""
+    reach = {name: {str(file.path.relative_to(TOP)) for file in reached(*clause).own} for name, clause in READ.items()}
+    listed = [path for path, _, _ in ORDERED.findall(text)]
+    wrong.extend(f"the reading order lacks {path}" for path in sorted(set().union(*reach.values()) - set(listed)))
+    wrong.extend(f"the reading order has {path} twice" for path in sorted(set(listed)) if listed.count(path) > 1)
 
-    def files(part):
-        return {path for path, _ in COUNTED.findall(part) if "/specs/" in path}
+    def checked(found):
+        path, *said = found.groups()
+        by = [name for name in READ if path in reach[name]]
+        if not by:
+            wrong.append(f"no clause of the reading order reaches {path}")
+            return found.group()
+        now = [f"{len((TOP / path).read_text().splitlines()):,}", "all" if len(by) == len(READ) else ", ".join(by)]
+        if now != said and not write:
+            wrong.append(f"the reading order has {' | '.join(said)} for {path}, not {' | '.join(now)}")
+        return f"| `{path}` | {now[0]} | {now[1]} |"
 
-    def there(function, *clauses, crate="alpha_cmd"):
-        every = [reached(crate, function, clause).own for clause in clauses]
-        return {str(file.path.relative_to(TOP)) for own in every for file in own}
-
-    def hold(name, listed, reaches):
-        wrong.extend(f"the reading order of {name} lacks {path}" for path in sorted(reaches - listed))
-        wrong.extend(f"{name} doesn't reach {path}" for path in sorted(listed - reaches))
-
-    _, *parts = [files(part) for part in PART.split(section("For the law"))]
-    law, shadow = set().union(*parts), {path for path in parts[2] if "alpha_shadow" in path}
-    checked = law - shadow | files(section("For `checked`, besides"))
-    ran = set().union(*parts[1:]) | files(section("For `ran`, besides"))
-    general = checked | ran | files(section("For `restarts` and `sequential`, besides"))
-    hold("the law", law, there("laws_of_restarts", "accepted", crate="alpha_restart"))
-    hold("checked", checked, there("alpha_top", "checked"))
-    hold("ran", ran, there("alpha_top", "ran"))
-    hold("restarts and sequential", general, there("alpha_top", "checked", "ran", "restarts", "sequential"))
+    return ORDERED.sub(checked, text)
 
 
-def check_names(text, wrong):
-    blocks = "".join(block for _, block in BLOCK.findall(text))
-    tables = {name for _, names in NAMED.findall(text) for name in re.findall(r"`(\w+)`", names)}
-    unknown = set(FACT.findall(blocks)) - OF_THE_KIT - tables - set(DEFINED.findall(blocks))
-    wrong.extend(f"a clause names {name}, and no table says where it stands" for name in sorted(unknown))
-    for path, names in NAMED.findall(text):
-        file = TOP / path
-        there = set(re.findall(r"\w+", file.read_text())) if file.exists() else set()
-        wrong.extend(f"{path} has no {name}" for name in re.findall(r"`(\w+)`", names) if name not in there)
+def module_of(path):
+    return "Rattle." + path.removeprefix("crates/").removesuffix(".antt").replace("/", ".")
 
 
-def laws():
-    """The clauses of each law, by its name and its crate."""
-    for file in sorted(TOP.glob("crates/*/src/**/*.rt")):
-        crate = file.relative_to(TOP / "crates").parts[0]
-        for name, body in LAW.findall(file.read_text()):
-            yield name, crate, CLAUSE.findall(body)
+def stands(path, head, name):
+    """Where a name of a clause in this file stands: a file of definitions, `kit`, `code`, or None for nowhere."""
+    text = (TOP / path).read_text()
+    names, modules = reading.imports(text.split("\n"))
+    module, name = (modules.get(head, ""), name) if head else names.get(name, (module_of(path), name))
+    if not module.removeprefix("Rattle.").startswith("alpha_"):
+        return "kit" if module else None
+    if ".declared" in module:
+        return "code" if reading.type_of(module) else None
+    file = reading.File.of(module)
+    if file and name in file.owner:
+        return str(file.path.relative_to(TOP))
+    return "code" if re.search(rf"^(?:use|pub (?:enum|struct|trait)) .*\b{name}\b", text, re.M) else None
 
 
-def check_laws(text, wrong):
-    indexed, there = set(INDEXED.findall(text)), set()
-    for name, crate, clauses in laws():
-        there.add((name, crate))
-        if (name, crate) not in indexed:
-            wrong.append(f"the index lacks {name} of {crate}")
-        section = re.search(rf"^### `{crate}`$(.*?)(?=^##|\Z)", text, re.M | re.S)
-        own = re.search(rf"\*\*`{name}`\*\*(.*?)(?=\*\*`|\Z)", section.group(1) if section else "", re.S)
-        for missing in [c for c in clauses if f"`{c}`" not in (own.group(1) if own else "")]:
-            wrong.append(f"the section of {crate} lacks the clause {missing} of {name}")
-    wrong.extend(f"there is no {name} of {crate}" for name, crate in sorted(indexed - there))
+def check_names(page, text, order, wrong):
+    """Holds the names of quoted clauses; where there is a reading order, they stand in its files."""
+    listed = {path for path, _, _ in ORDERED.findall(text)} if order else None
+    for path, block in BLOCK.findall(text):
+        variables = set(" ".join(ARGUMENTS.findall(block)).split())
+        for head, name in sorted(set(FACT.findall(block)) - BUILT_IN):
+            if name in variables:
+                continue
+            place = stands(path, head, name) if (TOP / path).exists() else None
+            if place is None:
+                wrong.append(f"{page}: {path} doesn't say where {name} stands")
+            elif listed is not None and place not in ("kit", "code") and place not in listed:
+                wrong.append(f"{page}: a clause names {name}, and the reading order lacks {place}")
+
+
+def check_cited(page, text, wrong):
+    for names, function, crate in CITED.findall(text):
+        there, *_ = clauses(crate, function)
+        wrong.extend(f"{page}: {function} of {crate} has no clause {name}" for name in re.findall(r"\w+", names.replace(" and ", " "))
+                     if name not in there)
+
+
+def check_claims(text, readme, wrong):
+    """Holds the table from claim to clause: a function without a crate is of alpha_cmd, a clause without one of alpha_top."""
+    section = text.split("\n## From claim to clause\n", 1)[1].split("\n## ", 1)[0]
+    for promise, cell in PROMISED.findall(section)[1:]:
+        if promise not in readme:
+            wrong.append(f"README.md doesn't promise: {promise}")
+        for item in [] if cell.startswith("none") else cell.replace("`", "").split("; "):
+            names, *owner = item.split(" of ")
+            if LAW.fullmatch(names):
+                names, owner = "", [names]
+            function, crate = (owner + ["alpha_top", "alpha_cmd"][len(owner):])[:2]
+            there, *_ = clauses(crate, function)
+            wrong.extend(f"{function} has no clause {name}" for name in names.split(", ") if name and name not in there)
 
 
 def main():
-    write, wrong = "--write" in sys.argv[1:], []
+    write, wrong, readme = "--write" in sys.argv[1:], [], (TOP / "README.md").read_text()
     for page in [TOP / "README.md", *sorted(TOP.glob("docs/*.md"))]:
-        text = page.read_text()
-        new = check_blocks(page.relative_to(TOP), text, write, wrong)
+        text, name = page.read_text(), page.relative_to(TOP)
+        new = check_blocks(name, text, write, wrong)
+        if page in (THEOREMS, PROMISES):
+            new = check_reached(new, write, wrong)
+            new = check_order(new, write, wrong) if page == THEOREMS else new
+            check_names(name, new, page == THEOREMS, wrong)
+            check_cited(name, new, wrong)
         if page == THEOREMS:
-            new = check_reached(check_counts(new, write, wrong), write, wrong)
-            check_orders(new, wrong)
-            check_names(new, wrong)
-            check_laws(new, wrong)
+            check_claims(new, readme, wrong)
             wrong.extend(f"there is no edit {edit} of {crate}" for crate, edit in EDIT.findall(new)
                          if not (TOP / "crates" / crate / "must-fail" / f"{edit}.edit").exists())
         if write and new != text:
             page.write_text(new)
+    named = "".join(page.read_text() for page in (THEOREMS, PROMISES))
+    wrong.extend(f"no page names the clause {name} of alpha_top" for name in clauses("alpha_cmd", "alpha_top")[0] if f"`{name}`" not in named)
     print("\n".join(wrong) or "the pages say what the sources say")
     sys.exit(1 if wrong else 0)
 
