@@ -26,6 +26,8 @@ mod link;
 #[cfg(test)]
 mod mem;
 #[cfg(test)]
+mod names;
+#[cfg(test)]
 mod operands;
 #[cfg(test)]
 mod pal;
