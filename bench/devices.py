@@ -187,10 +187,11 @@ def kills(trial, runs):
     """The program is killed at a random moment while it keeps a large image."""
     large, out = trial.path("large.s"), trial.path("large.out")
     with open(large, "wb") as file:
-        file.write(SOURCE + b" .data\n" + b" .quad 1\n .zero 8000\n" * 2_000 + b" .quad 2\n")
+        file.write(SOURCE + b" .data\n" + b" .byte 1\n .align 13\n" * 2_000 + b" .byte 2\n")
     start = time.perf_counter()
     if trial.run("asm", large, out).returncode:
-        return trial.check("the large source isn't assembled", False)
+        trial.check("the large source isn't assembled", False)
+        return
     longest, new = time.perf_counter() - start, trial.read(out)
     ends = {"old": 0, "new": 0}
     left = 0
