@@ -142,10 +142,10 @@ def hold_block(page, block, folder, counts):
 
 
 def hold_blocks(page, program, counts):
-    """Runs the page's blocks in a folder of its own, in which the examples are copies."""
+    """Runs the page's blocks in a folder of its own, in which the examples and the companions are copies."""
     with tempfile.TemporaryDirectory() as folder:
         for name in os.listdir(TOP):
-            if name == "examples":
+            if name in ("companions", "examples"):
                 shutil.copytree(f"{TOP}/{name}", f"{folder}/{name}")
             elif name not in ("alpha", "look"):
                 os.symlink(f"{TOP}/{name}", f"{folder}/{name}")
