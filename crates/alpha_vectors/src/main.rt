@@ -38,7 +38,7 @@ fn main(rt: HostRuntime) -> anyhow::Result<()> {
     for word in env::args(&rt)?.skip(1) {
         words.push(word)?;
     }
-    let runs = |part: &str| words.is_empty() || words.iter().any(|word| word == part);
+    let runs = |part: &str| words.is_empty() || words.iter().any(|word| word.as_str() == part);
     if runs("calls") {
         calls::run(&rt, fs::read_to_string(&rt, "calls")?.as_str())?;
     }
