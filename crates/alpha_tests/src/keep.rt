@@ -210,14 +210,14 @@ fn is_there(rt: &HostRuntime, name: &str) -> bool {
 #[test]
 fn each_call_that_fails_leaves_the_old_file(rt: HostRuntime) -> Result<(), Fail> {
     clear(&rt);
-    let mut failures = 0;
+    let mut failures = 0u32;
     for n in 0..MOST_CALLS {
         fs::write(&rt, OUT, &OLD_BYTES)?;
         let (answer, calls) = kept(&rt, OUT, 1 << n);
         assert!(rt; holds(&rt, answer, Some(&OLD_BYTES)));
         assert!(rt; !is_there(&rt, NEW));
         assert_eq!(rt; answer.is_err(), n < calls);
-        failures += u32::from(answer.is_err());
+        failures = failures.saturating_add(u32::from(answer.is_err()));
     }
     // what is there, what the name leads to, the two opens, the mode, the write, the sync and the rename
     assert!(rt; failures >= 8);
@@ -240,14 +240,14 @@ fn each_call_that_fails_leaves_no_file(rt: HostRuntime) -> Result<(), Fail> {
 
 #[test]
 fn where_the_removal_fails_too_the_old_file_is_left(rt: HostRuntime) -> Result<(), Fail> {
-    let mut left = 0;
+    let mut left = 0u32;
     for n in 0..MOST_CALLS {
         clear(&rt);
         fs::write(&rt, OUT, &OLD_BYTES)?;
         // the call behind one that failed is the removal
         let (answer, _) = kept(&rt, OUT, 3 << n);
         assert!(rt; holds(&rt, answer, Some(&OLD_BYTES)));
-        left += u32::from(is_there(&rt, NEW));
+        left = left.saturating_add(u32::from(is_there(&rt, NEW)));
     }
     assert!(rt; left >= 3);
     clear(&rt);
