@@ -1,6 +1,7 @@
 -- The decoded instruction of a word is the one of the table.
 use Rattle.std.proofs.Common.{◌≡◌, ◌≤◌, ◌≢◌, ◌<◌, ◌^◌, ℕ, pos, ◌+◌, ◌+ℤ◌, ◌-ℤ◌, ◌≤ℤ◌, ◌<ℤ◌, ltb, Bool, true, false, Option, Some, None, List, [], ◌∷◌, ◌==◌, ◌&&◌, cond, eqb, find, ◌⊎◌, inl, inr, ⊎_elim, refl, sym, ap, ◌∙◌, subst, arith}
-use Rattle.std.specs.Option.{option_map, option_or, IfNone}
+use Rattle.std.specs.Prelude.{is_none, not, IfSome}
+use Rattle.std.specs.Option.{option_map, option_or, unwrap_or, IfNone}
 use Rattle.std.proofs.lemmas.Bool.{eq-eqb, eqb-true, eqb-false, ltb-true, ltb-false}
 use Rattle.std.proofs.lemmas.Int.{ints}
 use Rattle.std.proofs.lemmas.Option.{option_and_then_some, cond_some}
@@ -21,7 +22,12 @@ use Rattle.alpha_table.specs.Op.{op_row}
 use Rattle.alpha_table.specs.Rows.{mem_row, branch_row, jump_kind, misc_row, fetch_function, pal_function}
 use Rattle.alpha_table.specs.Row.{Row, SourceField, IsSource, IsRegister, OperandsFit, IsInsn}
 use Rattle.alpha_table.specs.Decoded.{every_op, every_mem, every_branch, every_jump, every_misc, every_pal, operate_at, memory_at, branch_at, jump_at, fetch_at, pal_at, source_of, source_is, is_register, operands_fit, memory_form, branch_form, jump_form, operate_form, misc_form, fetch_form, pal_form, decoded}
-use Rattle.alpha_table.proofs.Lookups.{operate_known, memory_known, branch_known, jump_known, misc_known, fetch_known, pal_known, memory_at-branch, memory_at-operate, branch_at-operate, jump-operate, IsOperateOpcode, IsBranchOpcode, opcode-operate, opcode-memory, opcode-branch}
+use Rattle.alpha_table.specs.Insn.{source_in, Stands, is_at, takes_any, suits, is_free, is_operate}
+use Rattle.alpha_table.specs.declared.rows.JumpKind.TheVariants as jumps
+use Rattle.alpha_table.specs.declared.insn.InsnRow.{InsnRow}
+use Rattle.alpha_table.specs.declared.insn.InsnRow.TheVariants as rows
+use Prim.Native.Nat.{zero, suc}
+use Rattle.alpha_table.proofs.Lookups.{operate_known, memory_known, branch_known, jump_known, misc_known, fetch_known, pal_known, memory_at-branch, memory_at-operate, branch_at-operate, jump-operate, is_operate-row, opcode-operate, opcode-memory, opcode-branch}
 
 -- what is found passes the test
 find_passes : {X : Type 0} (p : X → Bool) (xs : List X) (x : X) → find p xs ≡ Some x → p x ≡ true
@@ -47,6 +53,11 @@ option_or_some (Some j) b i h = inl h
 -- a field of one bit that isn't 1 is 0
 not_one : (w : ℕ) → (field 12 12 w ≡ 1 → ⊥) → field 12 12 w ≡ 0
 not_one w h = omega arith
+
+-- the second source of a word is the one that bit 12 tells
+pub same_source : (w : ℕ) (src : Src) → SourceField w src → source_in w ≡ src
+same_source w (Reg rb) h = rw (h.2, h.0) refl
+same_source w (Lit n) h = rw (h.1, h.0) refl
 
 -- each format by itself
 
@@ -265,6 +276,11 @@ decoded_none w none = cases (decoded w) refl
     cases None e = e
     cases (Some i) e = absurd (none i (Row-decoded w i e))
 
+-- what is the word's instruction, or nothing where it has none, is what is decoded
+pub decoded_is : (w : ℕ) (o : Option Form) → IfSome o (Row w) → IfNone o ((i : Form) → Row w i → ⊥) → o ≡ decoded w
+decoded_is w (Some i) row none = sym (decoded-Row w i row)
+decoded_is w None row none = sym (decoded_none w none)
+
 -- a number below the full range is known by the signed number of its digits
 same_signed : (half full f g : ℕ) → f < full → g < full → cond (ltb f half) (pos f) (pos f -ℤ pos full) ≡ cond (ltb g half) (pos g) (pos g -ℤ pos full) → f ≡ g
 same_signed half full f g a b h = cases (ltb f half) (ltb g half) h
@@ -336,33 +352,13 @@ only_misc w e misc fetch (Misc op) h = misc op h
 only_misc w e misc fetch (Fetch modify rb) h = fetch modify rb h
 only_misc w e misc fetch (Pal call) h = omega arith
 
-pub only_jump : (w : ℕ) → field 31 26 w ≡ 0x1a → ((kind : JumpKind) (ra rb hint : ℕ) → Row w (Jump kind ra rb hint) → ⊥) → (i : Form) → Row w i → ⊥
-only_jump w e none (Mem op ra rb disp) h = let o = opcode-memory op in omega arith
-only_jump w e none (Branch op ra disp) h = let o = opcode-branch op in omega arith
-only_jump w e none (Jump kind ra rb hint) h = none kind ra rb hint h
-only_jump w e none (Operate op ra src rc) h = let o = opcode-operate op in omega arith
-only_jump w e none (Misc op) h = omega arith
-only_jump w e none (Fetch modify rb) h = omega arith
-only_jump w e none (Pal call) h = omega arith
-
-pub only_branch : (w : ℕ) → IsBranchOpcode (field 31 26 w) → ((op : BranchOp) (ra : ℕ) (disp : _) → Row w (Branch op ra disp) → ⊥) → (i : Form) → Row w i → ⊥
-only_branch w e none (Mem op ra rb disp) h = let o = opcode-memory op in omega arith
-only_branch w e none (Branch op ra disp) h = none op ra disp h
-only_branch w e none (Jump kind ra rb hint) h = omega arith
-only_branch w e none (Operate op ra src rc) h = let o = opcode-operate op in omega arith
-only_branch w e none (Misc op) h = omega arith
-only_branch w e none (Fetch modify rb) h = omega arith
-only_branch w e none (Pal call) h = omega arith
-
-pub only_memory : (w : ℕ) → (field 31 26 w ≢ 0) × ((0x10 ≤ field 31 26 w) × (field 31 26 w ≤ 0x1c) → ⊥) × (field 31 26 w ≢ 0x18) × (field 31 26 w ≢ 0x1a) × (field 31 26 w < 0x30)
-    → ((op : MemOp) (ra rb : ℕ) (disp : _) → Row w (Mem op ra rb disp) → ⊥) → (i : Form) → Row w i → ⊥
-only_memory w e none (Mem op ra rb disp) h = none op ra rb disp h
-only_memory w e none (Branch op ra disp) h = let o = opcode-branch op in omega arith
-only_memory w e none (Jump kind ra rb hint) h = e.3 h.0
-only_memory w e none (Operate op ra src rc) h = let o = opcode-operate op in e.1 (omega arith, omega arith)
-only_memory w e none (Misc op) h = e.2 h.0
-only_memory w e none (Fetch modify rb) h = e.2 h.0
-only_memory w e none (Pal call) h = e.0 h.0
+-- each number of two bits is a kind
+pub kind_found : (n : ℕ) → n < 4 → n ≡ jump_kind (unwrap_or (jump_at n) jumps.Jmp)
+kind_found zero h = refl
+kind_found (suc zero) h = refl
+kind_found (suc (suc zero)) h = refl
+kind_found (suc (suc (suc zero))) h = refl
+kind_found (suc (suc (suc (suc n)))) h = absurd (omega arith)
 
 -- what follows where there is nothing
 pub none_then : {A : Type 0} {P Q : Type 0} (o : Option A) → (P → Q) → IfNone o P → IfNone o Q
@@ -373,15 +369,134 @@ none_then (Some x) f h = tt
 operate_of : (o f : ℕ) (op : Op) → o ≡ (op_row op).opcode → f ≡ (op_row op).function → operate_at o f ≡ Some op
 operate_of o f op a b = rw (a, b) ((operate_known op).0)
 
-pub refused_operate : (w : ℕ) (op : Op) (src : Src) → ((op_row op).opcode ≡ field 31 26 w) × ((op_row op).function ≡ field 11 5 w) → SourceField w src
-    → (OperandsFit (op_row op).operands (field 25 21 w) src → ⊥) → (other : Op) (ra : ℕ) (second : Src) (rc : ℕ) → Row w (Operate other ra second rc) → ⊥
-refused_operate w op src row taken refused other ra second rc h =
-    let a = operate_of (field 31 26 w) (field 11 5 w) op (sym row.0) (sym row.1) in
-    let b = operate_of (field 31 26 w) (field 11 5 w) other h.0 h.1 in
-    let c = source_of-field w src taken in
-    let d = source_of-field w second h.3 in
-    let same : other ≡ op = cc in
-    let alike : second ≡ src = cc in
-    refused (subst (λ o. OperandsFit (op_row o).operands (field 25 21 w) src) same (subst (λ s. OperandsFit (op_row other).operands (field 25 21 w) s) alike (subst (λ r. OperandsFit (op_row other).operands r second) (sym h.2) h.5)))
+-- an operate word whose operands its row refuses
+pub refused_operate : (w : ℕ) (op : Op) → is_at (field 31 26 w) (field 11 5 w) op ≡ true
+    → (SourceField w (source_in w) × OperandsFit (op_row op).operands (field 25 21 w) (source_in w) → ⊥) → (i : Form) → Row w i → ⊥
+refused_operate w op row refused =
+    let e = both ((op_row op).opcode == field 31 26 w) ((op_row op).function == field 11 5 w) row in
+    let opcode : (op_row op).opcode ≡ field 31 26 w = eqb-true _ _ e.0 in
+    let function : (op_row op).function ≡ field 11 5 w = eqb-true _ _ e.1 in
+    let range = opcode-operate op in
+    only_operate w (omega arith, omega arith) (λ f. omega arith) (λ f. omega arith) (λ other ra src rc h. taken opcode function other ra src rc h)
+  where
+    taken : (op_row op).opcode ≡ field 31 26 w → (op_row op).function ≡ field 11 5 w → (other : Op) (ra : ℕ) (src : Src) (rc : ℕ) → Row w (Operate other ra src rc) → ⊥
+    taken opcode function other ra src rc h =
+        let a = operate_of (field 31 26 w) (field 11 5 w) op (sym opcode) (sym function) in
+        let b = operate_of (field 31 26 w) (field 11 5 w) other h.0 h.1 in
+        let same : other ≡ op = cc in
+        let alike : src ≡ source_in w = sym (same_source w src h.3) in
+        refused (
+          subst (SourceField w) alike h.3,
+          subst (λ o. OperandsFit (op_row o).operands (field 25 21 w) (source_in w)) same
+              (subst (λ s. OperandsFit (op_row other).operands (field 25 21 w) s) alike
+              (subst (λ r. OperandsFit (op_row other).operands r src) (sym h.2) h.5)),
+        )
+
+any_fit : (rule : OperandRule) (ra : ℕ) (src : Src) → takes_any rule ≡ true → OperandsFit rule ra src
+any_fit Any ra src h = tt
+any_fit Unary ra src h = cc
+any_fit UnaryRegister ra src h = cc
+any_fit Version ra src h = cc
+
+-- operands fit by what they are
+pub same_fit : (a b : OperandRule) (r n : ℕ) (x y : Src) → a ≡ b → r ≡ n → x ≡ y → OperandsFit a r x → OperandsFit b n y
+same_fit a b r n x y e f g h = subst (λ k. OperandsFit k n y) e (subst (λ m. OperandsFit a m y) f (subst (λ z. OperandsFit a r z) g h))
+
+-- an operate word with a second source, and operands that its row takes
+pub operate_stands : (w : ℕ) (op : Op) → is_at (field 31 26 w) (field 11 5 w) op ≡ true → SourceField w (source_in w)
+    → OperandsFit (op_row op).operands (field 25 21 w) (source_in w) → Stands (rows.Operate op) w
+operate_stands w op h src fit =
+    let e = both ((op_row op).opcode == field 31 26 w) ((op_row op).function == field 11 5 w) h in
+    (refl, (sym (eqb-true _ _ e.0), sym (eqb-true _ _ e.1), refl, src, refl, fit))
+
+-- the same, where the row takes any operands
+pub any_stands : (w : ℕ) (op : Op) → suits (field 31 26 w) (field 11 5 w) (rows.Operate op) ≡ true → SourceField w (source_in w) → Stands (rows.Operate op) w
+any_stands w op h src =
+    let e = both (is_at (field 31 26 w) (field 11 5 w) op) (takes_any (op_row op).operands) h in
+    operate_stands w op e.0 src (any_fit (op_row op).operands (field 25 21 w) (source_in w) e.1)
+
+-- a word without a second source
+pub refused_any : (w : ℕ) (op : Op) → suits (field 31 26 w) (field 11 5 w) (rows.Operate op) ≡ true → (SourceField w (source_in w) → ⊥) → (i : Form) → Row w i → ⊥
+refused_any w op h refused =
+    let e = both (is_at (field 31 26 w) (field 11 5 w) op) (takes_any (op_row op).operands) h in
+    refused_operate w op e.0 (λ p. refused p.0)
+
+-- whether an operate word has a second source
+pub literal_source : (w : ℕ) → field 12 12 w ≡ 1 → SourceField w (source_in w)
+literal_source w h =
+    let e : source_in w ≡ Lit (field 20 13 w) = rw h refl in
+    subst (SourceField w) (sym e) (refl, h)
+
+pub register_source : (w : ℕ) → (field 12 12 w ≡ 1 → ⊥) → (SourceField w (source_in w) → field 15 13 w ≡ 0) × (field 15 13 w ≡ 0 → SourceField w (source_in w))
+register_source w h =
+    let zero : field 12 12 w ≡ 0 = not_one w h in
+    let e : source_in w ≡ Reg (field 20 16 w) = rw zero refl in
+    (λ s. let t : SourceField w (Reg (field 20 16 w)) = subst (SourceField w) e s in t.1, λ z. subst (SourceField w) (sym e) (refl, z, zero))
+
+-- opcode and function alone tell the row
+abbrev pub is_told : InsnRow → Bool
+is_told (rows.Mem op) = true
+is_told (rows.Branch op) = true
+is_told rows.Jump = true
+is_told (rows.Misc op) = true
+is_told (rows.Fetch modify) = true
+is_told (rows.Pal call) = true
+is_told (rows.Operate op) = false
+is_told (rows.Ruled op) = false
+is_told rows.Other = false
+
+-- a row that opcode and function tell
+pub plain_stands : (w : ℕ) (row : InsnRow) → suits (field 31 26 w) (field 11 5 w) row ≡ true → is_told row ≡ true → Stands row w
+plain_stands w (rows.Mem op) h told = (refl, (sym (eqb-true _ _ h), refl, refl, refl))
+plain_stands w (rows.Branch op) h told = (refl, (sym (eqb-true _ _ h), refl, refl))
+plain_stands w rows.Jump h told =
+    let kind = kind_found (field 15 14 w) (omega arith) in
+    (refl, (eqb-true _ _ h, refl, refl, kind, refl))
+plain_stands w (rows.Misc op) h told = cc
+plain_stands w (rows.Fetch modify) h told = cc
+plain_stands w (rows.Pal call) h told = cc
+plain_stands w (rows.Operate op) h told = cc
+plain_stands w (rows.Ruled op) h told = cc
+plain_stands w rows.Other h told = cc
+
+not_both : (b : Bool) → not b ≡ true → b ≡ true → ⊥
+not_both true h e = cc
+not_both false h e = cc
+
+none_found : {A : Type 0} (o : Option A) (x : A) → is_none o ≡ true → o ≡ Some x → ⊥
+none_found None x h e = cc
+none_found (Some y) x h e = cc
+
+-- a word that no row has, and whose opcode no format has
+pub no_row : (w : ℕ) → suits (field 31 26 w) (field 11 5 w) rows.Other ≡ true → field 31 26 w ≢ 0 → field 31 26 w ≢ 0x18 → (i : Form) → Row w i → ⊥
+no_row w h pal misc i row = cases a.0 b.0 c.0 c.1 i row
+  where
+    o : ℕ
+    o = field 31 26 w
+
+    free : Bool
+    free = is_free (is_operate o) o (field 11 5 w)
+
+    a : (is_none (memory_at o) ≡ true) × ((is_none (branch_at o) && (not (o == 0x1a) && free)) ≡ true)
+    a = both (is_none (memory_at o)) (is_none (branch_at o) && (not (o == 0x1a) && free)) h
+
+    b : (is_none (branch_at o) ≡ true) × ((not (o == 0x1a) && free) ≡ true)
+    b = both (is_none (branch_at o)) (not (o == 0x1a) && free) a.1
+
+    c : (not (o == 0x1a) ≡ true) × (free ≡ true)
+    c = both (not (o == 0x1a)) free b.1
+
+    cases : is_none (memory_at o) ≡ true → is_none (branch_at o) ≡ true → not (o == 0x1a) ≡ true → free ≡ true → (i : Form) → Row w i → ⊥
+    cases memory branch jump operate (Mem op ra rb disp) g =
+        none_found (memory_at o) op memory (subst (λ n. memory_at n ≡ Some op) (sym g.0) (memory_known op).0)
+    cases memory branch jump operate (Branch op ra disp) g =
+        none_found (branch_at o) op branch (subst (λ n. branch_at n ≡ Some op) (sym g.0) (branch_known op).0)
+    cases memory branch jump operate (Jump kind ra rb hint) g = not_both (o == 0x1a) jump (eq-eqb o 0x1a g.0)
+    cases memory branch jump operate (Operate op ra src rc) g =
+        let t : is_operate o ≡ true = subst (λ n. is_operate n ≡ true) (sym g.0) (is_operate-row op) in
+        none_found (operate_at o (field 11 5 w)) op (subst (λ k. is_free k o (field 11 5 w) ≡ true) t operate) (operate_of o (field 11 5 w) op g.0 g.1)
+    cases memory branch jump operate (Misc op) g = misc g.0
+    cases memory branch jump operate (Fetch modify rb) g = misc g.0
+    cases memory branch jump operate (Pal call) g = pal g.0
 
 pub ruleset decoding = (decoded-Row, decoded_none, IsInsn-Row)

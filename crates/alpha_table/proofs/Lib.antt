@@ -2,4 +2,5 @@ pub mod Lookups
 pub mod Decoding
 pub mod Words
 pub mod Naming
-pub mod Operands
+pub mod Forms
+pub mod Tables

@@ -21,11 +21,8 @@ use Rattle.alpha_table.specs.declared.formats.TheConstants.{MEMORIES, BRANCHES, 
 use Rattle.alpha_table.specs.Op.{op_row}
 use Rattle.alpha_table.specs.Rows.{mem_row, branch_row, jump_kind, misc_row, fetch_function, pal_function}
 use Rattle.alpha_table.specs.Decoded.{operate_at, memory_at, branch_at, jump_at, misc_at, fetch_at, pal_at}
+use Rattle.alpha_table.specs.Insn.{is_operate}
 use Rattle.alpha_table.specs.Names.{name_of}
-
--- the opcodes of the operate instructions
-abbrev is_operate : ℕ → Bool
-is_operate o = o == 0x10 || (o == 0x11 || (o == 0x12 || (o == 0x13 || o == 0x1c)))
 
 -- the opcodes of the memory instructions
 abbrev is_memory : ℕ → Bool
@@ -174,7 +171,7 @@ both : (a b : Bool) → (a && b) ≡ true → (a ≡ true) × (b ≡ true)
 both true b h = (refl, h)
 both false b h = cc
 
-is_operate-row : (row : Op) → is_operate (op_row row).opcode ≡ true
+pub is_operate-row : (row : Op) → is_operate (op_row row).opcode ≡ true
 is_operate-row row = (both (is_operate (op_row row).opcode) (nat_lt (op_row row).function 128) (operate_known row).1).0
 
 pub function-operate : (row : Op) → (op_row row).function < 128

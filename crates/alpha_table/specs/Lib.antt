@@ -4,6 +4,7 @@ pub mod Rows
 pub mod Row
 pub mod Decoded
 pub mod Encoded
+pub mod Insn
 pub mod Class
 pub mod Columns
 pub mod Code

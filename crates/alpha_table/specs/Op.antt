@@ -99,10 +99,6 @@ op_entry ops.Cttz = operate "cttz" 0x1c 0x33 Plain UnaryRegister levels.Two
 abbrev pub op_row : Op → OpRow
 op_row op = (op_entry op).row
 
--- the opcode and the function
-abbrev pub op_numbers : Op → ℕ × ℕ
-op_numbers op = ((op_row op).opcode, (op_row op).function)
-
 abbrev pub op_name : Op → List ℕ
 op_name op = (op_entry op).name
 

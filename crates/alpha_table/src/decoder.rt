@@ -1,173 +1,143 @@
-ghost use Rattle.std.specs.Prelude.{◌≡◌, ◌≢◌, ◌↔◌, ℕ, IsTrue, IfSome, IfNone};
+ghost use Rattle.std.specs.Prelude.{◌≡◌, ◌<◌, ◌↔◌, ℕ, IsTrue, length, IfSome, IfNone};
 ghost use Rattle.alpha_words.specs.Field.{field};
-ghost use Rattle.alpha_table.specs.Op.{op_row};
-ghost use Rattle.alpha_table.specs.Row.{Row, SourceField, OperandsFit};
+ghost use Rattle.alpha_table.specs.Row.{Row, SourceField};
 ghost use Rattle.alpha_table.specs.Decoded.{decoded};
-ghost use Rattle.alpha_table.specs.declared.form.Form.TheVariants.{Mem, Branch, Jump, Operate, Misc, Fetch, Pal};
+ghost use Rattle.alpha_table.specs.Insn.{Stands, source_in, is_at, suits, tables_suit};
+ghost use Rattle.alpha_table.specs.declared.form.Form.TheVariants.{Misc, Fetch, Pal};
+ghost use Rattle.alpha_table.specs.declared.insn.InsnRow.TheVariants.{Other};
 
 use crate::formats::{fetch_at, pal_call_at};
-use crate::insn::operands_fit;
-use crate::{BranchOp, Form, Insn, JumpKind, MemOp, MiscOp, Op, Src};
+use crate::insn::{operands_fit, source};
+use crate::table::ROWS;
+use crate::{Insn, InsnRow, MiscOp, Op};
 use alpha_words::{Reg, Word};
 
+// The row of an opcode and a function.
 #[inline(always)]
-fn memory(w: Word) -> Option<Form>
-    ensures found { IfSome result (λ form. Row w.0 form) }
-    ensures none { IfNone result ((op : _) (ra rb : ℕ) (d : _) → Row w.0 (Mem op ra rb d) → ⊥) }
+fn row_in(rows: &[[InsnRow; 128]], opcode: u8, function: u8) -> InsnRow
+    requires rows { IsTrue (tables_suit 0 rows.now) }
+    requires within { (opcode < length rows.now) × (function < 128) }
+    ensures { IsTrue (suits opcode function result) }
 {
-    let op = MemOp::at(w.opcode())?;
-    Some(Form::Mem {
-        op,
-        ra: w.ra(),
-        rb: w.rb(),
-        disp: w.disp16(),
-    })
+    rows[usize::from(opcode)][usize::from(function)]
 }
 
+// Whether an operate word has a second source: a word with a register has three zeros.
 #[inline(always)]
-fn branch(w: Word) -> Option<Form>
-    ensures found { IfSome result (λ form. Row w.0 form) }
-    ensures none { IfNone result ((op : _) (ra : ℕ) (disp : _) → Row w.0 (Branch op ra disp) → ⊥) }
+fn has_source(w: Word) -> bool
+    ensures { IsTrue result ↔ SourceField w.0 (source_in w.0) }
 {
-    let op = BranchOp::at(w.opcode())?;
-    Some(Form::Branch {
-        op,
-        ra: w.ra(),
-        disp: w.disp21(),
-    })
+    if w.is_literal() { true } else { w.zeros() == 0 }
 }
 
-fn jump(w: Word) -> Option<Form>
-    requires { field 31 26 w.0 ≡ 0x1a }
-    ensures found { IfSome result (λ form. Row w.0 form) }
-    ensures none { IfNone result ((kind : _) (ra rb h : ℕ) → Row w.0 (Jump kind ra rb h) → ⊥) }
+// The row of an operate word whose operands not all words of the row have.
+fn ruled(op: Op, w: Word) -> Option<InsnRow>
+    requires { IsTrue (is_at (field 31 26 w.0) (field 11 5 w.0) op) }
+    ensures found { IfSome result (λ row. Stands row w.0) }
+    ensures none { IfNone result ((i : _) → Row w.0 i → ⊥) }
 {
-    let kind = JumpKind::at(w.kind())?;
-    Some(Form::Jump {
-        kind,
-        ra: w.ra(),
-        rb: w.rb(),
-        hint: w.hint(),
-    })
-}
-
-fn misc(w: Word) -> Option<Form>
-    requires { field 31 26 w.0 ≡ 0x18 }
-    ensures found { IfSome result (λ form. Row w.0 form) }
-    ensures none { IfNone result ((op : _) → Row w.0 (Misc op) → ⊥) }
-{
-    if w.ra() != Reg::ZERO || w.rb() != Reg::ZERO {
+    if !has_source(w) {
         return None;
     }
-    Some(Form::Misc(MiscOp::at(w.misc())?))
-}
-
-fn fetch(w: Word) -> Option<Form>
-    requires { field 31 26 w.0 ≡ 0x18 }
-    ensures found { IfSome result (λ form. Row w.0 form) }
-    ensures none { IfNone result ((modify : _) (rb : ℕ) → Row w.0 (Fetch modify rb) → ⊥) }
-{
-    if w.ra() != Reg::ZERO {
-        return None;
-    }
-    Some(Form::Fetch {
-        modify: fetch_at(w.misc())?,
-        rb: w.rb(),
-    })
-}
-
-fn pal(w: Word) -> Option<Form>
-    requires { field 31 26 w.0 ≡ 0x00 }
-    ensures found { IfSome result (λ form. Row w.0 form) }
-    ensures none { IfNone result ((call : _) → Row w.0 (Pal call) → ⊥) }
-{
-    Some(Form::Pal(pal_call_at(w.pal())?))
-}
-
-#[inline(always)]
-fn source(w: Word) -> Option<Src>
-    ensures found { IfSome result (λ src. SourceField w.0 src) }
-    ensures none { IfNone result ((src : _) → SourceField w.0 src → ⊥) }
-{
-    if w.is_literal() {
-        Some(Src::Lit(w.literal()))
-    } else if w.zeros() == 0 {
-        Some(Src::Reg(w.rb()))
+    if operands_fit(op.operands(), w.ra(), &source(w)) {
+        Some(InsnRow::Operate(op))
     } else {
         None
     }
 }
 
-// Whether the operands are as the row of an instruction with this opcode requires. Only two opcodes have rows that
-// require anything.
-#[inline(always)]
-fn fits(opcode: u8, op: Op, ra: Reg, src: &Src) -> bool
-    requires { (op_row op).opcode ≡ opcode }
-    ensures { IsTrue result ↔ OperandsFit (op_row op).operands ra src.now }
+fn misc(w: Word) -> Option<InsnRow>
+    requires { field 31 26 w.0 ≡ 0x18 }
+    ensures found { IfSome result (λ row. Stands row w.0) }
+    ensures none { IfNone result ((op : _) → Row w.0 (Misc op) → ⊥) }
 {
-    match opcode {
-        0x10 | 0x12 | 0x13 => true,
-        _ => operands_fit(op.operands(), ra, src),
-    }
-}
-
-#[inline(always)]
-fn operate(w: Word) -> Option<Form>
-    ensures found { IfSome result (λ form. Row w.0 form) }
-    ensures none { IfNone result ((op : _) (a : ℕ) (b : _) (c : ℕ) → Row w.0 (Operate op a b c)
-        → ⊥) }
-{
-    let op = Op::at(w.opcode(), w.function())?;
-    let src = source(w)?;
-    let ra = w.ra();
-    if !fits(w.opcode(), op, ra, &src) {
+    if w.ra() != Reg::ZERO || w.rb() != Reg::ZERO {
         return None;
     }
-    Some(Form::Operate {
-        op,
-        ra,
-        src,
-        rc: w.rc(),
+    Some(InsnRow::Misc(MiscOp::at(w.misc())?))
+}
+
+fn fetch(w: Word) -> Option<InsnRow>
+    requires { field 31 26 w.0 ≡ 0x18 }
+    ensures found { IfSome result (λ row. Stands row w.0) }
+    ensures none { IfNone result ((modify : _) (rb : ℕ) → Row w.0 (Fetch modify rb) → ⊥) }
+{
+    if w.ra() != Reg::ZERO {
+        return None;
+    }
+    Some(InsnRow::Fetch {
+        modify: fetch_at(w.misc())?,
     })
 }
 
-// The instruction of a word whose opcode has neither a format of its own nor several. Where no operate instruction
-// has the opcode, its search finds none.
-#[inline(always)]
-fn common_form(w: Word) -> Option<Form>
-    requires pal { field 31 26 w.0 ≢ 0x00 }
-    requires misc { field 31 26 w.0 ≢ 0x18 }
-    requires jump { field 31 26 w.0 ≢ 0x1a }
-    ensures found { IfSome result (λ form. Row w.0 form) }
-    ensures none { IfNone result ((form : _) → Row w.0 form → ⊥) }
+fn pal(w: Word) -> Option<InsnRow>
+    requires { field 31 26 w.0 ≡ 0x00 }
+    ensures found { IfSome result (λ row. Stands row w.0) }
+    ensures none { IfNone result ((call : _) → Row w.0 (Pal call) → ⊥) }
 {
-    match w.opcode() {
-        0x10..=0x1c => operate(w),
-        0x30..=0x3f => branch(w),
-        _ => memory(w),
-    }
+    Some(InsnRow::Pal(pal_call_at(w.pal())?))
 }
 
-// The instruction in the one format that words of this opcode have. Each opcode of operate instructions has an arm of
-// its own, in which the opcode is a constant: so the function alone is looked up there.
-#[inline(always)]
-fn form_of(w: Word) -> Option<Form>
-    ensures found { IfSome result (λ form. Row w.0 form) }
-    ensures none { IfNone result ((form : _) → Row w.0 form → ⊥) }
+// The row of a word whose opcode has a format of its own, or which no row has.
+fn other(w: Word) -> Option<InsnRow>
+    requires { IsTrue (suits (field 31 26 w.0) (field 11 5 w.0) Other) }
+    ensures found { IfSome result (λ row. Stands row w.0) }
+    ensures none { IfNone result ((i : _) → Row w.0 i → ⊥) }
 {
     match w.opcode() {
         0x00 => pal(w),
-        0x10 => operate(w),
-        0x11 => operate(w),
-        0x12 => operate(w),
-        0x13 => operate(w),
-        0x1c => operate(w),
         0x18 => match misc(w) {
-            Some(form) => Some(form),
+            Some(row) => Some(row),
             None => fetch(w),
         },
-        0x1a => jump(w),
-        _ => common_form(w),
+        _ => None,
+    }
+}
+
+// The row of a word that its opcode and its function alone don't tell. Few words are such, so that
+// a loop over words has it apart; and what it answers fits a register.
+#[cold]
+#[inline(never)]
+fn rare(row: InsnRow, w: Word) -> Option<InsnRow>
+    requires { IsTrue (suits (field 31 26 w.0) (field 11 5 w.0) row) }
+    ensures found { IfSome result (λ row. Stands row w.0) }
+    ensures none { IfNone result ((i : _) → Row w.0 i → ⊥) }
+{
+    match row {
+        InsnRow::Ruled(op) => ruled(op, w),
+        InsnRow::Other => other(w),
+        InsnRow::Operate(op) => ruled(op, w),
+        InsnRow::Mem(_)
+        | InsnRow::Branch(_)
+        | InsnRow::Jump
+        | InsnRow::Misc(_)
+        | InsnRow::Fetch { .. }
+        | InsnRow::Pal(_) => Some(row),
+    }
+}
+
+// The instruction of a word by the row that its opcode and its function have.
+#[inline(always)]
+fn insn_by(row: InsnRow, w: Word) -> Option<Insn>
+    requires { IsTrue (suits (field 31 26 w.0) (field 11 5 w.0) row) }
+    ensures row { IfSome result (λ i. Row w.0 i) }
+    ensures none { IfNone result ((i : _) → Row w.0 i → ⊥) }
+{
+    match row {
+        InsnRow::Operate(_) => {
+            if has_source(w) {
+                Some(Insn::at(row, w))
+            } else {
+                None
+            }
+        }
+        InsnRow::Mem(_)
+        | InsnRow::Branch(_)
+        | InsnRow::Jump
+        | InsnRow::Misc(_)
+        | InsnRow::Fetch { .. }
+        | InsnRow::Pal(_) => Some(Insn::at(row, w)),
+        InsnRow::Ruled(_) | InsnRow::Other => Some(Insn::at(rare(row, w)?, w)),
     }
 }
 
@@ -190,5 +160,5 @@ pub fn decode_inline(w: Word) -> Option<Insn>
     ensures none { IfNone result ((i : _) → Row w.0 i → ⊥) }
     ensures value { result ≡ decoded w.0 }
 {
-    Some(Insn::new(form_of(w)?))
+    insn_by(row_in(&ROWS, w.opcode(), w.function()), w)
 }

@@ -1,7 +1,7 @@
 ghost use Rattle.std.specs.Prelude.{◌≡◌, ℕ, ◌^◌, ◌<◌, ◌*◌, ◌+◌};
 ghost use Rattle.alpha_words.specs.Field.{signed_field};
 ghost use Rattle.alpha_table.specs.Op.{op_row};
-ghost use Rattle.alpha_table.specs.Row.{Row, IsSigned, OperandsFit};
+ghost use Rattle.alpha_table.specs.Row.{Row, IsInsn, IsSigned, OperandsFit};
 ghost use Rattle.alpha_table.specs.Encoded.{encoded};
 ghost use Rattle.alpha_table.specs.declared.form.Form.TheVariants.{Operate};
 
@@ -15,13 +15,15 @@ pub fn encode(i: &Insn) -> Word
     ensures only { (w : ℕ) → w < 2 ^ 32 → Row w i.now → w ≡ result.0 }
     ensures value { result.0 ≡ encoded i.now }
 {
-    Word(word_of(i))
+    i.word()
 }
 
-fn word_of(i: &Insn) -> u32
-    ensures { Row result i.now }
+// The word of a form whose fields are within its row.
+pub(crate) fn word_of(form: &Form) -> u32
+    requires { IsInsn form.now }
+    ensures { Row result form.now }
 {
-    match i.form() {
+    match *form {
         Form::Mem { op, ra, rb, disp } => {
             high(op.row().opcode, ra, rb) + u32::from(disp.cast_unsigned())
         }

@@ -211,15 +211,6 @@ impl MemOp {
     {
         memory_rows!(name_of self)
     }
-
-    /// The instruction with this opcode, if there is one.
-    #[inline(always)]
-    pub(crate) fn at(opcode: u8) -> Option<MemOp>
-        ensures found { IfSome result (λ op. (mem_row op).opcode ≡ opcode) }
-        ensures none { IfNone result ((op : _) → (mem_row op).opcode ≡ opcode → ⊥) }
-    {
-        memory_rows!(row_at opcode)
-    }
 }
 
 impl BranchOp {
@@ -236,15 +227,6 @@ impl BranchOp {
         ensures { result.now ≡ branch_name self }
     {
         branch_rows!(name_of self)
-    }
-
-    /// The branch with this opcode, if there is one.
-    #[inline(always)]
-    pub(crate) fn at(opcode: u8) -> Option<BranchOp>
-        ensures found { IfSome result (λ op. (branch_row op).opcode ≡ opcode) }
-        ensures none { IfNone result ((op : _) → (branch_row op).opcode ≡ opcode → ⊥) }
-    {
-        branch_rows!(row_at opcode)
     }
 }
 

@@ -4,7 +4,8 @@
 //! extension, and seven of the OSF/1 PALcode calls).
 //!
 //! - [`Form`] is an instruction with its operands, by format. [`Insn`] is one whose fields are
-//!   within its row of the table.
+//!   within its row of the table: it is held as its row and its word, in eight bytes, and
+//!   [`Insn::form`] cuts out those fields that its caller matches.
 //! - [`decode`] and [`encode`] are the table in both directions. Each instruction has one word, so
 //!   a word with other values in fields that the table fixes is outside it.
 //! - [`uses`], [`sets`], [`kind`], [`access`], [`span`], [`trap_op`] and [`level_of`] are its
@@ -16,11 +17,13 @@
 //!   most, and [`laws_of_names`] that no two rows have one name.
 //!
 //! Each row stands once: in `operate.rt` for the operate instructions, in `formats.rt` for all
-//! others. `op.rt` and `rows.rt` have the types of the rows; `decoder.rt`, `encoder.rt`, `names.rt`
-//! and `columns.rt` read them. `specs/Row.antt` says which word stands for which instruction, from
-//! the rows of `specs/Op.antt` and `specs/Rows.antt`; `specs/Decoded.antt` is the look-up from a
-//! word; `specs/Class.antt` has the classes by which `specs/Columns.antt` gives the columns;
-//! `specs/Code.antt` has the columns by place; `specs/Names.antt` has the names.
+//! others. `op.rt` and `rows.rt` have the types of the rows; `encoder.rt`, `names.rt` and
+//! `columns.rt` read them. `table.rt` has them again by opcode and function, for `decoder.rt`, each
+//! proved to be the row of its place (`specs/Insn.antt`). `specs/Row.antt` says which word stands
+//! for which instruction, from the rows of `specs/Op.antt` and `specs/Rows.antt`;
+//! `specs/Decoded.antt` is the look-up from a word; `specs/Class.antt` has the classes by which
+//! `specs/Columns.antt` gives the columns; `specs/Code.antt` has the columns by place;
+//! `specs/Names.antt` has the names.
 #![tactic(auto)]
 
 mod columns;
@@ -34,6 +37,7 @@ mod names;
 mod op;
 mod operate;
 mod rows;
+mod table;
 
 pub use columns::{
     ByteSpan, InsnKind, MemAccess, access, kind, level_of, sets, span, trap_op, uses,
@@ -42,6 +46,7 @@ pub use decoder::{decode, decode_inline};
 pub use encoder::encode;
 pub use form::{Form, Src};
 pub use insn::Insn;
+pub(crate) use insn::InsnRow;
 pub use laws::{laws_of_names, laws_of_the_table};
 pub use names::Mnemonic;
 pub use op::{Cond, Op, OpRole, OpRow, OperandRule, TrapOp};

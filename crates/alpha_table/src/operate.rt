@@ -1,5 +1,5 @@
-ghost use Rattle.std.specs.Prelude.{◌≡◌, ◌<◌, IfSome, IfNone};
-ghost use Rattle.alpha_table.specs.Op.{op_row, op_numbers, op_name, trap_of};
+ghost use Rattle.std.specs.Prelude.{◌≡◌, ◌<◌};
+ghost use Rattle.alpha_table.specs.Op.{op_row, op_name, trap_of};
 
 use crate::{Mnemonic, Op, OpRole, OpRow, OperandRule, TrapOp};
 use alpha_words::Level;
@@ -119,15 +119,6 @@ macro_rules! trap_of {
     };
 }
 
-macro_rules! op_at {
-    (($wanted:expr, $code:expr) $($row:ident $name:literal $opcode:literal $function:literal $role:ident $(($trap:ident))? $operands:ident $level:ident,)*) => {
-        match ($wanted, $code) {
-            $(($opcode, $function) => Some(Op::$row),)*
-            _ => None,
-        }
-    };
-}
-
 macro_rules! operands_of {
     (($op:expr) $($row:ident $name:literal $opcode:literal $function:literal $role:ident $(($trap:ident))? $operands:ident $level:ident,)*) => {
         match $op {
@@ -171,15 +162,6 @@ impl Op {
         ensures { result ≡ op_row self }
     {
         operate_rows!(row_of self)
-    }
-
-    /// The instruction with this opcode and function, if there is one.
-    #[inline(always)]
-    pub(crate) fn at(opcode: u8, function: u8) -> Option<Op>
-        ensures found { IfSome result (λ op. op_numbers op ≡ (opcode, function)) }
-        ensures none { IfNone result ((op : _) → op_numbers op ≡ (opcode, function) → ⊥) }
-    {
-        operate_rows!(op_at opcode, function)
     }
 
     /// Its name, as `addq/v`.

@@ -1,0 +1,9 @@
+use Rattle.alpha_table.proofs.Decoding.{decoded_is}
+use Rattle.alpha_table.proofs.Tables.{rows_suit}
+use Rattle.alpha_table.proofs.decoder.decode_inline.Goals as goal
+
+pub row_in-requires-clause-rows : goal.row_in-requires-clause-rows
+row_in-requires-clause-rows c = rows_suit
+
+pub returns-clause-value : goal.returns-clause-value
+returns-clause-value c = decoded_is c.args.w.0 c.insn_by.result c.insn_by.ensures.row c.insn_by.ensures.none

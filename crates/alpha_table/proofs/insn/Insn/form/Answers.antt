@@ -1,0 +1,5 @@
+use Rattle.alpha_table.proofs.Forms.{known-stands}
+use Rattle.alpha_table.proofs.insn.Insn.form.Goals as goal
+
+pub form_in-requires : goal.form_in-requires
+form_in-requires c = (known-stands c.self.inside c.self.invariant).1
