@@ -4,3 +4,5 @@ pub mod Words
 pub mod Naming
 pub mod Forms
 pub mod Tables
+pub mod Classes
+pub mod Levels

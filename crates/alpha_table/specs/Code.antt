@@ -1,43 +1,34 @@
--- The words of a program by place. Places are numbers from 0; a place past the last word has no class, and no columns.
-use Rattle.std.specs.Prelude.{◌≢◌, ◌<◌, ◌≤◌, ℕ, Bool, false, Option, Some, None, List, slice_get}
-use Rattle.std.specs.Option.{option_map, option_and_then, option_map_or}
+-- The class of the word at a place of a program, what it is to a trap shadow, and the destination of a trigger. Places
+-- are numbers from 0; a place past the last word has no class.
+use Rattle.std.specs.Prelude.{◌≢◌, ◌<◌, ◌≤◌, ℕ, Option, Some, None, List, slice_get}
+use Rattle.std.specs.Option.{option_map, option_and_then}
 use Rattle.alpha_table.specs.declared.columns.InsnKind.{InsnKind}
 use Rattle.alpha_table.specs.declared.columns.InsnKind.TheVariants as kinds
-use Rattle.alpha_table.specs.declared.columns.MemAccess.{MemAccess}
-use Rattle.alpha_table.specs.Class.{Class, operate, trigger, address, load, store, load_locked, store_conditional, branch, jump, barrier, idle, class_of}
-use Rattle.alpha_table.specs.Columns.{counts, sources, written, but_zero, class_kind, class_access}
-use Rattle.alpha_table.specs.Decoded.{decoded}
+use Rattle.alpha_table.specs.Class.{Class, trigger, load, store, load_locked, store_conditional, branch, jump, barrier}
+use Rattle.alpha_table.specs.Words.{class_in}
 
 -- the class of the word at a place
 unfoldable pub class_at : List ℕ → ℕ → Option Class
-class_at code k = option_map class_of (option_and_then decoded (slice_get code k))
+class_at code k = option_and_then class_in (slice_get code k)
 
--- whether it uses a register, which never is 31
-abbrev pub uses : Option Class → ℕ → Bool
-uses c r = option_map_or (λ class. counts (sources class) r) c false
+abbrev pub class_kind : Class → InsnKind
+class_kind (trigger op ra src rc) = kinds.Trigger
+class_kind (load extension at ra) = kinds.Load
+class_kind (store at ra) = kinds.Store
+class_kind (load_locked extension at ra) = kinds.Locked
+class_kind (store_conditional at ra) = kinds.Locked
+class_kind (branch condition ra disp) = kinds.Turn
+class_kind (jump ra rb) = kinds.Turn
+class_kind (barrier call) = kinds.Barrier
+class_kind class = kinds.Plain
 
--- the register that it sets, which never is 31
-abbrev pub sets : Option Class → Option ℕ
-sets c = option_and_then (λ class. but_zero (written class)) c
+-- the register that a trigger writes
+abbrev pub trigger_destination : Class → Option ℕ
+trigger_destination (trigger op ra src rc) = Some rc
+trigger_destination class = None
 
 abbrev pub kind : Option Class → Option InsnKind
 kind c = option_map class_kind c
-
-abbrev pub access : Option Class → Option MemAccess
-access c = option_and_then class_access c
-
-abbrev pub trigger_destination : Class → Option ℕ
-trigger_destination (operate op ra src rc) = None
-trigger_destination (trigger op ra src rc) = Some rc
-trigger_destination (address op ra rb disp) = None
-trigger_destination (load extension at ra) = None
-trigger_destination (store at ra) = None
-trigger_destination (load_locked extension at ra) = None
-trigger_destination (store_conditional at ra) = None
-trigger_destination (branch condition ra disp) = None
-trigger_destination (jump ra rb) = None
-trigger_destination (barrier call) = None
-trigger_destination idle = None
 
 -- the destination of a trigger, register 31 too
 abbrev pub trap_rc : Option Class → Option ℕ

@@ -6,6 +6,9 @@ pub mod Decoded
 pub mod Encoded
 pub mod Insn
 pub mod Class
-pub mod Columns
+pub mod ClassOf
+pub mod Words
 pub mod Code
+pub mod Uses
+pub mod Columns
 pub mod Names

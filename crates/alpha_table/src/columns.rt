@@ -1,7 +1,8 @@
 ghost use Rattle.std.specs.Prelude.{◌≡◌, ◌<◌, ℕ, ◌↔◌, ◌∷◌, IsTrue, IfSome};
 ghost use Rattle.alpha_table.specs.declared.form.Form.TheVariants.{Mem};
 ghost use Rattle.alpha_words.specs.Regs.{Has};
-ghost use Rattle.alpha_table.specs.Columns.{but_zero, counts, source_registers, uses_of, sets_of, kind_of, access_of, span_of, trap_op_of, level_of};
+ghost use Rattle.alpha_table.specs.Uses.{but_zero, counts, source_registers};
+ghost use Rattle.alpha_table.specs.Columns.{uses_of, sets_of, kind_of, access_of, span_of, trap_op_of, level_of};
 
 use crate::{Form, Insn, MemOp, MemRole, OpRole, Src, TrapOp};
 use alpha_words::{Level, Reg, RegSet};
@@ -49,7 +50,7 @@ pub struct ByteSpan {
 }
 
 impl MemAccess {
-    ghost use Rattle.alpha_table.specs.Columns.{bytes_spanned};
+    ghost use Rattle.alpha_table.specs.Uses.{bytes_spanned};
 
     /// The bytes that the access may touch.
     pub fn span(&self) -> ByteSpan
@@ -64,7 +65,7 @@ impl MemAccess {
 }
 
 impl ByteSpan {
-    ghost use Rattle.alpha_table.specs.Columns.{SpansMeet};
+    ghost use Rattle.alpha_table.specs.Uses.{SpansMeet};
 
     /// Whether two spans, counted from one base register, share a byte.
     pub fn meets(&self, other: &ByteSpan) -> bool

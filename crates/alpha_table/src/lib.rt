@@ -14,16 +14,19 @@
 //! - [`Mnemonic`] is what a name stands for: [`Mnemonic::of`] finds it, [`Mnemonic::name`] gives
 //!   the name, and [`Form::mnemonic`] says which name an instruction has.
 //! - [`laws_of_the_table`] says that each instruction has one word and each word one instruction at
-//!   most, and [`laws_of_names`] that no two rows have one name.
+//!   most, [`laws_of_classes`] that the tables by which machines and checker sort words agree with
+//!   it, and [`laws_of_names`] that no two rows have one name.
 //!
 //! Each row stands once: in `operate.rt` for the operate instructions, in `formats.rt` for all
 //! others. `op.rt` and `rows.rt` have the types of the rows; `encoder.rt`, `names.rt` and
 //! `columns.rt` read them. `table.rt` has them again by opcode and function, for `decoder.rt`, each
 //! proved to be the row of its place (`specs/Insn.antt`). `specs/Row.antt` says which word stands
 //! for which instruction, from the rows of `specs/Op.antt` and `specs/Rows.antt`;
-//! `specs/Decoded.antt` is the look-up from a word; `specs/Class.antt` has the classes by which
-//! `specs/Columns.antt` gives the columns; `specs/Code.antt` has the columns by place;
-//! `specs/Names.antt` has the names.
+//! `specs/Decoded.antt` is the look-up from a word; `specs/Names.antt` has the names. What machines
+//! and checker know of a word is shorter, and needs none of these: `specs/Class.antt` has the
+//! classes, `specs/Words.antt` the class of a word, `specs/Code.antt` the class at a place and what
+//! it is to a trap shadow, `specs/Uses.antt` its registers and its access. `specs/ClassOf.antt` and
+//! `specs/Columns.antt` have the class and the columns of an instruction.
 #![tactic(auto)]
 
 mod columns;
@@ -47,7 +50,7 @@ pub use encoder::encode;
 pub use form::{Form, Src};
 pub use insn::Insn;
 pub(crate) use insn::InsnRow;
-pub use laws::{laws_of_names, laws_of_the_table};
+pub use laws::{laws_of_classes, laws_of_names, laws_of_the_table};
 pub use names::Mnemonic;
 pub use op::{Cond, Op, OpRole, OpRow, OperandRule, TrapOp};
 pub use rows::{BranchOp, BranchRow, Extension, JumpKind, MemOp, MemRole, MemRow, MiscOp};
