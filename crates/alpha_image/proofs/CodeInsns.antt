@@ -10,11 +10,13 @@ use Rattle.alpha_table.specs.declared.form.Form.{Form}
 use Rattle.alpha_table.specs.Row.{IsInsn}
 use Rattle.alpha_table.specs.Decoded.{decoded}
 use Rattle.alpha_table.specs.Encoded.{encoded}
-use Rattle.alpha_table.specs.Class.{class_of}
+use Rattle.alpha_table.specs.ClassOf.{class_of}
 use Rattle.alpha_table.specs.Columns.{level_of}
 use Rattle.alpha_table.specs.Code.{class_at}
 use Rattle.alpha_table.proofs.Decoding.{decoded-Row, Row-decoded, same_word, IsInsn-Row}
 use Rattle.alpha_table.proofs.Words.{encoded-Row}
+use Rattle.alpha_table.proofs.Classes.{class_at-decoded}
+use Rattle.alpha_table.proofs.Levels.{level_in-decoded}
 use Rattle.alpha_image.specs.Parts.{IsWithin, IsCodeWord, IsCodeInsn}
 
 -- the word of an instruction stands for it
@@ -70,8 +72,7 @@ encoded_there insns place i there = get_or_from_slice_get (map encoded insns) pl
 
 -- its class is that of the word at the place
 pub class_here : (words : List ℕ) (place : ℕ) (i : Form) → option_and_then decoded (slice_get words place) ≡ Some i → class_at words place ≡ Some (class_of i)
-unfolding class_at
-class_here words place i e = ap (option_map class_of) e
+class_here words place i e = class_at-decoded words place ∙ ap (option_map class_of) e
 
 -- instructions of the table at a level have code words of that level
 pub code_words_of_insns : (level : Level) (insns : List Form) → All (IsCodeInsn level) insns
@@ -81,7 +82,8 @@ code_words_of_insns level (i ∷ insns) all =
     let here = All-head (IsCodeInsn level) i insns all in
     let later = code_words_of_insns level insns (All-tail (IsCodeInsn level) i insns all) in
     let own = decoded-encoded i here.0 in
-    let word : IsCodeWord level (encoded i) = ((encoded-Row i here.0).0, subst (λ (o : Option Form). IsSomeAnd o (λ j. IsWithin (level_of j) level)) (sym own) here.1) in (
+    let word : IsCodeWord level (encoded i) =
+    ((encoded-Row i here.0).0, (level_in-decoded level (encoded i)).1 (subst (λ (o : Option Form). IsSomeAnd o (λ j. IsWithin (level_of j) level)) (sym own) here.1)) in (
       All-cons (IsCodeWord level) (encoded i) (map encoded insns) word later.0,
       ap (λ (o : Option Form). o ∷ map decoded (map encoded insns)) own ∙ ap (λ (os : List (Option Form)). Some i ∷ os) later.1,
     )

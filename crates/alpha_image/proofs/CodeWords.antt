@@ -13,6 +13,7 @@ use Rattle.alpha_words.specs.declared.Level.{Level}
 use Rattle.alpha_table.specs.declared.form.Form.{Form}
 use Rattle.alpha_table.specs.Decoded.{decoded}
 use Rattle.alpha_table.specs.Columns.{level_of}
+use Rattle.alpha_table.proofs.Levels.{level_in-decoded}
 use Rattle.alpha_image.specs.declared.fault.ImageFault.TheVariants.{BadWord}
 use Rattle.alpha_image.specs.Layout.{words_of, longword, longword_at}
 use Rattle.alpha_words.specs.Levels.{level_number}
@@ -91,12 +92,12 @@ All-word_fault level words small e =
     let place = position_or_len (outside level) words in
     let none = option_map-none (λ (k : ℕ). BadWord k (slice_index words k)) (position (outside level) words) e in
     let past : length words ≤ place = ltb-false _ _ (chosen_none (ltb place (length words)) place none) in
-    All-from_get_or (IsCodeWord level) words 0 (λ k h. (small k h, code_word_from_test level (decoded (get_or words k 0)) (fails_before_first (outside level) words k 0 (omega arith))))
+    All-from_get_or (IsCodeWord level) words 0 (λ k h. (small k h, (level_in-decoded level (get_or words k 0)).1 (code_word_from_test level (decoded (get_or words k 0)) (fails_before_first (outside level) words k 0 (omega arith)))))
 
 -- and the other way round
 pub word_fault-All : (level : Level) (words : List ℕ) → All (IsCodeWord level) words → word_fault level words ≡ None
 word_fault-All level words all =
-    word_fault-none level words (λ k h. let w = All-get_or (IsCodeWord level) words k 0 h all in test_from_code_word level (decoded (get_or words k 0)) w.1)
+    word_fault-none level words (λ k h. let w = All-get_or (IsCodeWord level) words k 0 h all in test_from_code_word level (decoded (get_or words k 0)) ((level_in-decoded level (get_or words k 0)).0 w.1))
 
 -- each word has 32 bits
 pub words_of-lt : (bytes : List ℕ) → IsBytes bytes → (k : ℕ) → k < length (words_of bytes) → get_or (words_of bytes) k 0 < 2 ^ 32

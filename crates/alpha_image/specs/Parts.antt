@@ -6,7 +6,7 @@ use Rattle.alpha_words.specs.declared.Level.TheVariants as levels
 use Rattle.alpha_words.specs.Levels.{level_number}
 use Rattle.alpha_table.specs.declared.form.Form.{Form}
 use Rattle.alpha_table.specs.Row.{IsInsn}
-use Rattle.alpha_table.specs.Decoded.{decoded}
+use Rattle.alpha_table.specs.Words.{class_in, level_in}
 use Rattle.alpha_table.specs.Columns.{level_of}
 use Rattle.alpha_image.specs.declared.segment.Segment.{Segment}
 use Rattle.alpha_image.specs.declared.version.Version.{Version}
@@ -57,7 +57,7 @@ IsWithin own level = level_number own ≤ level_number level
 
 -- a word of the table whose instruction is there at the level
 abbrev pub IsCodeWord : Level → ℕ → Type 0
-IsCodeWord level word = (word < 2 ^ 32) × IsSomeAnd (decoded word) (λ i. IsWithin (level_of i) level)
+IsCodeWord level word = (word < 2 ^ 32) × IsSomeAnd (class_in word) (λ class. IsWithin (level_in class) level)
 
 -- an instruction of the table that is there at the level
 abbrev pub IsCodeInsn : Level → Form → Type 0

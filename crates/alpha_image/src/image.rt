@@ -3,7 +3,7 @@ ghost use Rattle.std.specs.List.{flat_map};
 ghost use Rattle.std.specs.Option.{option_map, option_and_then};
 ghost use Rattle.alpha_table.specs.Decoded.{decoded};
 ghost use Rattle.alpha_table.specs.Encoded.{encoded};
-ghost use Rattle.alpha_table.specs.Class.{class_of};
+ghost use Rattle.alpha_table.specs.ClassOf.{class_of};
 ghost use Rattle.alpha_table.specs.Code.{class_at};
 ghost use Rattle.alpha_image.specs.Header.{header_numbers};
 ghost use Rattle.alpha_image.specs.Layout.{longword, words_of, words_in, version_of, numbers_of, first_segment, filled_size};
