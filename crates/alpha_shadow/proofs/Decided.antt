@@ -5,8 +5,8 @@ use Rattle.std.proofs.lemmas.Int.{by_lt_z, ints}
 use Rattle.alpha_table.specs.declared.columns.InsnKind.{InsnKind}
 use Rattle.alpha_table.specs.declared.columns.InsnKind.TheVariants as kinds
 use Rattle.alpha_table.specs.declared.columns.MemAccess.{MemAccess}
-use Rattle.alpha_table.specs.Columns.{bytes_spanned}
-use Rattle.alpha_table.specs.Code.{class_at, uses, Straight}
+use Rattle.alpha_table.specs.Code.{class_at, Straight}
+use Rattle.alpha_table.specs.Uses.{bytes_spanned, uses}
 use Rattle.alpha_shadow.specs.declared.broken.Condition.{Condition}
 use Rattle.alpha_shadow.specs.declared.broken.Condition.TheVariants.{ZeroDestination, SourceLost, SameDestination, WildBase, LoadThenStore, Locked, Turn, Open, Long}
 use Rattle.alpha_shadow.specs.declared.broken.Broken.{Broken}

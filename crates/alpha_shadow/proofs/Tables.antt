@@ -7,9 +7,11 @@ use Rattle.alpha_table.specs.declared.form.Form.{Form}
 use Rattle.alpha_table.specs.declared.op.TrapOp.{TrapOp}
 use Rattle.alpha_table.specs.declared.columns.InsnKind.{InsnKind}
 use Rattle.alpha_table.specs.declared.columns.InsnKind.TheVariants as kinds
-use Rattle.alpha_table.specs.Class.{Class, operate, trigger, address, load, store, load_locked, store_conditional, branch, jump, barrier, idle, class_of}
-use Rattle.alpha_table.specs.Columns.{class_kind, class_access, class_trap, kind_of, trap_op_of, but_zero}
-use Rattle.alpha_table.specs.Code.{class_at, kind, sets, trap_rc}
+use Rattle.alpha_table.specs.Class.{Class, operate, trigger, address, load, store, load_locked, store_conditional, branch, jump, barrier, idle}
+use Rattle.alpha_table.specs.ClassOf.{class_of}
+use Rattle.alpha_table.specs.Columns.{class_trap, kind_of, trap_op_of}
+use Rattle.alpha_table.specs.Code.{class_kind, class_at, kind, trap_rc}
+use Rattle.alpha_table.specs.Uses.{class_access, but_zero, sets}
 use Rattle.alpha_shadow.specs.Code.{kind_at, destination_at, access_at, sets_at}
 use Rattle.alpha_shadow.specs.Columns.{destination_of}
 

@@ -2,7 +2,8 @@
 use Rattle.std.specs.Prelude.{◌≡◌, ◌<◌, ◌≤◌, ℕ, Option, Some, List, IsTrue}
 use Rattle.alpha_table.specs.declared.columns.InsnKind.{InsnKind}
 use Rattle.alpha_table.specs.declared.columns.MemAccess.{MemAccess}
-use Rattle.alpha_table.specs.Code.{class_at, kind, sets, uses, access, trap_rc}
+use Rattle.alpha_table.specs.Code.{class_at, kind, trap_rc}
+use Rattle.alpha_table.specs.Uses.{sets, uses, access}
 
 abbrev pub kind_at : List ℕ → ℕ → Option InsnKind
 kind_at code i = kind (class_at code i)

@@ -1,6 +1,6 @@
 use Rattle.std.proofs.Common.{rules, ◌≡◌, ◌≢◌, Some, ◌+◌, ◌∙◌, [], length, ap, subst, sym, refl, arith}
 use Rattle.alpha_table.specs.declared.columns.InsnKind.TheVariants as kinds
-use Rattle.alpha_table.specs.Class.{class_of}
+use Rattle.alpha_table.specs.ClassOf.{class_of}
 use Rattle.alpha_table.specs.Columns.{kind_of}
 use Rattle.alpha_shadow.specs.declared.broken.Condition.TheVariants.{Open}
 use Rattle.alpha_shadow.specs.Broken.{IsAccepted, IsLeastBroken}
