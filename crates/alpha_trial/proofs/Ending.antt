@@ -1,9 +1,9 @@
 -- The ten words behind a trial's blocks: they put eight bytes and exit with 0.
-use Rattle.std.proofs.Common.{◌≡◌, ◌≤◌, ◌+◌, ◌*◌, ◌++◌, ℕ, pos, true, false, List, [], ◌∷◌, length, Option, Some, None, refl, sym, ap, subst, ◌∙◌, arith, add-one}
+use Rattle.std.proofs.Common.{◌≡◌, ◌≤◌, ◌+◌, ◌*◌, ◌++◌, ℕ, pos, true, false, List, [], ◌∷◌, length, Option, Some, None, refl, sym, ap, subst, ◌∙◌, arith, add-one, bit_or}
 use Rattle.alpha_words.specs.declared.Level.{Level}
 use Rattle.alpha_words.specs.declared.Level.TheVariants.{One}
 use Rattle.alpha_words.specs.declared.PalCall.TheVariants.{Callsys}
-use Rattle.alpha_words.specs.Digits.{digits, number, low_bytes}
+use Rattle.alpha_words.specs.Digits.{low_bytes}
 use Rattle.alpha_words.specs.Regs.{reg, put}
 use Rattle.alpha_words.proofs.RegLemmas.{length-put}
 use Rattle.alpha_table.specs.declared.op.Op.TheVariants.{Bis}
@@ -13,9 +13,8 @@ use Rattle.alpha_table.specs.declared.form.Src.TheVariants.{Reg}
 use Rattle.alpha_table.specs.Class.{operate, address, store, barrier}
 use Rattle.alpha_table.specs.Code.{class_at}
 use Rattle.alpha_table.specs.Decoded.{decoded, memory_form, branch_form, jump_form, operate_form, misc_form, fetch_form, pal_form, source_of}
-use Rattle.alpha_values.specs.Bits.{pairwise}
 use Rattle.alpha_values.specs.Numbers.{register_of}
-use Rattle.alpha_values.specs.Op.{result_of, or_of}
+use Rattle.alpha_values.specs.Op.{result_of}
 use Rattle.alpha_values.specs.Address.{address_of, high_address_of, access_address}
 use Rattle.alpha_mem.specs.declared.access.MemFault.{MemFault}
 use Rattle.alpha_mem.specs.Intent.{Load, Store}
@@ -84,11 +83,10 @@ record Numbers : Type 0 where
   eight : address_of 0 (pos 8) ≡ 8
   data_start : high_address_of 0 (pos 4096) ≡ data_base
   data_there : access_address data_access data_base ≡ data_base
-  data_copied : or_of (digits 2 64 0) (digits 2 64 data_base) ≡ data_base
 
 numbers : Numbers
-unfolding address_of high_address_of access_address register_of or_of pairwise digits number
-numbers = record { zero_is = refl; one = refl; four = refl; eight = refl; data_start = refl; data_there = refl; data_copied = refl }
+unfolding address_of high_address_of access_address register_of
+numbers = record { zero_is = refl; one = refl; four = refl; eight = refl; data_start = refl; data_there = refl }
 
 -- ---- facts
 
@@ -171,8 +169,7 @@ write_leaves image mem out s eight h =
 
 copied : (level : Level) (a b old : ℕ) → a ≡ 0 → b ≡ data_base → result_of level Bis a b old ≡ data_base
 unfolding result_of
-copied level a b old e f =
-    ap (λ (x : ℕ). or_of (digits 2 64 x) (digits 2 64 b)) e ∙ (ap (λ (x : ℕ). or_of (digits 2 64 0) (digits 2 64 x)) f ∙ numbers.data_copied)
+copied level a b old e f = ap (λ (x : ℕ). bit_or x b) e ∙ f
 
 -- ---- the steps
 

@@ -1,10 +1,11 @@
--- The machine's bit operations against lists of bits.
-use Rattle.std.proofs.Common.{◌≡◌, ℕ, ◌+◌, ◌-◌, ◌*◌, ◌%◌, ◌^◌, ◌<◌, ◌∙◌, min, max, refl, sym, ap, arith, bit_and, bit_or}
+-- Logic on registers is logic on their bits.
+use Rattle.std.proofs.Common.{◌≡◌, ℕ, ◌+◌, ◌*◌, ◌%◌, ◌^◌, ◌<◌, ◌∙◌, min, max, refl, sym, ap, arith, bit_and, bit_or}
 use Rattle.std.specs.Prelude.{bit_xor}
 use Rattle.std.proofs.lemmas.Nat.{and_block, or_block, xor_block, and_le_l, or_lt, xor_lt}
 use Rattle.std.proofs.lemmas.Nat.Bits.{bit_at_and, bit_at_or, bit_at_xor}
-use Rattle.alpha_values.specs.Bits.{bits_of, inverted}
-use Rattle.alpha_values.specs.Op.{and_of, or_of, xor_of}
+use Rattle.alpha_values.specs.Bits.{bits_of}
+use Rattle.alpha_values.specs.Op.{complement}
+use Rattle.alpha_values.specs.Lists.{inverted, and_of, or_of, xor_of}
 use Rattle.alpha_values.proofs.PairLemmas.{number-pairwise, digits-inverted}
 
 and_bits : (r s : ℕ) → r < 2 → s < 2 → bit_and r s ≡ min r s
@@ -31,5 +32,5 @@ unfolding xor_of
 bit_xor_is a b small also =
     sym (number-pairwise bit_xor (λ x y. (x + y) % 2) refl (λ a b r s x y. xor_block 1 a b r s x y ∙ ap (λ m. bit_xor a b * 2 + m) (xor_bits r s x y)) 64 a b small also)
 
-pub bit_not_is : (a : ℕ) → a < 2 ^ 64 → bits_of (2 ^ 64 - 1 - a) ≡ inverted (bits_of a)
+pub bit_not_is : (a : ℕ) → a < 2 ^ 64 → bits_of (complement a) ≡ inverted (bits_of a)
 bit_not_is a small = digits-inverted 64 64 a (omega arith) small

@@ -2,22 +2,19 @@
 use Rattle.std.proofs.Common.{◌≡◌, ℕ, zero, suc, ◌+◌, ◌-◌, ◌*◌, ◌/◌, ◌%◌, ◌^◌, ◌<◌, ◌≤◌, Bool, true, false, cond, List, [], ◌∷◌, length, ap, arith}
 use Rattle.std.specs.Prelude.{nat_le, ◌==◌, if◌then◌else◌}
 use Rattle.std.proofs.Math.Nat.{pow-le-pow_right}
-use Rattle.std.proofs.lemmas.Nat.{mul-add-lt, pow_pos, pow-add, pow_below, mod_below, shr_below, shr_le, and_le_l, and_le_r, or_lt, xor_lt, mul-lt, ones-le, leading_le, trailing_le}
+use Rattle.std.proofs.lemmas.Nat.{mul-add-lt, pow_pos, pow-add, pow_below, mod_below, shr_below, shr_le, and_le_l, or_lt, xor_lt, mul-lt, ones-le, leading_le, trailing_le}
 use Rattle.alpha_words.specs.declared.Level.{Level}
 use Rattle.alpha_words.specs.declared.Level.TheVariants.{One, Two}
 use Rattle.alpha_table.specs.declared.op.Op.{Op}
 use Rattle.alpha_table.specs.declared.op.Op.TheVariants.{Addl, S4addl, Subl, S4subl, Cmpbge, S8addl, S8subl, Cmpult, Addq, S4addq, Subq, S4subq, Cmpeq, S8addq, S8subq, Cmpule, AddlV, SublV, Cmplt, AddqV, SubqV, Cmple, And, Bic, Cmovlbs, Cmovlbc, Bis, Cmoveq, Cmovne, Ornot, Xor, Cmovlt, Cmovge, Eqv, Amask, Cmovle, Cmovgt, Implver, Mskbl, Extbl, Insbl, Mskwl, Extwl, Inswl, Mskll, Extll, Insll, Zap, Zapnot, Mskql, Srl, Extql, Sll, Insql, Sra, Mskwh, Inswh, Extwh, Msklh, Inslh, Extlh, Mskqh, Insqh, Extqh, Mull, Mulq, Umulh, MullV, MulqV, Sextb, Sextw, Ctpop, Ctlz, Cttz}
 use Rattle.alpha_table.specs.declared.op.Cond.TheVariants.{Lbc, Lbs, Eq, Ne, Lt, Le, Ge, Gt}
-use Rattle.alpha_words.specs.Digits.{number}
-use Rattle.alpha_values.specs.Bits.{pairwise, bits_of, bytes_of, inverted}
-use Rattle.alpha_values.specs.Bytes.{extracted_low, extracted_high, inserted_low, inserted_high, cleared, masked_low, masked_high, zapped, zapped_not, bytes_compared}
+use Rattle.alpha_words.specs.Digits.{digits, number}
+use Rattle.alpha_values.specs.Bits.{pairwise, bytes_of}
 use Rattle.alpha_values.specs.Cond.{is_taken}
-use Rattle.alpha_values.specs.Op.{flag, features, implementation, and_of, or_of, xor_of, result_of}
+use Rattle.alpha_values.specs.Op.{flag, features, implementation, complement, inserted, zapped, bytes_compared, result_of}
 use Rattle.alpha_values.proofs.Words.{register_bound}
 use Rattle.alpha_words.proofs.DigitLemmas.{AllBelow, digits-AllBelow, length-digits}
 use Rattle.alpha_values.proofs.CountLemmas.{sum_bits, leading_bits, trailing_bits}
-use Rattle.alpha_values.proofs.BitLemmas.{bit_and_is, bit_or_is, bit_xor_is, bit_not_is}
-use Rattle.alpha_values.proofs.ByteLemmas.{extracted_low_is, extracted_high_is, inserted_low_is, inserted_high_is}
 
 pairwise_bound : (w v : ℕ) (f : ℕ → ℕ → ℕ) (xs ys : List ℕ) (count : ℕ)
     → ((x y : ℕ) → y < v → f x y < 2 ^ w) → AllBelow v ys → length ys ≤ count → number (2 ^ w) (pairwise f xs ys) < 2 ^ (w * count)
@@ -34,10 +31,10 @@ choice_bound : (b : Bool) (m n : ℕ) (bound : ℕ) → m < bound → n < bound 
 choice_bound true m n bound p q = p
 choice_bound false m n bound p q = q
 
-cleared_bound : (marks : List ℕ) (a : ℕ) → cleared marks a < 2 ^ 64
-unfolding cleared
-cleared_bound marks a =
-    pairwise_bound 8 256 (λ mark byte. if mark == 1 then 0 else byte) marks (bytes_of a) 8 (λ x y small. choice_bound (x == 1) 0 y 256 (omega arith) small) (digits-AllBelow 8 8 a) (omega (arith, length-digits 256 8 a))
+zapped_bound : (a marks : ℕ) → zapped a marks < 2 ^ 64
+unfolding zapped
+zapped_bound a marks =
+    pairwise_bound 8 256 (λ mark byte. if mark == 1 then 0 else byte) (digits 2 8 marks) (bytes_of a) 8 (λ x y small. choice_bound (x == 1) 0 y 256 (omega arith) small) (digits-AllBelow 8 8 a) (omega (arith, length-digits 256 8 a))
 
 compared_bound : (a b : ℕ) → bytes_compared a b < 2 ^ 64
 unfolding bytes_compared
@@ -47,19 +44,8 @@ compared_bound a b =
 flag_bound : (b : Bool) → flag b < 2 ^ 64
 flag_bound b = choice_bound b 1 0 (2 ^ 64) (omega arith) (omega arith)
 
-and_bound : (a b : ℕ) → a < 2 ^ 64 → b < 2 ^ 64 → and_of (bits_of a) (bits_of b) < 2 ^ 64
-and_bound a b small also = omega (arith, bit_and_is a b small also, and_le_l a b)
-
-or_bound : (a b : ℕ) → a < 2 ^ 64 → b < 2 ^ 64 → or_of (bits_of a) (bits_of b) < 2 ^ 64
-or_bound a b small also = omega (arith, bit_or_is a b small also, or_lt 64 a b small also)
-
-xor_bound : (a b : ℕ) → a < 2 ^ 64 → b < 2 ^ 64 → xor_of (bits_of a) (bits_of b) < 2 ^ 64
-xor_bound a b small also = omega (arith, bit_xor_is a b small also, xor_lt 64 a b small also)
-
--- an operation of bits with the second operand turned
-with_inverted : (op : List ℕ → List ℕ → ℕ) (a b : ℕ) → b < 2 ^ 64 → ((c : ℕ) → c < 2 ^ 64 → op (bits_of a) (bits_of c) < 2 ^ 64) → op (bits_of a) (inverted (bits_of b)) < 2 ^ 64
-with_inverted op a b small each =
-    omega (arith, ap (op (bits_of a)) (bit_not_is b small), each (2 ^ 64 - 1 - b) (omega arith))
+complement_bound : (n : ℕ) → complement n < 2 ^ 64
+complement_bound n = omega arith
 
 -- what a remainder of a register's bytes is below
 bytes_bound : (n size : ℕ) → size ≤ 8 → n % 2 ^ (8 * size) < 2 ^ 64
@@ -68,45 +54,14 @@ bytes_bound n size within =
     let power : 2 ^ (8 * size) ≤ 2 ^ 64 = pow-le-pow_right {n = 2} (omega arith) most in
     omega (arith, mod_below n (2 ^ (8 * size)) (pow_pos (8 * size)))
 
-low_extract_bound : (size a b : ℕ) → size ≤ 8 → a < 2 ^ 64 → extracted_low size a b < 2 ^ 64
-low_extract_bound size a b within small = omega (arith, extracted_low_is size a b small, bytes_bound (a / 2 ^ (8 * (b % 8))) size within)
-
-high_extract_bound : (size a b : ℕ) → size ≤ 8 → a < 2 ^ 64 → extracted_high size a b < 2 ^ 64
-high_extract_bound size a b within small =
-    omega (arith, extracted_high_is size a b within small, bytes_bound (a * 2 ^ (8 * ((8 - b % 8) % 8)) % 2 ^ 64) size within)
-
-low_insert_bound : (size a b : ℕ) → size ≤ 8 → inserted_low size a b < 2 ^ 64
-low_insert_bound size a b within =
-    omega (arith, inserted_low_is size a b within, and_le_r (2 ^ (8 * (b % 8)) * (a % 2 ^ (8 * size))) (2 ^ 64 - 1))
-
-high_insert_bound : (size a b : ℕ) → size ≤ 8 → inserted_high size a b < 2 ^ 64
+high_insert_bound : (size a b : ℕ) → size ≤ 8 → inserted size a b / 2 ^ 64 < 2 ^ 64
 high_insert_bound size a b within =
     let place = pow_below (8 * (b % 8)) 64 (omega arith) in
     let product = mul-lt (2 ^ (8 * (b % 8))) (a % 2 ^ (8 * size)) (2 ^ 64) (2 ^ 64) place (bytes_bound a size within) in
-    omega (arith, inserted_high_is size a b within, shr_below (2 ^ (8 * (b % 8)) * (a % 2 ^ (8 * size))) 64 64 product)
+    shr_below (inserted size a b) 64 64 product
 
 high_product_bound : (a b : ℕ) → a < 2 ^ 64 → b < 2 ^ 64 → a * b / 2 ^ 64 < 2 ^ 64
 high_product_bound a b small also = shr_below (a * b) 64 64 (mul-lt a b (2 ^ 64) (2 ^ 64) small also)
-
-low_mask_bound : (size a b : ℕ) → masked_low size a b < 2 ^ 64
-unfolding masked_low
-low_mask_bound size a b = cleared_bound _ a
-
-high_mask_bound : (size a b : ℕ) → masked_high size a b < 2 ^ 64
-unfolding masked_high
-high_mask_bound size a b = cleared_bound _ a
-
-zap_bound : (a b : ℕ) → zapped a b < 2 ^ 64
-unfolding zapped
-zap_bound a b = cleared_bound _ a
-
-zap_not_bound : (a b : ℕ) → zapped_not a b < 2 ^ 64
-unfolding zapped_not
-zap_not_bound a b = cleared_bound _ a
-
-features_bound : (level : Level) → features level < 2 ^ 64
-features_bound One = omega arith
-features_bound Two = omega arith
 
 implementation_bound : (level : Level) → implementation level < 2 ^ 64
 implementation_bound One = omega arith
@@ -144,13 +99,13 @@ result_bound level Cmple a b old p q r = flag_bound _
 result_bound level Cmpult a b old p q r = flag_bound _
 result_bound level Cmpule a b old p q r = flag_bound _
 result_bound level Cmpbge a b old p q r = compared_bound a b
-result_bound level And a b old p q r = and_bound a b p q
-result_bound level Bis a b old p q r = or_bound a b p q
-result_bound level Xor a b old p q r = xor_bound a b p q
-result_bound level Bic a b old p q r = with_inverted and_of a b q (λ c s. and_bound a c p s)
-result_bound level Ornot a b old p q r = with_inverted or_of a b q (λ c s. or_bound a c p s)
-result_bound level Eqv a b old p q r = with_inverted xor_of a b q (λ c s. xor_bound a c p s)
-result_bound level Amask a b old p q r = with_inverted and_of b (features level) (features_bound level) (λ c s. and_bound b c q s)
+result_bound level And a b old p q r = omega (arith, and_le_l a b)
+result_bound level Bis a b old p q r = or_lt 64 a b p q
+result_bound level Xor a b old p q r = xor_lt 64 a b p q
+result_bound level Bic a b old p q r = omega (arith, and_le_l a (complement b))
+result_bound level Ornot a b old p q r = or_lt 64 a (complement b) p (complement_bound b)
+result_bound level Eqv a b old p q r = xor_lt 64 a (complement b) p (complement_bound b)
+result_bound level Amask a b old p q r = omega (arith, and_le_l b (complement (features level)))
 result_bound level Implver a b old p q r = implementation_bound level
 result_bound level Ctpop a b old p q r = omega (arith, sum_bits b q, ones-le 64 b q)
 result_bound level Ctlz a b old p q r = omega (arith, leading_bits b q, leading_le 64 b)
@@ -165,26 +120,26 @@ result_bound level Cmovge a b old p q r = choice_bound (is_taken Ge a) b old (2 
 result_bound level Cmovgt a b old p q r = choice_bound (is_taken Gt a) b old (2 ^ 64) q r
 result_bound level Sll a b old p q r = omega arith
 result_bound level Srl a b old p q r = omega (arith, shr_le a (b % 64))
-result_bound level Extbl a b old p q r = low_extract_bound 1 a b (omega arith) p
-result_bound level Insbl a b old p q r = low_insert_bound 1 a b (omega arith)
-result_bound level Mskbl a b old p q r = low_mask_bound 1 a b
-result_bound level Extwl a b old p q r = low_extract_bound 2 a b (omega arith) p
-result_bound level Inswl a b old p q r = low_insert_bound 2 a b (omega arith)
-result_bound level Mskwl a b old p q r = low_mask_bound 2 a b
-result_bound level Extwh a b old p q r = high_extract_bound 2 a b (omega arith) p
+result_bound level Extbl a b old p q r = bytes_bound (a / 2 ^ (8 * (b % 8))) 1 (omega arith)
+result_bound level Insbl a b old p q r = omega arith
+result_bound level Mskbl a b old p q r = zapped_bound a _
+result_bound level Extwl a b old p q r = bytes_bound (a / 2 ^ (8 * (b % 8))) 2 (omega arith)
+result_bound level Inswl a b old p q r = omega arith
+result_bound level Mskwl a b old p q r = zapped_bound a _
+result_bound level Extwh a b old p q r = bytes_bound (a * 2 ^ (8 * ((8 - b % 8) % 8)) % 2 ^ 64) 2 (omega arith)
 result_bound level Inswh a b old p q r = high_insert_bound 2 a b (omega arith)
-result_bound level Mskwh a b old p q r = high_mask_bound 2 a b
-result_bound level Extll a b old p q r = low_extract_bound 4 a b (omega arith) p
-result_bound level Insll a b old p q r = low_insert_bound 4 a b (omega arith)
-result_bound level Mskll a b old p q r = low_mask_bound 4 a b
-result_bound level Extlh a b old p q r = high_extract_bound 4 a b (omega arith) p
+result_bound level Mskwh a b old p q r = zapped_bound a _
+result_bound level Extll a b old p q r = bytes_bound (a / 2 ^ (8 * (b % 8))) 4 (omega arith)
+result_bound level Insll a b old p q r = omega arith
+result_bound level Mskll a b old p q r = zapped_bound a _
+result_bound level Extlh a b old p q r = bytes_bound (a * 2 ^ (8 * ((8 - b % 8) % 8)) % 2 ^ 64) 4 (omega arith)
 result_bound level Inslh a b old p q r = high_insert_bound 4 a b (omega arith)
-result_bound level Msklh a b old p q r = high_mask_bound 4 a b
-result_bound level Extql a b old p q r = low_extract_bound 8 a b (omega arith) p
-result_bound level Insql a b old p q r = low_insert_bound 8 a b (omega arith)
-result_bound level Mskql a b old p q r = low_mask_bound 8 a b
-result_bound level Extqh a b old p q r = high_extract_bound 8 a b (omega arith) p
+result_bound level Msklh a b old p q r = zapped_bound a _
+result_bound level Extql a b old p q r = bytes_bound (a / 2 ^ (8 * (b % 8))) 8 (omega arith)
+result_bound level Insql a b old p q r = omega arith
+result_bound level Mskql a b old p q r = zapped_bound a _
+result_bound level Extqh a b old p q r = bytes_bound (a * 2 ^ (8 * ((8 - b % 8) % 8)) % 2 ^ 64) 8 (omega arith)
 result_bound level Insqh a b old p q r = high_insert_bound 8 a b (omega arith)
-result_bound level Mskqh a b old p q r = high_mask_bound 8 a b
-result_bound level Zap a b old p q r = zap_bound a b
-result_bound level Zapnot a b old p q r = zap_not_bound a b
+result_bound level Mskqh a b old p q r = zapped_bound a _
+result_bound level Zap a b old p q r = zapped_bound a _
+result_bound level Zapnot a b old p q r = zapped_bound a _

@@ -1,4 +1,4 @@
--- The byte forms: shifts and masks of a register against its list of bytes.
+-- The byte forms are operations on a list of bytes.
 use Rattle.std.proofs.Common.{◌≡◌, ℕ, zero, suc, ◌+◌, ◌-◌, ◌*◌, ◌/◌, ◌%◌, ◌^◌, ◌<◌, ◌≤◌, ◌∙◌, List, ◌++◌, length, take, drop, replicate, refl, ap, sym, arith, bit_and}
 use Rattle.std.proofs.lemmas.List.{length-append, length-replicate, length-drop, take_all}
 use Rattle.std.proofs.lemmas.Nat.{and_mask, pow_pos, mod_below, one_shl, shl_whole, pow_below}
@@ -7,7 +7,8 @@ use Rattle.std.proofs.Math.Nat.{mod-eq_of_lt}
 use Rattle.std.proofs.Math.Pow.{mod-mod-pow}
 use Rattle.alpha_words.specs.Digits.{digits, number}
 use Rattle.alpha_values.specs.Bits.{bytes_of}
-use Rattle.alpha_values.specs.Bytes.{in_sixteen, extracted_low, extracted_high, inserted_low, inserted_high, cleared, masked_low, masked_high, zapped_not}
+use Rattle.alpha_values.specs.Op.{complement, extracted_low, extracted_high, inserted, marked, zapped}
+use Rattle.alpha_values.specs.Lists.{inverted, in_sixteen, bytes_from, bytes_above, low_placed, high_placed, cleared, low_cleared, high_cleared}
 use Rattle.alpha_words.proofs.DigitLemmas.{AllBelow, number-digits, digits-AllBelow, number-take, number-drop, digits-number, number-zeros_below, number-zeros_above, zeros-AllBelow, AllBelow-append, AllBelow-take, AllBelow-drop}
 use Rattle.alpha_values.proofs.PairLemmas.{digits-inverted}
 
@@ -28,15 +29,15 @@ low_mask_is a size within =
     let left : 64 - (64 - 8 * size) ≡ 8 * size = omega arith in
     ap (bit_and a) (ones_shr 64 (64 - 8 * size) (omega arith) ∙ ap (λ k. 2 ^ k - 1) left) ∙ and_mask a (8 * size)
 
-pub extracted_low_is : (size a b : ℕ) → a < 2 ^ 64 → a / 2 ^ (8 * (b % 8)) % 2 ^ (8 * size) ≡ extracted_low size a b
-unfolding extracted_low
+pub extracted_low_is : (size a b : ℕ) → a < 2 ^ 64 → extracted_low size a b ≡ bytes_from size a b
+unfolding bytes_from
 extracted_low_is size a b small =
     let n = b % 8 in
     sym (number-take 8 size (drop n (bytes_of a)) (AllBelow-drop 256 n _ (bytes-AllBelow a))
     ∙ ap (λ m. m % 2 ^ (8 * size)) (number-drop 8 n (bytes_of a) (bytes-AllBelow a) ∙ ap (λ m. m / 2 ^ (8 * n)) (number-bytes a small)))
 
-pub extracted_high_is : (size a b : ℕ) → size ≤ 8 → a < 2 ^ 64 → a * 2 ^ (8 * ((8 - b % 8) % 8)) % 2 ^ 64 % 2 ^ (8 * size) ≡ extracted_high size a b
-unfolding extracted_high
+pub extracted_high_is : (size a b : ℕ) → size ≤ 8 → a < 2 ^ 64 → extracted_high size a b ≡ bytes_above size a b
+unfolding bytes_above
 extracted_high_is size a b within small =
     let up = (8 - b % 8) % 8 in
     let below = AllBelow-append 256 (replicate up 0) (bytes_of a) (zeros-AllBelow 256 up (omega arith)) (bytes-AllBelow a) in
@@ -59,27 +60,30 @@ in_sixteen-AllBelow w place xs below =
 low_bytes-AllBelow : (size a : ℕ) → AllBelow 256 (take size (bytes_of a))
 low_bytes-AllBelow size a = AllBelow-take 256 size (bytes_of a) (bytes-AllBelow a)
 
-number-inserted : (size a b : ℕ) → size ≤ 8 → number 256 (in_sixteen (b % 8) (take size (bytes_of a))) ≡ 2 ^ (8 * (b % 8)) * (a % 2 ^ (8 * size))
+number-inserted : (size a b : ℕ) → size ≤ 8 → number 256 (in_sixteen (b % 8) (take size (bytes_of a))) ≡ inserted size a b
 number-inserted size a b within =
     number-in_sixteen 8 (b % 8) (take size (bytes_of a))
     ∙ ap (λ m. 2 ^ (8 * (b % 8)) * m) (number-take 8 size (bytes_of a) (bytes-AllBelow a)
     ∙ (ap (λ m. m % 2 ^ (8 * size)) (number-digits 8 8 a) ∙ mod-mod_bytes a size within))
 
-pub inserted_low_is : (size a b : ℕ) → size ≤ 8 → bit_and (2 ^ (8 * (b % 8)) * (a % 2 ^ (8 * size))) (2 ^ 64 - 1) ≡ inserted_low size a b
-unfolding inserted_low
+pub inserted_low_is : (size a b : ℕ) → size ≤ 8 → inserted size a b % 2 ^ 64 ≡ low_placed size a b
+unfolding low_placed
 inserted_low_is size a b within =
     let xs = in_sixteen (b % 8) (take size (bytes_of a)) in
-    and_mask _ 64 ∙ sym (number-take 8 8 xs (in_sixteen-AllBelow 8 (b % 8) (take size (bytes_of a)) (low_bytes-AllBelow size a)) ∙ ap (λ m. m % 2 ^ 64) (number-inserted size a b within))
+    sym (number-take 8 8 xs (in_sixteen-AllBelow 8 (b % 8) (take size (bytes_of a)) (low_bytes-AllBelow size a)) ∙ ap (λ m. m % 2 ^ 64) (number-inserted size a b within))
 
-pub inserted_high_is : (size a b : ℕ) → size ≤ 8 → 2 ^ (8 * (b % 8)) * (a % 2 ^ (8 * size)) / 2 ^ 64 ≡ inserted_high size a b
-unfolding inserted_high
+pub inserted_high_is : (size a b : ℕ) → size ≤ 8 → inserted size a b / 2 ^ 64 ≡ high_placed size a b
+unfolding high_placed
 inserted_high_is size a b within =
     let xs = in_sixteen (b % 8) (take size (bytes_of a)) in
     sym (number-drop 8 8 xs (in_sixteen-AllBelow 8 (b % 8) (take size (bytes_of a)) (low_bytes-AllBelow size a)) ∙ ap (λ m. m / 2 ^ 64) (number-inserted size a b within))
 
-pub zapped_not_is : (a b : ℕ) → b < 2 ^ 64 → cleared (digits 2 8 (2 ^ 64 - 1 - b)) a ≡ zapped_not a b
-unfolding zapped_not
-zapped_not_is a b small = ap (λ marks. cleared marks a) (digits-inverted 8 64 b (omega arith) small)
+pub zapped_is : (a b : ℕ) → zapped a b ≡ cleared (digits 2 8 b) a
+unfolding zapped cleared
+zapped_is a b = refl
+
+pub zapped_not_is : (a b : ℕ) → b < 2 ^ 64 → zapped a (complement b) ≡ cleared (inverted (digits 2 8 b)) a
+zapped_not_is a b small = zapped_is a (complement b) ∙ ap (λ marks. cleared marks a) (digits-inverted 8 64 b (omega arith) small)
 
 -- ---- the marks of MSK
 
@@ -92,7 +96,7 @@ ones-AllBelow : (count : ℕ) → AllBelow 2 (replicate count 1)
 ones-AllBelow zero = tt
 ones-AllBelow (suc count) = (omega arith, ones-AllBelow count)
 
-number-marks : (size b : ℕ) → number 2 (in_sixteen (b % 8) (replicate size 1)) ≡ 2 ^ (b % 8) * (2 ^ size - 1)
+number-marks : (size b : ℕ) → number 2 (in_sixteen (b % 8) (replicate size 1)) ≡ marked size b
 number-marks size b =
     let n = b % 8 in
     let once : 1 * n ≡ n = omega arith in
@@ -106,25 +110,27 @@ length-marks size b within = simp (length-append, length-replicate) (omega arith
 marks-AllBelow : (size b : ℕ) → AllBelow 2 (in_sixteen (b % 8) (replicate size 1))
 marks-AllBelow size b = in_sixteen-AllBelow 1 (b % 8) (replicate size 1) (ones-AllBelow size)
 
-pub masked_low_is : (size a b : ℕ) → size ≤ 8 → cleared (digits 2 8 (2 ^ (b % 8) * (2 ^ size - 1))) a ≡ masked_low size a b
-unfolding masked_low
+pub masked_low_is : (size a b : ℕ) → size ≤ 8 → zapped a (marked size b) ≡ low_cleared size a b
+unfolding low_cleared
 masked_low_is size a b within =
     let marks = in_sixteen (b % 8) (replicate size 1) in
     let long = length-marks size b within in
-    ap (λ xs. cleared xs a) (ap (λ m. digits 2 8 m) (sym (number-marks size b)) ∙ digits-number 1 8 marks (marks-AllBelow size b) (omega arith))
+    zapped_is a (marked size b)
+    ∙ ap (λ xs. cleared xs a) (ap (λ m. digits 2 8 m) (sym (number-marks size b)) ∙ digits-number 1 8 marks (marks-AllBelow size b) (omega arith))
 
-pub masked_high_is : (size a b : ℕ) → size ≤ 8 → cleared (digits 2 8 (2 ^ (b % 8) * (2 ^ size - 1) / 2 ^ 8)) a ≡ masked_high size a b
-unfolding masked_high
+pub masked_high_is : (size a b : ℕ) → size ≤ 8 → zapped a (marked size b / 2 ^ 8) ≡ high_cleared size a b
+unfolding high_cleared
 masked_high_is size a b within =
     let marks = in_sixteen (b % 8) (replicate size 1) in
     let high = drop 8 marks in
     let long : length high ≡ 8 = omega (arith, length-drop 8 marks, length-marks size b within) in
-    let n : 2 ^ (b % 8) * (2 ^ size - 1) / 2 ^ 8 ≡ number 2 high = ap (λ m. m / 2 ^ 8) (sym (number-marks size b)) ∙ sym (number-drop 1 8 marks (marks-AllBelow size b)) in
-    ap (λ xs. cleared xs a)
+    let n : marked size b / 2 ^ 8 ≡ number 2 high = ap (λ m. m / 2 ^ 8) (sym (number-marks size b)) ∙ sym (number-drop 1 8 marks (marks-AllBelow size b)) in
+    zapped_is a (marked size b / 2 ^ 8)
+    ∙ ap (λ xs. cleared xs a)
     (ap (λ m. digits 2 8 m) n ∙ (digits-number 1 8 high (AllBelow-drop 2 8 marks (marks-AllBelow size b)) (omega arith) ∙ take_all 8 high (omega arith)))
 
 -- the marks as the code shifts them
-pub marked_is : (size b : ℕ) → size ≤ 8 → (1 * 2 ^ size % 2 ^ 64 - 1) * 2 ^ (b % 8) % 2 ^ 64 ≡ 2 ^ (b % 8) * (2 ^ size - 1)
+pub marked_is : (size b : ℕ) → size ≤ 8 → (1 * 2 ^ size % 2 ^ 64 - 1) * 2 ^ (b % 8) % 2 ^ 64 ≡ marked size b
 marked_is size b within =
     let one = one_shl size 64 (omega arith) in
     let most = pow_below size 9 (omega arith) in
@@ -132,7 +138,7 @@ marked_is size b within =
     ap (λ m. (m - 1) * 2 ^ (b % 8) % 2 ^ 64) one ∙ (shl_whole (2 ^ size - 1) 9 (b % 8) 64 small (omega arith) ∙ omega arith)
 
 -- the bytes as the code shifts them
-pub placed_is : (size a b : ℕ) → size ≤ 8 → a % 2 ^ (8 * size) * 2 ^ (8 * (b % 8)) % 2 ^ 128 ≡ 2 ^ (8 * (b % 8)) * (a % 2 ^ (8 * size))
+pub placed_is : (size a b : ℕ) → size ≤ 8 → a % 2 ^ (8 * size) * 2 ^ (8 * (b % 8)) % 2 ^ 128 ≡ inserted size a b
 placed_is size a b within =
     let small = mod_below a (2 ^ (8 * size)) (pow_pos (8 * size)) in
     shl_whole (a % 2 ^ (8 * size)) (8 * size) (8 * (b % 8)) 128 small (omega arith) ∙ omega arith

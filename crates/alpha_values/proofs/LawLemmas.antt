@@ -1,6 +1,5 @@
 -- Completed values: what they are where nothing overflows, and that wrap gives what `operate` gives.
-use Rattle.std.proofs.Common.{◌≡◌, ℕ, ◌↔◌, ◌⊎◌, inl, inr, ⊎_elim, ℤ, pos, negsuc, Bool, true, false, Some, ap, sym, arith, FitsSigned}
-use Rattle.std.specs.Bool.{FalseIff}
+use Rattle.std.proofs.Common.{◌≡◌, ℕ, ◌↔◌, ◌⊎◌, inl, inr, ⊎_elim, ℤ, pos, negsuc, true, false, Some, ap, sym, arith, FitsSigned}
 use Rattle.std.specs.Int.{Width, saturate_signed}
 use Rattle.std.proofs.lemmas.Int.{int_wrap_fits}
 use Rattle.std.proofs.lemmas.Bool.{cases_lt}
@@ -15,7 +14,7 @@ use Rattle.alpha_table.specs.Op.{trap_of}
 use Rattle.alpha_values.specs.Numbers.{register_of}
 use Rattle.alpha_values.specs.TrapOp.{size_of, exact, overflow_of, Overflows, completion_of, completed_of}
 use Rattle.alpha_values.specs.Op.{result_of}
-use Rattle.alpha_values.proofs.Ranges.{overflow_long, overflow_quad}
+use Rattle.alpha_values.proofs.Ranges.{overflow_is}
 
 pub completed-wrap : (level : Level) (op : Op) (trap : TrapOp) (a b old : ℕ) → trap_of op ≡ Some trap → completed_of trap a b Wrap ≡ result_of level op a b old
 unfolding completed_of result_of
@@ -27,19 +26,11 @@ completed-wrap level SubqV trap a b old e = let same : trap ≡ traps.SubqV = cc
 completed-wrap level MulqV trap a b old e = let same : trap ≡ traps.MulqV = cc in ap (λ t. completed_of t a b Wrap) same
 completed-wrap level _ trap a b old e = cc
 
-overflow_is : (overflow : Bool) (op : TrapOp) (a b : ℕ) → FalseIff overflow (FitsSigned (size_of op) (exact op a b)) → overflow ≡ overflow_of op a b
-unfolding overflow_of
-overflow_is overflow traps.AddlV a b h = overflow_long overflow _ h
-overflow_is overflow traps.SublV a b h = overflow_long overflow _ h
-overflow_is overflow traps.MullV a b h = overflow_long overflow _ h
-overflow_is overflow traps.AddqV a b h = overflow_quad overflow _ h
-overflow_is overflow traps.SubqV a b h = overflow_quad overflow _ h
-overflow_is overflow traps.MulqV a b h = overflow_quad overflow _ h
-
 pub Overflows-range : (op : TrapOp) (a b : ℕ) → Overflows op a b ↔ ¬ FitsSigned (size_of op) (exact op a b)
+unfolding overflow_of
 Overflows-range op a b = (
-  λ h fits. let e : false ≡ overflow_of op a b = overflow_is false op a b fits in let f : overflow_of op a b ≡ true = h in cc,
-  λ outside. sym (overflow_is true op a b outside),
+  λ h fits. let e : false ≡ overflow_of op a b = overflow_is false (size_of op) (exact op a b) fits in let f : overflow_of op a b ≡ true = h in cc,
+  λ outside. sym (overflow_is true (size_of op) (exact op a b) outside),
 )
 
 fits_cases : (w : Width) (z : ℤ) → FitsSigned w z ⊎ ¬ FitsSigned w z

@@ -2,7 +2,8 @@
 use Rattle.std.proofs.Common.{◌≡◌, ℕ, zero, suc, ◌+◌, ◌-◌, ◌*◌, ◌/◌, ◌%◌, ◌^◌, ◌<◌, ◌≤◌, ◌∙◌, ◌∷◌, refl, ap, sym, arith}
 use Rattle.std.proofs.lemmas.Nat.{pow_pos}
 use Rattle.alpha_words.specs.Digits.{digits, number}
-use Rattle.alpha_values.specs.Bits.{pairwise, inverted}
+use Rattle.alpha_values.specs.Bits.{pairwise}
+use Rattle.alpha_values.specs.Lists.{inverted}
 
 -- an operation on numbers that works bit by bit, as `f` does on bits
 pub number-pairwise : (h f : ℕ → ℕ → ℕ) → h 0 0 ≡ 0

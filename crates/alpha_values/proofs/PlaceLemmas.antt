@@ -4,7 +4,7 @@ use Rattle.std.specs.Prelude.{if◌then◌else◌, ◌==◌, nat_le}
 use Rattle.std.proofs.lemmas.Nat.{shl_whole, or_shifted, mul-add-lt, pow-add, shr-shr}
 use Rattle.alpha_words.specs.Digits.{digits, number}
 use Rattle.alpha_values.specs.Bits.{pairwise}
-use Rattle.alpha_values.specs.Bytes.{cleared, bytes_compared}
+use Rattle.alpha_values.specs.Op.{zapped, bytes_compared}
 
 -- the number so far has `room` bits, and a digit of w bits comes below it
 pub digit_below : (w room left digit : ℕ) → left < 2 ^ room → digit < 2 ^ w → room + w ≤ 64
@@ -15,8 +15,8 @@ digit_below w room left digit small low within =
     (omega arith, omega (arith, mul-add-lt left (2 ^ w) digit (2 ^ room) small low, pow-add 2 room w))
 
 -- what is left of the bytes from a place on
-unfoldable pub cleared_from : ℕ → ℕ → ℕ → ℕ
-cleared_from marks a k = number 256 (pairwise (λ mark byte. if mark == 1 then 0 else byte) (digits 2 (8 - k) (marks / 2 ^ k)) (digits 256 (8 - k) (a / 2 ^ (8 * k))))
+unfoldable pub zapped_from : ℕ → ℕ → ℕ → ℕ
+zapped_from marks a k = number 256 (pairwise (λ mark byte. if mark == 1 then 0 else byte) (digits 2 (8 - k) (marks / 2 ^ k)) (digits 256 (8 - k) (a / 2 ^ (8 * k))))
 
 -- the answers for the bytes from a place on
 unfoldable pub compared_from : ℕ → ℕ → ℕ → ℕ
@@ -27,18 +27,18 @@ next_byte a k =
     let more : 8 * k + 8 ≡ 8 * (k + 1) = omega arith in
     shr-shr a (8 * k) 8 ∙ ap (λ j. a / 2 ^ j) more
 
-pub cleared_from-all : (marks a : ℕ) → cleared_from marks a 0 ≡ cleared (digits 2 8 marks) a
-unfolding cleared_from cleared
-cleared_from-all marks a =
+pub zapped_from-all : (marks a : ℕ) → zapped_from marks a 0 ≡ zapped a marks
+unfolding zapped_from zapped
+zapped_from-all marks a =
     let x : marks / 1 ≡ marks = omega arith in
     let y : a / 1 ≡ a = omega arith in
     ap (λ m. number 256 (pairwise (λ mark byte. if mark == 1 then 0 else byte) (digits 2 8 m) (digits 256 8 (a / 1)))) x
     ∙ ap (λ m. number 256 (pairwise (λ mark byte. if mark == 1 then 0 else byte) (digits 2 8 marks) (digits 256 8 m))) y
 
-pub cleared_from-step : (marks a k : ℕ) → k < 8
-    → cleared_from marks a k ≡ (if marks / 2 ^ k % 2 == 1 then 0 else a / 2 ^ (8 * k) % 256) + 256 * cleared_from marks a (k + 1)
-unfolding cleared_from number pairwise digits
-cleared_from-step marks a k within =
+pub zapped_from-step : (marks a k : ℕ) → k < 8
+    → zapped_from marks a k ≡ (if marks / 2 ^ k % 2 == 1 then 0 else a / 2 ^ (8 * k) % 256) + 256 * zapped_from marks a (k + 1)
+unfolding zapped_from number pairwise digits
+zapped_from-step marks a k within =
     let more : 8 - k ≡ suc (8 - (k + 1)) = omega arith in
     let f : ℕ → ℕ → ℕ = λ mark byte. if mark == 1 then 0 else byte in
     ap (λ c. number 256 (pairwise f (digits 2 c (marks / 2 ^ k)) (digits 256 c (a / 2 ^ (8 * k))))) more
@@ -67,15 +67,15 @@ compared_from-step a b k within =
 
 -- ---- a turn of each loop
 
-pub cleared_from-more : (marks a k left byte : ℕ) → 0 < k → k ≤ 8 → left ≡ cleared_from marks a k → left < 2 ^ (8 * (8 - k))
+pub zapped_from-more : (marks a k left byte : ℕ) → 0 < k → k ≤ 8 → left ≡ zapped_from marks a k → left < 2 ^ (8 * (8 - k))
     → byte ≡ (if marks / 2 ^ (k - 1) % 2 == 1 then 0 else a / 2 ^ (8 * (k - 1)) % 256) → byte < 256
-    → (bit_or (left * 256 % 2 ^ 64) byte ≡ cleared_from marks a (k - 1)) × (bit_or (left * 256 % 2 ^ 64) byte < 2 ^ (8 * (8 - (k - 1))))
-cleared_from-more marks a k left byte some most is small byte_is low =
+    → (bit_or (left * 256 % 2 ^ 64) byte ≡ zapped_from marks a (k - 1)) × (bit_or (left * 256 % 2 ^ 64) byte < 2 ^ (8 * (8 - (k - 1))))
+zapped_from-more marks a k left byte some most is small byte_is low =
     let both = digit_below 8 (8 * (8 - k)) left byte small low (omega arith) in
     let back : k - 1 + 1 ≡ k = omega arith in
     let room : 8 * (8 - k) + 8 ≡ 8 * (8 - (k - 1)) = omega arith in
-    let step = cleared_from-step marks a (k - 1) (omega arith) in
-    let above = ap (λ j. cleared_from marks a j) back in
+    let step = zapped_from-step marks a (k - 1) (omega arith) in
+    let above = ap (λ j. zapped_from marks a j) back in
     let wide = ap (λ j. 2 ^ j) room in
     (omega arith, omega arith)
 

@@ -1,28 +1,18 @@
--- The signed ranges.
-use Rattle.std.proofs.Common.{◌≡◌, ℕ, ◌-◌, ◌^◌, ◌<◌, ◌≤◌, ℤ, pos, negsuc, Bool, true, false, ap, sym, arith, FitsSigned, leb, ltb, ⊎_elim}
-use Rattle.std.specs.Prelude.{neg_ℤ, int_lt, int_le, ◌||◌}
-use Rattle.std.specs.Bool.{FalseIff}
-use Rattle.std.specs.Int.{w32, w64}
-use Rattle.std.proofs.lemmas.Bool.{le-leb, lt-leb, lt-ltb, le-ltb, cases_lt}
+-- The signed ranges: a size makes another number of what lies outside its range.
+use Rattle.std.proofs.Common.{◌≡◌, ℤ, Bool, true, false, refl, subst, FitsSigned}
+use Rattle.std.specs.Prelude.{not}
+use Rattle.std.specs.Bool.{FalseIff, Decides}
+use Rattle.std.specs.Ordering.{int_eq}
+use Rattle.std.specs.Int.{Width, int_wrap}
+use Rattle.std.proofs.lemmas.Int.{SFits-int_wrap, int_wrap_fits}
+use Rattle.std.proofs.lemmas.Bool.Decides.{Decides-int_eq}
 
--- a test that says where n is not below half the range
-pub not_below : (test : Bool) (half n : ℕ) → FalseIff test (n < half) → test ≡ leb half n
-not_below true half n h = ⊎_elim (λ (p : n < half). absurd (h p)) (λ (p : half ≤ n). sym (le-leb half n p)) (cases_lt n half)
-not_below false half n h = sym (lt-leb half n h)
+overflow_by : (overflow same : Bool) (w : Width) (z : ℤ) → Decides same (int_wrap w z ≡ z) → FalseIff overflow (FitsSigned w z) → overflow ≡ not same
+overflow_by true true w z e h = absurd (h (subst (FitsSigned w) (e.0 refl) (SFits-int_wrap w z)))
+overflow_by true false w z e h = refl
+overflow_by false true w z e h = refl
+overflow_by false false w z e h = let same : false ≡ true = e.1 (int_wrap_fits w z h) in cc
 
-pub not_above : (test : Bool) (half n : ℕ) → FalseIff test (n < half) → 0 < half → test ≡ (ltb (half - 1) n || false)
-not_above true half n h some =
-    ⊎_elim (λ (p : n < half). absurd (h p)) (λ (p : half ≤ n). sym (ap (λ b. b || false) (lt-ltb (half - 1) n (omega arith)))) (cases_lt n half)
-not_above false half n h some = sym (ap (λ b. b || false) (le-ltb (half - 1) n (omega arith)))
-
-pub overflow_long : (overflow : Bool) (z : ℤ) → FalseIff overflow (FitsSigned w32 z) → overflow ≡ (int_lt z (neg_ℤ (pos (2 ^ 31))) || int_le (pos (2 ^ 31)) z)
-overflow_long true (pos n) h = not_below true (2 ^ 31) n (λ p. h (record { sfits = p }))
-overflow_long true (negsuc n) h = not_above true (2 ^ 31) n (λ p. h (record { sfits = p })) (omega arith)
-overflow_long false (pos n) h = not_below false (2 ^ 31) n h.sfits
-overflow_long false (negsuc n) h = not_above false (2 ^ 31) n h.sfits (omega arith)
-
-pub overflow_quad : (overflow : Bool) (z : ℤ) → FalseIff overflow (FitsSigned w64 z) → overflow ≡ (int_lt z (neg_ℤ (pos (2 ^ 63))) || int_le (pos (2 ^ 63)) z)
-overflow_quad true (pos n) h = not_below true (2 ^ 63) n (λ p. h (record { sfits = p }))
-overflow_quad true (negsuc n) h = not_above true (2 ^ 63) n (λ p. h (record { sfits = p })) (omega arith)
-overflow_quad false (pos n) h = not_below false (2 ^ 63) n h.sfits
-overflow_quad false (negsuc n) h = not_above false (2 ^ 63) n h.sfits (omega arith)
+-- a test of what lies outside the range of a size
+pub overflow_is : (overflow : Bool) (w : Width) (z : ℤ) → FalseIff overflow (FitsSigned w z) → overflow ≡ not (int_eq (int_wrap w z) z)
+overflow_is overflow w z h = overflow_by overflow (int_eq (int_wrap w z) z) w z (Decides-int_eq (int_wrap w z) z) h

@@ -1,5 +1,5 @@
 -- A register as the list of its bits or its bytes, the lowest first.
-use Rattle.std.specs.Prelude.{ℕ, ◌-◌, ◌==◌, if◌then◌else◌, suc, List, [], ◌∷◌, map}
+use Rattle.std.specs.Prelude.{ℕ, ◌==◌, if◌then◌else◌, suc, List, [], ◌∷◌}
 use Rattle.alpha_words.specs.Digits.{digits}
 
 -- the bits and the bytes of a register
@@ -8,10 +8,6 @@ bits_of register = digits 2 64 register
 
 abbrev pub bytes_of : ℕ → List ℕ
 bytes_of register = digits 256 8 register
-
--- each bit turned
-abbrev pub inverted : List ℕ → List ℕ
-inverted bits = map (λ bit. 1 - bit) bits
 
 -- place by place
 unfoldable pub pairwise : (ℕ → ℕ → ℕ) → List ℕ → List ℕ → List ℕ

@@ -1,6 +1,6 @@
--- The result of each operate instruction at a level (Architecture Handbook, instruction descriptions), from Ra, Rb and what
--- the destination had.
-use Rattle.std.specs.Prelude.{ℕ, Bool, ◌+◌, ◌*◌, ◌/◌, ◌%◌, ◌^◌, ◌==◌, ◌+ℤ◌, ◌-ℤ◌, ◌*ℤ◌, pos, min, max, nat_lt, nat_le, int_lt, int_le, if◌then◌else◌, List, reverse, sum}
+-- The result of each operate instruction at a level, in the words of the Architecture Handbook's instruction descriptions,
+-- from Ra, Rb and what the destination had. Registers are below 2 ^ 64.
+use Rattle.std.specs.Prelude.{ℕ, Bool, ◌-◌, ◌*◌, ◌/◌, ◌%◌, ◌^◌, ◌==◌, ◌+ℤ◌, ◌-ℤ◌, ◌*ℤ◌, pos, nat_lt, nat_le, int_lt, int_le, if◌then◌else◌, reverse, sum, bit_and, bit_or, bit_xor}
 use Rattle.std.specs.Int.{w8, w16, w32, w64, int_shr}
 use Rattle.alpha_words.specs.declared.Level.{Level}
 use Rattle.alpha_words.specs.declared.Level.TheVariants.{One, Two}
@@ -8,25 +8,22 @@ use Rattle.alpha_table.specs.declared.op.Op.{Op}
 use Rattle.alpha_table.specs.declared.op.Op.TheVariants.{Addl, S4addl, Subl, S4subl, Cmpbge, S8addl, S8subl, Cmpult, Addq, S4addq, Subq, S4subq, Cmpeq, S8addq, S8subq, Cmpule, AddlV, SublV, Cmplt, AddqV, SubqV, Cmple, And, Bic, Cmovlbs, Cmovlbc, Bis, Cmoveq, Cmovne, Ornot, Xor, Cmovlt, Cmovge, Eqv, Amask, Cmovle, Cmovgt, Implver, Mskbl, Extbl, Insbl, Mskwl, Extwl, Inswl, Mskll, Extll, Insll, Zap, Zapnot, Mskql, Srl, Extql, Sll, Insql, Sra, Mskwh, Inswh, Extwh, Msklh, Inslh, Extlh, Mskqh, Insqh, Extqh, Mull, Mulq, Umulh, MullV, MulqV, Sextb, Sextw, Ctpop, Ctlz, Cttz}
 use Rattle.alpha_table.specs.declared.op.Cond.{Cond}
 use Rattle.alpha_table.specs.declared.op.Cond.TheVariants.{Lbc, Lbs, Eq, Ne, Lt, Le, Ge, Gt}
+use Rattle.alpha_words.specs.Digits.{digits, number}
 use Rattle.alpha_values.specs.Numbers.{signed, register_of, wrapped}
-use Rattle.alpha_words.specs.Digits.{number}
-use Rattle.alpha_values.specs.Bits.{pairwise, bits_of, inverted, zeros_before_one}
-use Rattle.alpha_values.specs.Bytes.{extracted_low, extracted_high, inserted_low, inserted_high, masked_low, masked_high, zapped, zapped_not, bytes_compared}
+use Rattle.alpha_values.specs.Bits.{bits_of, bytes_of, pairwise, zeros_before_one}
 use Rattle.alpha_values.specs.Cond.{is_taken}
 
 -- a comparison's answer
 abbrev pub flag : Bool → ℕ
 flag holds = if holds then 1 else 0
 
--- bit by bit: 1 where both are, where one of them is, where exactly one is
-unfoldable pub and_of : List ℕ → List ℕ → ℕ
-and_of xs ys = number 2 (pairwise min xs ys)
+-- CMPBGE: a bit for each byte, 1 where that of Ra is at least that of Rb
+unfoldable pub bytes_compared : ℕ → ℕ → ℕ
+bytes_compared a b = number 2 (pairwise (λ x y. if nat_le y x then 1 else 0) (bytes_of a) (bytes_of b))
 
-unfoldable pub or_of : List ℕ → List ℕ → ℕ
-or_of xs ys = number 2 (pairwise max xs ys)
-
-unfoldable pub xor_of : List ℕ → List ℕ → ℕ
-xor_of xs ys = number 2 (pairwise (λ x y. (x + y) % 2) xs ys)
+-- each bit of a register turned
+abbrev pub complement : ℕ → ℕ
+complement n = 2 ^ 64 - 1 - n
 
 -- the features of an implementation, as bits of AMASK: bit 0 is the byte and word instructions, bit 2 the counts
 abbrev pub features : Level → ℕ
@@ -41,6 +38,26 @@ implementation Two = 2
 -- Rb where Ra meets the condition
 abbrev pub moved : Cond → ℕ → ℕ → ℕ → ℕ
 moved c a b old = if is_taken c a then b else old
+
+-- EXTxL: Ra shifted right to the byte that Rb names, of which as many low bytes stay as the size has
+abbrev pub extracted_low : ℕ → ℕ → ℕ → ℕ
+extracted_low size a b = a / 2 ^ (8 * (b % 8)) % 2 ^ (8 * size)
+
+-- EXTxH: Ra shifted left by as many bytes as are left from Rb's to the next quadword
+abbrev pub extracted_high : ℕ → ℕ → ℕ → ℕ
+extracted_high size a b = a * 2 ^ (8 * ((8 - b % 8) % 8)) % 2 ^ 64 % 2 ^ (8 * size)
+
+-- the size's low bytes of Ra, shifted left to Rb's byte: INSxL is the low and INSxH the high quadword of this
+abbrev pub inserted : ℕ → ℕ → ℕ → ℕ
+inserted size a b = 2 ^ (8 * (b % 8)) * (a % 2 ^ (8 * size))
+
+-- a mark for each of the size's bytes from Rb's on: MSKxL clears by the low and MSKxH by the high eight of these
+abbrev pub marked : ℕ → ℕ → ℕ
+marked size b = 2 ^ (b % 8) * (2 ^ size - 1)
+
+-- ZAP: the bytes of Ra whose mark is 1 become 0
+unfoldable pub zapped : ℕ → ℕ → ℕ
+zapped a marks = number 256 (pairwise (λ mark byte. if mark == 1 then 0 else byte) (digits 2 8 marks) (bytes_of a))
 
 unfoldable pub result_of : Level → Op → ℕ → ℕ → ℕ → ℕ
 -- integer arithmetic: longwords, then quadwords
@@ -75,13 +92,13 @@ result_of level Cmpult a b old = flag (nat_lt a b)
 result_of level Cmpule a b old = flag (nat_le a b)
 result_of level Cmpbge a b old = bytes_compared a b
 -- logic, and what an implementation says of itself
-result_of level And a b old = and_of (bits_of a) (bits_of b)
-result_of level Bis a b old = or_of (bits_of a) (bits_of b)
-result_of level Xor a b old = xor_of (bits_of a) (bits_of b)
-result_of level Bic a b old = and_of (bits_of a) (inverted (bits_of b))
-result_of level Ornot a b old = or_of (bits_of a) (inverted (bits_of b))
-result_of level Eqv a b old = xor_of (bits_of a) (inverted (bits_of b))
-result_of level Amask a b old = and_of (bits_of b) (inverted (bits_of (features level)))
+result_of level And a b old = bit_and a b
+result_of level Bis a b old = bit_or a b
+result_of level Xor a b old = bit_xor a b
+result_of level Bic a b old = bit_and a (complement b)
+result_of level Ornot a b old = bit_or a (complement b)
+result_of level Eqv a b old = bit_xor a (complement b)
+result_of level Amask a b old = bit_and b (complement (features level))
 result_of level Implver a b old = implementation level
 -- counts: the ones, the zeros above the highest one and those below the lowest
 result_of level Ctpop a b old = sum (bits_of b)
@@ -108,19 +125,19 @@ result_of level Extql a b old = extracted_low 8 a b
 result_of level Extwh a b old = extracted_high 2 a b
 result_of level Extlh a b old = extracted_high 4 a b
 result_of level Extqh a b old = extracted_high 8 a b
-result_of level Insbl a b old = inserted_low 1 a b
-result_of level Inswl a b old = inserted_low 2 a b
-result_of level Insll a b old = inserted_low 4 a b
-result_of level Insql a b old = inserted_low 8 a b
-result_of level Inswh a b old = inserted_high 2 a b
-result_of level Inslh a b old = inserted_high 4 a b
-result_of level Insqh a b old = inserted_high 8 a b
-result_of level Mskbl a b old = masked_low 1 a b
-result_of level Mskwl a b old = masked_low 2 a b
-result_of level Mskll a b old = masked_low 4 a b
-result_of level Mskql a b old = masked_low 8 a b
-result_of level Mskwh a b old = masked_high 2 a b
-result_of level Msklh a b old = masked_high 4 a b
-result_of level Mskqh a b old = masked_high 8 a b
+result_of level Insbl a b old = inserted 1 a b % 2 ^ 64
+result_of level Inswl a b old = inserted 2 a b % 2 ^ 64
+result_of level Insll a b old = inserted 4 a b % 2 ^ 64
+result_of level Insql a b old = inserted 8 a b % 2 ^ 64
+result_of level Inswh a b old = inserted 2 a b / 2 ^ 64
+result_of level Inslh a b old = inserted 4 a b / 2 ^ 64
+result_of level Insqh a b old = inserted 8 a b / 2 ^ 64
+result_of level Mskbl a b old = zapped a (marked 1 b)
+result_of level Mskwl a b old = zapped a (marked 2 b)
+result_of level Mskll a b old = zapped a (marked 4 b)
+result_of level Mskql a b old = zapped a (marked 8 b)
+result_of level Mskwh a b old = zapped a (marked 2 b / 2 ^ 8)
+result_of level Msklh a b old = zapped a (marked 4 b / 2 ^ 8)
+result_of level Mskqh a b old = zapped a (marked 8 b / 2 ^ 8)
 result_of level Zap a b old = zapped a b
-result_of level Zapnot a b old = zapped_not a b
+result_of level Zapnot a b old = zapped a (complement b)

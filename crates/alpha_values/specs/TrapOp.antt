@@ -1,8 +1,9 @@
 -- The instructions that trap on overflow: when they overflow, and the value that completes them.
-use Rattle.std.specs.Prelude.{ℕ, ◌^◌, ℤ, pos, neg_ℤ, ◌+ℤ◌, ◌-ℤ◌, ◌*ℤ◌, int_lt, int_le, Bool, true, false, ◌||◌, IsTrue}
+use Rattle.std.specs.Prelude.{ℕ, ℤ, ◌+ℤ◌, ◌-ℤ◌, ◌*ℤ◌, Bool, true, false, not, IsTrue}
+use Rattle.std.specs.Ordering.{int_eq}
 use Rattle.std.specs.Int.{Width, w32, w64, int_wrap, saturate_signed}
 use Rattle.alpha_words.specs.declared.Completion.{Completion}
-use Rattle.alpha_words.specs.declared.Completion.TheVariants.{Wrap, Saturate, Stop}
+use Rattle.alpha_words.specs.declared.Completion.TheVariants.{Saturate, Stop}
 use Rattle.alpha_table.specs.declared.op.TrapOp.{TrapOp}
 use Rattle.alpha_table.specs.declared.op.TrapOp.TheVariants.{AddlV, SublV, AddqV, SubqV, MullV, MulqV}
 use Rattle.alpha_values.specs.Numbers.{signed, register_of}
@@ -11,9 +12,7 @@ abbrev pub size_of : TrapOp → Width
 size_of AddlV = w32
 size_of SublV = w32
 size_of MullV = w32
-size_of AddqV = w64
-size_of SubqV = w64
-size_of MulqV = w64
+size_of op = w64
 
 -- the exact result, of operands of the operation's size
 abbrev pub exact : TrapOp → ℕ → ℕ → ℤ
@@ -24,34 +23,23 @@ exact AddqV a b = signed w64 a +ℤ signed w64 b
 exact SubqV a b = signed w64 a -ℤ signed w64 b
 exact MulqV a b = signed w64 a *ℤ signed w64 b
 
--- half as many as the size's signed range has: it goes from minus this number up to, and without, this number
-abbrev pub half_range : TrapOp → ℕ
-half_range AddlV = 2 ^ 31
-half_range SublV = 2 ^ 31
-half_range MullV = 2 ^ 31
-half_range AddqV = 2 ^ 63
-half_range SubqV = 2 ^ 63
-half_range MulqV = 2 ^ 63
-
--- the exact result lies outside the signed range of the size: as a test, and as a fact
+-- the size makes another number of the exact result, which lies outside the size's signed range: as a test, and as a fact
 unfoldable pub overflow_of : TrapOp → ℕ → ℕ → Bool
-overflow_of op a b = int_lt (exact op a b) (neg_ℤ (pos (half_range op))) || int_le (pos (half_range op)) (exact op a b)
+overflow_of op a b = not (int_eq (int_wrap (size_of op) (exact op a b)) (exact op a b))
 
 abbrev pub Overflows : TrapOp → ℕ → ℕ → Type 0
 Overflows op a b = IsTrue (overflow_of op a b)
 
 -- the number that stands for the exact result in the signed range of the size: itself where it lies there, else by
--- wrap and by stop the one that is congruent to it, by saturate the nearest bound
+-- saturate the nearest bound, by wrap and by stop the one that is congruent to it
 abbrev pub completion_of : Completion → Width → ℤ → ℤ
-completion_of Wrap size z = int_wrap size z
 completion_of Saturate size z = saturate_signed size z
-completion_of Stop size z = int_wrap size z
+completion_of how size z = int_wrap size z
 
 unfoldable pub completed_of : TrapOp → ℕ → ℕ → Completion → ℕ
 completed_of op a b how = register_of (completion_of how (size_of op) (exact op a b))
 
 -- whether an overflow ends the program
 abbrev pub stops : Completion → Bool
-stops Wrap = false
-stops Saturate = false
 stops Stop = true
+stops how = false

@@ -1,6 +1,5 @@
-ghost use Rattle.std.specs.Prelude.{◌≡◌, ◌-◌, ◌*◌, ◌/◌, ◌%◌, ◌^◌, ◌<◌, ◌≤◌, ◌==◌, nat_le, if◌then◌else◌};
-ghost use Rattle.alpha_words.specs.Digits.{digits};
-ghost use Rattle.alpha_values.specs.Bytes.{extracted_low, extracted_high, inserted_low, inserted_high, cleared, masked_low, masked_high, zapped, zapped_not, bytes_compared};
+ghost use Rattle.std.specs.Prelude.{◌≡◌, ◌*◌, ◌/◌, ◌%◌, ◌^◌, ◌<◌, ◌≤◌, ◌==◌, nat_le, if◌then◌else◌};
+ghost use Rattle.alpha_values.specs.Op.{complement, extracted_low, extracted_high, inserted, marked, zapped, bytes_compared};
 
 /// EXTxL: the bytes of Ra from Rb's place on, as many as the size has (Architecture Handbook,
 /// section 4.6, as all of this file). A size is in bytes.
@@ -22,20 +21,20 @@ pub(crate) fn extract_high(size: u32, a: u64, b: u64) -> u64
     low_bytes(a << (8 * up), size)
 }
 
-/// INSxL: the low half of the bytes of Ra that are placed into sixteen.
+/// INSxL: the low quadword of the low bytes of Ra that are shifted to Rb's place.
 pub(crate) fn insert_low(size: u32, a: u64, b: u64) -> u64
     requires some { 0 < size }
     requires most { size ≤ 8 }
-    ensures { result ≡ inserted_low size a b }
+    ensures { result ≡ inserted size a b % 2 ^ 64 }
 {
     (placed(size, a, b) & u128::from(u64::MAX)) as u64
 }
 
-/// INSxH: the high half of the bytes of Ra that are placed into sixteen.
+/// INSxH: the high quadword of the low bytes of Ra that are shifted to Rb's place.
 pub(crate) fn insert_high(size: u32, a: u64, b: u64) -> u64
     requires some { 0 < size }
     requires most { size ≤ 8 }
-    ensures { result ≡ inserted_high size a b }
+    ensures { result ≡ inserted size a b / 2 ^ 64 }
 {
     (placed(size, a, b) >> 64) as u64
 }
@@ -44,7 +43,7 @@ pub(crate) fn insert_high(size: u32, a: u64, b: u64) -> u64
 pub(crate) fn mask_low(size: u32, a: u64, b: u64) -> u64
     requires some { 0 < size }
     requires most { size ≤ 8 }
-    ensures { result ≡ masked_low size a b }
+    ensures { result ≡ zapped a (marked size b) }
 {
     clear(a, marked(size, b))
 }
@@ -54,7 +53,7 @@ pub(crate) fn mask_low(size: u32, a: u64, b: u64) -> u64
 pub(crate) fn mask_high(size: u32, a: u64, b: u64) -> u64
     requires some { 0 < size }
     requires most { size ≤ 8 }
-    ensures { result ≡ masked_high size a b }
+    ensures { result ≡ zapped a (marked size b / 2 ^ 8) }
 {
     clear(a, marked(size, b) >> 8)
 }
@@ -68,7 +67,7 @@ pub(crate) fn zap(a: u64, b: u64) -> u64
 
 /// ZAPNOT: the bytes that Rb doesn't mark are cleared.
 pub(crate) fn zap_not(a: u64, b: u64) -> u64
-    ensures { result ≡ zapped_not a b }
+    ensures { result ≡ zapped a (complement b) }
 {
     clear(a, !b)
 }
@@ -96,7 +95,7 @@ fn at_least(a: u64, b: u64, k: u32) -> u64
 
 // Clears the bytes that the low eight bits mark.
 fn clear(a: u64, marks: u64) -> u64
-    ensures { result ≡ cleared (digits 2 8 marks) a }
+    ensures { result ≡ zapped a marks }
 {
     let mut left = 0;
     for k in (0..8).rev() {
@@ -142,7 +141,7 @@ fn low_bytes(a: u64, size: u32) -> u64
 fn placed(size: u32, a: u64, b: u64) -> u128
     requires some { 0 < size }
     requires most { size ≤ 8 }
-    ensures { result ≡ 2 ^ (8 * (b % 8)) * (a % 2 ^ (8 * size)) }
+    ensures { result ≡ inserted size a b }
 {
     u128::from(low_bytes(a, size)) << (8 * place(b))
 }
@@ -151,7 +150,7 @@ fn placed(size: u32, a: u64, b: u64) -> u128
 fn marked(size: u32, b: u64) -> u64
     requires some { 0 < size }
     requires most { size ≤ 8 }
-    ensures { result ≡ 2 ^ (b % 8) * (2 ^ size - 1) }
+    ensures { result ≡ marked size b }
 {
     ((1 << size) - 1) << place(b)
 }

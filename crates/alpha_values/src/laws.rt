@@ -1,4 +1,4 @@
-ghost use Rattle.std.specs.Prelude.{◌≡◌, ℕ, ℤ, pos, ◌-ℤ◌, ◌+◌, ◌*◌, ◌%◌, ◌^◌, ◌<◌, ◌≤◌, ◌↔◌, Some, false, FitsSigned};
+ghost use Rattle.std.specs.Prelude.{◌≡◌, ℕ, ℤ, pos, ◌-ℤ◌, ◌+◌, ◌*◌, ◌/◌, ◌%◌, ◌^◌, ◌<◌, ◌≤◌, ◌↔◌, Some, false, FitsSigned, bit_and, bit_or, bit_xor};
 ghost use Rattle.std.specs.Int.{w16};
 ghost use Rattle.alpha_words.specs.declared.Completion.TheVariants.{Wrap, Stop};
 ghost use Rattle.alpha_table.specs.declared.op.Op.TheVariants.{Addq, Subq, Mulq};
@@ -7,7 +7,10 @@ ghost use Rattle.alpha_table.specs.Op.{trap_of};
 ghost use Rattle.alpha_values.specs.Numbers.{register_of};
 ghost use Rattle.alpha_values.specs.TrapOp.{size_of, exact, Overflows, completed_of};
 ghost use Rattle.alpha_values.specs.Address.{address_of, high_address_of, access_address, Covers, AccessesMeet};
-ghost use Rattle.alpha_values.specs.Op.{result_of};
+ghost use Rattle.alpha_words.specs.Digits.{digits};
+ghost use Rattle.alpha_values.specs.Bits.{bits_of};
+ghost use Rattle.alpha_values.specs.Op.{complement, extracted_low, extracted_high, inserted, marked, zapped, result_of};
+ghost use Rattle.alpha_values.specs.Lists.{inverted, and_of, or_of, xor_of, bytes_from, bytes_above, low_placed, high_placed, cleared, low_cleared, high_cleared};
 
 /// The laws of results: each fits a register. Quadword sums, differences and products are those of
 /// the unsigned operands modulo 2^64.
@@ -32,6 +35,34 @@ pub fn laws_of_completion()
     ensures stop { (op : _) (a b : ℕ) → completed_of op a b Stop ≡ completed_of op a b Wrap }
     ensures exact { (op : _) (a b : ℕ) (how : _) → ¬ Overflows op a b
         → completed_of op a b how ≡ register_of (exact op a b) }
+{}
+
+/// The laws of lists: of registers, logic is what it does to each bit, and the byte forms, which shift
+/// and clear by a number of marks, are what they do to a list of bytes.
+pub fn laws_of_lists()
+    ensures conjunction { (a b : ℕ) → a < 2 ^ 64 → b < 2 ^ 64
+        → bit_and a b ≡ and_of (bits_of a) (bits_of b) }
+    ensures disjunction { (a b : ℕ) → a < 2 ^ 64 → b < 2 ^ 64
+        → bit_or a b ≡ or_of (bits_of a) (bits_of b) }
+    ensures exclusion { (a b : ℕ) → a < 2 ^ 64 → b < 2 ^ 64
+        → bit_xor a b ≡ xor_of (bits_of a) (bits_of b) }
+    ensures complements { (a : ℕ) → a < 2 ^ 64
+        → bits_of (complement a) ≡ inverted (bits_of a) }
+    ensures extracts_low { (size a b : ℕ) → a < 2 ^ 64
+        → extracted_low size a b ≡ bytes_from size a b }
+    ensures extracts_high { (size a b : ℕ) → size ≤ 8 → a < 2 ^ 64
+        → extracted_high size a b ≡ bytes_above size a b }
+    ensures inserts_low { (size a b : ℕ) → size ≤ 8
+        → inserted size a b % 2 ^ 64 ≡ low_placed size a b }
+    ensures inserts_high { (size a b : ℕ) → size ≤ 8
+        → inserted size a b / 2 ^ 64 ≡ high_placed size a b }
+    ensures masks_low { (size a b : ℕ) → size ≤ 8
+        → zapped a (marked size b) ≡ low_cleared size a b }
+    ensures masks_high { (size a b : ℕ) → size ≤ 8
+        → zapped a (marked size b / 2 ^ 8) ≡ high_cleared size a b }
+    ensures zaps { (a b : ℕ) → zapped a b ≡ cleared (digits 2 8 b) a }
+    ensures zaps_not { (a b : ℕ) → b < 2 ^ 64
+        → zapped a (complement b) ≡ cleared (inverted (digits 2 8 b)) a }
 {}
 
 /// The laws of addresses: each fits a register. Of two accesses by one base that both lie in memory,

@@ -10,16 +10,17 @@
 //!   is where an access begins.
 //! - The functions of `src/laws.rt` do nothing: their contracts are the laws. [`laws_of_results`]:
 //!   each result fits a register. [`laws_of_completion`]: completed by wrap or stop a value is that of
-//!   [`operate_at`], and without an overflow the exact result. [`laws_of_addresses`]: two accesses by
-//!   one base touch a common byte only where their spans meet.
+//!   [`operate_at`], and without an overflow the exact result. [`laws_of_lists`]: logic and the byte
+//!   forms are operations on lists of bits and bytes. [`laws_of_addresses`]: two accesses by one base
+//!   touch a common byte only where their spans meet.
 //!
-//! The definitions go by whole numbers and lists, the code by machine words, shifts and masks.
-//! `specs/Numbers.antt` has signed numbers and wrapped results, `specs/Bits.antt` a register's bits
-//! and bytes, `specs/Bytes.antt` the byte forms, `specs/Op.antt` the result of each instruction,
-//! `specs/TrapOp.antt` overflow and completed values, `specs/Cond.antt` the conditions,
-//! `specs/Source.antt` second sources, and `specs/Address.antt` the addresses. `src/results.rt` has
-//! the table of the instructions; `sums.rt`, `logic.rt`, `counts.rt`, `shifts.rt` and `bytes.rt`
-//! have the work by families, `trap.rt` that of the `/V` rows.
+//! The definitions go by whole numbers, the code by machine words. `specs/Numbers.antt` has signed
+//! numbers and wrapped results, `specs/Bits.antt` a register's bits and bytes, `specs/Op.antt` the
+//! result of each instruction in the Handbook's words, `specs/TrapOp.antt` overflow and completed
+//! values, `specs/Cond.antt` the conditions, `specs/Source.antt` second sources, and
+//! `specs/Address.antt` the addresses; `specs/Lists.antt` has logic and the byte forms once more, by
+//! lists. `src/results.rt` has the table of the instructions; `sums.rt`, `counts.rt`, `shifts.rt` and
+//! `bytes.rt` have the work by families, `trap.rt` that of the `/V` rows.
 #![tactic(auto)]
 
 mod bytes;
@@ -27,7 +28,6 @@ mod cond;
 mod counts;
 mod displaced;
 mod laws;
-mod logic;
 mod number;
 mod results;
 mod shifts;
@@ -36,6 +36,6 @@ mod trap;
 
 pub use cond::taken;
 pub use displaced::{access_address, address, high_address};
-pub use laws::{laws_of_addresses, laws_of_completion, laws_of_results};
+pub use laws::{laws_of_addresses, laws_of_completion, laws_of_lists, laws_of_results};
 pub use results::{operate, operate_at};
 pub use trap::{completed, overflows};

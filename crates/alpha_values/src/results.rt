@@ -9,7 +9,6 @@ use crate::bytes::{
     zap_not,
 };
 use crate::counts::{ones, zeros_above, zeros_below};
-use crate::logic::{and, not, or, xor};
 use crate::number::quadword;
 use crate::shifts::{shifted_left, shifted_right, shifted_signed};
 use crate::sums::{
@@ -59,13 +58,13 @@ pub fn operate_at(level: Level, op: Op, a: u64, b: u64, old: u64) -> u64
         Op::Cmpult => u64::from(a < b),
         Op::Cmpule => u64::from(a <= b),
         Op::Cmpbge => compare_bytes(a, b),
-        Op::And => and(a, b),
-        Op::Bis => or(a, b),
-        Op::Xor => xor(a, b),
-        Op::Bic => and(a, not(b)),
-        Op::Ornot => or(a, not(b)),
-        Op::Eqv => xor(a, not(b)),
-        Op::Amask => and(b, not(features(level))),
+        Op::And => a & b,
+        Op::Bis => a | b,
+        Op::Xor => a ^ b,
+        Op::Bic => a & !b,
+        Op::Ornot => a | !b,
+        Op::Eqv => a ^ !b,
+        Op::Amask => b & !features(level),
         Op::Implver => implementation(level),
         Op::Ctpop => ones(b),
         Op::Ctlz => zeros_above(b),

@@ -1,7 +1,6 @@
-use Rattle.std.proofs.Common.{◌^◌, ◌-◌, ◌%◌, ◌*◌, ◌∙◌, ap, arith}
-use Rattle.alpha_values.proofs.ByteLemmas.{extracted_high_is}
+use Rattle.std.proofs.Common.{◌^◌, ◌-◌, ◌%◌, ◌*◌, ◌∙◌, ap}
 use Rattle.alpha_values.proofs.bytes.extract_high.Goals as goal
 
 pub returns : goal.returns
 returns c =
-    c.low_bytes.ensures ∙ (ap (λ n. c.args.a * 2 ^ (8 * ((8 - n) % 8)) % 2 ^ 64 % 2 ^ (8 * c.args.size)) c.place.ensures ∙ extracted_high_is c.args.size c.args.a c.args.b c.requires.most (omega arith))
+    c.low_bytes.ensures ∙ ap (λ n. c.args.a * 2 ^ (8 * ((8 - n) % 8)) % 2 ^ 64 % 2 ^ (8 * c.args.size)) c.place.ensures

@@ -1,6 +1,5 @@
-use Rattle.std.proofs.Common.{◌/◌, ◌∙◌, ap}
-use Rattle.alpha_values.proofs.ByteLemmas.{inserted_high_is}
+use Rattle.std.proofs.Common.{◌/◌, ap}
 use Rattle.alpha_values.proofs.bytes.insert_high.Goals as goal
 
 pub returns : goal.returns
-returns c = ap (λ m. m / 18446744073709551616) c.placed.ensures ∙ inserted_high_is c.args.size c.args.a c.args.b c.requires.most
+returns c = ap (λ m. m / 18446744073709551616) c.placed.ensures

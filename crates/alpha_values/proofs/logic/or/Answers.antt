@@ -1,6 +1,0 @@
-use Rattle.std.proofs.Common.{arith}
-use Rattle.alpha_values.proofs.BitLemmas.{bit_or_is}
-use Rattle.alpha_values.proofs.logic.or.Goals as goal
-
-pub returns : goal.returns
-returns c = bit_or_is c.args.a c.args.b (omega arith) (omega arith)
