@@ -16,7 +16,7 @@ use Rattle.alpha_values.specs.Op.{result_of}
 use Rattle.alpha_values.specs.TrapOp.{overflow_of, completed_of}
 use Rattle.alpha_mem.specs.Fault.{fault_of, each_within}
 use Rattle.alpha_mem.specs.Memory.{bytes_at, write_bytes}
-use Rattle.alpha_pal.specs.Call.{serve, call}
+use Rattle.alpha_pal.specs.Call.{call}
 use Rattle.alpha_image.specs.declared.version.Version.TheVariants as versions
 use Rattle.alpha_image.specs.Layout.{longword}
 use Rattle.alpha_image.specs.Parts.{place_of}
@@ -64,7 +64,7 @@ seen k = record {
 
 -- the run by these words, over an empty input
 unfoldable run : Completion → ℕ → List ℕ → List ℕ → Seen
-unfolding int_wrap digits number reg put class_at decoded memory_form branch_form jump_form operate_form misc_form fetch_form pal_form source_of pairwise is_taken register_of address_of high_address_of access_address result_of overflow_of completed_of fault_of each_within bytes_at write_bytes serve call longword place_of start_memory start_regs fits greatest_below
+unfolding int_wrap digits number reg put class_at decoded memory_form branch_form jump_form operate_form misc_form fetch_form pal_form source_of pairwise is_taken register_of address_of high_address_of access_address result_of overflow_of completed_of fault_of each_within bytes_at write_bytes call longword place_of start_memory start_regs fits greatest_below
 run how n code words = let g = program code how in seen (made g (begun (start g []) None 0 words) n)
 
 abbrev exits : ℕ → List ℕ → ℕ → ℕ → Seen

@@ -14,9 +14,11 @@ use Rattle.alpha_pal.specs.declared.serve.Answer.TheVariants.{Value, Error, Exit
 use Rattle.alpha_pal.specs.declared.serve.Fault.{Fault}
 use Rattle.alpha_pal.specs.declared.serve.Fault.TheVariants.{Input, Sink}
 use Rattle.alpha_pal.specs.Kernel.{KernelState, entered, entry_regs}
-use Rattle.alpha_pal.specs.Call.{Outside, outside, serve, request_of, goes, signals, callsys, call}
+use Rattle.alpha_pal.specs.Call.{Outside, outside, goes, signals, call}
+use Rattle.alpha_pal.specs.Serve.{request_of, after_serve}
 use Rattle.alpha_pal.specs.CallEffect.{ServeEffect, CallEffect, GoesOn, seen, end_of, regs_after}
 use Rattle.alpha_pal.proofs.Serving.{rest_of, Takes-nothing}
+use Rattle.alpha_pal.proofs.Callsys.{callsys-does}
 
 -- a call that leaves memory and devices alone
 GoesOn-quiet : (function : PalCall) (regs regs' : List ℕ) (mem : List Block) (unique unique' : ℕ) (left written : Option (List ℕ)) → ((input output : List ℕ) → call function regs mem (outside unique input output) ≡ goes regs' mem (outside unique' input output)) → GoesOn function (seen regs mem unique left written) (seen regs' mem unique' left written)
@@ -66,10 +68,6 @@ gentrap_signals regs mem o = refl
 
 -- ---- system calls
 
-callsys-does : (regs : List ℕ) (mem : List Block) (o : Outside) → call Callsys regs mem o ≡ callsys regs (serve (request_of regs) mem o)
-unfolding call
-callsys-does regs mem o = refl
-
 -- what the entry changed comes back
 restored_two : (regs : List ℕ) (v flag : ℕ) → length regs ≡ 32 → put (put (put (put (entry_regs regs) 0 v) 19 flag) 29 (reg regs 29)) 30 (reg regs 30) ≡ put (put regs 0 v) 19 flag
 unfolding reg put
@@ -98,7 +96,7 @@ served_effect (Ok (Value v)) regs regs' mem mem' unique left left' written writt
   wrote = h.wrote;
   is = λ output.
       callsys-does regs mem (outside unique (h.taken ++ h.rest) output)
-      ∙ (ap (callsys regs) (h.is unique output)
+      ∙ (ap (after_serve regs) (h.is unique output)
       ∙ ap (λ l. goes l mem' (outside unique h.rest (output ++ h.bytes))) (sym set));
 }
 served_effect (Ok (Error n)) regs regs' mem mem' unique left left' written written' h set = record {
@@ -109,11 +107,11 @@ served_effect (Ok (Error n)) regs regs' mem mem' unique left left' written writt
   wrote = h.wrote;
   is = λ output.
       callsys-does regs mem (outside unique (h.taken ++ h.rest) output)
-      ∙ (ap (callsys regs) (h.is unique output)
+      ∙ (ap (after_serve regs) (h.is unique output)
       ∙ ap (λ l. goes l mem' (outside unique h.rest (output ++ h.bytes))) (sym set));
 }
 served_effect (Ok (Exit v)) regs regs' mem mem' unique left left' written written' h set =
-    (λ o. callsys-does regs mem o ∙ ap (callsys regs) (h.0 o), same_seen regs regs' mem mem' unique left left' written written' set h.1 h.2 h.3)
+    (λ o. callsys-does regs mem o ∙ ap (after_serve regs) (h.0 o), same_seen regs regs' mem mem' unique left left' written written' set h.1 h.2 h.3)
 served_effect (Err Input) regs regs' mem mem' unique left left' written written' h set =
     (refl, h.0, same_seen regs regs' mem' mem' unique left' left' written written' set refl refl h.1)
 served_effect (Err Sink) regs regs' mem mem' unique left left' written written' h set =

@@ -11,7 +11,8 @@ use Rattle.alpha_pal.specs.declared.serve.Request.{Request}
 use Rattle.alpha_pal.specs.declared.serve.Answer.{Answer}
 use Rattle.alpha_pal.specs.declared.serve.Answer.TheVariants.{Value, Error, Exit}
 use Rattle.alpha_pal.specs.Taken.{HasTaken, TakesLess, NothingLeft}
-use Rattle.alpha_pal.specs.Call.{Outside, outside, served, read, write, serve}
+use Rattle.alpha_pal.specs.Call.{Outside, outside}
+use Rattle.alpha_pal.specs.Serve.{served, serve_read, serve_write, serve}
 use Rattle.alpha_pal.specs.CallEffect.{Takes, Serves, TakesPart}
 
 -- ---- what the input has left
@@ -45,13 +46,13 @@ serve-exit : (r : Request) (mem : List Block) (o : Outside) → r.number ≡ 1 �
 unfolding serve
 serve-exit r mem o e = rw e refl
 
-serve-read : (r : Request) (mem : List Block) (o : Outside) → r.number ≡ 3 → serve r mem o ≡ read r mem o
+serves-read : (r : Request) (mem : List Block) (o : Outside) → r.number ≡ 3 → serve r mem o ≡ serve_read r mem o
 unfolding serve
-serve-read r mem o e = rw e refl
+serves-read r mem o e = rw e refl
 
-serve-write : (r : Request) (mem : List Block) (o : Outside) → r.number ≡ 4 → serve r mem o ≡ write r mem o
+serves-write : (r : Request) (mem : List Block) (o : Outside) → r.number ≡ 4 → serve r mem o ≡ serve_write r mem o
 unfolding serve
-serve-write r mem o e = rw e refl
+serves-write r mem o e = rw e refl
 
 serve-none : (r : Request) (mem : List Block) (o : Outside) → r.number ≢ 1 → r.number ≢ 3 → r.number ≢ 4 → serve r mem o ≡ served (Error 78) mem o
 unfolding serve
@@ -80,22 +81,22 @@ Serves-none r mem left written n1 n3 n4 =
 
 -- ---- read
 
-read-descriptor : (r : Request) (mem : List Block) (o : Outside) → r.a0 ≢ 0 → read r mem o ≡ served (Error 9) mem o
+read-descriptor : (r : Request) (mem : List Block) (o : Outside) → r.a0 ≢ 0 → serve_read r mem o ≡ served (Error 9) mem o
 read-descriptor r mem o bad = rw (ne_eqb r.a0 0 bad) refl
 
-read-range : (r : Request) (mem : List Block) (o : Outside) → r.a0 ≡ 0 → within (shapes mem) Store r.a1 r.a2 ≡ false → read r mem o ≡ served (Error 14) mem o
+read-range : (r : Request) (mem : List Block) (o : Outside) → r.a0 ≡ 0 → within (shapes mem) Store r.a1 r.a2 ≡ false → serve_read r mem o ≡ served (Error 14) mem o
 read-range r mem o good bad = rw (good, bad) refl
 
-read-good : (r : Request) (mem : List Block) (o : Outside) → r.a0 ≡ 0 → within (shapes mem) Store r.a1 r.a2 ≡ true → read r mem o ≡ served (Value (length (take r.a2 o.input))) (write_bytes mem r.a1 (take r.a2 o.input)) (outside o.unique (drop r.a2 o.input) o.output)
+read-good : (r : Request) (mem : List Block) (o : Outside) → r.a0 ≡ 0 → within (shapes mem) Store r.a1 r.a2 ≡ true → serve_read r mem o ≡ served (Value (length (take r.a2 o.input))) (write_bytes mem r.a1 (take r.a2 o.input)) (outside o.unique (drop r.a2 o.input) o.output)
 read-good r mem o good range = rw (good, range) refl
 
 pub read_bad_descriptor : (r : Request) (mem : List Block) (left written : Option (List ℕ)) → r.number ≡ 3 → r.a0 ≢ 0 → Serves r (Error 9) mem mem left left written written
 read_bad_descriptor r mem left written number bad =
-    Serves-same r (Error 9) mem left written (λ o. serve-read r mem o number ∙ read-descriptor r mem o bad)
+    Serves-same r (Error 9) mem left written (λ o. serves-read r mem o number ∙ read-descriptor r mem o bad)
 
 pub read_bad_range : (r : Request) (mem : List Block) (left written : Option (List ℕ)) → r.number ≡ 3 → r.a0 ≡ 0 → within (shapes mem) Store r.a1 r.a2 ≡ false → Serves r (Error 14) mem mem left left written written
 read_bad_range r mem left written number good bad =
-    Serves-same r (Error 14) mem left written (λ o. serve-read r mem o number ∙ read-range r mem o good bad)
+    Serves-same r (Error 14) mem left written (λ o. serves-read r mem o number ∙ read-range r mem o good bad)
 
 -- what was taken is the front of as many bytes as were asked for
 take-taken : (taken rest : List ℕ) (n : ℕ) → length taken ≤ n → (length taken < n → rest ≡ []) → take n (taken ++ rest) ≡ taken
@@ -121,7 +122,7 @@ read_done r mem mem' left left' written n number good range h fits ended =
       wrote = Appends-nil written;
       is = λ unique output.
           let o = outside unique (h.taken ++ rest) output in
-          serve-read r mem o number
+          serves-read r mem o number
           ∙ (read-good r mem o good range
           ∙ (ap (λ l. served (Value (length l)) (write_bytes mem r.a1 l) (outside unique (drop r.a2 (h.taken ++ rest)) output)) front
           ∙ (ap (λ l. served (Value (length h.taken)) (write_bytes mem r.a1 h.taken) (outside unique l output)) back
@@ -144,22 +145,22 @@ read_failed r mem mem' left left' number good range h = record {
 
 -- ---- write
 
-write-descriptor : (r : Request) (mem : List Block) (o : Outside) → r.a0 ≢ 1 → write r mem o ≡ served (Error 9) mem o
+write-descriptor : (r : Request) (mem : List Block) (o : Outside) → r.a0 ≢ 1 → serve_write r mem o ≡ served (Error 9) mem o
 write-descriptor r mem o bad = rw (ne_eqb r.a0 1 bad) refl
 
-write-range : (r : Request) (mem : List Block) (o : Outside) → r.a0 ≡ 1 → within (shapes mem) Load r.a1 r.a2 ≡ false → write r mem o ≡ served (Error 14) mem o
+write-range : (r : Request) (mem : List Block) (o : Outside) → r.a0 ≡ 1 → within (shapes mem) Load r.a1 r.a2 ≡ false → serve_write r mem o ≡ served (Error 14) mem o
 write-range r mem o good bad = rw (good, bad) refl
 
-write-good : (r : Request) (mem : List Block) (o : Outside) → r.a0 ≡ 1 → within (shapes mem) Load r.a1 r.a2 ≡ true → write r mem o ≡ served (Value r.a2) mem (outside o.unique o.input (o.output ++ bytes_at mem r.a1 r.a2))
+write-good : (r : Request) (mem : List Block) (o : Outside) → r.a0 ≡ 1 → within (shapes mem) Load r.a1 r.a2 ≡ true → serve_write r mem o ≡ served (Value r.a2) mem (outside o.unique o.input (o.output ++ bytes_at mem r.a1 r.a2))
 write-good r mem o good range = rw (good, range) refl
 
 pub write_bad_descriptor : (r : Request) (mem : List Block) (left written : Option (List ℕ)) → r.number ≡ 4 → r.a0 ≢ 1 → Serves r (Error 9) mem mem left left written written
 write_bad_descriptor r mem left written number bad =
-    Serves-same r (Error 9) mem left written (λ o. serve-write r mem o number ∙ write-descriptor r mem o bad)
+    Serves-same r (Error 9) mem left written (λ o. serves-write r mem o number ∙ write-descriptor r mem o bad)
 
 pub write_bad_range : (r : Request) (mem : List Block) (left written : Option (List ℕ)) → r.number ≡ 4 → r.a0 ≡ 1 → within (shapes mem) Load r.a1 r.a2 ≡ false → Serves r (Error 14) mem mem left left written written
 write_bad_range r mem left written number good bad =
-    Serves-same r (Error 14) mem left written (λ o. serve-write r mem o number ∙ write-range r mem o good bad)
+    Serves-same r (Error 14) mem left written (λ o. serves-write r mem o number ∙ write-range r mem o good bad)
 
 pub write_done : (r : Request) (mem : List Block) (left written written' : Option (List ℕ)) (bytes : List ℕ) → r.number ≡ 4 → r.a0 ≡ 1 → IsTrue (within (shapes mem) Load r.a1 r.a2) → bytes ≡ bytes_at mem r.a1 r.a2 → Appends written written' bytes → Serves r (Value r.a2) mem mem left left written written'
 write_done r mem left written written' bytes number good range these wrote = record {
@@ -170,7 +171,7 @@ write_done r mem left written written' bytes number good range these wrote = rec
   wrote = subst (Appends written written') these wrote;
   is = λ unique output.
       let o = outside unique (rest_of left left) output in
-      serve-write r mem o number ∙ write-good r mem o good range;
+      serves-write r mem o number ∙ write-good r mem o good range;
 }
 
 -- a test that isn't true where another isn't

@@ -6,9 +6,6 @@ use Rattle.alpha_words.specs.Regs.{reg, put}
 use Rattle.alpha_mem.specs.Intent.{Load, Store}
 use Rattle.alpha_mem.specs.Block.{Block, shapes, within}
 use Rattle.alpha_mem.specs.Memory.{bytes_at, write_bytes}
-use Rattle.alpha_pal.specs.declared.serve.Request.{Request}
-use Rattle.alpha_pal.specs.declared.serve.Answer.{Answer}
-use Rattle.alpha_pal.specs.declared.serve.Answer.TheVariants.{Value, Error, Exit}
 
 -- what PAL calls alone change: the unique value, the input still to come, and the output so far
 pub record Outside : Type 0 where
@@ -19,90 +16,38 @@ pub record Outside : Type 0 where
 abbrev pub outside : ℕ → List ℕ → List ℕ → Outside
 outside unique input output = record { unique = unique; input = input; output = output }
 
--- the system calls, by R0
-abbrev pub exit_call : ℕ
-exit_call = 1
-
-abbrev pub read_call : ℕ
-read_call = 3
-
-abbrev pub write_call : ℕ
-write_call = 4
-
--- the descriptors that a read and a write take
-abbrev pub input_descriptor : ℕ
-input_descriptor = 0
-
-abbrev pub output_descriptor : ℕ
-output_descriptor = 1
-
--- the errors
-abbrev pub no_such_call : ℕ
-no_such_call = 78
-
-abbrev pub bad_descriptor : ℕ
-bad_descriptor = 9
-
-abbrev pub bad_range : ℕ
-bad_range = 14
-
--- what a system call answers, and what it leaves of memory and the world outside
-pub record Served : Type 0 where
-  pub answer : Answer
-  pub mem : List Block
-  pub after : Outside
-
-abbrev pub served : Answer → List Block → Outside → Served
-served answer mem after = record { answer = answer; mem = mem; after = after }
-
--- read takes bytes of the input to memory until there are as many as asked for, or the input has ended
-abbrev pub read : Request → List Block → Outside → Served
-read r mem o =
-    if not (r.a0 == input_descriptor) then served (Error bad_descriptor) mem o else
-    if not (within (shapes mem) Store r.a1 r.a2) then served (Error bad_range) mem o else
-    served (Value (length (take r.a2 o.input)))
-    (write_bytes mem r.a1 (take r.a2 o.input))
-    (outside o.unique (drop r.a2 o.input) o.output)
-
--- write puts bytes of memory to the output
-abbrev pub write : Request → List Block → Outside → Served
-write r mem o =
-    if not (r.a0 == output_descriptor) then served (Error bad_descriptor) mem o else
-    if not (within (shapes mem) Load r.a1 r.a2) then served (Error bad_range) mem o else
-    served (Value r.a2) mem (outside o.unique o.input (o.output ++ bytes_at mem r.a1 r.a2))
-
--- a number that is none of the three is no system call
-unfoldable pub serve : Request → List Block → Outside → Served
-serve r mem o =
-    if r.number == exit_call then served (Exit r.a0) mem o else
-    if r.number == read_call then read r mem o else
-    if r.number == write_call then write r mem o else
-    served (Error no_such_call) mem o
-
--- the system call that the registers ask for
-abbrev pub request_of : List ℕ → Request
-request_of regs = record { number = reg regs 0; a0 = reg regs 16; a1 = reg regs 17; a2 = reg regs 18 }
-
--- success leaves the value in R0 and 0 in R19, an error its number in R0 and 1 in R19
-abbrev pub answered : Answer → List ℕ → List ℕ
-answered (Value v) regs = put (put regs 0 v) 19 0
-answered (Error n) regs = put (put regs 0 n) 19 1
-answered (Exit v) regs = regs
-
 -- what a PAL call leaves where the program goes on; or it exits with a value, or a signal with a code
 pub data Called : Type 0 where
   goes : List ℕ → List Block → Outside → Called
   exits : ℕ → Called
   signals : ℕ → Called
 
--- a system call's answer in the registers
-abbrev pub called : Answer → List ℕ → List Block → Outside → Called
-called (Value v) regs mem o = goes (answered (Value v) regs) mem o
-called (Error n) regs mem o = goes (answered (Error n) regs) mem o
-called (Exit v) regs mem o = exits v
+-- a system call's result in R0, and in R19 whether it is an error's number
+abbrev pub answers : ℕ → ℕ → List ℕ → List Block → Outside → Called
+answers result failed regs mem o = goes (put (put regs 0 result) 19 failed) mem o
 
-abbrev pub callsys : List ℕ → Served → Called
-callsys regs s = called s.answer regs s.mem s.after
+-- read takes bytes of the input to memory until there are as many as asked for, or the input has ended. Another descriptor
+-- than 0 is error 9, and a bad range error 14.
+abbrev pub read : ℕ → ℕ → ℕ → List ℕ → List Block → Outside → Called
+read descriptor at count regs mem o =
+    if not (descriptor == 0) then answers 9 1 regs mem o else
+    if not (within (shapes mem) Store at count) then answers 14 1 regs mem o else
+    answers (length (take count o.input)) 0 regs (write_bytes mem at (take count o.input)) (outside o.unique (drop count o.input) o.output)
+
+-- write puts bytes of memory to the output, whose descriptor is 1
+abbrev pub write : ℕ → ℕ → ℕ → List ℕ → List Block → Outside → Called
+write descriptor at count regs mem o =
+    if not (descriptor == 1) then answers 9 1 regs mem o else
+    if not (within (shapes mem) Load at count) then answers 14 1 regs mem o else
+    answers count 0 regs mem (outside o.unique o.input (o.output ++ bytes_at mem at count))
+
+-- the system calls by their numbers, of which there are no others: 1 is exit, 3 is read, 4 is write
+abbrev pub callsys : ℕ → List ℕ → List Block → Outside → Called
+callsys number regs mem o =
+    if number == 1 then exits (reg regs 16) else
+    if number == 3 then read (reg regs 16) (reg regs 17) (reg regs 18) regs mem o else
+    if number == 4 then write (reg regs 16) (reg regs 17) (reg regs 18) regs mem o else
+    answers 78 1 regs mem o
 
 -- the PAL calls
 unfoldable pub call : PalCall → List ℕ → List Block → Outside → Called
@@ -112,4 +57,4 @@ call Gentrap regs mem o = signals 2
 call Imb regs mem o = goes regs mem o
 call Rdunique regs mem o = goes (put regs 0 o.unique) mem o
 call Wrunique regs mem o = goes regs mem (outside (reg regs 16) o.input o.output)
-call Callsys regs mem o = callsys regs (serve (request_of regs) mem o)
+call Callsys regs mem o = callsys (reg regs 0) regs mem o

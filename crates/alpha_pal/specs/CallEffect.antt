@@ -17,7 +17,8 @@ use Rattle.alpha_pal.specs.declared.serve.Answer.TheVariants.{Value, Error, Exit
 use Rattle.alpha_pal.specs.declared.pal_end.PalEnd.{PalEnd}
 use Rattle.alpha_pal.specs.declared.pal_end.PalEnd.TheVariants.{Goes, Exit, Signal, InputFault, SinkFault}
 use Rattle.alpha_pal.specs.Kernel.{KernelState, call_frame}
-use Rattle.alpha_pal.specs.Call.{Outside, outside, read_call, write_call, input_descriptor, output_descriptor, served, serve, request_of, answered, goes, exits, signals, call}
+use Rattle.alpha_pal.specs.Call.{Outside, outside, goes, exits, signals, call}
+use Rattle.alpha_pal.specs.Serve.{read_call, write_call, input_descriptor, output_descriptor, served, serve, request_of, answered}
 
 -- where the input was told, it was `taken` and then `rest`, and `rest` is left
 abbrev pub Takes : Option (List ℕ) → Option (List ℕ) → List ℕ → List ℕ → Type 0

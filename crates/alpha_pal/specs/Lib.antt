@@ -1,5 +1,6 @@
 pub mod Frame
 pub mod Kernel
 pub mod Call
+pub mod Serve
 pub mod Taken
 pub mod CallEffect

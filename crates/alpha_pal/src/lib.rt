@@ -19,10 +19,11 @@
 //!
 //! `specs/Frame.antt` says what the bytes of a frame are, `specs/Kernel.antt` what a clause sees of
 //! the kernel and what the user's registers are, `specs/Call.antt` what each call does,
-//! `specs/Taken.antt` what a read takes, and
-//! `specs/CallEffect.antt` how the code's answer stands to that, for devices that tell their bytes
-//! and for others. `src/frame.rt` has the frame, `src/kernel.rt` entries and returns, `src/call.rt`
-//! the PAL calls, `src/serve.rt` the system calls, and `src/take.rt` the loop of a read.
+//! `specs/Serve.antt` a system call in the parts in which the code makes it, `specs/Taken.antt` what
+//! a read takes, and `specs/CallEffect.antt` how the code's answer stands to that, for devices that
+//! tell their bytes and for others. `src/frame.rt` has the frame, `src/kernel.rt` entries and
+//! returns, `src/call.rt` the PAL calls, `src/serve.rt` the system calls, and `src/take.rt` the loop
+//! of a read.
 #![tactic(auto)]
 
 mod call;

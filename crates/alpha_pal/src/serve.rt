@@ -1,7 +1,7 @@
 ghost use Rattle.std.specs.Prelude.{◌≡◌, ℕ, List, Option};
 ghost use Rattle.alpha_words.specs.Regs.{IsFile};
 ghost use Rattle.alpha_mem.specs.Block.{shapes};
-ghost use Rattle.alpha_pal.specs.Call.{request_of};
+ghost use Rattle.alpha_pal.specs.Serve.{request_of};
 ghost use Rattle.alpha_pal.specs.CallEffect.{ServeEffect, InputCause, SinkCause, end_of, regs_after};
 
 use crate::named::{A0, A1, A2, A3, V0, reg};

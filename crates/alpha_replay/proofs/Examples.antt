@@ -15,7 +15,7 @@ use Rattle.alpha_values.specs.Op.{result_of}
 use Rattle.alpha_values.specs.TrapOp.{overflow_of, completed_of}
 use Rattle.alpha_mem.specs.Fault.{fault_of, each_within}
 use Rattle.alpha_mem.specs.Memory.{bytes_at, write_bytes}
-use Rattle.alpha_pal.specs.Call.{serve, call}
+use Rattle.alpha_pal.specs.Call.{call}
 use Rattle.alpha_image.specs.declared.version.Version.TheVariants as versions
 use Rattle.alpha_image.specs.Layout.{longword}
 use Rattle.alpha_image.specs.Parts.{place_of}
@@ -60,7 +60,7 @@ seen_of (Err n) = Err n
 
 -- what items over an empty input lead to
 unfoldable seen : List Item → Result Seen ℕ
-unfolding int_wrap digits number reg put class_at decoded memory_form branch_form jump_form operate_form misc_form fetch_form pal_form source_of pairwise is_taken register_of address_of high_address_of access_address result_of overflow_of completed_of fault_of each_within bytes_at write_bytes serve call longword place_of start_memory start_regs fits greatest_below
+unfolding int_wrap digits number reg put class_at decoded memory_form branch_form jump_form operate_form misc_form fetch_form pal_form source_of pairwise is_taken register_of address_of high_address_of access_address result_of overflow_of completed_of fault_of each_within bytes_at write_bytes call longword place_of start_memory start_regs fits greatest_below
 seen items = seen_of (listed two_overflows [] items)
 
 -- The second overflow is executed while the first one waits, and adds to the mask. The barrier reports the first, and

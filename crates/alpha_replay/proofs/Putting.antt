@@ -13,7 +13,7 @@ use Rattle.alpha_mem.specs.declared.access.MemFault.{MemFault}
 use Rattle.alpha_mem.specs.Intent.{Load, Store}
 use Rattle.alpha_mem.specs.Block.{Block, shapes, within}
 use Rattle.alpha_mem.specs.Memory.{bytes_at}
-use Rattle.alpha_pal.specs.Call.{Outside, Served, read, write, serve, request_of, Called, goes, exits, signals, callsys, call}
+use Rattle.alpha_pal.specs.Call.{Outside, Called, goes, exits, signals, read, write, callsys, call}
 use Rattle.alpha_trap.specs.Scan.{scan}
 use Rattle.alpha_seq.specs.declared.end.End.TheVariants as ends
 use Rattle.alpha_seq.specs.declared.machine.Machine.{Machine}
@@ -33,16 +33,13 @@ output_of output (goes regs mem o) = o.output
 output_of output (exits v) = output
 output_of output (signals code) = output
 
-abbrev after_call : List ℕ → Outside → Served → List ℕ
-after_call regs o s = output_of o.output (callsys regs s)
-
 no_more : (l : List ℕ) → l ≡ l ++ []
 no_more l = sym (append-nil l)
 
-either : (b : Bool) (x y : Served) (regs : List ℕ) (o : Outside) (l : List ℕ)
-    → (b ≡ true → after_call regs o x ≡ l) → (b ≡ false → after_call regs o y ≡ l) → after_call regs o (cond b x y) ≡ l
-either true x y regs o l p q = p refl
-either false x y regs o l p q = q refl
+either : (b : Bool) (x y : Called) (o : Outside) (l : List ℕ)
+    → (b ≡ true → output_of o.output x ≡ l) → (b ≡ false → output_of o.output y ≡ l) → output_of o.output (cond b x y) ≡ l
+either true x y o l p q = p refl
+either false x y o l p q = q refl
 
 -- a call that isn't a write
 other : (regs : List ℕ) (mem : List Block) (o : Outside) → eqb (reg regs 0) 4 ≡ false
@@ -70,30 +67,26 @@ module _ (regs : List ℕ) (mem : List Block) (o : Outside) where
   abbrev all_asked : List ℕ
   all_asked = asks (eqb (reg regs 0) 4) (eqb (reg regs 16) 1) (within (shapes mem) Load (reg regs 17) (reg regs 18))
 
-  read_puts : eqb (reg regs 0) 4 ≡ false → after_call regs o (read (request_of regs) mem o) ≡ all_asked
+  read_puts : eqb (reg regs 0) 4 ≡ false → output_of o.output (read (reg regs 16) (reg regs 17) (reg regs 18) regs mem o) ≡ all_asked
   read_puts e =
-      let r = request_of regs in
-      either (not (eqb r.a0 0)) _ _ regs o all_asked (λ f. other regs mem o e)
-      (λ f. either (not (within (shapes mem) Store r.a1 r.a2)) _ _ regs o all_asked (λ h. other regs mem o e) (λ h. other regs mem o e))
+      either (not (eqb (reg regs 16) 0)) _ _ o all_asked (λ f. other regs mem o e)
+      (λ f. either (not (within (shapes mem) Store (reg regs 17) (reg regs 18))) _ _ o all_asked (λ h. other regs mem o e) (λ h. other regs mem o e))
 
-  write_puts : after_call regs o (write (request_of regs) mem o) ≡ asks true (eqb (reg regs 16) 1) (within (shapes mem) Load (reg regs 17) (reg regs 18))
+  write_puts : output_of o.output (write (reg regs 16) (reg regs 17) (reg regs 18) regs mem o) ≡ asks true (eqb (reg regs 16) 1) (within (shapes mem) Load (reg regs 17) (reg regs 18))
   write_puts =
-      let r = request_of regs in
       let a = eqb (reg regs 16) 1 in
       let w = within (shapes mem) Load (reg regs 17) (reg regs 18) in
-      either (not (eqb r.a0 1)) _ _ regs o (asks true a w)
+      either (not a) _ _ o (asks true a w)
       (λ e. no_more o.output ∙ ap (λ (b : Bool). asks true b w) (sym (is_false a e)))
-      (λ e. either (not (within (shapes mem) Load r.a1 r.a2)) _ _ regs o (asks true a w)
+      (λ e. either (not w) _ _ o (asks true a w)
       (λ f. no_more o.output ∙ (ap (λ (b : Bool). asks true true b) (sym (is_false w f)) ∙ ap (λ (b : Bool). asks true b w) (sym (is_true a e))))
       (λ f. ap (λ (b : Bool). asks true true b) (sym (is_true w f)) ∙ ap (λ (b : Bool). asks true b w) (sym (is_true a e))))
 
-  serve_puts : after_call regs o (serve (request_of regs) mem o) ≡ all_asked
-  unfolding serve
-  serve_puts =
-      let r = request_of regs in
-      either (eqb r.number 1) _ _ regs o all_asked (λ e. other regs mem o (not_four r.number 1 e refl))
-      (λ e. either (eqb r.number 3) _ _ regs o all_asked (λ f. read_puts (not_four r.number 3 f refl))
-      (λ f. either (eqb r.number 4) _ _ regs o all_asked
+  callsys_puts : output_of o.output (callsys (reg regs 0) regs mem o) ≡ all_asked
+  callsys_puts =
+      either (eqb (reg regs 0) 1) _ _ o all_asked (λ e. other regs mem o (not_four (reg regs 0) 1 e refl))
+      (λ e. either (eqb (reg regs 0) 3) _ _ o all_asked (λ f. read_puts (not_four (reg regs 0) 3 f refl))
+      (λ f. either (eqb (reg regs 0) 4) _ _ o all_asked
       (λ h. write_puts ∙ ap (λ (b : Bool). asks b (eqb (reg regs 16) 1) (within (shapes mem) Load (reg regs 17) (reg regs 18))) (sym h))
       (λ h. other regs mem o h)))
 
@@ -136,7 +129,7 @@ passed_puts Gentrap s = quiet s
 passed_puts Imb s = quiet s
 passed_puts Rdunique s = quiet s
 passed_puts Wrunique s = quiet s
-passed_puts Callsys s = returned_output Callsys (callsys s.regs (serve (request_of s.regs) s.mem s.outside)) s ∙ serve_puts s.regs s.mem s.outside
+passed_puts Callsys s = returned_output Callsys (callsys (reg s.regs 0) s.regs s.mem s.outside) s ∙ callsys_puts s.regs s.mem s.outside
 
 step_puts : (g : Program) (o : Option Class) (s : State) → (step g o s).state.outside.output ≡ s.outside.output ++ puts o s
 step_puts g None s = quiet s

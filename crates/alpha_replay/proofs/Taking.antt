@@ -12,7 +12,7 @@ use Rattle.alpha_mem.specs.Intent.{Load, Store}
 use Rattle.alpha_mem.specs.Block.{Shape, shapes, within}
 use Rattle.alpha_mem.specs.Memory.{bytes_at, write_bytes, IsLayout, IsMemory}
 use Rattle.alpha_mem.proofs.LawLemmas as laws
-use Rattle.alpha_pal.specs.Call.{outside, serve, call}
+use Rattle.alpha_pal.specs.Call.{outside, call}
 use Rattle.alpha_trap.specs.Scan.{scan}
 use Rattle.alpha_seq.specs.declared.end.End.TheVariants as ends
 use Rattle.alpha_seq.specs.declared.machine.Machine.{Machine}
@@ -131,7 +131,7 @@ read_state s = record s {
 }
 
 pub read_is : (g : Program) (o : Option Class) (s : State) → Asks o s → step g o s ≡ stepped (read_state s) Barriered
-unfolding call serve
+unfolding call
 read_is g o s a = rw (a.class, a.number, a.descriptor, a.range) refl
 
 first_put : (regs : List ℕ) (v : ℕ) → length regs ≡ 32 → reg (put (put regs 0 v) 19 0) 0 ≡ v

@@ -6,7 +6,7 @@ use Rattle.alpha_table.specs.Class.{Class, barrier}
 use Rattle.alpha_mem.specs.Block.{shapes, within}
 use Rattle.alpha_mem.specs.Intent.{Load}
 use Rattle.alpha_mem.specs.Memory.{bytes_at}
-use Rattle.alpha_pal.specs.Call.{write_call, output_descriptor}
+use Rattle.alpha_pal.specs.Serve.{write_call, output_descriptor}
 use Rattle.alpha_seq.specs.State.{State}
 use Rattle.alpha_imprecise.specs.Moment.{Trap}
 

@@ -20,7 +20,7 @@ use Rattle.alpha_values.specs.Op.{result_of}
 use Rattle.alpha_values.specs.TrapOp.{overflow_of, completed_of}
 use Rattle.alpha_mem.specs.Fault.{fault_of, each_within}
 use Rattle.alpha_mem.specs.Memory.{bytes_at, write_bytes}
-use Rattle.alpha_pal.specs.Call.{serve, call}
+use Rattle.alpha_pal.specs.Call.{call}
 use Rattle.alpha_image.specs.declared.version.Version.TheVariants as versions
 use Rattle.alpha_image.specs.Layout.{longword}
 use Rattle.alpha_image.specs.Rules.{is_base, data_bases_fit, code_words_fit, data_bytes_fit, zeroed_bytes_fit, stack_bytes_fit, entry_fits, are_apart, regions_fit, level_fits, segments_fit, least_bad_field}
@@ -85,12 +85,12 @@ good_image words fields small fault = record {
 
 -- how the sequential run ends, over an empty input
 unfoldable sequential_end : Completion → List ℕ → Option End
-unfolding int_wrap digits number reg put class_at decoded memory_form branch_form jump_form operate_form misc_form fetch_form pal_form source_of pairwise is_taken register_of address_of high_address_of access_address result_of overflow_of completed_of fault_of each_within bytes_at write_bytes serve call longword place_of start_memory start_regs
+unfolding int_wrap digits number reg put class_at decoded memory_form branch_form jump_form operate_form misc_form fetch_form pal_form source_of pairwise is_taken register_of address_of high_address_of access_address result_of overflow_of completed_of fault_of each_within bytes_at write_bytes call longword place_of start_memory start_regs
 sequential_end how code = (sequential (record { image = image_of code; how = how }) [] 100 false).end
 
 -- how a run by words ends, and the trap that it loses
 unfoldable imprecise_end : Completion → List ℕ → List ℕ → Option End
-unfolding int_wrap digits number reg put class_at decoded memory_form branch_form jump_form operate_form misc_form fetch_form pal_form source_of pairwise is_taken register_of address_of high_address_of access_address result_of overflow_of completed_of fault_of each_within bytes_at write_bytes serve call longword place_of start_memory start_regs fits greatest_below
+unfolding int_wrap digits number reg put class_at decoded memory_form branch_form jump_form operate_form misc_form fetch_form pal_form source_of pairwise is_taken register_of address_of high_address_of access_address result_of overflow_of completed_of fault_of each_within bytes_at write_bytes call longword place_of start_memory start_regs fits greatest_below
 imprecise_end how code words = (imprecise (record { image = image_of code; how = how }) [] words 100 false).end
 
 unfoldable lost : Completion → List ℕ → List ℕ → Option LostTrap
@@ -311,7 +311,7 @@ late_stop-small =
     (more_small false 5 (choosing true 0 ∷ []) (omega arith) (more_small true 0 [] (omega arith) (All-nil IsChoice)))))
 
 unfoldable stopped_run : WildRun
-unfolding int_wrap digits number reg put class_at decoded memory_form branch_form jump_form operate_form misc_form fetch_form pal_form source_of pairwise is_taken register_of address_of high_address_of access_address result_of overflow_of completed_of fault_of each_within bytes_at write_bytes serve call longword place_of start_memory start_regs fits greatest_below
+unfolding int_wrap digits number reg put class_at decoded memory_form branch_form jump_form operate_form misc_form fetch_form pal_form source_of pairwise is_taken register_of address_of high_address_of access_address result_of overflow_of completed_of fault_of each_within bytes_at write_bytes call longword place_of start_memory start_regs fits greatest_below
 stopped_run = let g : Program = record { image = image_of stopping; how = Stop } in run_wild g late_stop (started_wild (start g []))
 
 pub stops_apart : StopsApart

@@ -17,7 +17,7 @@ use Rattle.alpha_values.specs.Op.{result_of}
 use Rattle.alpha_values.specs.TrapOp.{overflow_of, completed_of}
 use Rattle.alpha_mem.specs.Fault.{fault_of, each_within}
 use Rattle.alpha_mem.specs.Memory.{bytes_at, write_bytes}
-use Rattle.alpha_pal.specs.Call.{serve, call}
+use Rattle.alpha_pal.specs.Call.{call}
 use Rattle.alpha_image.specs.declared.version.Version.TheVariants as versions
 use Rattle.alpha_image.specs.Layout.{longword}
 use Rattle.alpha_image.specs.Parts.{place_of}
@@ -45,7 +45,7 @@ program words how = record {
 
 -- how the run of at most so many steps ends, over an empty input
 unfoldable end : Completion → ℕ → List ℕ → Option End
-unfolding int_wrap digits number reg put class_at decoded memory_form branch_form jump_form operate_form misc_form fetch_form pal_form source_of pairwise is_taken register_of address_of high_address_of access_address result_of overflow_of completed_of fault_of each_within bytes_at write_bytes serve call longword place_of start_memory start_regs
+unfolding int_wrap digits number reg put class_at decoded memory_form branch_form jump_form operate_form misc_form fetch_form pal_form source_of pairwise is_taken register_of address_of high_address_of access_address result_of overflow_of completed_of fault_of each_within bytes_at write_bytes call longword place_of start_memory start_regs
 end how n words = (sequential (program words how) [] n false).end
 
 -- how many steps that run has, and what is noted of it

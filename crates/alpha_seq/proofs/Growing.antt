@@ -12,7 +12,8 @@ use Rattle.alpha_mem.specs.declared.access.MemFault.{MemFault}
 use Rattle.alpha_mem.specs.Intent.{Load, Store}
 use Rattle.alpha_mem.specs.Block.{Block, shapes, within}
 use Rattle.alpha_mem.specs.Memory.{bytes_at}
-use Rattle.alpha_pal.specs.Call.{Outside, Served, read, write, serve, request_of, Called, goes, exits, signals, callsys, call}
+use Rattle.alpha_pal.specs.Call.{Outside, Called, goes, exits, signals, call}
+use Rattle.alpha_pal.proofs.Callsys.{callsys-each}
 use Rattle.alpha_seq.specs.State.{Program, State, Stepped}
 use Rattle.alpha_seq.specs.Step.{next_class, step, step_from, unless, overflowed, conditional, matches, lock_block, returned}
 use Rattle.alpha_seq.specs.Run.{Run, Mark, marks_of, is_over, extended_by, advance, after}
@@ -41,29 +42,6 @@ output_of output (goes regs mem o) = o.output
 output_of output (exits v) = output
 output_of output (signals code) = output
 
-abbrev Puts-more : List ℕ → Outside → Served → Type 0
-Puts-more regs o s = Grows o.output (output_of o.output (callsys regs s))
-
-cond-more : (b : Bool) (x y : Served) (regs : List ℕ) (o : Outside) → Puts-more regs o x → Puts-more regs o y → Puts-more regs o (cond b x y)
-cond-more true x y regs o p q = p
-cond-more false x y regs o p q = q
-
-read-more : (regs : List ℕ) (mem : List Block) (o : Outside) → Puts-more regs o (read (request_of regs) mem o)
-read-more regs mem o =
-    let r = request_of regs in
-    cond-more (not (eqb r.a0 0)) _ _ regs o (Grows-same o.output) (cond-more (not (within (shapes mem) Store r.a1 r.a2)) _ _ regs o (Grows-same o.output) (Grows-same o.output))
-
-write-more : (regs : List ℕ) (mem : List Block) (o : Outside) → Puts-more regs o (write (request_of regs) mem o)
-write-more regs mem o =
-    let r = request_of regs in
-    cond-more (not (eqb r.a0 1)) _ _ regs o (Grows-same o.output) (cond-more (not (within (shapes mem) Load r.a1 r.a2)) _ _ regs o (Grows-same o.output) (Grows-by o.output (bytes_at mem r.a1 r.a2)))
-
-serve-more : (regs : List ℕ) (mem : List Block) (o : Outside) → Puts-more regs o (serve (request_of regs) mem o)
-unfolding serve
-serve-more regs mem o =
-    let r = request_of regs in
-    cond-more (eqb r.number 1) _ _ regs o (Grows-same o.output) (cond-more (eqb r.number 3) _ _ regs o (read-more regs mem o) (cond-more (eqb r.number 4) _ _ regs o (write-more regs mem o) (Grows-same o.output)))
-
 call-more : (function : PalCall) (regs : List ℕ) (mem : List Block) (o : Outside) → Grows o.output (output_of o.output (call function regs mem o))
 unfolding call
 call-more Bpt regs mem o = Grows-same o.output
@@ -72,7 +50,9 @@ call-more Gentrap regs mem o = Grows-same o.output
 call-more Imb regs mem o = Grows-same o.output
 call-more Rdunique regs mem o = Grows-same o.output
 call-more Wrunique regs mem o = Grows-same o.output
-call-more Callsys regs mem o = serve-more regs mem o
+call-more Callsys regs mem o =
+    let same = Grows-same o.output in
+    callsys-each (λ c. Grows o.output (output_of o.output c)) regs mem o same (λ n. same) same (Grows-by o.output (bytes_at mem (reg regs 17) (reg regs 18)))
 
 -- ---- steps
 
@@ -164,5 +144,5 @@ after-begins g s (suc m) n h =
 pub wrote_all : (g : Program) (s : State) → next_class g s.pc ≡ Some (barrier (Some Callsys))
     → reg s.regs 0 ≡ 4 → reg s.regs 16 ≡ 1 → within (shapes s.mem) Load (reg s.regs 17) (reg s.regs 18) ≡ true
     → (step_from g s).state.outside.output ≡ s.outside.output ++ bytes_at s.mem (reg s.regs 17) (reg s.regs 18)
-unfolding call serve
+unfolding call
 wrote_all g s class number descriptor range = rw (class, number, descriptor, range) refl

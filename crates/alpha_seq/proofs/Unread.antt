@@ -14,7 +14,7 @@ use Rattle.alpha_mem.specs.declared.access.MemFault.{MemFault}
 use Rattle.alpha_mem.specs.Intent.{Load, Store}
 use Rattle.alpha_mem.specs.Block.{shapes, within}
 use Rattle.alpha_mem.specs.Fault.{fault_of}
-use Rattle.alpha_pal.specs.Call.{Served, read, write, serve, request_of, callsys, call}
+use Rattle.alpha_pal.specs.Call.{Called, read, write, callsys, call}
 use Rattle.alpha_seq.specs.State.{Program, State, Event, Went, Barriered, Overflowed, Ends, Stepped, stepped}
 use Rattle.alpha_seq.specs.Step.{next_class, setting, accessed, went, trap, step, step_from, unless, overflowed, conditional, matches, lock_block, returned}
 use Rattle.alpha_seq.specs.Run.{Run, Mark, started, is_over, extended_by, advance, after, marks_of}
@@ -47,22 +47,19 @@ conditional-over i false at ra s = refl
 
 -- ---- system calls
 
--- what comes of a system call's answer
-abbrev after_call : State → Served → Stepped
-after_call s answer = returned Callsys (callsys s.regs answer) s
+-- what comes of a system call over another input
+abbrev SameCalled : List ℕ → State → Called → Called → Type 0
+SameCalled i s x y = returned Callsys x (over_input i s) ≡ over_stepped i (returned Callsys y s)
 
-abbrev SameServed : List ℕ → State → Served → Served → Type 0
-SameServed i s x y = after_call (over_input i s) x ≡ over_stepped i (after_call s y)
-
-cond-served : (i : List ℕ) (s : State) (b : Bool) (x y u v : Served) → (b ≡ true → SameServed i s x u) → (b ≡ false → SameServed i s y v) → SameServed i s (cond b x y) (cond b u v)
-cond-served i s true x y u v p q = p refl
-cond-served i s false x y u v p q = q refl
+cond-called : (i : List ℕ) (s : State) (b : Bool) (x y u v : Called) → (b ≡ true → SameCalled i s x u) → (b ≡ false → SameCalled i s y v) → SameCalled i s (cond b x y) (cond b u v)
+cond-called i s true x y u v p q = p refl
+cond-called i s false x y u v p q = q refl
 
 read-over : (i : List ℕ) (s : State) → (eqb (reg s.regs 16) 0 && within (shapes s.mem) Store (reg s.regs 17) (reg s.regs 18)) ≡ false
-    → SameServed i s (read (request_of s.regs) s.mem (over_input i s).outside) (read (request_of s.regs) s.mem s.outside)
+    → SameCalled i s (read (reg s.regs 16) (reg s.regs 17) (reg s.regs 18) s.regs s.mem (over_input i s).outside) (read (reg s.regs 16) (reg s.regs 17) (reg s.regs 18) s.regs s.mem s.outside)
 read-over i s quiet =
-    cond-served i s (not (eqb (reg s.regs 16) 0)) _ _ _ _ (λ e. refl)
-    (λ given. cond-served i s (not (within (shapes s.mem) Store (reg s.regs 17) (reg s.regs 18))) _ _ _ _ (λ e. refl)
+    cond-called i s (not (eqb (reg s.regs 16) 0)) _ _ _ _ (λ e. refl)
+    (λ given. cond-called i s (not (within (shapes s.mem) Store (reg s.regs 17) (reg s.regs 18))) _ _ _ _ (λ e. refl)
     (λ range. absurd (both (eqb (reg s.regs 16) 0) (within (shapes s.mem) Store (reg s.regs 17) (reg s.regs 18)) given range quiet)))
   where
     both : (a b : Bool) → not a ≡ false → not b ≡ false → (a && b) ≡ false → ⊥
@@ -70,20 +67,20 @@ read-over i s quiet =
     both true false p q e = cc
     both false b p q e = cc
 
-write-over : (i : List ℕ) (s : State) → SameServed i s (write (request_of s.regs) s.mem (over_input i s).outside) (write (request_of s.regs) s.mem s.outside)
+write-over : (i : List ℕ) (s : State)
+    → SameCalled i s (write (reg s.regs 16) (reg s.regs 17) (reg s.regs 18) s.regs s.mem (over_input i s).outside) (write (reg s.regs 16) (reg s.regs 17) (reg s.regs 18) s.regs s.mem s.outside)
 write-over i s =
-    cond-served i s (not (eqb (reg s.regs 16) 1)) _ _ _ _ (λ e. refl)
-    (λ given. cond-served i s (not (within (shapes s.mem) Load (reg s.regs 17) (reg s.regs 18))) _ _ _ _ (λ e. refl) (λ e. refl))
+    cond-called i s (not (eqb (reg s.regs 16) 1)) _ _ _ _ (λ e. refl)
+    (λ given. cond-called i s (not (within (shapes s.mem) Load (reg s.regs 17) (reg s.regs 18))) _ _ _ _ (λ e. refl) (λ e. refl))
 
 -- by the tests of its registers: which call it is, the descriptor, and the range
 callsys-over : (i : List ℕ) (s : State) → takes_input (Some (barrier (Some Callsys))) s ≡ false
-    → SameServed i s (serve (request_of s.regs) s.mem (over_input i s).outside) (serve (request_of s.regs) s.mem s.outside)
-unfolding serve
+    → SameCalled i s (callsys (reg s.regs 0) s.regs s.mem (over_input i s).outside) (callsys (reg s.regs 0) s.regs s.mem s.outside)
 callsys-over i s quiet =
-    cond-served i s (eqb (reg s.regs 0) 1) _ _ _ _ (λ e. refl)
-    (λ e. cond-served i s (eqb (reg s.regs 0) 3) _ _ _ _
+    cond-called i s (eqb (reg s.regs 0) 1) _ _ _ _ (λ e. refl)
+    (λ e. cond-called i s (eqb (reg s.regs 0) 3) _ _ _ _
     (λ reads. read-over i s (one (eqb (reg s.regs 0) 3) (eqb (reg s.regs 16) 0) (within (shapes s.mem) Store (reg s.regs 17) (reg s.regs 18)) reads quiet))
-    (λ e. cond-served i s (eqb (reg s.regs 0) 4) _ _ _ _ (λ writes. write-over i s) (λ e. refl)))
+    (λ e. cond-called i s (eqb (reg s.regs 0) 4) _ _ _ _ (λ writes. write-over i s) (λ e. refl)))
   where
     one : (a b c : Bool) → a ≡ true → ((a && b) && c) ≡ false → (b && c) ≡ false
     one true b c p e = e

@@ -11,7 +11,8 @@ use Rattle.alpha_table.specs.Class.{Class, barrier}
 use Rattle.alpha_mem.specs.Intent.{Store}
 use Rattle.alpha_mem.specs.Block.{shapes, within}
 use Rattle.alpha_pal.specs.Kernel.{KernelState}
-use Rattle.alpha_pal.specs.Call.{outside, read_call, input_descriptor}
+use Rattle.alpha_pal.specs.Call.{outside}
+use Rattle.alpha_pal.specs.Serve.{read_call, input_descriptor}
 use Rattle.alpha_seq.specs.declared.end.End.{End}
 use Rattle.alpha_seq.specs.declared.end.RunEnd.{RunEnd}
 use Rattle.alpha_seq.specs.declared.end.RunEnd.TheVariants as runs

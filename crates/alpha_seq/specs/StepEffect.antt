@@ -4,7 +4,7 @@ use Rattle.alpha_words.specs.declared.PalCall.TheVariants.{Callsys}
 use Rattle.alpha_table.specs.Class.{barrier}
 use Rattle.alpha_io.specs.Faults.{Rose}
 use Rattle.alpha_io.specs.Sunk.{Sunk, Puts, Partly, HasFailed}
-use Rattle.alpha_pal.specs.Call.{request_of}
+use Rattle.alpha_pal.specs.Serve.{request_of}
 use Rattle.alpha_pal.specs.CallEffect.{TakesPart, PutsPart}
 use Rattle.alpha_seq.specs.declared.end.StepEnd.{StepEnd}
 use Rattle.alpha_seq.specs.declared.end.StepEnd.TheVariants as steps

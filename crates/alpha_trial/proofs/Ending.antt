@@ -21,7 +21,7 @@ use Rattle.alpha_mem.specs.Intent.{Load, Store}
 use Rattle.alpha_mem.specs.Block.{Block, shapes, within}
 use Rattle.alpha_mem.specs.Fault.{fault_of}
 use Rattle.alpha_mem.specs.Memory.{bytes_at, write_bytes}
-use Rattle.alpha_pal.specs.Call.{Outside, outside, Called, goes, exits, serve, call}
+use Rattle.alpha_pal.specs.Call.{Outside, outside, Called, goes, exits, call}
 use Rattle.alpha_image.specs.Parts.{Parts}
 use Rattle.alpha_seq.specs.declared.end.End.TheVariants.{Exit}
 use Rattle.alpha_seq.specs.State.{State, Stepped, stepped, Ends}
@@ -140,11 +140,11 @@ store_leaves image facts mem out s at none h =
 wrote : (regs : List ℕ) (mem : List Block) (o : Outside) → reg regs 0 ≡ 4 → reg regs 16 ≡ 1 → reg regs 17 ≡ data_base → reg regs 18 ≡ 8
     → within (shapes mem) Load data_base 8 ≡ true
     → call Callsys regs mem o ≡ goes (put (put regs 0 8) 19 0) mem (outside o.unique o.input (o.output ++ bytes_at mem data_base 8))
-unfolding call serve
+unfolding call
 wrote regs mem o number a0 a1 a2 readable = rw (number, a0, a1, a2, readable) refl
 
 exited : (regs : List ℕ) (mem : List Block) (o : Outside) → reg regs 0 ≡ 1 → reg regs 16 ≡ 0 → call Callsys regs mem o ≡ exits 0
-unfolding call serve
+unfolding call
 exited regs mem o number a0 = rw (number, a0) refl
 
 write_leaves : (image : Parts) (mem : List Block) (out : List ℕ) (s : State) → HoldsEight mem → Holds facts6 mem out s

@@ -1,4 +1,5 @@
 use Rattle.alpha_pal.proofs.LawLemmas.{shapes-call, length-call, GoesOnTold-from}
+use Rattle.alpha_pal.proofs.Callsys.{callsys-does}
 use Rattle.alpha_pal.proofs.laws.laws_of_calls.Goals as goal
 
 pub returns-clause-shapes : goal.returns-clause-shapes
@@ -6,6 +7,9 @@ returns-clause-shapes c = shapes-call
 
 pub returns-clause-registers : goal.returns-clause-registers
 returns-clause-registers c = length-call
+
+pub returns-clause-served : goal.returns-clause-served
+returns-clause-served c = callsys-does
 
 pub returns-clause-told : goal.returns-clause-told
 returns-clause-told c = GoesOnTold-from
