@@ -17,7 +17,8 @@ use Rattle.alpha_table.proofs.Decoding.{decoded-Row, Row-decoded, same_word, IsI
 use Rattle.alpha_table.proofs.Words.{encoded-Row}
 use Rattle.alpha_table.proofs.Classes.{class_at-decoded}
 use Rattle.alpha_table.proofs.Levels.{level_in-decoded}
-use Rattle.alpha_image.specs.Parts.{IsWithin, IsCodeWord, IsCodeInsn}
+use Rattle.alpha_image.specs.Parts.{IsWithin, IsCodeWord}
+use Rattle.alpha_image.specs.Insns.{IsCodeInsn}
 
 -- the word of an instruction stands for it
 pub decoded-encoded : (i : Form) → IsInsn i → decoded (encoded i) ≡ Some i

@@ -15,7 +15,8 @@ use Rattle.alpha_table.specs.Decoded.{decoded}
 use Rattle.alpha_table.specs.Columns.{level_of}
 use Rattle.alpha_table.proofs.Levels.{level_in-decoded}
 use Rattle.alpha_image.specs.declared.fault.ImageFault.TheVariants.{BadWord}
-use Rattle.alpha_image.specs.Layout.{words_of, longword, longword_at}
+use Rattle.alpha_image.specs.Layout.{longword}
+use Rattle.alpha_image.specs.Reading.{words_of, longword_at}
 use Rattle.alpha_words.specs.Levels.{level_number}
 use Rattle.alpha_image.specs.Parts.{IsCodeWord, IsWithin}
 use Rattle.alpha_image.proofs.Numbers.{IsBytes, longword_at-lt, IsBytes-take, longword-longword_at, longword_at-front, length-longword}

@@ -11,7 +11,10 @@ use Rattle.std.proofs.lemmas.List.Kept.{AllPairs-cons}
 use Rattle.alpha_image.specs.declared.region.Region.{Region}
 use Rattle.alpha_image.specs.declared.segment.Segment.{Segment}
 use Rattle.alpha_image.specs.Numbers.{Numbers}
-use Rattle.alpha_image.specs.Rules.{AreApart, regions, size_of_segment, IsBase, DataBasesFit, CodeWordsFit, DataBytesFit, ZeroedBytesFit, StackBytesFit, EntryFits, RegionsFit, LevelFits, SegmentsFit, FieldsFit, TestsDecide, is_base, rise, data_bases_fit, code_words_fit, data_bytes_fit, zeroed_bytes_fit, stack_bytes_fit, entry_fits, are_apart, all_apart, regions_fit, level_fits, segments_fit, unless, least_bad_field}
+use Rattle.alpha_image.specs.Rules.{AreApart, regions, size_of_segment, IsBase, FieldsFit}
+use Rattle.alpha_image.specs.TestsDecide.{DataBasesFit, CodeWordsFit, DataBytesFit, ZeroedBytesFit, StackBytesFit, EntryFits, RegionsFit, LevelFits, SegmentsFit, TestsDecide}
+use Rattle.alpha_image.specs.FieldTests.{is_base, rise, data_bases_fit, code_words_fit, data_bytes_fit, zeroed_bytes_fit, stack_bytes_fit, entry_fits, are_apart, all_apart, regions_fit, level_fits, segments_fit, least_bad_field}
+use Rattle.alpha_image.specs.FirstOf.{unless}
 
 is_base_decides : (base : ℕ) → IsTrue (is_base base) ↔ IsBase base
 unfolding is_base

@@ -13,11 +13,17 @@ use Rattle.alpha_image.specs.declared.fault.ImageFault.TheVariants.{Short, Magic
 use Rattle.alpha_image.specs.declared.version.Version.{Version}
 use Rattle.alpha_image.specs.declared.version.Version.TheVariants.{One, Two}
 use Rattle.alpha_image.specs.Numbers.{Numbers}
-use Rattle.alpha_image.specs.Layout.{magic, longword, words_of, front, front_size, version_of, numbers_in, numbers_of, size_of, filled_size, behind_front, words_in, data_in}
-use Rattle.alpha_image.specs.Rules.{unless, FieldsFit, LevelFits, least_bad_field}
+use Rattle.alpha_image.specs.Layout.{magic, longword, front, filled_size}
+use Rattle.alpha_image.specs.Reading.{words_of, front_size, version_of, numbers_in, numbers_of, size_of, behind_front, words_in, data_in, numbered_level}
+use Rattle.alpha_image.specs.Rules.{FieldsFit}
+use Rattle.alpha_image.specs.FirstOf.{unless}
+use Rattle.alpha_image.specs.TestsDecide.{LevelFits}
+use Rattle.alpha_image.specs.FieldTests.{least_bad_field}
 use Rattle.alpha_words.specs.Levels.{level_number}
-use Rattle.alpha_image.specs.Parts.{Parts, SuitsVersion, numbers, numbered_level, parts_with, parts_of, IsImage, IsCodeWord, IsByte, spelling, HasForm}
-use Rattle.alpha_image.specs.ImageFault.{word_fault, field_fault, front_fault, form_fault, first_fault, parts_fault, Refuses}
+use Rattle.alpha_image.specs.Parts.{Parts, SuitsVersion, numbers, IsImage, IsCodeWord, IsByte, spelling}
+use Rattle.alpha_image.specs.PartsOf.{parts_with, parts_of, HasForm}
+use Rattle.alpha_image.specs.ImageFault.{word_fault, field_fault, front_fault, form_fault, first_fault}
+use Rattle.alpha_image.specs.Tells.{parts_fault, Refuses}
 use Rattle.alpha_image.proofs.Numbers.{IsBytes, IsBytes-take, IsBytes-drop}
 use Rattle.alpha_image.proofs.Fronts.{front-numbers_in}
 use Rattle.alpha_image.proofs.FieldRules.{option_or-none, unless-none, FieldsFit-least}

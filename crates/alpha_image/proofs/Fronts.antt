@@ -8,8 +8,10 @@ use Rattle.alpha_image.specs.declared.segment.Segment.{Segment}
 use Rattle.alpha_image.specs.declared.version.Version.{Version}
 use Rattle.alpha_image.specs.declared.version.Version.TheVariants.{One, Two}
 use Rattle.alpha_image.specs.Numbers.{Numbers}
-use Rattle.alpha_image.specs.Layout.{magic, version_of, quadword, longword, quadword_at, longword_at, segment_numbers, segment_in, segments_in, first_segment, front, front_size, numbers_in}
-use Rattle.alpha_image.specs.Rules.{FieldsFit, LevelFits, size_of_segment}
+use Rattle.alpha_image.specs.Layout.{magic, quadword, longword, segment_numbers, first_segment, front}
+use Rattle.alpha_image.specs.Reading.{version_of, quadword_at, longword_at, segment_in, segments_in, front_size, numbers_in}
+use Rattle.alpha_image.specs.Rules.{FieldsFit, size_of_segment}
+use Rattle.alpha_image.specs.TestsDecide.{LevelFits}
 use Rattle.alpha_image.specs.Parts.{SuitsVersion}
 use Rattle.alpha_image.proofs.Numbers.{IsBytes, IsBytes-drop, quadword_at-front, longword_at-front, drop-quadword, drop-longword}
 use Rattle.alpha_image.proofs.SegmentLists.{length-segments_in}

@@ -6,7 +6,8 @@ use Rattle.std.proofs.lemmas.List.{drop_at, drop-drop, take-append-drop, get_or-
 use Rattle.std.proofs.lemmas.Bool.{cases_lt}
 use Rattle.byteorder.specs.Endian.{little_from}
 use Rattle.byteorder.specs.Numbers.{little_from-cons, little_from-lt, little_number-reads_back}
-use Rattle.alpha_image.specs.Layout.{quadword, longword, quadword_at, longword_at}
+use Rattle.alpha_image.specs.Layout.{quadword, longword}
+use Rattle.alpha_image.specs.Reading.{quadword_at, longword_at}
 
 abbrev pub IsBytes : List ℕ → Type 0
 IsBytes bytes = (i : ℕ) → get_or bytes i 0 < 256

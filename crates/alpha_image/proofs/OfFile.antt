@@ -6,9 +6,10 @@ use Rattle.alpha_table.specs.Decoded.{decoded}
 use Rattle.alpha_table.specs.Encoded.{encoded}
 use Rattle.alpha_image.specs.declared.version.Version.{Version}
 use Rattle.alpha_image.specs.Numbers.{Numbers}
-use Rattle.alpha_image.specs.Layout.{words_of, words_in, data_in, front_size, version_of, numbers_of, size_of}
+use Rattle.alpha_image.specs.Reading.{words_of, words_in, data_in, front_size, version_of, numbers_of, size_of, numbered_level}
 use Rattle.alpha_image.specs.Rules.{FieldsFit}
-use Rattle.alpha_image.specs.Parts.{IsImage, HasForm, numbered_level, numbers, parts_with, parts_of}
+use Rattle.alpha_image.specs.Parts.{IsImage, numbers}
+use Rattle.alpha_image.specs.PartsOf.{HasForm, parts_with, parts_of}
 use Rattle.alpha_image.specs.ImageFault.{word_fault}
 use Rattle.alpha_image.proofs.Numbers.{IsBytes}
 use Rattle.alpha_image.proofs.CodeInsns.{words_of_insns}

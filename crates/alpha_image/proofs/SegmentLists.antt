@@ -5,7 +5,8 @@ use Rattle.std.proofs.lemmas.List.{drop-drop}
 use Rattle.std.proofs.lemmas.List.Sums.{sum_by-le-sum_by, sum_by-take-le}
 use Rattle.alpha_image.specs.declared.segment.Segment.{Segment}
 use Rattle.alpha_image.specs.Numbers.{Numbers}
-use Rattle.alpha_image.specs.Layout.{filled_size, segment_in, segments_in}
+use Rattle.alpha_image.specs.Layout.{filled_size}
+use Rattle.alpha_image.specs.Reading.{segment_in, segments_in}
 use Rattle.alpha_image.specs.Rules.{FieldsFit, size_of_segment}
 
 pub filled_size-le : (segments : List Segment) → filled_size segments ≤ sum_by size_of_segment segments

@@ -8,11 +8,15 @@ use Rattle.alpha_words.specs.declared.Level.TheVariants as levels
 use Rattle.alpha_image.specs.declared.version.Version.{Version}
 use Rattle.alpha_image.specs.declared.version.Version.TheVariants.{One, Two}
 use Rattle.alpha_image.specs.Numbers.{Numbers}
-use Rattle.alpha_image.specs.Layout.{longword, words_of, front, front_size, version_of, numbers_in, numbers_of, size_of, behind_front, words_in, data_in}
-use Rattle.alpha_image.specs.Rules.{FieldsFit, least_bad_field}
+use Rattle.alpha_image.specs.Layout.{longword, front}
+use Rattle.alpha_image.specs.Reading.{words_of, front_size, version_of, numbers_in, numbers_of, size_of, behind_front, words_in, data_in, numbered_level}
+use Rattle.alpha_image.specs.Rules.{FieldsFit}
+use Rattle.alpha_image.specs.FieldTests.{least_bad_field}
 use Rattle.alpha_words.specs.Levels.{level_number}
-use Rattle.alpha_image.specs.Parts.{Parts, numbers, numbered_level, parts_with, parts_of, IsImage, spelling}
-use Rattle.alpha_image.specs.ImageFault.{field_fault, front_fault, form_fault, first_fault, parts_fault, word_fault}
+use Rattle.alpha_image.specs.Parts.{Parts, numbers, IsImage, spelling}
+use Rattle.alpha_image.specs.PartsOf.{parts_with, parts_of}
+use Rattle.alpha_image.specs.ImageFault.{field_fault, front_fault, form_fault, first_fault, word_fault}
+use Rattle.alpha_image.specs.Tells.{parts_fault}
 use Rattle.alpha_image.proofs.Fronts.{numbers_in-front, version_of-front, length-front, count-front, starts_with-front}
 use Rattle.alpha_image.proofs.FieldRules.{least-FieldsFit}
 use Rattle.alpha_image.proofs.CodeWords.{words_of-flat_map, length-flat_map_longword, word_fault-All}

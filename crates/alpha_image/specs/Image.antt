@@ -4,7 +4,8 @@ use Rattle.alpha_table.specs.Decoded.{decoded}
 use Rattle.alpha_table.specs.Encoded.{encoded}
 use Rattle.alpha_image.specs.declared.image.Image.TheInside.{Inside}
 use Rattle.alpha_image.specs.Header.{header_numbers}
-use Rattle.alpha_image.specs.Parts.{Parts, IsImage, numbers, parts_with}
+use Rattle.alpha_image.specs.Parts.{Parts, IsImage, numbers}
+use Rattle.alpha_image.specs.PartsOf.{parts_with}
 
 -- the code words are those of the instructions, and the data bytes stand behind the front of the bytes
 abbrev pub parts_in : Inside → Parts

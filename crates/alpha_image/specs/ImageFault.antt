@@ -1,5 +1,5 @@
--- The first fault of bytes that spell no image, and of parts that make none.
-use Rattle.std.specs.Prelude.{◌≡◌, ℕ, ◌+◌, ◌*◌, ◌==◌, Bool, false, not, nat_eq, nat_le, List, [], ◌∷◌, length, slice_index, Option, Some, None, position, Result, Ok, Err}
+-- The first fault of bytes that spell no image.
+use Rattle.std.specs.Prelude.{ℕ, ◌+◌, ◌*◌, ◌==◌, Bool, false, not, nat_eq, nat_le, List, [], ◌∷◌, length, slice_index, Option, Some, None, position}
 use Rattle.std.specs.List.{starts_with}
 use Rattle.std.specs.Option.{option_map, option_or}
 use Rattle.alpha_words.specs.declared.Level.{Level}
@@ -9,12 +9,13 @@ use Rattle.alpha_table.specs.Columns.{level_of}
 use Rattle.alpha_image.specs.declared.version.Version.{Version}
 use Rattle.alpha_image.specs.declared.version.Version.TheVariants.{One, Two}
 use Rattle.alpha_image.specs.declared.fault.ImageFault.{ImageFault}
-use Rattle.alpha_image.specs.declared.fault.ImageFault.TheVariants.{Short, Magic, Field, Length, BadWord, NoMemory}
+use Rattle.alpha_image.specs.declared.fault.ImageFault.TheVariants.{Short, Magic, Field, Length, BadWord}
 use Rattle.alpha_image.specs.Numbers.{Numbers}
-use Rattle.alpha_image.specs.Layout.{magic, longword_at, version_of, numbers_of, size_of, words_in}
-use Rattle.alpha_image.specs.Rules.{unless, first_of, least_bad_field}
+use Rattle.alpha_image.specs.Layout.{magic}
+use Rattle.alpha_image.specs.Reading.{longword_at, version_of, numbers_of, size_of, words_in, numbered_level}
+use Rattle.alpha_image.specs.FirstOf.{unless, first_of}
+use Rattle.alpha_image.specs.FieldTests.{least_bad_field}
 use Rattle.alpha_words.specs.Levels.{level_number}
-use Rattle.alpha_image.specs.Parts.{numbered_level}
 
 -- there is an instruction, and at the level
 abbrev pub is_there : Level → Option Form → Bool
@@ -61,17 +62,3 @@ form_fault bytes =
 -- the first fault of bytes
 unfoldable pub first_fault : List ℕ → Option ImageFault
 first_fault bytes = option_or (form_fault bytes) (word_fault (numbered_level (numbers_of bytes).level) (words_in bytes))
-
--- the first fault of numbers and words that an image is to be made of
-unfoldable pub parts_fault : Numbers → List ℕ → Option ImageFault
-parts_fault n words = option_or (field_fault n) (word_fault (numbered_level n.level) words)
-
--- A refusal is the fault. Memory runs out only where there is no fault.
-abbrev pub Refuses : ImageFault → Option ImageFault → Type 0
-Refuses NoMemory fault = fault ≡ None
-Refuses e fault = fault ≡ Some e
-
--- there is no fault where the result is `Ok`, and else it is refused for that fault
-abbrev pub Tells : {X : Type 0} → Result X ImageFault → Option ImageFault → Type 0
-Tells (Ok x) fault = fault ≡ None
-Tells (Err e) fault = Refuses e fault

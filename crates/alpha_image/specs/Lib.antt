@@ -1,7 +1,15 @@
 pub mod Numbers
+pub mod Fields
 pub mod Rules
+pub mod FirstOf
+pub mod FieldTests
+pub mod TestsDecide
 pub mod Layout
+pub mod Reading
 pub mod Parts
+pub mod PartsOf
+pub mod Insns
 pub mod ImageFault
+pub mod Tells
 pub mod Header
 pub mod Image

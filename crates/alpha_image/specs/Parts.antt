@@ -2,18 +2,14 @@
 use Rattle.std.specs.Prelude.{◌≡◌, ◌++◌, drop, take, ℕ, ◌+◌, ◌*◌, ◌-◌, ◌/◌, ◌%◌, ◌^◌, ◌<◌, ◌≤◌, List, [], ◌∷◌, length, All, IsSomeAnd, Option, Some, None, ◌==◌, ◌&&◌, nat_le, nat_lt, if◌then◌else◌}
 use Rattle.std.specs.List.{flat_map}
 use Rattle.alpha_words.specs.declared.Level.{Level}
-use Rattle.alpha_words.specs.declared.Level.TheVariants as levels
 use Rattle.alpha_words.specs.Levels.{level_number}
-use Rattle.alpha_table.specs.declared.form.Form.{Form}
-use Rattle.alpha_table.specs.Row.{IsInsn}
 use Rattle.alpha_table.specs.Words.{class_in, level_in}
-use Rattle.alpha_table.specs.Columns.{level_of}
 use Rattle.alpha_image.specs.declared.segment.Segment.{Segment}
 use Rattle.alpha_image.specs.declared.version.Version.{Version}
 use Rattle.alpha_image.specs.declared.version.Version.TheVariants.{One, Two}
 use Rattle.alpha_image.specs.Numbers.{Numbers}
 use Rattle.alpha_image.specs.Rules.{FieldsFit}
-use Rattle.alpha_image.specs.Layout.{magic, longword, front, version_of, numbers_of, size_of, filled_size, words_in, data_in}
+use Rattle.alpha_image.specs.Layout.{longword, front, filled_size}
 
 -- The version, the level, addresses, how many stack bytes, the data segments, the code words, and the data bytes
 -- of all segments in order.
@@ -26,14 +22,6 @@ pub record Parts : Type 0 where
   pub segments : List Segment
   pub words : List ℕ
   pub bytes : List ℕ
-
-abbrev pub version_number : Version → ℕ
-version_number One = 1
-version_number Two = 2
-
--- the level of a number
-abbrev pub numbered_level : ℕ → Level
-numbered_level n = if n == 2 then levels.Two else levels.One
 
 -- the numbers that an image of these parts begins with
 abbrev pub numbers : Parts → Numbers
@@ -59,10 +47,6 @@ IsWithin own level = level_number own ≤ level_number level
 abbrev pub IsCodeWord : Level → ℕ → Type 0
 IsCodeWord level word = (word < 2 ^ 32) × IsSomeAnd (class_in word) (λ class. IsWithin (level_in class) level)
 
--- an instruction of the table that is there at the level
-abbrev pub IsCodeInsn : Level → Form → Type 0
-IsCodeInsn level i = IsInsn i × IsWithin (level_of i) level
-
 abbrev pub IsByte : ℕ → Type 0
 IsByte byte = byte < 256
 
@@ -78,29 +62,6 @@ pub record IsImage (p : Parts) : Type 0 where
 -- the front, the code words and the data bytes
 unfoldable pub spelling : Parts → List ℕ
 spelling p = front p.version (numbers p) ++ (flat_map longword p.words ++ p.bytes)
-
--- the parts with these numbers
-abbrev pub parts_with : Version → Numbers → List ℕ → List ℕ → Parts
-parts_with version n words bytes = record {
-  version = version;
-  level = numbered_level n.level;
-  code_base = n.code_base;
-  entry = n.entry;
-  stack = n.stack;
-  segments = n.segments;
-  words = words;
-  bytes = bytes;
-}
-
--- the parts that bytes give
-abbrev pub parts_of : List ℕ → Parts
-parts_of bytes = parts_with (version_of bytes) (numbers_of bytes) (words_in bytes) (data_in bytes)
-
--- bytes that are an image but for the words of its code
-pub record HasForm (bytes : List ℕ) : Type 0 where
-  pub magic : bytes ≡ magic (version_of bytes) ++ drop 8 bytes
-  pub fields : FieldsFit (numbers_of bytes)
-  pub size : length bytes ≡ size_of (version_of bytes) (numbers_of bytes)
 
 -- The place of the code word at an address: there is none at an address that is no multiple of 4 or
 -- lies outside the code.

@@ -2,11 +2,14 @@
 
 ghost use Rattle.std.specs.Prelude.{◌≡◌, ◌%◌, ◌/◌, ◌≤◌, length, map, All, Some, IfOk};
 ghost use Rattle.alpha_table.specs.Decoded.{decoded};
-ghost use Rattle.alpha_image.specs.Numbers.{level_numbers, first_numbers};
-ghost use Rattle.alpha_image.specs.Layout.{words_of, filled_size};
-ghost use Rattle.alpha_image.specs.Parts.{IsImage, IsCodeInsn, SuitsVersion, numbered_level, parts_with};
+ghost use Rattle.alpha_image.specs.Fields.{level_numbers, first_numbers};
+ghost use Rattle.alpha_image.specs.Layout.{filled_size};
+ghost use Rattle.alpha_image.specs.Reading.{words_of, numbered_level};
+ghost use Rattle.alpha_image.specs.Parts.{IsImage, SuitsVersion};
+ghost use Rattle.alpha_image.specs.Insns.{IsCodeInsn};
+ghost use Rattle.alpha_image.specs.PartsOf.{parts_with};
 ghost use Rattle.alpha_image.specs.Rules.{FieldsFit};
-ghost use Rattle.alpha_image.specs.ImageFault.{Tells, parts_fault};
+ghost use Rattle.alpha_image.specs.Tells.{Tells, parts_fault};
 
 use crate::header::Header;
 use crate::segment::MOST_SEGMENTS;
@@ -103,7 +106,7 @@ impl Image {
 }
 
 // The image of a version with these fields, segments, code words and data bytes.
-#[tactic(auto, unfolding(crate::specs::ImageFault::parts_fault, crate::specs::ImageFault::field_fault))]
+#[tactic(auto, unfolding(crate::specs::Tells::parts_fault, crate::specs::ImageFault::field_fault))]
 fn build(
     alloc: Global,
     version: Version,

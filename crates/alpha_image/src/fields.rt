@@ -1,8 +1,9 @@
 //! The numbers that an image is made of, beside its code and data bytes, and the least field that is bad.
 
 ghost use Rattle.std.specs.Prelude.{◌≡◌, IfNone};
-ghost use Rattle.alpha_image.specs.Numbers.{level_fields, segment_of, first_numbers};
-ghost use Rattle.alpha_image.specs.Rules.{FieldsFit, least_bad_field};
+ghost use Rattle.alpha_image.specs.Fields.{level_fields, segment_of, first_numbers};
+ghost use Rattle.alpha_image.specs.Rules.{FieldsFit};
+ghost use Rattle.alpha_image.specs.FieldTests.{least_bad_field};
 
 use crate::Segment;
 

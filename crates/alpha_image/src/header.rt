@@ -2,10 +2,12 @@
 
 ghost use Rattle.std.specs.Prelude.{◌≡◌, ◌≢◌, ◌<◌, ◌≤◌, length, take, IfNone, IfOk, IfErr};
 ghost use Rattle.alpha_image.specs.Header.{header_numbers};
-ghost use Rattle.alpha_image.specs.Layout.{version_of, numbers_in, numbers_of, size_of, front_size, filled_size, first_segment};
-ghost use Rattle.alpha_image.specs.Parts.{numbered_level};
-ghost use Rattle.alpha_image.specs.Rules.{FieldsFit, least_bad_field};
-ghost use Rattle.alpha_image.specs.ImageFault.{Tells, front_fault};
+ghost use Rattle.alpha_image.specs.Layout.{filled_size, first_segment};
+ghost use Rattle.alpha_image.specs.Reading.{version_of, numbers_in, numbers_of, size_of, front_size, numbered_level};
+ghost use Rattle.alpha_image.specs.Rules.{FieldsFit};
+ghost use Rattle.alpha_image.specs.FieldTests.{least_bad_field};
+ghost use Rattle.alpha_image.specs.ImageFault.{front_fault};
+ghost use Rattle.alpha_image.specs.Tells.{Tells};
 
 use crate::number::{longword_at, quadword_at};
 use crate::segment::{MOST_SEGMENTS, filled, read_segments};

@@ -6,10 +6,14 @@ ghost use Rattle.alpha_table.specs.Encoded.{encoded};
 ghost use Rattle.alpha_table.specs.ClassOf.{class_of};
 ghost use Rattle.alpha_table.specs.Code.{class_at};
 ghost use Rattle.alpha_image.specs.Header.{header_numbers};
-ghost use Rattle.alpha_image.specs.Layout.{longword, words_of, words_in, version_of, numbers_of, first_segment, filled_size};
-ghost use Rattle.alpha_image.specs.Parts.{IsByte, IsCodeInsn, IsCodeWord, HasForm, parts_of};
+ghost use Rattle.alpha_image.specs.Layout.{longword, first_segment, filled_size};
+ghost use Rattle.alpha_image.specs.Reading.{words_of, words_in, version_of, numbers_of};
+ghost use Rattle.alpha_image.specs.Parts.{IsByte, IsCodeWord};
+ghost use Rattle.alpha_image.specs.Insns.{IsCodeInsn};
+ghost use Rattle.alpha_image.specs.PartsOf.{HasForm, parts_of};
 ghost use Rattle.alpha_image.specs.Rules.{FieldsFit};
-ghost use Rattle.alpha_image.specs.ImageFault.{Tells, word_fault};
+ghost use Rattle.alpha_image.specs.ImageFault.{word_fault};
+ghost use Rattle.alpha_image.specs.Tells.{Tells};
 
 use crate::header::Header;
 use crate::words::{push_words, read_words};
@@ -44,7 +48,9 @@ impl Model for Image {
 }
 
 impl Image {
-    ghost use Rattle.alpha_image.specs.Parts.{IsImage, SuitsVersion, version_number, numbers, numbered_level, parts_with, pieces, place_of};
+    ghost use Rattle.alpha_image.specs.Parts.{IsImage, SuitsVersion, numbers, pieces, place_of};
+    ghost use Rattle.alpha_image.specs.PartsOf.{version_number, parts_with};
+    ghost use Rattle.alpha_image.specs.Reading.{numbered_level};
 
     /// The version of the layout, 1 or 2.
     pub fn version(&self) -> u8

@@ -4,9 +4,13 @@ ghost use Rattle.std.specs.Prelude.{◌≡◌, ◌<◌, ◌^◌, ◌↔◌, ◌+
 ghost use Rattle.std.specs.List.{flat_map};
 ghost use Rattle.alpha_image.specs.Numbers.{Numbers};
 ghost use Rattle.alpha_image.specs.Layout.{filled_size};
-ghost use Rattle.alpha_image.specs.Rules.{TestsDecide, FieldsFit, least_bad_field};
-ghost use Rattle.alpha_image.specs.Parts.{Parts, IsImage, IsByte, SuitsVersion, numbers, parts_of, pieces, place_of, spelling};
-ghost use Rattle.alpha_image.specs.ImageFault.{first_fault, parts_fault};
+ghost use Rattle.alpha_image.specs.Rules.{FieldsFit};
+ghost use Rattle.alpha_image.specs.TestsDecide.{TestsDecide};
+ghost use Rattle.alpha_image.specs.FieldTests.{least_bad_field};
+ghost use Rattle.alpha_image.specs.Parts.{Parts, IsImage, IsByte, SuitsVersion, numbers, pieces, place_of, spelling};
+ghost use Rattle.alpha_image.specs.PartsOf.{parts_of};
+ghost use Rattle.alpha_image.specs.ImageFault.{first_fault};
+ghost use Rattle.alpha_image.specs.Tells.{parts_fault};
 
 /// Bytes have no first fault exactly where they are the spelling of a good image, and then they are the
 /// spelling of one image alone.

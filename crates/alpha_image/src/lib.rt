@@ -55,10 +55,12 @@
 //! `src/read.rt`, `src/build.rt` and `src/write.rt` are the ways in and out, and `src/image.rt` is what
 //! there is between.
 //!
-//! `specs/Layout.antt` has the layout of the bytes, `specs/Rules.antt` the rules of the fields over the
-//! `specs/Numbers.antt` of either version, `specs/Parts.antt` what an image is and its spelling,
-//! `specs/ImageFault.antt` the first fault, and `specs/Image.antt` and `specs/Header.antt` what an
-//! [`Image`] holds.
+//! Of a good image, `specs/Parts.antt` has what it is and its spelling, `specs/Layout.antt` the layout of
+//! its bytes, and `specs/Rules.antt` the rules of its fields over the `specs/Numbers.antt` of either
+//! version. Of other bytes, `specs/Reading.antt` has what they are read as, `specs/FieldTests.antt` the
+//! rules as tests, and `specs/ImageFault.antt` the first fault; `specs/PartsOf.antt` has the parts that
+//! bytes give. `specs/Image.antt` and `specs/Header.antt` have what an [`Image`] holds, `specs/Fields.antt`
+//! what one is made of.
 #![tactic(auto)]
 
 mod build;

@@ -1,13 +1,14 @@
 //! Little-endian numbers, in images and in the other files that consist of such fields.
 
 ghost use Rattle.std.specs.Prelude.{◌≡◌, ◌+◌, ◌≤◌, ◌++◌, length, OnOk};
-ghost use Rattle.alpha_image.specs.Layout.{quadword, longword, quadword_at, longword_at};
+ghost use Rattle.alpha_image.specs.Layout.{quadword, longword};
+ghost use Rattle.alpha_image.specs.Reading.{quadword_at, longword_at};
 
 use byteorder::{ByteOrder, LittleEndian};
 use std::alloc::AllocError;
 
 /// The number in the eight bytes at an offset.
-#[tactic(auto, unfolding(crate::specs::Layout::quadword_at))]
+#[tactic(auto, unfolding(crate::specs::Reading::quadword_at))]
 pub fn quadword_at(bytes: &[u8], offset: usize) -> u64
     requires { offset + 8 ≤ length bytes.now }
     ensures value { result ≡ quadword_at offset bytes.now }
@@ -16,7 +17,7 @@ pub fn quadword_at(bytes: &[u8], offset: usize) -> u64
 }
 
 /// The number in the four bytes at an offset.
-#[tactic(auto, unfolding(crate::specs::Layout::longword_at))]
+#[tactic(auto, unfolding(crate::specs::Reading::longword_at))]
 pub fn longword_at(bytes: &[u8], offset: usize) -> u32
     requires { offset + 4 ≤ length bytes.now }
     ensures value { result ≡ longword_at offset bytes.now }

@@ -2,9 +2,11 @@
 
 ghost use Rattle.std.specs.Prelude.{◌≡◌, ◌≢◌, IfOk, IfErr, OnOk};
 ghost use Rattle.alpha_image.specs.Header.{header_numbers};
-ghost use Rattle.alpha_image.specs.Layout.{version_of, numbers_of};
-ghost use Rattle.alpha_image.specs.Parts.{IsImage, HasForm, spelling};
-ghost use Rattle.alpha_image.specs.ImageFault.{Tells, form_fault, first_fault};
+ghost use Rattle.alpha_image.specs.Reading.{version_of, numbers_of};
+ghost use Rattle.alpha_image.specs.Parts.{IsImage, spelling};
+ghost use Rattle.alpha_image.specs.PartsOf.{HasForm};
+ghost use Rattle.alpha_image.specs.ImageFault.{form_fault, first_fault};
+ghost use Rattle.alpha_image.specs.Tells.{Tells};
 
 use crate::header::Header;
 use crate::segment::filled;

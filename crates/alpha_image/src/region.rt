@@ -1,7 +1,7 @@
 //! Regions of addresses, and whether they overlap.
 
 ghost use Rattle.std.specs.Prelude.{◌≡◌, ◌+◌, nat_le};
-ghost use Rattle.alpha_image.specs.Rules.{are_apart};
+ghost use Rattle.alpha_image.specs.FieldTests.{are_apart};
 
 /// So many addresses from the base on.
 #[derive(Clone, Copy, Debug)]
@@ -12,7 +12,7 @@ pub(crate) struct Region {
 
 impl Region {
     /// Whether no address is in both.
-    #[tactic(auto, unfolding(crate::specs::Rules::are_apart))]
+    #[tactic(auto, unfolding(crate::specs::FieldTests::are_apart))]
     pub fn is_apart(self, other: Region) -> bool
         ensures value { result ≡ are_apart self other }
     {

@@ -2,8 +2,9 @@
 
 ghost use Rattle.std.specs.Prelude.{◌≡◌, ◌+◌, ◌≤◌, ◌^◌, nat_le, map, sum_by, IsTrue, IfNone, All};
 ghost use Rattle.std.specs.List.{list_all};
-ghost use Rattle.alpha_image.specs.Numbers.{level_numbers};
-ghost use Rattle.alpha_image.specs.Rules.{FieldsFit, least_bad_field, is_base, rise, data_bases_fit, code_words_fit, data_bytes_fit, zeroed_bytes_fit, stack_bytes_fit, entry_fits, regions_fit, level_fits, segments_fit, all_apart, are_apart, segment_region, size_of_segment};
+ghost use Rattle.alpha_image.specs.Fields.{level_numbers};
+ghost use Rattle.alpha_image.specs.Rules.{FieldsFit, segment_region, size_of_segment};
+ghost use Rattle.alpha_image.specs.FieldTests.{least_bad_field, is_base, rise, data_bases_fit, code_words_fit, data_bytes_fit, zeroed_bytes_fit, stack_bytes_fit, entry_fits, regions_fit, level_fits, segments_fit, all_apart, are_apart};
 
 use crate::region::Region;
 use crate::segment::MOST_SEGMENTS;
@@ -25,7 +26,7 @@ const MOST_STACK: u64 = 1_048_576;
 impl LevelFields {
     /// The least number of a bad field of an image of version 2 with these fields, so many code words
     /// and these segments.
-    #[tactic(auto, unfolding(crate::specs::Rules::least_bad_field))]
+    #[tactic(auto, unfolding(crate::specs::FieldTests::least_bad_field))]
     pub fn bad_field(&self, words: u64, segments: &[Segment]) -> Option<u8>
         ensures value { result ≡ least_bad_field (level_numbers self.now words segments.now) }
         ensures good { IfNone result (FieldsFit (level_numbers self.now words segments.now)) }
@@ -63,7 +64,7 @@ impl LevelFields {
         None
     }
 
-    #[tactic(auto, unfolding(crate::specs::Rules::regions_fit))]
+    #[tactic(auto, unfolding(crate::specs::FieldTests::regions_fit))]
     fn regions_fit(&self, words: u64, segments: &[Segment]) -> bool
         requires words { words ≤ 262144 }
         requires stack { self.now.stack ≤ 1048576 }
@@ -86,14 +87,14 @@ impl LevelFields {
     }
 }
 
-#[tactic(auto, unfolding(crate::specs::Rules::is_base))]
+#[tactic(auto, unfolding(crate::specs::FieldTests::is_base))]
 fn is_base(base: u64) -> bool
     ensures value { result ≡ is_base base }
 {
     base % BASE_STEP == 0 && base < END
 }
 
-#[tactic(auto, unfolding(crate::specs::Rules::data_bases_fit))]
+#[tactic(auto, unfolding(crate::specs::FieldTests::data_bases_fit))]
 fn data_bases_fit(segments: &[Segment]) -> bool
     ensures value { result ≡ data_bases_fit segments.now }
     ensures rise { IsTrue result → IsTrue (rise (map (λ s. s.base) segments.now)) }
@@ -119,7 +120,7 @@ fn bases_rise(segments: &[Segment]) -> bool
     true
 }
 
-#[tactic(auto, unfolding(crate::specs::Rules::code_words_fit))]
+#[tactic(auto, unfolding(crate::specs::FieldTests::code_words_fit))]
 fn code_words_fit(base: u64, words: u64) -> bool
     ensures value { result ≡ code_words_fit base words }
     ensures bound { IsTrue result → words ≤ 262144 }
@@ -127,14 +128,14 @@ fn code_words_fit(base: u64, words: u64) -> bool
     0 < words && words <= MOST_WORDS && base <= END - 4 * words
 }
 
-#[tactic(auto, unfolding(crate::specs::Rules::data_bytes_fit))]
+#[tactic(auto, unfolding(crate::specs::FieldTests::data_bytes_fit))]
 fn data_bytes_fit(segments: &[Segment]) -> bool
     ensures value { result ≡ data_bytes_fit segments.now }
 {
     segments.iter().all(|s| s.filled <= MOST_DATA)
 }
 
-#[tactic(auto, unfolding(crate::specs::Rules::zeroed_bytes_fit))]
+#[tactic(auto, unfolding(crate::specs::FieldTests::zeroed_bytes_fit))]
 fn zeroed_bytes_fit(segments: &[Segment]) -> bool
     ensures value { result ≡ zeroed_bytes_fit segments.now }
     ensures bound { IsTrue result → All (λ s. s.base + size_of_segment s ≤ 2 ^ 30) segments.now }
@@ -166,7 +167,7 @@ fn ends_fit(segments: &[Segment]) -> bool
         && s.zeroed <= END - s.base - s.filled)
 }
 
-#[tactic(auto, unfolding(crate::specs::Rules::stack_bytes_fit))]
+#[tactic(auto, unfolding(crate::specs::FieldTests::stack_bytes_fit))]
 fn stack_bytes_fit(stack: u64) -> bool
     ensures value { result ≡ stack_bytes_fit stack }
     ensures bound { IsTrue result → stack ≤ 1048576 }
@@ -174,21 +175,21 @@ fn stack_bytes_fit(stack: u64) -> bool
     LEAST_STACK <= stack && stack <= MOST_STACK && stack % 16 == 0
 }
 
-#[tactic(auto, unfolding(crate::specs::Rules::entry_fits))]
+#[tactic(auto, unfolding(crate::specs::FieldTests::entry_fits))]
 fn entry_fits(base: u64, words: u64, entry: u64) -> bool
     ensures value { result ≡ entry_fits base words entry }
 {
     entry % 4 == 0 && base <= entry && (entry - base) / 4 < words
 }
 
-#[tactic(auto, unfolding(crate::specs::Rules::level_fits))]
+#[tactic(auto, unfolding(crate::specs::FieldTests::level_fits))]
 fn level_fits(level: u64) -> bool
     ensures value { result ≡ level_fits level }
 {
     level == 1 || level == 2
 }
 
-#[tactic(auto, unfolding(crate::specs::Rules::segments_fit))]
+#[tactic(auto, unfolding(crate::specs::FieldTests::segments_fit))]
 fn count_fits(segments: &[Segment]) -> bool
     ensures value { result ≡ segments_fit segments.now }
 {

@@ -1,7 +1,8 @@
 //! Data segments.
 
 ghost use Rattle.std.specs.Prelude.{◌≡◌, ◌*◌, ◌^◌, ◌<◌, ◌≤◌, length};
-ghost use Rattle.alpha_image.specs.Layout.{segment_in, segments_in, filled_size};
+ghost use Rattle.alpha_image.specs.Layout.{filled_size};
+ghost use Rattle.alpha_image.specs.Reading.{segment_in, segments_in};
 ghost use Rattle.alpha_image.specs.Rules.{segment_region, size_of_segment};
 
 use crate::number::{longword_at, quadword_at};

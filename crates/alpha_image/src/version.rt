@@ -1,8 +1,9 @@
 //! The two versions of an image's layout.
 
 ghost use Rattle.std.specs.Prelude.{◌≡◌};
-ghost use Rattle.alpha_image.specs.Layout.{magic, version_of};
-ghost use Rattle.alpha_image.specs.Parts.{version_number};
+ghost use Rattle.alpha_image.specs.Layout.{magic};
+ghost use Rattle.alpha_image.specs.Reading.{version_of};
+ghost use Rattle.alpha_image.specs.PartsOf.{version_number};
 
 /// Which layout an image's bytes have.
 #[derive(Clone, Copy, Debug, PartialEq, Eq)]
@@ -25,7 +26,7 @@ impl Version {
     }
 
     /// The version of bytes: those that do not begin as the second does are looked at as the first.
-    #[tactic(auto, unfolding(crate::specs::Layout::version_of))]
+    #[tactic(auto, unfolding(crate::specs::Reading::version_of))]
     pub(crate) fn of(bytes: &[u8]) -> Version
         ensures value { result ≡ version_of bytes.now }
     {

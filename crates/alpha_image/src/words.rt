@@ -5,8 +5,10 @@ ghost use Rattle.std.specs.List.{flat_map};
 ghost use Rattle.alpha_table.specs.Decoded.{decoded};
 ghost use Rattle.alpha_table.specs.Encoded.{encoded};
 ghost use Rattle.alpha_image.specs.declared.fault.ImageFault.TheVariants.{BadWord};
-ghost use Rattle.alpha_image.specs.Layout.{longword, words_of};
-ghost use Rattle.alpha_image.specs.ImageFault.{Refuses, Tells, is_there, word_fault};
+ghost use Rattle.alpha_image.specs.Layout.{longword};
+ghost use Rattle.alpha_image.specs.Reading.{words_of};
+ghost use Rattle.alpha_image.specs.ImageFault.{is_there, word_fault};
+ghost use Rattle.alpha_image.specs.Tells.{Refuses, Tells};
 
 use crate::ImageFault;
 use crate::number::{longword_at, push_longword};

@@ -1,9 +1,9 @@
 use Rattle.std.proofs.Common.{ℕ, length, ap, subst, sym, ◌∙◌, Option}
 use Rattle.alpha_image.specs.declared.fault.ImageFault.{ImageFault}
-use Rattle.alpha_image.specs.Numbers.{level_numbers}
-use Rattle.alpha_image.specs.Layout.{words_of}
-use Rattle.alpha_image.specs.Rules.{least_bad_field}
-use Rattle.alpha_image.specs.ImageFault.{Tells}
+use Rattle.alpha_image.specs.Fields.{level_numbers}
+use Rattle.alpha_image.specs.Reading.{words_of}
+use Rattle.alpha_image.specs.FieldTests.{least_bad_field}
+use Rattle.alpha_image.specs.Tells.{Tells}
 use Rattle.alpha_image.proofs.CodeWords.{length-words_of}
 use Rattle.alpha_image.proofs.Form.{parts_fault-field, parts_fault-words}
 use Rattle.alpha_image.proofs.build.build.Goals as goal

@@ -1,6 +1,6 @@
 use Rattle.std.proofs.Common.{ap, ◌∙◌}
 use Rattle.alpha_image.specs.ImageFault.{first_fault}
-use Rattle.alpha_image.specs.Parts.{parts_of}
+use Rattle.alpha_image.specs.PartsOf.{parts_of}
 use Rattle.alpha_image.proofs.Form.{IsBytes-All, no_fault}
 use Rattle.alpha_image.proofs.Spelled.{first_fault-spelling, one_image, parts_of-spelling}
 use Rattle.alpha_image.proofs.laws.laws_of_spelling.Goals as goal

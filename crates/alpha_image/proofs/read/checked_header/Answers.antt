@@ -2,7 +2,7 @@ use Rattle.std.proofs.Common.{ap, subst, ◌∙◌}
 use Rattle.alpha_image.specs.declared.version.Version.{Version}
 use Rattle.alpha_image.specs.Numbers.{Numbers}
 use Rattle.alpha_image.specs.Header.{header_numbers}
-use Rattle.alpha_image.specs.Layout.{version_of, size_of}
+use Rattle.alpha_image.specs.Reading.{version_of, size_of}
 use Rattle.alpha_image.specs.Rules.{FieldsFit}
 use Rattle.alpha_image.proofs.Form.{HasForm-checked}
 use Rattle.alpha_image.proofs.read.checked_header.Goals as goal

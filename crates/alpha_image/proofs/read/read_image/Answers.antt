@@ -3,9 +3,11 @@ use Rattle.std.proofs.lemmas.Result.{err_from_is_err_and, IfOk-weaker}
 use Rattle.alpha_image.specs.declared.fault.ImageFault.{ImageFault}
 use Rattle.alpha_image.specs.Numbers.{Numbers}
 use Rattle.alpha_image.specs.Header.{header_numbers}
-use Rattle.alpha_image.specs.Layout.{words_of}
-use Rattle.alpha_image.specs.Parts.{Parts, parts_with, parts_of, numbered_level, spelling}
-use Rattle.alpha_image.specs.ImageFault.{Tells, form_fault, word_fault}
+use Rattle.alpha_image.specs.Reading.{words_of, numbered_level}
+use Rattle.alpha_image.specs.Parts.{Parts, spelling}
+use Rattle.alpha_image.specs.PartsOf.{parts_with, parts_of}
+use Rattle.alpha_image.specs.ImageFault.{form_fault, word_fault}
+use Rattle.alpha_image.specs.Tells.{Tells}
 use Rattle.alpha_image.proofs.Form.{parts_with-cut, Refuses-form_fault, first_fault-form, spelling-parts_of, cut_behind}
 use Rattle.alpha_image.proofs.read.read_image.Goals as goal
 

@@ -3,9 +3,11 @@ use Rattle.std.proofs.lemmas.Result.{err_from_is_err_and, IfOk-weaker}
 use Rattle.std.proofs.lemmas.List.Elements.{All-from_get_or}
 use Rattle.alpha_image.specs.declared.fault.ImageFault.{ImageFault}
 use Rattle.alpha_image.specs.Numbers.{Numbers}
-use Rattle.alpha_image.specs.Layout.{words_in}
-use Rattle.alpha_image.specs.Parts.{Parts, IsByte, numbered_level, parts_of, spelling}
-use Rattle.alpha_image.specs.ImageFault.{Tells, form_fault, word_fault}
+use Rattle.alpha_image.specs.Reading.{words_in, numbered_level}
+use Rattle.alpha_image.specs.Parts.{Parts, IsByte, spelling}
+use Rattle.alpha_image.specs.PartsOf.{parts_of}
+use Rattle.alpha_image.specs.ImageFault.{form_fault, word_fault}
+use Rattle.alpha_image.specs.Tells.{Tells}
 use Rattle.alpha_image.proofs.Form.{Refuses-form_fault, first_fault-words, spelling-parts_of, IsBytes-All}
 use Rattle.alpha_image.proofs.read.take_image.Goals as goal
 

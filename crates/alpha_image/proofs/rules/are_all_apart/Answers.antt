@@ -1,5 +1,5 @@
 use Rattle.std.proofs.Common.{arith, sym, ap, ◌∙◌}
-use Rattle.alpha_image.specs.Rules.{are_apart}
+use Rattle.alpha_image.specs.FieldTests.{are_apart}
 use Rattle.alpha_image.proofs.Apart.{meets_one, meets_none}
 use Rattle.alpha_image.proofs.rules.are_all_apart.Goals as goal
 

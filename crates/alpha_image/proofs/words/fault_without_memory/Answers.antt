@@ -1,6 +1,6 @@
 use Rattle.std.proofs.Common.{◌≡◌, ℕ, ap, sym, ◌∙◌, get_or, arith, below_more, true, false, not}
 use Rattle.alpha_table.specs.Decoded.{decoded}
-use Rattle.alpha_image.specs.Layout.{words_of}
+use Rattle.alpha_image.specs.Reading.{words_of}
 use Rattle.alpha_image.specs.ImageFault.{is_there}
 use Rattle.alpha_image.proofs.CodeWords.{length-words_of, word_fault-first, word_fault-none}
 use Rattle.alpha_image.proofs.words.fault_without_memory.Goals as goal

@@ -1,4 +1,4 @@
-use Rattle.alpha_image.specs.Layout.{words_of}
+use Rattle.alpha_image.specs.Reading.{words_of}
 use Rattle.alpha_image.proofs.CodeWords.{AreInside}
 use Rattle.alpha_image.proofs.words.fault_without_memory.Given as goal
 

@@ -1,7 +1,7 @@
 use Rattle.std.proofs.Common.{◌≡◌, ◌+◌, ℕ, Some, map, take, ap, sym, ◌∙◌, get_or, arith, below_more, true, false}
 use Rattle.std.proofs.lemmas.Grind.{common_steps}
 use Rattle.alpha_table.specs.Decoded.{decoded}
-use Rattle.alpha_image.specs.Layout.{words_of}
+use Rattle.alpha_image.specs.Reading.{words_of}
 use Rattle.alpha_image.specs.ImageFault.{is_there}
 use Rattle.alpha_image.proofs.CodeWords.{length-words_of, word_fault-first, word_fault-none}
 use Rattle.alpha_image.proofs.CodeInsns.{one_more}

@@ -1,7 +1,7 @@
 use Rattle.std.specs.Prelude.{vec_len, vec_capacity}
 use Rattle.std.proofs.Common.{◌≡◌, ◌≤◌, map, take, Some}
 use Rattle.alpha_table.specs.Decoded.{decoded}
-use Rattle.alpha_image.specs.Layout.{words_of}
+use Rattle.alpha_image.specs.Reading.{words_of}
 use Rattle.alpha_image.proofs.CodeWords.{AreInside}
 use Rattle.alpha_image.proofs.words.read_words.Given as goal
 

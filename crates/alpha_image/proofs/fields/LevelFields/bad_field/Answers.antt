@@ -1,4 +1,4 @@
-use Rattle.alpha_image.specs.Numbers.{level_numbers}
+use Rattle.alpha_image.specs.Fields.{level_numbers}
 use Rattle.alpha_image.proofs.FieldRules.{FieldsFit-tests}
 use Rattle.alpha_image.proofs.fields.LevelFields.bad_field.Goals as goal
 

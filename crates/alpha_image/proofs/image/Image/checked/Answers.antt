@@ -1,8 +1,9 @@
 use Rattle.std.proofs.Common.{◌≡◌, length, map, refl, sym, arith}
 use Rattle.alpha_table.specs.Encoded.{encoded}
 use Rattle.alpha_image.specs.Header.{header_numbers}
-use Rattle.alpha_image.specs.Layout.{words_of}
-use Rattle.alpha_image.specs.Parts.{IsImage, numbered_level, numbers, parts_with}
+use Rattle.alpha_image.specs.Reading.{words_of, numbered_level}
+use Rattle.alpha_image.specs.Parts.{IsImage, numbers}
+use Rattle.alpha_image.specs.PartsOf.{parts_with}
 use Rattle.alpha_image.proofs.CodeWords.{length-words_of}
 use Rattle.alpha_image.proofs.CodeInsns.{words_of_insns}
 use Rattle.alpha_image.proofs.Form.{IsImage-parts_with, numbers-parts_with}

@@ -2,8 +2,10 @@ use Rattle.std.proofs.Common.{◌-◌, List, length, ℕ, sym, ap, subst, ◌∙
 use Rattle.std.proofs.lemmas.Result.{err_from_is_err_and}
 use Rattle.std.proofs.lemmas.List.Elements.{All-from_get_or}
 use Rattle.alpha_image.specs.Header.{header_numbers}
-use Rattle.alpha_image.specs.Parts.{IsByte, numbered_level}
-use Rattle.alpha_image.specs.ImageFault.{Refuses, word_fault}
+use Rattle.alpha_image.specs.Parts.{IsByte}
+use Rattle.alpha_image.specs.Reading.{numbered_level}
+use Rattle.alpha_image.specs.ImageFault.{word_fault}
+use Rattle.alpha_image.specs.Tells.{Refuses}
 use Rattle.alpha_image.proofs.Form.{IsBytes-All}
 use Rattle.alpha_image.proofs.OfFile.{words_cut, code_cut, of_file}
 use Rattle.alpha_image.proofs.image.Image.of_file.Goals as goal

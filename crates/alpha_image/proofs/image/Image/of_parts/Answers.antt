@@ -2,7 +2,7 @@ use Rattle.std.proofs.Common.{◌≡◌, length, map, ◌∙◌, arith}
 use Rattle.std.proofs.lemmas.List.{length-map}
 use Rattle.alpha_table.specs.Encoded.{encoded}
 use Rattle.alpha_image.specs.Header.{header_numbers}
-use Rattle.alpha_image.specs.Parts.{numbered_level}
+use Rattle.alpha_image.specs.Reading.{numbered_level}
 use Rattle.alpha_image.proofs.CodeInsns.{code_words_of_insns}
 use Rattle.alpha_image.proofs.Form.{IsImage-of_words, numbers-parts_with}
 use Rattle.alpha_image.proofs.image.Image.of_parts.Goals as goal
