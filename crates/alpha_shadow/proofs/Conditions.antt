@@ -2,7 +2,7 @@
 use Rattle.std.proofs.Common.{◌≡◌, ℕ, ap, ◌∙◌, ◌==◌, if◌then◌else◌, refl, sym}
 use Rattle.alpha_shadow.specs.declared.broken.Condition.{Condition}
 use Rattle.alpha_shadow.specs.declared.broken.Condition.TheVariants.{ZeroDestination, SourceLost, SameDestination, WildBase, LoadThenStore, Locked, Turn, Open, Long}
-use Rattle.alpha_shadow.specs.Broken.{condition_number}
+use Rattle.alpha_shadow.specs.Least.{condition_number}
 
 -- the condition with a number
 pub numbered : ℕ → Condition

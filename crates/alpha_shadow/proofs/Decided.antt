@@ -11,7 +11,9 @@ use Rattle.alpha_shadow.specs.declared.broken.Condition.{Condition}
 use Rattle.alpha_shadow.specs.declared.broken.Condition.TheVariants.{ZeroDestination, SourceLost, SameDestination, WildBase, LoadThenStore, Locked, Turn, Open, Long}
 use Rattle.alpha_shadow.specs.declared.broken.Broken.{Broken}
 use Rattle.alpha_shadow.specs.Code.{kind_at, destination_at, access_at, sets_at, Sets, Uses, SetIn, ExposedIn}
-use Rattle.alpha_shadow.specs.Broken.{MayMeet, LoadMeets, BaseSet, StoreMeets, LosesSource, Holds, IsBroken, IsAccepted, IsLeastBroken, condition_number}
+use Rattle.alpha_shadow.specs.Broken.{Holds, IsBroken, IsAccepted}
+use Rattle.alpha_shadow.specs.Least.{IsLeastBroken, condition_number}
+use Rattle.alpha_shadow.specs.Reach.{reach_of, MayTouch}
 use Rattle.alpha_shadow.proofs.Conditions.{numbered, numbered-condition_number}
 use Rattle.alpha_shadow.proofs.Tables.{kind_within, past_end}
 use Rattle.alpha_shadow.proofs.Steps.{number_bound}
@@ -141,28 +143,28 @@ exposed_in code from to r = told
     (some_below (λ k. (from ≤ k) × (Uses code k r × (SetIn code from k r → ⊥)))
     (λ k. both (at_most from k) (both (is_true (uses (class_at code k) r)) (opposite (set_in code from k r)))) to)
 
-loses_source : (code : List ℕ) (from at : ℕ) → Decided (LosesSource code from at)
-loses_source code from at = cases (sets_at code at) refl
+source_lost : (code : List ℕ) (trigger at : ℕ) → Decided (Holds code trigger at SourceLost)
+source_lost code trigger at = cases (sets_at code at) refl
   where
-    cases : (o : Option ℕ) → sets_at code at ≡ o → Decided (LosesSource code from at)
-    cases None e = inr (λ h. let s = h.sets in cc)
+    cases : (o : Option ℕ) → sets_at code at ≡ o → Decided (Holds code trigger at SourceLost)
+    cases None e = inr (λ h. let s = h.1 in cc)
     cases (Some r) e = told
-        (λ x. record { register = r; sets = e; source = x })
-        (λ h. let s = h.sets in let same : h.register ≡ r = cc in subst (ExposedIn code from (at + 1)) same h.source)
-        (exposed_in code from (at + 1) r)
+        (λ x. (r, e, x))
+        (λ h. let s = h.1 in let same : h.0 ≡ r = cc in subst (ExposedIn code trigger (at + 1)) same h.2)
+        (exposed_in code trigger (at + 1) r)
 
 less_signed : (a b : ℤ) → Decided (a <ℤ b)
 less_signed a b = by_lt_z a b (λ l. inl l) (λ l. inr (λ m. omega (arith, ints)))
 
-may_meet : (a b : MemAccess) → Decided (MayMeet a b)
-may_meet a b = either (opposite (equal a.base b.base))
+may_touch : (a b : MemAccess) → Decided (MayTouch (reach_of a) (reach_of b))
+may_touch a b = either (opposite (equal a.base b.base))
     (both (less_signed (bytes_spanned a).low (bytes_spanned b).high) (less_signed (bytes_spanned b).low (bytes_spanned a).high))
 
--- an access at a place that meets another
+-- an access at a place that may touch a byte of another
 record Reaches (code : List ℕ) (place : ℕ) (store : MemAccess) : Type 0 where
   access : MemAccess
   accesses : access_at code place ≡ Some access
-  meets : MayMeet access store
+  meets : MayTouch (reach_of access) (reach_of store)
 
 reaches : (code : List ℕ) (place : ℕ) (store : MemAccess) → Decided (Reaches code place store)
 reaches code place store = cases (access_at code place) refl
@@ -171,35 +173,35 @@ reaches code place store = cases (access_at code place) refl
     cases None e = inr (λ h. let a = h.accesses in cc)
     cases (Some a) e = told
         (λ m. record { access = a; accesses = e; meets = m })
-        (λ h. let b = h.accesses in let same : h.access ≡ a = cc in subst (λ x. MayMeet x store) same h.meets)
-        (may_meet a store)
+        (λ h. let b = h.accesses in let same : h.access ≡ a = cc in subst (λ x. MayTouch (reach_of x) (reach_of store)) same h.meets)
+        (may_touch a store)
 
-load_meets : (code : List ℕ) (from to : ℕ) (store : MemAccess) → Decided (LoadMeets code from to store)
-load_meets code from to store = told
-    (λ w. record { place = w.0; above = w.2.0; below = w.1; load = w.2.1.0; access = w.2.1.1.access; accesses = w.2.1.1.accesses; meets = w.2.1.1.meets })
-    (λ h. (h.place, h.below, (h.above, (h.load, record { access = h.access; accesses = h.accesses; meets = h.meets }))))
-    (some_below (λ k. (from ≤ k) × ((kind_at code k ≡ Some kinds.Load) × Reaches code k store))
-    (λ k. both (at_most from k) (both (kind_is (kind_at code k) kinds.Load) (reaches code k store))) to)
-
-store_meets : (code : List ℕ) (from at : ℕ) → Decided (StoreMeets code from at)
-store_meets code from at = cases (access_at code at) refl
+load_then_store : (code : List ℕ) (trigger at : ℕ) → Decided (Holds code trigger at LoadThenStore)
+load_then_store code trigger at = cases (access_at code at) refl
   where
-    cases : (o : Option MemAccess) → access_at code at ≡ o → Decided (StoreMeets code from at)
-    cases None e = inr (λ h. let a = h.accesses in cc)
+    cases : (o : Option MemAccess) → access_at code at ≡ o → Decided (Holds code trigger at LoadThenStore)
+    cases None e = inr (λ h. let a = h.3.1.1.3 in cc)
     cases (Some a) e = told
-        (λ w. record { store = w.0; access = a; accesses = e; load = w.1 })
-        (λ h. let b = h.accesses in let same : h.access ≡ a = cc in (h.store, subst (LoadMeets code from at) same h.load))
-        (both (kind_is (kind_at code at) kinds.Store) (load_meets code from at a))
+        (λ w. let k = w.1 in let x = k.2.1.1 in (k.0, k.2.0, k.1, (x.access, (a, (k.2.1.0, x.accesses, w.0, e, x.meets)))))
+        (λ h.
+        let m = h.3.1.1 in
+        let b = m.3 in
+        let same : h.3.1.0 ≡ a = cc in
+        let touches = subst (λ x. MayTouch (reach_of h.3.0) (reach_of x)) same m.4 in
+        (m.2, (h.0, h.2, (h.1, (m.0, record { access = h.3.0; accesses = m.1; meets = touches })))))
+        (both (kind_is (kind_at code at) kinds.Store)
+        (some_below (λ k. (trigger < k) × ((kind_at code k ≡ Some kinds.Load) × Reaches code k a))
+        (λ k. both (less trigger k) (both (kind_is (kind_at code k) kinds.Load) (reaches code k a))) at))
 
-base_set : (code : List ℕ) (from at : ℕ) → Decided (BaseSet code from at)
-base_set code from at = cases (access_at code at) refl
+wild_base : (code : List ℕ) (trigger at : ℕ) → Decided (Holds code trigger at WildBase)
+wild_base code trigger at = both (less trigger at) (cases (access_at code at) refl)
   where
-    cases : (o : Option MemAccess) → access_at code at ≡ o → Decided (BaseSet code from at)
-    cases None e = inr (λ h. let a = h.accesses in cc)
+    cases : (o : Option MemAccess) → access_at code at ≡ o → Decided ((a : MemAccess) × (access_at code at ≡ Some a) × SetIn code trigger at a.base)
+    cases None e = inr (λ h. let a = h.1 in cc)
     cases (Some a) e = told
-        (λ s. record { access = a; accesses = e; base = s })
-        (λ h. let b = h.accesses in let same : h.access ≡ a = cc in subst (λ x. SetIn code from at x.base) same h.base)
-        (set_in code from at a.base)
+        (λ s. (a, e, s))
+        (λ h. let b = h.1 in let same : h.0 ≡ a = cc in subst (λ x. SetIn code trigger at x.base) same h.2)
+        (set_in code trigger at a.base)
 
 straight : (code : List ℕ) (from to : ℕ) → Decided (Straight code from to)
 straight code from to = told
@@ -210,12 +212,12 @@ straight code from to = told
 
 holds : (code : List ℕ) (trigger at : ℕ) (c : Condition) → Decided (Holds code trigger at c)
 holds code trigger at ZeroDestination = both (equal at trigger) (option_equal (destination_at code trigger) (Some 31))
-holds code trigger at SourceLost = loses_source code trigger at
+holds code trigger at SourceLost = source_lost code trigger at
 holds code trigger at SameDestination = told
     (λ w. (w.0, w.1.0, w.1.1)) (λ w. (w.0, (w.1, w.2)))
     (both (less trigger at) (both (kind_is (kind_at code at) kinds.Trigger) (option_equal (destination_at code at) (destination_at code trigger))))
-holds code trigger at WildBase = both (less trigger at) (base_set code trigger at)
-holds code trigger at LoadThenStore = store_meets code (trigger + 1) at
+holds code trigger at WildBase = wild_base code trigger at
+holds code trigger at LoadThenStore = load_then_store code trigger at
 holds code trigger at Locked = kind_is (kind_at code at) kinds.Locked
 holds code trigger at Turn = kind_is (kind_at code at) kinds.Turn
 holds code trigger at Open = equal at (length code)
@@ -234,10 +236,10 @@ broken code trigger at c = told
 -- no place past the end is broken
 pub not_past_end : (code : List ℕ) (trigger at : ℕ) (c : Condition) → length code < at → IsBroken code trigger at c → ⊥
 not_past_end code trigger at ZeroDestination past b = let w = kind_within code trigger kinds.Trigger b.trigger_kind in omega (arith, b.holds.0)
-not_past_end code trigger at SourceLost past b = let n = past_end code at (omega arith) in let s = b.holds.sets in cc
+not_past_end code trigger at SourceLost past b = let n = past_end code at (omega arith) in let s = b.holds.1 in cc
 not_past_end code trigger at SameDestination past b = let n = past_end code at (omega arith) in let s = b.holds.1 in cc
-not_past_end code trigger at WildBase past b = let n = past_end code at (omega arith) in let s = b.holds.1.accesses in cc
-not_past_end code trigger at LoadThenStore past b = let n = past_end code at (omega arith) in let s = b.holds.store in cc
+not_past_end code trigger at WildBase past b = let n = past_end code at (omega arith) in let s = b.holds.1.1 in cc
+not_past_end code trigger at LoadThenStore past b = let n = past_end code at (omega arith) in let s = b.holds.3.1.1.2 in cc
 not_past_end code trigger at Locked past b = let n = past_end code at (omega arith) in let s = b.holds in cc
 not_past_end code trigger at Turn past b = let n = past_end code at (omega arith) in let s = b.holds in cc
 not_past_end code trigger at Open past b = let s = b.holds in omega arith

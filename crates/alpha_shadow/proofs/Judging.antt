@@ -9,7 +9,8 @@ use Rattle.alpha_shadow.specs.declared.broken.Broken.{Broken}
 use Rattle.alpha_shadow.specs.declared.triggers.Trigger.{Trigger}
 use Rattle.alpha_shadow.specs.declared.window.Window.{Window}
 use Rattle.alpha_shadow.specs.Code.{kind_at}
-use Rattle.alpha_shadow.specs.Broken.{IsBroken, IsAccepted, IsLeastBroken, condition_number}
+use Rattle.alpha_shadow.specs.Broken.{IsBroken, IsAccepted}
+use Rattle.alpha_shadow.specs.Least.{IsLeastBroken, condition_number}
 use Rattle.alpha_shadow.specs.Window.{Summarizes, IsUnbroken, IsOpen, IsFirstThat, HasRoom, open_triggers, open_loads}
 use Rattle.alpha_shadow.specs.Place.{IsLeastUpTo}
 use Rattle.alpha_shadow.proofs.Tables.{kind_within, past_end}
@@ -65,10 +66,10 @@ end_accepted code w s before f = λ p place c b. f p (reaches_end code p place c
 -- what holds one past the last word holds from C8 on
 open_first : (code : List ℕ) (p : ℕ) (c : Condition) → IsBroken code p (length code) c → 8 ≤ condition_number c
 open_first code p ZeroDestination b = let w = trigger_within code p (length code) ZeroDestination b in absurd (omega (arith, b.holds.0))
-open_first code p SourceLost b = let n = past_end code (length code) (omega arith) in let s = b.holds.sets in cc
+open_first code p SourceLost b = let n = past_end code (length code) (omega arith) in let s = b.holds.1 in cc
 open_first code p SameDestination b = let n = past_end code (length code) (omega arith) in let s = b.holds.1 in cc
-open_first code p WildBase b = let n = past_end code (length code) (omega arith) in let s = b.holds.1.accesses in cc
-open_first code p LoadThenStore b = let n = past_end code (length code) (omega arith) in let s = b.holds.store in cc
+open_first code p WildBase b = let n = past_end code (length code) (omega arith) in let s = b.holds.1.1 in cc
+open_first code p LoadThenStore b = let n = past_end code (length code) (omega arith) in let s = b.holds.3.1.1.2 in cc
 open_first code p Locked b = let n = past_end code (length code) (omega arith) in let s = b.holds in cc
 open_first code p Turn b = let n = past_end code (length code) (omega arith) in let s = b.holds in cc
 open_first code p Open b = omega arith

@@ -13,7 +13,7 @@ use Rattle.alpha_shadow.specs.declared.window.Window.{Window}
 use Rattle.alpha_shadow.specs.Code.{kind_at, access_at, destination_at, sets_at, Sets, Uses, SetIn, ExposedIn}
 use Rattle.alpha_shadow.specs.Columns.{HasColumns, destination_of}
 use Rattle.alpha_table.specs.Code.{Straight}
-use Rattle.alpha_shadow.specs.Broken.{Holds, IsBroken, StoreMeets, LosesSource}
+use Rattle.alpha_shadow.specs.Broken.{Holds, IsBroken}
 use Rattle.alpha_shadow.specs.Window.{Summarizes, IsUnbroken, IsOpen, IsFirstThat, LoadTouches, UsedIn, place_of, stands_within, open_triggers}
 use Rattle.alpha_shadow.specs.Reach.{MayTouch, reach_of}
 use Rattle.alpha_shadow.specs.Place.{IsFirstBroken}
@@ -122,11 +122,7 @@ lost_unset code at p r unbroken k s x set = ⊎_elim
       trigger_kind = k;
       order = above;
       straight = λ n from to. s n from (omega arith);
-      holds = record {
-        register = r;
-        sets = set.sets;
-        source = record { place = x.place; above = x.above; below = omega arith; uses = x.uses; unset = x.unset };
-      };
+      holds = (r, set.sets, record { place = x.place; above = x.above; below = omega arith; uses = x.uses; unset = x.unset });
     }))
     (cases_lt set.place x.place)
 
@@ -135,11 +131,11 @@ pub record IsLost (code : List ℕ) (at r p : ℕ) : Type 0 where
   pub unset : SetIn code p at r → ⊥
   pub used : UsedIn code p at r ⊎ Uses code at r
 
-lost_holds : (code : List ℕ) (at p r : ℕ) → p ≤ at → Sets code at r → IsLost code at r p → LosesSource code p at
-lost_holds code at p r within sets l = record {
-  register = r;
-  sets = sets;
-  source = ⊎_elim
+lost_holds : (code : List ℕ) (at p r : ℕ) → p ≤ at → Sets code at r → IsLost code at r p → Holds code p at SourceLost
+lost_holds code at p r within sets l = (
+  r,
+  sets,
+  ⊎_elim
       (λ (u : UsedIn code p at r). record {
         place = u.place;
         above = u.above;
@@ -148,15 +144,15 @@ lost_holds code at p r within sets l = record {
         unset = λ s. l.unset (record { place = s.place; above = s.above; below = let b = u.below in let c = s.below in omega arith; sets = s.sets });
       })
       (λ (u : Uses code at r). record { place = at; above = within; below = omega arith; uses = u; unset = l.unset })
-      l.used;
-}
+      l.used,
+)
 
 holds_lost : (code : List ℕ) (at p r : ℕ) → IsUnbroken code at → Sets code at r → IsBroken code p at SourceLost → IsLost code at r p
 holds_lost code at p r unbroken sets b =
     let h = b.holds in
-    let again = h.sets in
-    let same : h.register ≡ r = cc in
-    let x = subst (ExposedIn code p (at + 1)) same h.source in
+    let again = h.1 in
+    let same : h.0 ≡ r = cc in
+    let x = subst (ExposedIn code p (at + 1)) same h.2 in
     record {
       unset = lost_unset code at p r unbroken b.trigger_kind b.straight x;
       used = ⊎_elim
@@ -209,7 +205,7 @@ may_lose code w at r end word s unbroken h e small either = record {
 }
 
 pub lost_nothing : (code : List ℕ) (at : ℕ) → sets_at code at ≡ None → IsFirstBroken code at SourceLost None
-lost_nothing code at e = λ p b. let again = b.holds.sets in cc
+lost_nothing code at e = λ p b. let again = b.holds.1 in cc
 
 lost_within : (code : List ℕ) (w : Window) (at r end p : ℕ) → MayLose code w at r end → IsOpen code p at
     → IsLost code at r p ↔ ((slice_index w.set.ends r ≤ p) × (p < end))
@@ -308,69 +304,59 @@ same_missing code at not = λ p b. not b.holds.1
 pub wild_open : (code : List ℕ) (w : Window) (at : ℕ) (a : MemAccess) → Summarizes code w at → a.base < 32 → access_at code at ≡ Some a
     → (o : Option ℕ) → IsFirstThat code at (λ p. p < slice_index w.set.ends a.base) o → IsFirstBroken code at WildBase o
 wild_open code w at a s small e = by_first code at WildBase (λ p. p < slice_index w.set.ends a.base)
-    (λ p o q. (o.before, record { access = a; accesses = e; base = (s.set.tells p a.base o small).1 q }))
+    (λ p o q. (o.before, (a, e, (s.set.tells p a.base o small).1 q)))
     (λ p b.
     let before = b.holds.0 in
     let o = broken_open code p at WildBase b (λ n. omega arith) in
     let h = b.holds.1 in
-    let again = h.accesses in
-    let same : h.access ≡ a = cc in
-    (o, (s.set.tells p a.base o small).0 (subst (λ x. SetIn code p at x.base) same h.base)))
+    let again = h.1 in
+    let same : h.0 ≡ a = cc in
+    (o, (s.set.tells p a.base o small).0 (subst (λ x. SetIn code p at x.base) same h.2)))
 
 pub wild_missing : (code : List ℕ) (at : ℕ) → access_at code at ≡ None → IsFirstBroken code at WildBase None
-wild_missing code at e = λ p b. let again = b.holds.1.accesses in cc
+wild_missing code at e = λ p b. let again = b.holds.1.1 in cc
 
 -- C5
 
-store_touches : (code : List ℕ) (at p : ℕ) (a : MemAccess) → access_at code at ≡ Some a → IsOpen code p at → StoreMeets code (p + 1) at → LoadTouches code at (reach_of a)
+store_touches : (code : List ℕ) (at p : ℕ) (a : MemAccess) → access_at code at ≡ Some a → IsOpen code p at → Holds code p at LoadThenStore → LoadTouches code at (reach_of a)
 store_touches code at p a e o m =
-    let again = m.accesses in
-    let same : m.access ≡ a = cc in record {
+    let here = m.3.1.1 in
+    let again = here.3 in
+    let same : m.3.1.0 ≡ a = cc in record {
       trigger = p;
       open_there = o;
-      place = m.load.place;
-      above = let b = m.load.above in omega arith;
-      below = m.load.below;
-      load = m.load.load;
-      access = m.load.access;
-      accesses = m.load.accesses;
-      touches = subst (λ x. MayTouch (reach_of m.load.access) (reach_of x)) same m.load.meets;
+      place = m.0;
+      above = m.1;
+      below = m.2;
+      load = here.0;
+      access = m.3.0;
+      accesses = here.1;
+      touches = subst (λ x. MayTouch (reach_of m.3.0) (reach_of x)) same here.4;
     }
 
 touches_store : (code : List ℕ) (at p : ℕ) (a : MemAccess) → kind_at code at ≡ Some kinds.Store → access_at code at ≡ Some a
-    → (t : LoadTouches code at (reach_of a)) → p ≤ t.trigger → StoreMeets code (p + 1) at
-touches_store code at p a k e t within = record {
-  store = k;
-  access = a;
-  accesses = e;
-  load = record {
-    place = t.place;
-    above = let b = t.above in omega arith;
-    below = t.below;
-    load = t.load;
-    access = t.access;
-    accesses = t.accesses;
-    meets = t.touches;
-  };
-}
+    → (t : LoadTouches code at (reach_of a)) → p ≤ t.trigger → Holds code p at LoadThenStore
+touches_store code at p a k e t within =
+    let above = t.above in
+    (t.place, omega arith, t.below, (t.access, (a, (t.load, t.accesses, k, e, t.touches))))
 
-store_first : (code : List ℕ) (at : ℕ) (o : Option ℕ) → IsFirstThat code at (λ p. StoreMeets code (p + 1) at) o → IsFirstBroken code at LoadThenStore o
-store_first code at = by_first code at LoadThenStore (λ p. StoreMeets code (p + 1) at)
+store_first : (code : List ℕ) (at : ℕ) (o : Option ℕ) → IsFirstThat code at (λ p. Holds code p at LoadThenStore) o → IsFirstBroken code at LoadThenStore o
+store_first code at = by_first code at LoadThenStore (λ p. Holds code p at LoadThenStore)
     (λ p o m. m)
-    (λ p b. (broken_open code p at LoadThenStore b (λ n. let h = b.holds.load in let x = h.above in let y = h.below in omega arith), b.holds))
+    (λ p b. (broken_open code p at LoadThenStore b (λ n. let x = b.holds.1 in let y = b.holds.2 in omega arith), b.holds))
 
 pub store_found : (code : List ℕ) (at : ℕ) (a : MemAccess) → kind_at code at ≡ Some kinds.Store → access_at code at ≡ Some a
     → LoadTouches code at (reach_of a) → (o : Option ℕ) → IsFirstThat code at (λ p. Unit {0}) o → IsFirstBroken code at LoadThenStore o
 store_found code at a k e t None f = absurd (f t.trigger t.open_there tt)
 store_found code at a k e t (Some first) f = store_first code at (Some first)
-    (first_has code at (λ p. StoreMeets code (p + 1) at) first f (touches_store code at first a k e t (f.2 t.trigger t.open_there tt)))
+    (first_has code at (λ p. Holds code p at LoadThenStore) first f (touches_store code at first a k e t (f.2 t.trigger t.open_there tt)))
 
 pub store_missing : (code : List ℕ) (at : ℕ) (a : MemAccess) → access_at code at ≡ Some a → (LoadTouches code at (reach_of a) → ⊥)
     → IsFirstBroken code at LoadThenStore None
 store_missing code at a e not = store_first code at None (λ p o m. not (store_touches code at p a e o m))
 
 pub no_store : (code : List ℕ) (at : ℕ) → ((kind_at code at ≡ Some kinds.Store) × (access_at code at ≢ None) → ⊥) → IsFirstBroken code at LoadThenStore None
-no_store code at not = store_first code at None (λ p o m. not (m.store, λ e. let again = m.accesses in cc))
+no_store code at not = store_first code at None (λ p o m. let here = m.3.1.1 in not (here.2, λ e. let again = here.3 in cc))
 
 -- C6 and C7
 

@@ -4,7 +4,8 @@ use Rattle.std.proofs.lemmas.Bool.{cases_eq, cases_lt}
 use Rattle.alpha_shadow.specs.declared.broken.Condition.{Condition}
 use Rattle.alpha_shadow.specs.declared.broken.Condition.TheVariants.{ZeroDestination, SourceLost, SameDestination, WildBase, LoadThenStore, Locked, Turn, Open, Long}
 use Rattle.alpha_shadow.specs.declared.broken.Broken.{Broken}
-use Rattle.alpha_shadow.specs.Broken.{IsBroken, condition_number}
+use Rattle.alpha_shadow.specs.Broken.{IsBroken}
+use Rattle.alpha_shadow.specs.Least.{condition_number}
 use Rattle.alpha_shadow.specs.Place.{IsFirstBroken, IsLeastUpTo, IsLeastThere}
 use Rattle.alpha_shadow.proofs.Conditions.{condition_number-injective}
 

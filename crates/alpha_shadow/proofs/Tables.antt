@@ -1,15 +1,11 @@
 -- What follows from the instruction table for the word at a place. The other lemmas speak of places alone.
-use Rattle.std.proofs.Common.{◌≡◌, ◌≢◌, ◌<◌, ◌≤◌, ◌⊎◌, ◌↔◌, ℕ, Bool, IsTrue, is_some, true, false, Option, Some, None, List, length, ap, sym, refl, subst, ⊎_elim, ◌==◌, cond, eqb-true}
+use Rattle.std.proofs.Common.{◌≡◌, ◌<◌, ◌≤◌, ◌⊎◌, ℕ, Bool, true, false, Option, Some, None, List, length, ap, sym, refl, subst, ⊎_elim, ◌==◌, cond, eqb-true}
 use Rattle.std.specs.Option.{unwrap_or}
 use Rattle.std.proofs.lemmas.Option.{slice_get_past}
 use Rattle.std.proofs.lemmas.Bool.{cases_lt}
-use Rattle.alpha_table.specs.declared.form.Form.{Form}
-use Rattle.alpha_table.specs.declared.op.TrapOp.{TrapOp}
 use Rattle.alpha_table.specs.declared.columns.InsnKind.{InsnKind}
 use Rattle.alpha_table.specs.declared.columns.InsnKind.TheVariants as kinds
 use Rattle.alpha_table.specs.Class.{Class, operate, trigger, address, load, store, load_locked, store_conditional, branch, jump, barrier, idle}
-use Rattle.alpha_table.specs.ClassOf.{class_of}
-use Rattle.alpha_table.specs.Columns.{class_trap, kind_of, trap_op_of}
 use Rattle.alpha_table.specs.Code.{class_kind, class_at, kind, trap_rc}
 use Rattle.alpha_table.specs.Uses.{class_access, but_zero, sets}
 use Rattle.alpha_shadow.specs.Code.{kind_at, destination_at, access_at, sets_at}

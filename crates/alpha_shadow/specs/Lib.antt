@@ -1,5 +1,6 @@
 pub mod Code
 pub mod Broken
+pub mod Least
 pub mod Columns
 pub mod Reach
 pub mod Held

@@ -2,7 +2,8 @@
 use Rattle.std.specs.Prelude.{◌≡◌, ◌<◌, ◌≤◌, ◌⊎◌, ℕ, Option, Some, None, List}
 use Rattle.alpha_shadow.specs.declared.broken.Condition.{Condition}
 use Rattle.alpha_shadow.specs.declared.broken.Broken.{Broken}
-use Rattle.alpha_shadow.specs.Broken.{IsBroken, condition_number}
+use Rattle.alpha_shadow.specs.Broken.{IsBroken}
+use Rattle.alpha_shadow.specs.Least.{condition_number}
 
 -- the first trigger for which a place is broken under a condition, or none
 abbrev pub IsFirstBroken : List ℕ → ℕ → Condition → Option ℕ → Type 0

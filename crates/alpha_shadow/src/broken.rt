@@ -25,7 +25,7 @@ pub enum Condition {
 }
 
 impl Condition {
-    ghost use Rattle.alpha_shadow.specs.Broken.{condition_number};
+    ghost use Rattle.alpha_shadow.specs.Least.{condition_number};
 
     /// Its number, 1 to 9.
     pub fn number(self) -> u8

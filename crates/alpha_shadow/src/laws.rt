@@ -1,6 +1,7 @@
 ghost use Rattle.std.specs.Prelude.{◌⊎◌, ℕ, List};
 ghost use Rattle.alpha_shadow.specs.declared.broken.Broken.{Broken};
-ghost use Rattle.alpha_shadow.specs.Broken.{IsBroken, IsAccepted, IsLeastBroken};
+ghost use Rattle.alpha_shadow.specs.Broken.{IsBroken, IsAccepted};
+ghost use Rattle.alpha_shadow.specs.Least.{IsLeastBroken};
 
 /// The laws of verdicts, for every list of words: each place is broken under a condition or isn't,
 /// and the list is accepted or has a least broken place.

@@ -12,7 +12,7 @@
 //!   accepted or has a least broken place.
 //!
 //! `specs/Code.antt` reads the columns of the code by place, `specs/Broken.antt` says when a place is
-//! broken, which code is accepted and which broken place is the least. The body is `verdict.rt` (the
+//! broken and which code is accepted, `specs/Least.antt` which broken place is the least. The body is `verdict.rt` (the
 //! walk over the words) over `place.rt` (the least broken place at one word, condition by condition),
 //! `window.rt` (what is known of the words before a place, whose meaning is `specs/Window.antt`),
 //! `triggers.rt` and `loads.rt` (the open triggers, and the loads after the first of them), `last.rt`

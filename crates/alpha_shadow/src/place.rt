@@ -2,7 +2,7 @@ ghost use Rattle.std.specs.Prelude.{◌≡◌, ◌≢◌, ◌<◌, ◌+◌, ◌�
 ghost use Rattle.alpha_table.specs.declared.columns.InsnKind.TheVariants as kinds;
 ghost use Rattle.alpha_shadow.specs.Code.{kind_at};
 ghost use Rattle.alpha_shadow.specs.Columns.{HasColumns};
-ghost use Rattle.alpha_shadow.specs.Broken.{condition_number};
+ghost use Rattle.alpha_shadow.specs.Least.{condition_number};
 ghost use Rattle.alpha_shadow.specs.Window.{Summarizes, IsUnbroken};
 ghost use Rattle.alpha_shadow.specs.Place.{IsFirstBroken, IsLeastUpTo};
 

@@ -1,5 +1,6 @@
 ghost use Rattle.std.specs.Prelude.{◌≡◌, ◌≤◌, ◌+◌, length, OnOk, IfErr};
-ghost use Rattle.alpha_shadow.specs.Broken.{IsAccepted, IsLeastBroken};
+ghost use Rattle.alpha_shadow.specs.Broken.{IsAccepted};
+ghost use Rattle.alpha_shadow.specs.Least.{IsLeastBroken};
 ghost use Rattle.alpha_shadow.specs.Window.{Summarizes};
 
 use crate::columns::Columns;

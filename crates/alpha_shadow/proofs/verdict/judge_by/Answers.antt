@@ -3,7 +3,8 @@ use Rattle.alpha_table.specs.declared.columns.InsnKind.TheVariants as kinds
 use Rattle.alpha_table.specs.ClassOf.{class_of}
 use Rattle.alpha_table.specs.Columns.{kind_of}
 use Rattle.alpha_shadow.specs.declared.broken.Condition.TheVariants.{Open}
-use Rattle.alpha_shadow.specs.Broken.{IsAccepted, IsLeastBroken}
+use Rattle.alpha_shadow.specs.Broken.{IsAccepted}
+use Rattle.alpha_shadow.specs.Least.{IsLeastBroken}
 use Rattle.alpha_shadow.specs.Window.{Summarizes, IsUnbroken, IsFirstThat}
 use Rattle.alpha_shadow.specs.Place.{IsLeastUpTo}
 use Rattle.alpha_image.proofs.CodeInsns.{class_here}
