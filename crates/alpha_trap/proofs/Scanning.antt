@@ -7,7 +7,8 @@ use Rattle.std.proofs.lemmas.Nat.Bits.{bit_at-lt, bit_at-zero}
 use Rattle.alpha_words.specs.Regs.{Has}
 use Rattle.alpha_table.specs.Code.{class_at, trap_rc, Straight}
 use Rattle.alpha_image.specs.Parts.{Parts}
-use Rattle.alpha_trap.specs.Scan.{Covers, Fits, Finds, is_straight, spoils, fits, greatest_below, place_or_end, scan_at, scan}
+use Rattle.alpha_trap.specs.Scan.{is_straight, spoils, fits, greatest_below, place_or_end, scan_at, scan}
+use Rattle.alpha_trap.specs.Finds.{Covers, Fits, Finds}
 use Rattle.alpha_trap.proofs.Ranges.{and_parts, and_true, or_parts, or_left, or_right, not_true, all_within, within_all, any_within, within_any, greatest_below-some, greatest_below-is}
 use Rattle.alpha_trap.proofs.Columns.{trigger_has_rc, has_rc_trigger, straight_on, on_straight, spoils_rc, rc_spoils}
 

@@ -5,7 +5,8 @@ use Rattle.std.proofs.lemmas.Nat.Bits.{bit_at_above}
 use Rattle.alpha_words.specs.Regs.{Has}
 use Rattle.alpha_table.specs.declared.columns.InsnKind.TheVariants as kinds
 use Rattle.alpha_table.specs.Code.{class_at, kind, trap_rc, Straight}
-use Rattle.alpha_trap.specs.Scan.{Fits, fits, greatest_below}
+use Rattle.alpha_trap.specs.Scan.{fits, greatest_below}
+use Rattle.alpha_trap.specs.Finds.{Fits}
 use Rattle.alpha_trap.proofs.Ranges.{greatest_below-none}
 use Rattle.alpha_trap.proofs.Scanning.{unfit, greatest-is}
 

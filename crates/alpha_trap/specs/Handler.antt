@@ -1,16 +1,15 @@
 -- What the handler of a late trap leaves.
-use Rattle.std.specs.Prelude.{◌+◌, ◌*◌, ◌%◌, ◌^◌, ℕ, true, if◌then◌else◌, Option, Some, List}
+use Rattle.std.specs.Prelude.{◌+◌, ◌*◌, ◌%◌, ◌^◌, ℕ, true, if◌then◌else◌, Option, List}
 use Rattle.std.specs.Option.{option_map}
 use Rattle.alpha_words.specs.declared.Completion.{Completion}
-use Rattle.alpha_words.specs.Regs.{reg, put}
-use Rattle.alpha_table.specs.Class.{Class, trigger}
+use Rattle.alpha_words.specs.Regs.{reg}
 use Rattle.alpha_table.specs.Code.{class_at}
-use Rattle.alpha_values.specs.Source.{source_value}
-use Rattle.alpha_values.specs.TrapOp.{completed_of, stops}
+use Rattle.alpha_values.specs.TrapOp.{stops}
 use Rattle.alpha_pal.specs.Kernel.{KernelState, user_regs, arith_frame}
 use Rattle.alpha_image.specs.Parts.{Parts}
 use Rattle.alpha_trap.specs.declared.handler.Lost.{Lost}
 use Rattle.alpha_trap.specs.Scan.{scan}
+use Rattle.alpha_trap.specs.Completed.{completed_regs}
 
 -- ---- the trap
 
@@ -27,12 +26,6 @@ abbrev pub place_of_trap : Parts → Lost → Option ℕ
 place_of_trap image trap = scan image trap.trap_pc trap.mask
 
 -- ---- its end
-
--- the registers after the word was completed: a trigger's destination has its completed value
-abbrev pub completed_regs : Completion → Option Class → List ℕ → List ℕ
-completed_regs how (Some (trigger op ra src rc)) regs =
-    put regs rc (completed_of op (reg regs ra) (source_value regs src) how)
-completed_regs how _ regs = regs
 
 -- the PC to go on at, and the user's registers
 pub record Handled : Type 0 where

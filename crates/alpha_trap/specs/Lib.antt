@@ -1,2 +1,4 @@
 pub mod Scan
+pub mod Finds
+pub mod Completed
 pub mod Handler

@@ -1,55 +1,25 @@
 -- The scan: from the address where a late trap was reported, and the registers that it may have spoilt, back to the
 -- instruction that made it.
-use Rattle.std.specs.Prelude.{◌≡◌, ◌<◌, ◌≤◌, ◌+◌, ◌-◌, ◌*◌, ℕ, zero, suc, Bool, true, false, ◌==◌, ◌&&◌, ◌||◌, if◌then◌else◌, Option, Some, None, is_some, List, length}
+use Rattle.std.specs.Prelude.{◌+◌, ◌-◌, ◌*◌, ℕ, zero, suc, Bool, true, false, ◌==◌, ◌&&◌, ◌||◌, if◌then◌else◌, Option, Some, None, is_some, List, length}
 use Rattle.std.specs.Int.{bit_at}
 use Rattle.std.specs.List.{list_all, list_any, range_with_len}
 use Rattle.std.specs.Option.{option_map_or}
-use Rattle.alpha_words.specs.Regs.{Has}
 use Rattle.alpha_table.specs.declared.columns.InsnKind.{InsnKind}
 use Rattle.alpha_table.specs.declared.columns.InsnKind.TheVariants as kinds
 use Rattle.alpha_table.specs.Class.{Class}
-use Rattle.alpha_table.specs.Code.{class_at, kind, trap_rc, Straight}
+use Rattle.alpha_table.specs.Code.{class_at, kind, trap_rc}
 use Rattle.alpha_image.specs.Parts.{Parts, place_of}
-
--- ---- as a relation
-
--- each register of the mask is the destination of a trigger in [from, to)
-abbrev pub Covers : List ℕ → ℕ → ℕ → ℕ → Type 0
-Covers code mask from to =
-    (r : ℕ) → r < 31 → Has mask r → (k : ℕ) × (from ≤ k) × (k < to) × (trap_rc (class_at code k) ≡ Some r)
-
--- The word at a place may have made a trap that was reported before the word at another: it is a trigger, it and the
--- triggers behind it have every register of the mask as a destination, and the program ran straight on between.
-pub record Fits (code : List ℕ) (mask at to : ℕ) : Type 0 where
-  pub before : at < to
-  pub trigger : kind (class_at code at) ≡ Some kinds.Trigger
-  pub covers : Covers code mask at to
-  pub straight : Straight code at to
 
 -- the place of the word at an address, or one past the last place for the address behind the code
 abbrev pub place_or_end : Parts → ℕ → Option ℕ
 place_or_end image pc =
     if pc == image.code_base + 4 * length image.words then Some (length image.words) else place_of image pc
 
--- the scan finds a place: the greatest one that fits; it finds none for no registers, or for an address elsewhere
-pub record Finds (image : Parts) (pc mask at : ℕ) : Type 0 where
-  pub some : 0 < mask
-  pub to : ℕ
-  pub reported : place_or_end image pc ≡ Some to
-  pub fits : Fits image.words mask at to
-  pub greatest : (k : ℕ) → Fits image.words mask k to → k ≤ at
-
--- ---- as a function
-
 -- neither a barrier nor a turn
 abbrev pub runs_on : InsnKind → Bool
-runs_on kinds.Plain = true
-runs_on kinds.Trigger = true
 runs_on kinds.Barrier = false
-runs_on kinds.Load = true
-runs_on kinds.Store = true
-runs_on kinds.Locked = true
 runs_on kinds.Turn = false
+runs_on kind = true
 
 -- whether the word runs straight on
 abbrev pub is_straight : Option Class → Bool

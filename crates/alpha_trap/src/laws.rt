@@ -6,7 +6,8 @@ ghost use Rattle.alpha_words.specs.Regs.{Has};
 ghost use Rattle.alpha_table.specs.Code.{Straight, class_at, trap_rc};
 ghost use Rattle.alpha_pal.specs.Kernel.{arith_frame, arith_regs, entered};
 ghost use Rattle.alpha_image.specs.Parts.{Parts};
-ghost use Rattle.alpha_trap.specs.Scan.{Covers, Finds, Fits, fits, place_or_end, scan};
+ghost use Rattle.alpha_trap.specs.Scan.{fits, place_or_end, scan};
+ghost use Rattle.alpha_trap.specs.Finds.{Covers, Finds, Fits};
 ghost use Rattle.alpha_trap.specs.Handler.{handled, reported};
 
 /// The scan as a function is the scan as a relation, so it finds one place at most. It finds a trigger

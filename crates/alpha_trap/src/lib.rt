@@ -12,8 +12,8 @@
 //! - [`laws_of_scans`] says that the function which computes the scan is the relation that defines it,
 //!   and [`laws_of_reports`] that entry and handler together make the report of the definition.
 //!
-//! `specs/Scan.antt` says what the scan finds, as a relation and as a function; `specs/Handler.antt` says
-//! what the handler leaves. `src/scan.rt` and `src/handler.rt` have the calls, `src/trigger.rt` what both
+//! `specs/Scan.antt` says what the scan finds as a function, and `specs/Finds.antt` as a relation;
+//! `specs/Handler.antt` says what the handler leaves, with the registers of `specs/Completed.antt`. `src/scan.rt` and `src/handler.rt` have the calls, `src/trigger.rt` what both
 //! read of an instruction. `proofs/Walking.antt` follows the walk down word by word, `Scanning.antt` ties
 //! the function to the relation, `Ranges.antt` and `Columns.antt` have the tests of places and of words,
 //! `Handling.antt` the handler's frame.

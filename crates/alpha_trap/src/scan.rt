@@ -1,5 +1,6 @@
 ghost use Rattle.std.specs.Prelude.{◌≡◌, ◌<◌, ◌≤◌, ◌^◌, ℕ, IfSome, IfNone, length};
-ghost use Rattle.alpha_trap.specs.Scan.{Finds, fits, greatest_below, place_or_end, scan};
+ghost use Rattle.alpha_trap.specs.Scan.{fits, greatest_below, place_or_end, scan};
+ghost use Rattle.alpha_trap.specs.Finds.{Finds};
 
 use crate::trigger::trigger_of;
 use alpha_image::Image;
