@@ -1,7 +1,8 @@
 //! What the scan and the handler read of an instruction.
 
 ghost use Rattle.std.specs.Prelude.{◌≡◌, None, IfSome, IfNone};
-ghost use Rattle.alpha_table.specs.Class.{class_of, trigger};
+ghost use Rattle.alpha_table.specs.Class.{trigger};
+ghost use Rattle.alpha_table.specs.ClassOf.{class_of};
 ghost use Rattle.alpha_table.specs.Code.{trigger_destination};
 
 use alpha_table::{Form, Insn, Src, TrapOp};

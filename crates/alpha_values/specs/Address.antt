@@ -1,7 +1,7 @@
 -- The addresses that LDA, LDAH and the accesses to memory compute, and the bytes that an access touches.
 use Rattle.std.specs.Prelude.{ℕ, ℤ, ◌+◌, ◌*◌, ◌/◌, ◌<◌, ◌≤◌, ◌+ℤ◌, ◌*ℤ◌, pos, if◌then◌else◌}
 use Rattle.alpha_table.specs.declared.columns.MemAccess.{MemAccess}
-use Rattle.alpha_table.specs.Columns.{bytes_spanned, SpansMeet}
+use Rattle.alpha_table.specs.Uses.{bytes_spanned, SpansMeet}
 use Rattle.alpha_values.specs.Numbers.{register_of}
 
 -- a base register and a displacement of 16 bits, in bytes or, for the high half of an address, in units of 65,536
