@@ -1,9 +1,9 @@
 -- A place is broken by the columns of the words of its shadow, wherever the shadow stands.
 use Rattle.std.proofs.Common.{◌≡◌, ◌<◌, ◌≤◌, ◌+◌, ◌-◌, ℕ, List, length, slice_get, sym, ◌∙◌, ap, subst, arith, IsTrue}
-use Rattle.std.specs.Option.{option_map, option_and_then}
-use Rattle.alpha_table.specs.Class.{class_of}
-use Rattle.alpha_table.specs.Decoded.{decoded}
-use Rattle.alpha_table.specs.Code.{class_at, kind, sets, uses, access, trap_rc}
+use Rattle.std.specs.Option.{option_and_then}
+use Rattle.alpha_table.specs.Words.{class_in}
+use Rattle.alpha_table.specs.Code.{class_at, kind, trap_rc}
+use Rattle.alpha_table.specs.Uses.{sets, uses, access}
 use Rattle.alpha_shadow.specs.declared.broken.Condition.{Condition}
 use Rattle.alpha_shadow.specs.declared.broken.Condition.TheVariants.{ZeroDestination, SourceLost, SameDestination, WildBase, LoadThenStore, Locked, Turn, Open, Long}
 use Rattle.alpha_shadow.specs.Code.{kind_at, destination_at, access_at, sets_at, SetIn, ExposedIn}
@@ -28,7 +28,7 @@ same_class code at other there e = record {
 
 pub same_word : (code : List ℕ) (at : ℕ) (other : List ℕ) (there : ℕ) → slice_get code at ≡ slice_get other there → LooksAlike code at other there
 unfolding class_at
-same_word code at other there e = same_class code at other there (ap (λ w. option_map class_of (option_and_then decoded w)) e)
+same_word code at other there e = same_class code at other there (ap (option_and_then class_in) e)
 
 -- The words from p up to a place and those of other code from q up to a place there look alike, and both places are
 -- places of the code, or its ends.

@@ -3,7 +3,7 @@ use Rattle.std.proofs.Common.{◌≡◌, ◌<◌, ◌≤◌, ◌+◌, ◌-◌, �
 use Rattle.std.proofs.lemmas.Bool.{cases_lt}
 use Rattle.alpha_table.specs.declared.columns.InsnKind.TheVariants as kinds
 use Rattle.alpha_table.specs.Code.{class_at}
-use Rattle.alpha_table.specs.Decoded.{decoded, memory_form, branch_form, jump_form, operate_form, misc_form}
+use Rattle.alpha_table.specs.Words.{class_in}
 use Rattle.alpha_shadow.specs.declared.broken.Condition.{Condition}
 use Rattle.alpha_shadow.specs.declared.broken.Condition.TheVariants.{ZeroDestination, SourceLost, SameDestination, WildBase, LoadThenStore, Locked, Turn, Open, Long}
 use Rattle.alpha_shadow.specs.Code.{kind_at}
@@ -108,7 +108,7 @@ behind front x rest t at o = record {
 
 -- the word of TRAPB is a barrier
 trapb_kind : (code : List ℕ) (at : ℕ) → slice_get code at ≡ Some trapb → kind_at code at ≡ Some kinds.Barrier
-unfolding class_at decoded memory_form branch_form jump_form operate_form misc_form
+unfolding class_at class_in
 trapb_kind code at is = rw is refl
 
 -- a barrier breaks nothing by itself

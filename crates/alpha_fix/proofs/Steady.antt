@@ -3,9 +3,12 @@ use Rattle.std.proofs.Common.{◌≡◌, ℕ, pos, Option, Some, None, List, [],
 use Rattle.std.specs.Option.{option_map, option_and_then}
 use Rattle.std.proofs.lemmas.Option.{slice_get-map}
 use Rattle.std.proofs.lemmas.List.{length-map}
-use Rattle.alpha_table.specs.Class.{Class, operate, trigger, address, load, store, load_locked, store_conditional, branch, jump, barrier, idle, class_of}
+use Rattle.alpha_table.specs.Class.{Class, operate, trigger, address, load, store, load_locked, store_conditional, branch, jump, barrier, idle}
+use Rattle.alpha_table.specs.ClassOf.{class_of}
 use Rattle.alpha_table.specs.Decoded.{decoded}
-use Rattle.alpha_table.specs.Code.{class_at, kind, sets, uses, access, trap_rc}
+use Rattle.alpha_table.specs.Code.{class_at, kind, trap_rc}
+use Rattle.alpha_table.specs.Uses.{sets, uses, access}
+use Rattle.alpha_table.proofs.Classes.{class_at-decoded}
 use Rattle.alpha_shadow.specs.declared.broken.Condition.{Condition}
 use Rattle.alpha_shadow.specs.Broken.{IsBroken, IsAccepted}
 use Rattle.alpha_fix.specs.Cuts.{BreaksAbove, AreCutsAbove, HasBroken}
@@ -50,7 +53,8 @@ steady_columns (load extension at ra) = same_columns _ _ refl
 steady_columns (store at ra) = same_columns _ _ refl
 steady_columns (load_locked extension at ra) = same_columns _ _ refl
 steady_columns (store_conditional at ra) = same_columns _ _ refl
-steady_columns (branch condition ra disp) = record { same_kind = refl; same_destination = refl; same_set = refl; same_access = refl; same_uses = λ r. refl }
+steady_columns (branch None ra disp) = record { same_kind = refl; same_destination = refl; same_set = refl; same_access = refl; same_uses = λ r. refl }
+steady_columns (branch (Some condition) ra disp) = record { same_kind = refl; same_destination = refl; same_set = refl; same_access = refl; same_uses = λ r. refl }
 steady_columns (jump ra rb) = same_columns _ _ refl
 steady_columns (barrier call) = same_columns _ _ refl
 steady_columns idle = same_columns _ _ refl
@@ -78,8 +82,9 @@ here None = refl
 here (Some w) = refl
 
 class_here : (code : List ℕ) (k : ℕ) → option_map steady (class_at code k) ≡ option_and_then (λ c. c) (slice_get (map word_class code) k)
-unfolding class_at
-class_here code k = here (slice_get code k) ∙ ap (option_and_then (λ c. c)) (sym (slice_get-map word_class code k))
+class_here code k =
+    ap (option_map steady) (class_at-decoded code k)
+    ∙ (here (slice_get code k) ∙ ap (option_and_then (λ c. c)) (sym (slice_get-map word_class code k)))
 
 looks_alike : (code other : List ℕ) (k : ℕ) → AreAlike code other → LooksAlike code k other k
 looks_alike code other k e =

@@ -8,8 +8,10 @@ use Rattle.alpha_table.specs.declared.rows.MemOp.{MemOp}
 use Rattle.alpha_table.specs.declared.rows.MemOp.TheVariants.{Lda, Ldah}
 use Rattle.alpha_table.specs.declared.form.Form.{Form}
 use Rattle.alpha_table.specs.declared.form.Form.TheVariants.{Mem, Branch, Jump, Operate, Misc, Fetch, Pal}
-use Rattle.alpha_table.specs.Class.{Class, barrier, class_of}
+use Rattle.alpha_table.specs.Class.{Class, barrier}
+use Rattle.alpha_table.specs.ClassOf.{class_of}
 use Rattle.alpha_table.specs.Decoded.{decoded}
+use Rattle.alpha_table.proofs.Levels.{level_in-decoded}
 use Rattle.alpha_text.specs.Reading.{LineSaid}
 use Rattle.alpha_image.specs.Parts.{IsCodeWord}
 use Rattle.alpha_words.specs.declared.Level.{Level}
@@ -193,7 +195,7 @@ some_and P (Some x) h = tt
 pub words_classes : (level : Level) (ws : List ℕ) → All (IsCodeWord level) ws → map word_class ws ≡ map (λ c. Some c) (map form_class (filter_map decoded ws))
 words_classes level [] a = refl
 words_classes level (w ∷ ws) a =
-    word_step (decoded w) w ws level refl (some_and _ (decoded w) (All-head (IsCodeWord level) w ws a).1) (words_classes level ws (All-tail (IsCodeWord level) w ws a))
+    word_step (decoded w) w ws level refl (some_and _ (decoded w) ((level_in-decoded level w).0 (All-head (IsCodeWord level) w ws a).1)) (words_classes level ws (All-tail (IsCodeWord level) w ws a))
 
 length_step : (o : Option Form) (rest : List ℕ) → IsSomeAnd o (λ i. Unit {0}) → length (cons_option o (filter_map decoded rest)) ≡ suc (length (filter_map decoded rest))
 length_step None rest s = absurd s
@@ -202,4 +204,4 @@ length_step (Some f) rest s = refl
 pub words_length : (level : Level) (ws : List ℕ) → All (IsCodeWord level) ws → length (filter_map decoded ws) ≡ length ws
 words_length level [] a = refl
 words_length level (w ∷ ws) a =
-    length_step (decoded w) ws (some_and _ (decoded w) (All-head (IsCodeWord level) w ws a).1) ∙ ap suc (words_length level ws (All-tail (IsCodeWord level) w ws a))
+    length_step (decoded w) ws (some_and _ (decoded w) ((level_in-decoded level w).0 (All-head (IsCodeWord level) w ws a).1)) ∙ ap suc (words_length level ws (All-tail (IsCodeWord level) w ws a))

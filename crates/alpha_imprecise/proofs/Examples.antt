@@ -7,7 +7,7 @@ use Rattle.alpha_words.specs.declared.Completion.TheVariants.{Wrap, Saturate, St
 use Rattle.alpha_words.specs.Digits.{digits, number}
 use Rattle.alpha_words.specs.Regs.{reg, put}
 use Rattle.alpha_table.specs.Code.{class_at}
-use Rattle.alpha_table.specs.Decoded.{decoded, memory_form, branch_form, jump_form, operate_form, misc_form, fetch_form, pal_form, source_of}
+use Rattle.alpha_table.specs.Words.{class_in}
 use Rattle.alpha_values.specs.Bits.{pairwise}
 use Rattle.alpha_values.specs.Cond.{is_taken}
 use Rattle.alpha_values.specs.Numbers.{register_of}
@@ -64,7 +64,7 @@ seen k = record {
 
 -- the run by these words, over an empty input
 unfoldable run : Completion → ℕ → List ℕ → List ℕ → Seen
-unfolding int_wrap digits number reg put class_at decoded memory_form branch_form jump_form operate_form misc_form fetch_form pal_form source_of pairwise is_taken register_of address_of high_address_of access_address result_of overflow_of completed_of fault_of each_within bytes_at write_bytes call longword place_of start_memory start_regs fits greatest_below
+unfolding int_wrap digits number reg put class_at class_in pairwise is_taken register_of address_of high_address_of access_address result_of overflow_of completed_of fault_of each_within bytes_at write_bytes call longword place_of start_memory start_regs fits greatest_below
 run how n code words = let g = program code how in seen (made g (begun (start g []) None 0 words) n)
 
 abbrev exits : ℕ → List ℕ → ℕ → ℕ → Seen

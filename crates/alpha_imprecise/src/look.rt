@@ -1,7 +1,7 @@
 //! What the word at the PC would do.
 
 ghost use Rattle.std.specs.Prelude.{◌≡◌, true, false, IfSome, IfNone, Some};
-ghost use Rattle.alpha_table.specs.Class.{class_of};
+ghost use Rattle.alpha_table.specs.ClassOf.{class_of};
 ghost use Rattle.alpha_seq.specs.Next.{next_insn};
 ghost use Rattle.alpha_seq.specs.Machine.{program_of, class_here};
 ghost use Rattle.alpha_imprecise.specs.Step.{triggers, destination, can_wait};

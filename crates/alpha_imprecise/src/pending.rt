@@ -1,5 +1,5 @@
 ghost use Rattle.std.specs.Prelude.{◌≡◌, ◌<◌, true, IfSome, IfNone};
-ghost use Rattle.alpha_table.specs.Class.{class_of};
+ghost use Rattle.alpha_table.specs.ClassOf.{class_of};
 ghost use Rattle.alpha_seq.specs.Machine.{class_here};
 ghost use Rattle.alpha_imprecise.specs.Chosen.{must_report};
 ghost use Rattle.alpha_imprecise.specs.Wild.{bare, WaitsAt};

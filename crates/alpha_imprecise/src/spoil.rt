@@ -1,7 +1,8 @@
 //! Words that are executed while a trap waits: what they write is any value.
 
 ghost use Rattle.std.specs.Prelude.{◌≡◌, true, Some};
-ghost use Rattle.alpha_table.specs.Class.{class_of, store, load_locked, store_conditional, branch, jump};
+ghost use Rattle.alpha_table.specs.Class.{store, load_locked, store_conditional, branch, jump};
+ghost use Rattle.alpha_table.specs.ClassOf.{class_of};
 ghost use Rattle.alpha_table.specs.declared.form.Form.TheVariants.{Mem};
 ghost use Rattle.alpha_table.specs.Rows.{branch_row};
 ghost use Rattle.alpha_seq.specs.Executed.{IsSized};

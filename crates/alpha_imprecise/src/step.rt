@@ -2,7 +2,7 @@
 
 ghost use Rattle.std.specs.Prelude.{◌≡◌, ◌≢◌, ◌<◌, ◌≤◌, ◌%◌, ◌==◌, ℕ, List, [], ◌∷◌, false, IfSome, IsTrue, None, Some};
 ghost use Rattle.alpha_io.specs.Sunk.{sunk};
-ghost use Rattle.alpha_table.specs.Class.{class_of};
+ghost use Rattle.alpha_table.specs.ClassOf.{class_of};
 ghost use Rattle.alpha_seq.specs.Next.{next_insn};
 ghost use Rattle.alpha_seq.specs.Step.{next_pc};
 ghost use Rattle.alpha_seq.specs.Machine.{class_here, program_of, kernel_left};

@@ -13,6 +13,7 @@ use Rattle.alpha_table.specs.declared.form.Form.{Form}
 use Rattle.alpha_table.specs.Row.{IsInsn}
 use Rattle.alpha_table.specs.Columns.{level_of}
 use Rattle.alpha_table.specs.Decoded.{decoded}
+use Rattle.alpha_table.proofs.Levels.{level_in-decoded}
 use Rattle.alpha_table.specs.Encoded.{encoded}
 use Rattle.alpha_table.proofs.Decoding.{Row-decoded, IsInsn-Row}
 use Rattle.alpha_image.specs.Parts.{Parts, parts_with, IsByte, IsCodeWord, IsCodeInsn, IsWithin, IsImage}
@@ -95,7 +96,7 @@ code_after_allowed addresses l (r ∷ rs) code all =
 word_allowed : (w : ℕ) (i : Form) → IsCodeWord levels.One w → decoded w ≡ Some i → IsAllowed i
 word_allowed w i good e = (
   IsInsn-Row w i (Row-decoded w i e),
-  subst (λ (o : Option Form). IsSomeAnd o (λ j. IsWithin (level_of j) levels.One)) e good.1,
+  subst (λ (o : Option Form). IsSomeAnd o (λ j. IsWithin (level_of j) levels.One)) e ((level_in-decoded levels.One w).0 good.1),
 )
 
 -- and those of good words

@@ -2,16 +2,16 @@
 use Rattle.std.proofs.Common.{◌≡◌, ℕ, zero, suc, ◌+◌, ◌-◌, ◌<◌, ◌≤◌, List, [], ◌∷◌, ◌++◌, length, Option, Some, slice_get, ap, sym, subst, refl, ◌∙◌, ⊎_elim, arith}
 use Rattle.std.specs.Prelude.{All}
 use Rattle.std.specs.List.{concat}
-use Rattle.std.specs.Option.{option_map, option_and_then}
+use Rattle.std.specs.Option.{option_and_then}
 use Rattle.std.proofs.lemmas.Bool.{cases_lt}
 use Rattle.std.proofs.lemmas.List.{length-append}
 use Rattle.std.proofs.lemmas.List.Elements.{All-head, All-tail}
 use Rattle.alpha_table.specs.declared.columns.InsnKind.{InsnKind}
 use Rattle.alpha_table.specs.declared.columns.InsnKind.TheVariants as kinds
 use Rattle.alpha_table.specs.declared.columns.MemAccess.{MemAccess}
-use Rattle.alpha_table.specs.Class.{Class, class_of}
+use Rattle.alpha_table.specs.Class.{Class}
 use Rattle.alpha_table.specs.Code.{class_at, Straight}
-use Rattle.alpha_table.specs.Decoded.{decoded}
+use Rattle.alpha_table.specs.Words.{class_in}
 use Rattle.alpha_shadow.specs.declared.broken.Condition.{Condition}
 use Rattle.alpha_shadow.specs.declared.broken.Condition.TheVariants.{ZeroDestination, SourceLost, SameDestination, WildBase, LoadThenStore, Locked, Turn, Open, Long}
 use Rattle.alpha_shadow.specs.Code.{kind_at, destination_at, access_at, Sets, Uses, SetIn, ExposedIn}
@@ -164,14 +164,14 @@ unfolding class_at
 shows_front a b = record {
   columns = λ k h.
       let same : 0 + k ≡ k = omega arith in
-      same_columns (class_at (a ++ b) (0 + k)) (class_at a k) (ap (λ (i : ℕ). class_at (a ++ b) i) same ∙ ap (λ (w : Option ℕ). option_map class_of (option_and_then decoded w)) (get_front a b k h));
+      same_columns (class_at (a ++ b) (0 + k)) (class_at a k) (ap (λ (i : ℕ). class_at (a ++ b) i) same ∙ ap (option_and_then class_in) (get_front a b k h));
   within = omega (arith, length-append a b);
 }
 
 shows_behind : (a b : List ℕ) → Shows (a ++ b) b (length a)
 unfolding class_at
 shows_behind a b = record {
-  columns = λ k h. same_columns (class_at (a ++ b) (length a + k)) (class_at b k) (ap (λ (w : Option ℕ). option_map class_of (option_and_then decoded w)) (get_behind a b k));
+  columns = λ k h. same_columns (class_at (a ++ b) (length a + k)) (class_at b k) (ap (option_and_then class_in) (get_behind a b k));
   within = omega (arith, length-append a b);
 }
 

@@ -10,9 +10,12 @@ use Rattle.alpha_table.specs.declared.rows.BranchOp.{BranchOp}
 use Rattle.alpha_table.specs.declared.rows.MemOp.TheVariants as memories
 use Rattle.alpha_table.specs.declared.form.Form.{Form}
 use Rattle.alpha_table.specs.declared.form.Form.TheVariants.{Mem, Branch}
-use Rattle.alpha_table.specs.Class.{Class, class_of}
+use Rattle.alpha_table.specs.Class.{Class}
+use Rattle.alpha_table.specs.ClassOf.{class_of}
 use Rattle.alpha_table.specs.Code.{class_at}
 use Rattle.alpha_table.specs.Decoded.{decoded}
+use Rattle.alpha_table.proofs.Classes.{class_in-decoded}
+use Rattle.alpha_table.proofs.Levels.{level_in-decoded}
 use Rattle.alpha_image.specs.Parts.{Parts, IsImage, IsCodeWord}
 use Rattle.alpha_image.specs.Rules.{least_bad_field}
 use Rattle.alpha_shadow.specs.Broken.{IsAccepted}
@@ -159,7 +162,7 @@ unfolding class_at
 class_of_insns [] [] e k = refl
 class_of_insns [] (i ∷ is) e k = absurd cc
 class_of_insns (w ∷ words) [] e k = absurd cc
-class_of_insns (w ∷ words) (i ∷ is) e zero = let here : decoded w ≡ Some i = cc in ap (option_map class_of) here
+class_of_insns (w ∷ words) (i ∷ is) e zero = let here : decoded w ≡ Some i = cc in class_in-decoded w ∙ ap (option_map class_of) here
 class_of_insns (w ∷ words) (i ∷ is) e (suc k) = let later : map decoded words ≡ map Some is = cc in class_of_insns words is later k
 
 words_alike : (a b : List ℕ) (is js : List Form) → map decoded a ≡ map Some is → map decoded b ≡ map Some js → Match is js → AreAlike a b
@@ -203,7 +206,7 @@ all_accepted [] all = All-nil IsAccepted
 all_accepted (m ∷ ms) all = All-cons IsAccepted m.words (map (λ m. m.words) ms) (All-head IsGood m ms all).1 (all_accepted ms (All-tail IsGood m ms all))
 
 some_there : (level : Level) (w : ℕ) → IsCodeWord level w → IsSome (decoded w)
-some_there level w h = some_of (decoded w) _ h.1
+some_there level w h = some_of (decoded w) _ ((level_in-decoded level w).0 h.1)
   where
     some_of : (o : Option Form) (P : Form → Type 0) → IsSomeAnd o P → IsSome o
     some_of None P h = absurd h

@@ -1,7 +1,8 @@
 -- Code words that the conditions of trap shadows don't tell apart.
 use Rattle.std.specs.Prelude.{◌≡◌, ℕ, List, length, Option}
 use Rattle.alpha_table.specs.Class.{Class}
-use Rattle.alpha_table.specs.Code.{class_at, kind, uses, sets, access, trap_rc}
+use Rattle.alpha_table.specs.Code.{class_at, kind, trap_rc}
+use Rattle.alpha_table.specs.Uses.{uses, sets, access}
 
 -- two words of one kind, which use and set the same registers, make the same access and have the same destination
 pub record HaveSameColumns (c d : Option Class) : Type 0 where

@@ -6,7 +6,7 @@ use Rattle.alpha_words.specs.declared.Completion.TheVariants.{Wrap}
 use Rattle.alpha_words.specs.Digits.{digits, number}
 use Rattle.alpha_words.specs.Regs.{reg, put}
 use Rattle.alpha_table.specs.Code.{class_at}
-use Rattle.alpha_table.specs.Decoded.{decoded, memory_form, branch_form, jump_form, operate_form, misc_form, fetch_form, pal_form, source_of}
+use Rattle.alpha_table.specs.Words.{class_in}
 use Rattle.alpha_values.specs.Bits.{pairwise}
 use Rattle.alpha_values.specs.Cond.{is_taken}
 use Rattle.alpha_values.specs.Numbers.{register_of}
@@ -60,7 +60,7 @@ seen_of (Err n) = Err n
 
 -- what items over an empty input lead to
 unfoldable seen : List Item → Result Seen ℕ
-unfolding int_wrap digits number reg put class_at decoded memory_form branch_form jump_form operate_form misc_form fetch_form pal_form source_of pairwise is_taken register_of address_of high_address_of access_address result_of overflow_of completed_of fault_of each_within bytes_at write_bytes call longword place_of start_memory start_regs fits greatest_below
+unfolding int_wrap digits number reg put class_at class_in pairwise is_taken register_of address_of high_address_of access_address result_of overflow_of completed_of fault_of each_within bytes_at write_bytes call longword place_of start_memory start_regs fits greatest_below
 seen items = seen_of (listed two_overflows [] items)
 
 -- The second overflow is executed while the first one waits, and adds to the mask. The barrier reports the first, and

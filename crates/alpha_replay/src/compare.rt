@@ -2,7 +2,7 @@
 
 ghost use Rattle.std.specs.Prelude.{◌≡◌, ◌<◌, ◌≤◌, ◌+◌, ℕ, List, ◌++◌, drop, length, Some};
 ghost use Rattle.alpha_imprecise.specs.Wild.{bare, trap_in};
-ghost use Rattle.alpha_table.specs.Class.{class_of};
+ghost use Rattle.alpha_table.specs.ClassOf.{class_of};
 ghost use Rattle.alpha_seq.specs.Machine.{class_here};
 ghost use Rattle.alpha_replay.specs.Compared.{Sees, first_difference};
 ghost use Rattle.alpha_replay.specs.Puts.{is_callsys, puts, puts_at};

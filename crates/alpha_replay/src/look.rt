@@ -1,7 +1,8 @@
 //! What the next step would do, before it is made.
 
 ghost use Rattle.std.specs.Prelude.{◌≡◌, ◌<◌, None, Some};
-ghost use Rattle.alpha_table.specs.Class.{class_of, barrier};
+ghost use Rattle.alpha_table.specs.Class.{barrier};
+ghost use Rattle.alpha_table.specs.ClassOf.{class_of};
 ghost use Rattle.alpha_words.specs.declared.PalCall.TheVariants.{Callsys};
 ghost use Rattle.alpha_imprecise.specs.Wild.{bare, trap_of};
 ghost use Rattle.alpha_seq.specs.Machine.{class_here};

@@ -5,7 +5,8 @@ use Rattle.alpha_words.specs.Regs.{reg}
 use Rattle.alpha_table.specs.declared.columns.InsnKind.{InsnKind}
 use Rattle.alpha_table.specs.declared.columns.InsnKind.TheVariants as kinds
 use Rattle.alpha_table.specs.declared.columns.MemAccess.{MemAccess}
-use Rattle.alpha_table.specs.Code.{class_at, kind, access}
+use Rattle.alpha_table.specs.Code.{class_at, kind}
+use Rattle.alpha_table.specs.Uses.{access}
 use Rattle.alpha_values.specs.Address.{access_address, Covers}
 use Rattle.alpha_mem.specs.Intent.{Load, Store}
 use Rattle.alpha_mem.specs.Block.{Block, shapes, within}

@@ -4,17 +4,15 @@ use Rattle.alpha_words.specs.Digits.{low_bytes}
 use Rattle.alpha_words.specs.Regs.{reg, put}
 use Rattle.alpha_words.proofs.RegLemmas.{length-put}
 use Rattle.alpha_table.specs.declared.op.Op.{Op}
-use Rattle.alpha_table.specs.declared.op.OpRole.TheVariants.{Plain}
 use Rattle.alpha_table.specs.declared.op.TrapOp.{TrapOp}
 use Rattle.alpha_table.specs.declared.rows.Extension.{Extension}
 use Rattle.alpha_table.specs.declared.columns.InsnKind.TheVariants as kinds
 use Rattle.alpha_table.specs.declared.columns.MemAccess.{MemAccess}
 use Rattle.alpha_table.specs.declared.form.Src.{Src}
 use Rattle.alpha_table.specs.declared.form.Src.TheVariants.{Reg}
-use Rattle.alpha_table.specs.Op.{op_row}
 use Rattle.alpha_table.specs.Class.{Class, operate, trigger, address, load, store, load_locked, store_conditional, branch, jump, barrier, idle}
-use Rattle.alpha_table.specs.Columns.{but_zero, source_registers}
-use Rattle.alpha_table.specs.Code.{class_at, sets, uses, kind, access}
+use Rattle.alpha_table.specs.Code.{class_at, kind}
+use Rattle.alpha_table.specs.Uses.{source_registers, is_move, but_zero, sets, uses, access}
 use Rattle.alpha_values.specs.Op.{result_of}
 use Rattle.alpha_values.specs.Source.{source_value}
 use Rattle.alpha_values.specs.TrapOp.{overflow_of, completed_of}
@@ -61,7 +59,7 @@ module _ (code : List ℕ) (q e : ℕ) (s a : State) (h : Match code q e s a) wh
 
   pub same_src : (op : TrapOp) (ra : ℕ) (src : Src) (rc : ℕ) → class_at code q ≡ Some (trigger op ra src rc) → source_value a.regs src ≡ source_value s.regs src
   same_src op ra src rc is = source_at (Some (trigger op ra src rc)) src is
-      (λ x f low. counts_source Plain ra rc x (source_registers src) low (source_used x src f))
+      (λ x f low. counts_source false ra rc x (source_registers src) low (source_used x src f))
 
   pub same_trigger : (op : TrapOp) (ra : ℕ) (src : Src) (rc : ℕ) → class_at code q ≡ Some (trigger op ra src rc)
       → triggers (Some (trigger op ra src rc)) a ≡ triggers (Some (trigger op ra src rc)) s
@@ -102,12 +100,12 @@ module _ (code : List ℕ) (q e : ℕ) (s a : State) (h : Match code q e s a) wh
     operate_on op ra src rc is =
         let one = read_at (Some (operate op ra src rc)) ra is (λ low. counts_first ra _ low) in
         let two = source_at (Some (operate op ra src rc)) src is
-        (λ x f low. counts_source (op_row op).role ra rc x (source_registers src) low (source_used x src f)) in
+        (λ x f low. counts_source (is_move op) ra rc x (source_registers src) low (source_used x src f)) in
         set_on (Some (operate op ra src rc)) rc _ _ is (λ f. cc) refl
         (ap (λ x. result_of g.image.level op x (source_value a.regs src) (reg a.regs rc)) one
         ∙ (ap (λ y. result_of g.image.level op (reg s.regs ra) y (reg a.regs rc)) two
         ∙ same_result g.image.level op (reg s.regs ra) (source_value s.regs src) (reg a.regs rc) (reg s.regs rc)
-        (λ move. read_at (Some (operate op ra src rc)) rc is (λ low. counts_moved (op_row op).role ra rc (source_registers src) move low))))
+        (λ move. read_at (Some (operate op ra src rc)) rc is (λ low. counts_moved (is_move op) ra rc (source_registers src) move low))))
 
     address_on : (op : _) (ra rb : ℕ) (disp : _) → class_at code q ≡ Some (address op ra rb disp)
         → BothWent code (q + 1) e s a (step g (Some (address op ra rb disp)) s) (step g (Some (address op ra rb disp)) a)

@@ -2,7 +2,8 @@
 use Rattle.std.proofs.Common.{◌≡◌, ◌≢◌, ◌<◌, ◌≤◌, ◌+◌, ℕ, true, List, length, Some, refl, sym, ap, subst, ◌∙◌, ⊎_elim, inl, inr, arith, max}
 use Rattle.std.proofs.lemmas.Bool.{cases_eq, cases_lt}
 use Rattle.alpha_words.specs.Regs.{reg}
-use Rattle.alpha_table.specs.Code.{class_at, sets}
+use Rattle.alpha_table.specs.Code.{class_at}
+use Rattle.alpha_table.specs.Uses.{sets}
 use Rattle.alpha_restart.specs.Safe.{Steady, is_steady}
 use Rattle.alpha_restart.specs.Match.{Dead, Alike}
 use Rattle.alpha_restart.proofs.Registers.{has_cases, same_file}

@@ -3,7 +3,8 @@ use Rattle.std.proofs.Common.{◌≡◌, ◌≢◌, ◌<◌, ◌≤◌, ◌+◌,
 use Rattle.alpha_words.specs.Regs.{reg}
 use Rattle.alpha_table.specs.declared.columns.InsnKind.TheVariants as kinds
 use Rattle.alpha_table.specs.declared.columns.MemAccess.{MemAccess}
-use Rattle.alpha_table.specs.Code.{class_at, sets, kind}
+use Rattle.alpha_table.specs.Code.{class_at, kind}
+use Rattle.alpha_table.specs.Uses.{sets}
 use Rattle.alpha_values.specs.Address.{access_address, Covers}
 use Rattle.alpha_mem.specs.Block.{Block, shapes}
 use Rattle.alpha_mem.specs.Fault.{fault_of}

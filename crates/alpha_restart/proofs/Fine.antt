@@ -7,7 +7,8 @@ use Rattle.alpha_table.specs.declared.columns.InsnKind.{InsnKind}
 use Rattle.alpha_table.specs.declared.columns.InsnKind.TheVariants as kinds
 use Rattle.alpha_table.specs.declared.columns.MemAccess.{MemAccess}
 use Rattle.alpha_table.specs.Class.{Class}
-use Rattle.alpha_table.specs.Code.{class_at, kind, sets, uses, access, trap_rc}
+use Rattle.alpha_table.specs.Code.{class_at, kind, trap_rc}
+use Rattle.alpha_table.specs.Uses.{sets, uses, access}
 use Rattle.alpha_shadow.specs.declared.broken.Condition.{Condition}
 use Rattle.alpha_shadow.specs.declared.broken.Condition.TheVariants.{ZeroDestination, SourceLost, SameDestination, WildBase, LoadThenStore, Locked, Turn, Open, Long}
 use Rattle.alpha_shadow.specs.Broken.{Holds, IsBroken}

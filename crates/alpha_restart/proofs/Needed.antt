@@ -12,6 +12,7 @@ use Rattle.alpha_words.specs.Digits.{digits, number}
 use Rattle.alpha_words.specs.Regs.{reg, put}
 use Rattle.alpha_table.specs.Code.{class_at}
 use Rattle.alpha_table.specs.Decoded.{decoded, memory_form, branch_form, jump_form, operate_form, misc_form, fetch_form, pal_form, source_of}
+use Rattle.alpha_table.specs.Words.{class_in}
 use Rattle.alpha_values.specs.Bits.{pairwise}
 use Rattle.alpha_values.specs.Cond.{is_taken}
 use Rattle.alpha_values.specs.Numbers.{register_of}
@@ -85,12 +86,12 @@ good_image words fields small fault = record {
 
 -- how the sequential run ends, over an empty input
 unfoldable sequential_end : Completion → List ℕ → Option End
-unfolding int_wrap digits number reg put class_at decoded memory_form branch_form jump_form operate_form misc_form fetch_form pal_form source_of pairwise is_taken register_of address_of high_address_of access_address result_of overflow_of completed_of fault_of each_within bytes_at write_bytes call longword place_of start_memory start_regs
+unfolding int_wrap digits number reg put class_at class_in pairwise is_taken register_of address_of high_address_of access_address result_of overflow_of completed_of fault_of each_within bytes_at write_bytes call longword place_of start_memory start_regs
 sequential_end how code = (sequential (record { image = image_of code; how = how }) [] 100 false).end
 
 -- how a run by words ends, and the trap that it loses
 unfoldable imprecise_end : Completion → List ℕ → List ℕ → Option End
-unfolding int_wrap digits number reg put class_at decoded memory_form branch_form jump_form operate_form misc_form fetch_form pal_form source_of pairwise is_taken register_of address_of high_address_of access_address result_of overflow_of completed_of fault_of each_within bytes_at write_bytes call longword place_of start_memory start_regs fits greatest_below
+unfolding int_wrap digits number reg put class_at class_in pairwise is_taken register_of address_of high_address_of access_address result_of overflow_of completed_of fault_of each_within bytes_at write_bytes call longword place_of start_memory start_regs fits greatest_below
 imprecise_end how code words = (imprecise (record { image = image_of code; how = how }) [] words 100 false).end
 
 unfoldable lost : Completion → List ℕ → List ℕ → Option LostTrap
@@ -149,7 +150,7 @@ unfolding bad_field word_fault bad_place decoded memory_form branch_form jump_fo
 zero_destination-good = good_image zero_destination refl refl refl
 
 zero_destination-alone : (c : Condition) → c ≢ ZeroDestination → fine zero_destination c ≡ true
-unfolding class_at decoded memory_form branch_form jump_form operate_form misc_form fetch_form pal_form source_of
+unfolding class_at class_in
 zero_destination-alone ZeroDestination n = absurd (n refl)
 zero_destination-alone _ n = refl
 
@@ -166,7 +167,7 @@ unfolding bad_field word_fault bad_place decoded memory_form branch_form jump_fo
 source_lost-good = good_image source_lost refl refl refl
 
 source_lost-alone : (c : Condition) → c ≢ SourceLost → fine source_lost c ≡ true
-unfolding class_at decoded memory_form branch_form jump_form operate_form misc_form fetch_form pal_form source_of
+unfolding class_at class_in
 source_lost-alone SourceLost n = absurd (n refl)
 source_lost-alone _ n = refl
 
@@ -183,7 +184,7 @@ unfolding bad_field word_fault bad_place decoded memory_form branch_form jump_fo
 same_destination-good = good_image same_destination refl refl refl
 
 same_destination-alone : (c : Condition) → c ≢ SameDestination → fine same_destination c ≡ true
-unfolding class_at decoded memory_form branch_form jump_form operate_form misc_form fetch_form pal_form source_of
+unfolding class_at class_in
 same_destination-alone SameDestination n = absurd (n refl)
 same_destination-alone _ n = refl
 
@@ -201,7 +202,7 @@ unfolding bad_field word_fault bad_place decoded memory_form branch_form jump_fo
 wild_base-good = good_image wild_base refl refl refl
 
 wild_base-alone : (c : Condition) → c ≢ WildBase → fine wild_base c ≡ true
-unfolding class_at decoded memory_form branch_form jump_form operate_form misc_form fetch_form pal_form source_of
+unfolding class_at class_in
 wild_base-alone WildBase n = absurd (n refl)
 wild_base-alone _ n = refl
 
@@ -219,7 +220,7 @@ unfolding bad_field word_fault bad_place decoded memory_form branch_form jump_fo
 load_then_store-good = good_image load_then_store refl refl refl
 
 load_then_store-alone : (c : Condition) → c ≢ LoadThenStore → fine load_then_store c ≡ true
-unfolding class_at decoded memory_form branch_form jump_form operate_form misc_form fetch_form pal_form source_of
+unfolding class_at class_in
 load_then_store-alone LoadThenStore n = absurd (n refl)
 load_then_store-alone _ n = refl
 
@@ -237,7 +238,7 @@ unfolding bad_field word_fault bad_place decoded memory_form branch_form jump_fo
 locked-good = good_image locked refl refl refl
 
 locked-alone : (c : Condition) → c ≢ Locked → fine locked c ≡ true
-unfolding class_at decoded memory_form branch_form jump_form operate_form misc_form fetch_form pal_form source_of
+unfolding class_at class_in
 locked-alone Locked n = absurd (n refl)
 locked-alone _ n = refl
 
@@ -254,7 +255,7 @@ unfolding bad_field word_fault bad_place decoded memory_form branch_form jump_fo
 turn-good = good_image turn refl refl refl
 
 turn-alone : (c : Condition) → c ≢ Turn → fine turn c ≡ true
-unfolding class_at decoded memory_form branch_form jump_form operate_form misc_form fetch_form pal_form source_of
+unfolding class_at class_in
 turn-alone Turn n = absurd (n refl)
 turn-alone _ n = refl
 
@@ -285,7 +286,7 @@ unfolding bad_field word_fault bad_place decoded memory_form branch_form jump_fo
 stopping-good = good_image stopping refl refl refl
 
 stopping-fine : (c : Condition) → fine stopping c ≡ true
-unfolding class_at decoded memory_form branch_form jump_form operate_form misc_form fetch_form pal_form source_of
+unfolding class_at class_in
 stopping-fine ZeroDestination = refl
 stopping-fine _ = refl
 
@@ -311,7 +312,7 @@ late_stop-small =
     (more_small false 5 (choosing true 0 ∷ []) (omega arith) (more_small true 0 [] (omega arith) (All-nil IsChoice)))))
 
 unfoldable stopped_run : WildRun
-unfolding int_wrap digits number reg put class_at decoded memory_form branch_form jump_form operate_form misc_form fetch_form pal_form source_of pairwise is_taken register_of address_of high_address_of access_address result_of overflow_of completed_of fault_of each_within bytes_at write_bytes call longword place_of start_memory start_regs fits greatest_below
+unfolding int_wrap digits number reg put class_at class_in pairwise is_taken register_of address_of high_address_of access_address result_of overflow_of completed_of fault_of each_within bytes_at write_bytes call longword place_of start_memory start_regs fits greatest_below
 stopped_run = let g : Program = record { image = image_of stopping; how = Stop } in run_wild g late_stop (started_wild (start g []))
 
 pub stops_apart : StopsApart

@@ -1,19 +1,16 @@
 -- What the words ahead read is the same in both machines.
-use Rattle.std.proofs.Common.{◌≡◌, ◌≢◌, ◌<◌, ◌≤◌, ◌⊎◌, ◌==◌, ℕ, true, false, List, ◌∷◌, Option, Some, None, eqb, ltb, refl, ap, ◌∙◌, ⊎_elim, inl, inr, arith}
+use Rattle.std.proofs.Common.{◌≡◌, ◌≢◌, ◌<◌, ◌≤◌, ◌⊎◌, ◌==◌, ℕ, Bool, true, false, cond, List, ◌∷◌, Option, Some, None, eqb, ltb, refl, ap, ◌∙◌, ⊎_elim, inl, inr, arith}
 use Rattle.std.specs.List.{list_any}
 use Rattle.std.proofs.lemmas.Bool.{cases_eq, cases_lt, lt-ltb, eq-eqb}
 use Rattle.alpha_words.specs.declared.Level.{Level}
 use Rattle.alpha_words.specs.Regs.{reg}
 use Rattle.alpha_table.specs.declared.op.Op.{Op}
 use Rattle.alpha_table.specs.declared.op.Op.TheVariants as ops
-use Rattle.alpha_table.specs.declared.op.OpRole.{OpRole}
-use Rattle.alpha_table.specs.declared.op.OpRole.TheVariants.{Plain, Move, Trap}
 use Rattle.alpha_table.specs.declared.form.Src.{Src}
 use Rattle.alpha_table.specs.declared.form.Src.TheVariants.{Reg, Lit}
-use Rattle.alpha_table.specs.Op.{op_row}
 use Rattle.alpha_table.specs.Class.{Class}
-use Rattle.alpha_table.specs.Columns.{counts, source_registers, written, but_zero, moved_register}
-use Rattle.alpha_table.specs.Code.{class_at, sets, uses}
+use Rattle.alpha_table.specs.Code.{class_at}
+use Rattle.alpha_table.specs.Uses.{source_registers, is_move, written, but_zero, counts, sets, uses}
 use Rattle.alpha_values.specs.Op.{result_of}
 use Rattle.alpha_values.specs.Source.{source_value}
 use Rattle.alpha_restart.specs.Match.{Dead, Alike}
@@ -29,18 +26,17 @@ pub counts_second : (y x : ℕ) (rest : List ℕ) → x < 31 → counts (y ∷ x
 counts_second y x rest small = and_true (ltb x 31) _ (lt-ltb x 31 small) (or_right (eqb y x) _ (or_left (eqb x x) _ (eq-eqb x x refl)))
 
 -- the old value of a conditional move's destination
-pub counts_moved : (role : OpRole) (ra rc : ℕ) (others : List ℕ) → role ≡ Move → rc < 31 → counts (ra ∷ moved_register role rc others) rc ≡ true
-counts_moved role ra rc others e small = ap (λ (o : OpRole). counts (ra ∷ moved_register o rc others) rc) e ∙ counts_second ra rc others small
+pub counts_moved : (move : Bool) (ra rc : ℕ) (others : List ℕ) → move ≡ true → rc < 31 → counts (ra ∷ cond move (rc ∷ others) others) rc ≡ true
+counts_moved move ra rc others e small = ap (λ (b : Bool). counts (ra ∷ cond b (rc ∷ others) others) rc) e ∙ counts_second ra rc others small
 
 -- a second source of an operate instruction
-pub counts_source : (role : OpRole) (ra rc x : ℕ) (others : List ℕ) → x < 31 → list_any (λ s. s == x) others ≡ true
-    → counts (ra ∷ moved_register role rc others) x ≡ true
-counts_source role ra rc x others small e = and_true (ltb x 31) _ (lt-ltb x 31 small) (or_right (eqb ra x) _ (by role))
+pub counts_source : (move : Bool) (ra rc x : ℕ) (others : List ℕ) → x < 31 → list_any (λ s. s == x) others ≡ true
+    → counts (ra ∷ cond move (rc ∷ others) others) x ≡ true
+counts_source move ra rc x others small e = and_true (ltb x 31) _ (lt-ltb x 31 small) (or_right (eqb ra x) _ (by move))
   where
-    by : (o : OpRole) → list_any (λ s. s == x) (moved_register o rc others) ≡ true
-    by Move = or_right (eqb rc x) _ e
-    by Plain = e
-    by (Trap t) = e
+    by : (b : Bool) → list_any (λ s. s == x) (cond b (rc ∷ others) others) ≡ true
+    by true = or_right (eqb rc x) _ e
+    by false = e
 
 -- a register that is the second source
 pub source_used : (x : ℕ) (src : Src) → src ≡ Reg x → list_any (λ s. s == x) (source_registers src) ≡ true
@@ -77,7 +73,7 @@ same_source code q e (Reg x) s a h used = same_read code q e x s a h (λ low. us
 same_source code q e (Lit n) s a h used = refl
 
 -- only a conditional move's result depends on what its destination had
-pub same_result : (level : Level) (op : Op) (a b old new : ℕ) → ((op_row op).role ≡ Move → old ≡ new)
+pub same_result : (level : Level) (op : Op) (a b old new : ℕ) → (is_move op ≡ true → old ≡ new)
     → result_of level op a b old ≡ result_of level op a b new
 unfolding result_of
 same_result level ops.Cmovlbs a b old new h = ap (λ o. result_of level ops.Cmovlbs a b o) (h refl)

@@ -3,7 +3,7 @@ use Rattle.std.proofs.Common.{◌≡◌, ◌≢◌, ◌<◌, ◌≤◌, ◌⊎�
 use Rattle.std.proofs.lemmas.Bool.{cases_eq, cases_lt, eqb-true}
 use Rattle.std.proofs.lemmas.List.{length-set, get_or-set_same, get_or-set_other, ext_get_or, get_or_past}
 use Rattle.alpha_words.specs.Regs.{reg, put}
-use Rattle.alpha_table.specs.Columns.{but_zero}
+use Rattle.alpha_table.specs.Uses.{but_zero}
 
 -- whether an option has a number is decided
 pub has_cases : (o : Option ℕ) (r : ℕ) → (o ≡ Some r) ⊎ (o ≢ Some r)

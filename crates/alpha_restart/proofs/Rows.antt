@@ -9,7 +9,8 @@ use Rattle.alpha_words.proofs.DigitLemmas.{AllBelow, digits-AllBelow, length-dig
 use Rattle.alpha_table.specs.declared.op.Cond.{Cond}
 use Rattle.alpha_table.specs.declared.columns.MemAccess.{MemAccess}
 use Rattle.alpha_table.specs.Class.{Class, operate, trigger, address, load, store, load_locked, store_conditional, branch, jump, barrier, idle}
-use Rattle.alpha_table.specs.Code.{class_at, access}
+use Rattle.alpha_table.specs.Code.{class_at}
+use Rattle.alpha_table.specs.Uses.{access}
 use Rattle.alpha_image.specs.Parts.{IsByte, place_of}
 use Rattle.alpha_seq.specs.State.{Program, State}
 use Rattle.alpha_seq.specs.Step.{onward, setting, lock_block, matches, next_class, step}

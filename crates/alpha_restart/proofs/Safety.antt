@@ -2,7 +2,8 @@
 use Rattle.std.proofs.Common.{◌≡◌, ◌≢◌, ◌<◌, ◌≤◌, ℕ, true, ◌⊎◌, Some, List, refl, ap, sym, ◌∙◌, arith, is_some}
 use Rattle.alpha_table.specs.declared.columns.InsnKind.TheVariants as kinds
 use Rattle.alpha_table.specs.declared.columns.MemAccess.{MemAccess}
-use Rattle.alpha_table.specs.Code.{class_at, kind, sets, uses, access, trap_rc}
+use Rattle.alpha_table.specs.Code.{class_at, kind, trap_rc}
+use Rattle.alpha_table.specs.Uses.{sets, uses, access}
 use Rattle.alpha_values.specs.Address.{AccessesMeet}
 use Rattle.alpha_shadow.specs.Code.{SetIn}
 use Rattle.alpha_shadow.specs.declared.broken.Condition.{Condition}

@@ -7,12 +7,11 @@ use Rattle.alpha_words.proofs.RegLemmas.{length-put}
 use Rattle.alpha_table.specs.declared.columns.InsnKind.{InsnKind}
 use Rattle.alpha_table.specs.declared.columns.InsnKind.TheVariants as kinds
 use Rattle.alpha_table.specs.declared.columns.MemAccess.{MemAccess}
-use Rattle.alpha_table.specs.declared.op.OpRole.TheVariants.{Plain}
 use Rattle.alpha_table.specs.declared.form.Src.{Src}
 use Rattle.alpha_table.specs.declared.form.Src.TheVariants.{Reg, Lit}
 use Rattle.alpha_table.specs.Class.{Class}
-use Rattle.alpha_table.specs.Columns.{class_kind, source_registers}
-use Rattle.alpha_table.specs.Code.{class_at, kind, sets, uses, access, Straight}
+use Rattle.alpha_table.specs.Code.{class_kind, class_at, kind, Straight}
+use Rattle.alpha_table.specs.Uses.{source_registers, sets, uses, access}
 use Rattle.alpha_values.specs.Source.{source_value}
 use Rattle.alpha_values.specs.TrapOp.{completed_of}
 use Rattle.alpha_restart.specs.Safe.{Shadowed, IsSafe, steady_kind, Steady, is_steady}
@@ -63,7 +62,7 @@ module _ (code : List ℕ) (safe : IsSafe code) (how : Completion) (p : ℕ) (t 
   second_same : (i : ℕ) (src : Src) (a b : List ℕ) → t.src ≡ src → Shadowed code p i → length a ≡ 32 → length b ≡ 32 → SameUnset code i a b
       → source_value b src ≡ source_value a src
   second_same i (Reg x) a b is h size also same_unset =
-      source_same i x a b h size also same_unset (λ low. counts_source Plain t.ra t.rc x (source_registers t.src) low (source_used x t.src is))
+      source_same i x a b h size also same_unset (λ low. counts_source false t.ra t.rc x (source_registers t.src) low (source_used x t.src is))
   second_same i (Lit n) a b is h size also same_unset = refl
 
   pub value_same : (i : ℕ) (a b : List ℕ) → Shadowed code p i → length a ≡ 32 → length b ≡ 32 → SameUnset code i a b → trigger_value how t b ≡ trigger_value how t a

@@ -6,7 +6,8 @@ use Rattle.std.proofs.lemmas.Bool.{cases_eq, cases_lt}
 use Rattle.alpha_words.specs.Regs.{reg}
 use Rattle.alpha_table.specs.declared.columns.InsnKind.TheVariants as kinds
 use Rattle.alpha_table.specs.declared.columns.MemAccess.{MemAccess}
-use Rattle.alpha_table.specs.Code.{class_at, kind, access}
+use Rattle.alpha_table.specs.Code.{class_at, kind}
+use Rattle.alpha_table.specs.Uses.{access}
 use Rattle.alpha_values.specs.Numbers.{register_of}
 use Rattle.alpha_values.specs.Address.{address_of, access_address, Covers, AccessesMeet}
 use Rattle.alpha_values.proofs.Words.{register_is}

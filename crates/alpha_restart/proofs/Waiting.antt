@@ -5,8 +5,8 @@ use Rattle.alpha_words.specs.Regs.{reg, put}
 use Rattle.alpha_words.proofs.RegLemmas.{length-put}
 use Rattle.alpha_table.specs.declared.columns.MemAccess.{MemAccess}
 use Rattle.alpha_table.specs.Class.{Class, operate, trigger, address, load, store, load_locked, store_conditional, branch, jump, barrier, idle}
-use Rattle.alpha_table.specs.Columns.{but_zero}
-use Rattle.alpha_table.specs.Code.{class_at, sets, uses, kind, access}
+use Rattle.alpha_table.specs.Code.{class_at, kind}
+use Rattle.alpha_table.specs.Uses.{but_zero, sets, uses, access}
 use Rattle.alpha_values.specs.Address.{access_address}
 use Rattle.alpha_mem.specs.declared.access.MemFault.{MemFault}
 use Rattle.alpha_mem.specs.Intent.{Load, Store}

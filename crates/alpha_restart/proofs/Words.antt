@@ -1,5 +1,5 @@
 -- What the words of code are: their classes by place, and the bounds of their numbers.
-use Rattle.std.proofs.Common.{◌≡◌, ◌<◌, ◌≤◌, ◌%◌, ◌^◌, ◌⊎◌, ℕ, ℤ, pos, negsuc, Bool, true, false, List, length, Option, Some, None, slice_get, cond, eqb, subst, FitsSigned, refl, inl, inr, arith, option_and_then}
+use Rattle.std.proofs.Common.{◌≡◌, ◌<◌, ◌≤◌, ◌%◌, ◌^◌, ◌⊎◌, ℕ, ℤ, pos, negsuc, Bool, true, false, List, length, Option, Some, None, slice_get, cond, eqb, sym, ◌∙◌, subst, FitsSigned, refl, inl, inr, arith, option_and_then}
 use Rattle.std.specs.Int.{w16}
 use Rattle.std.specs.Option.{option_map}
 use Rattle.std.proofs.lemmas.Int.{ints}
@@ -16,12 +16,16 @@ use Rattle.alpha_table.specs.declared.op.OpRole.TheVariants as roles
 use Rattle.alpha_table.specs.declared.op.Op.{Op}
 use Rattle.alpha_table.specs.declared.form.Src.{Src}
 use Rattle.alpha_table.specs.Op.{op_row}
-use Rattle.alpha_table.specs.Class.{Class, load, barrier, idle, class_of, memory_class, operate_class}
-use Rattle.alpha_table.specs.Code.{class_at, access, trap_rc, kind}
+use Rattle.alpha_table.specs.Class.{Class, load, barrier, idle}
+use Rattle.alpha_table.specs.ClassOf.{class_of, memory_class, operate_class}
+use Rattle.alpha_table.specs.Code.{class_at, trap_rc, kind}
+use Rattle.alpha_table.specs.Uses.{access}
 use Rattle.alpha_table.specs.Decoded.{decoded}
+use Rattle.alpha_table.specs.Words.{class_in}
 use Rattle.alpha_table.specs.Row.{IsInsn, IsSigned}
 use Rattle.alpha_table.specs.Rows.{mem_row}
 use Rattle.alpha_table.proofs.Decoding.{Row-decoded, IsInsn-Row}
+use Rattle.alpha_table.proofs.Classes.{class_at-decoded}
 
 -- an access of a word: a displacement of 16 bits, and as many bytes as divide 16 and fit into 64 bits
 pub record IsNarrow (c : MemAccess) : Type 0 where
@@ -92,8 +96,7 @@ form_tabled (Fetch modify rb) h = plain _ refl refl
 form_tabled (Pal call) h = plain _ refl refl
 
 pub tabled : (code : List ℕ) (k : ℕ) (class : Class) → class_at code k ≡ Some class → IsTabled class
-unfolding class_at
-tabled code k class e = by (slice_get code k) e
+tabled code k class e = by (slice_get code k) (sym (class_at-decoded code k) ∙ e)
   where
     made : (w : ℕ) (o : Option Form) → decoded w ≡ o → option_map class_of o ≡ Some class → IsTabled class
     made w None d f = cc
@@ -124,7 +127,7 @@ pub class_within : (code : List ℕ) (k : ℕ) (class : Class) → class_at code
 unfolding class_at
 class_within code k class e = by (slice_get code k) refl e
   where
-    by : (o : Option ℕ) → slice_get code k ≡ o → option_map class_of (option_and_then decoded o) ≡ Some class → k < length code
+    by : (o : Option ℕ) → slice_get code k ≡ o → option_and_then class_in o ≡ Some class → k < length code
     by None g f = cc
     by (Some w) g f = slice_get_within code k w g
 

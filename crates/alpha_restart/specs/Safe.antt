@@ -5,7 +5,8 @@ use Rattle.alpha_table.specs.declared.columns.InsnKind.{InsnKind}
 use Rattle.alpha_table.specs.declared.columns.InsnKind.TheVariants as kinds
 use Rattle.alpha_table.specs.declared.columns.MemAccess.{MemAccess}
 use Rattle.alpha_table.specs.Class.{Class}
-use Rattle.alpha_table.specs.Code.{class_at, kind, sets, uses, access, trap_rc, Straight}
+use Rattle.alpha_table.specs.Code.{class_at, kind, trap_rc, Straight}
+use Rattle.alpha_table.specs.Uses.{sets, uses, access}
 use Rattle.alpha_values.specs.Address.{AccessesMeet}
 
 -- the program may run from a trigger to a place with the trap pending

@@ -11,6 +11,7 @@ use Rattle.alpha_words.specs.Levels.{level_number}
 use Rattle.alpha_table.specs.declared.form.Form.{Form}
 use Rattle.alpha_table.specs.Columns.{level_of}
 use Rattle.alpha_table.specs.Decoded.{decoded}
+use Rattle.alpha_table.proofs.Levels.{level_in-decoded}
 use Rattle.alpha_text.specs.Statements.{Said}
 use Rattle.alpha_text.specs.Statements as says
 use Rattle.alpha_image.specs.declared.segment.Segment.{Segment}
@@ -35,7 +36,7 @@ use Rattle.alpha_round.proofs.Segments.{one_place, one_fit, leads, segments_fit,
 
 -- the instruction of a code word
 pub one_insn : (level : Level) (w : ℕ) → IsCodeWord level w → (i : Form) × (decoded w ≡ Some i) × IsWithin (level_of i) level
-one_insn level w h = by (decoded w) refl h.1
+one_insn level w h = by (decoded w) refl ((level_in-decoded level w).0 h.1)
   where
     by : (o : Option Form) → decoded w ≡ o → IsSomeAnd o (λ i. IsWithin (level_of i) level) → (i : Form) × (decoded w ≡ Some i) × IsWithin (level_of i) level
     by None e x = absurd x

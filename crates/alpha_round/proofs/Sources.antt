@@ -14,6 +14,7 @@ use Rattle.alpha_table.specs.declared.form.Form.{Form}
 use Rattle.alpha_table.specs.Columns.{level_of}
 use Rattle.alpha_table.specs.Decoded.{decoded}
 use Rattle.alpha_table.specs.Row.{IsInsn}
+use Rattle.alpha_table.proofs.Levels.{level_in-decoded}
 use Rattle.alpha_table.proofs.Decoding.{decoded-Row}
 use Rattle.alpha_table.proofs.Words.{some_word}
 use Rattle.alpha_text.specs.declared.reader.LineFault.{LineFault}
@@ -201,7 +202,7 @@ words_of level (i ∷ code) h =
     let found : decoded w ≡ Some i = decoded-Row w i row in
     record {
       words = w ∷ more.words;
-      good = All-cons (IsCodeWord level) w more.words (small, rw found low) more.good;
+      good = All-cons (IsCodeWord level) w more.words (small, (level_in-decoded level w).1 (rw found low)) more.good;
       read = rw found (ap (λ l. i ∷ l) more.read);
       count = ap suc more.count;
     }

@@ -8,7 +8,7 @@ use Rattle.alpha_words.specs.declared.Completion.TheVariants.{Wrap, Saturate, St
 use Rattle.alpha_words.specs.Digits.{digits, number, low_bytes}
 use Rattle.alpha_words.specs.Regs.{reg, put}
 use Rattle.alpha_table.specs.Code.{class_at}
-use Rattle.alpha_table.specs.Decoded.{decoded, memory_form, branch_form, jump_form, operate_form, misc_form, fetch_form, pal_form, source_of}
+use Rattle.alpha_table.specs.Words.{class_in}
 use Rattle.alpha_values.specs.Bits.{pairwise, zeros_before_one}
 use Rattle.alpha_values.specs.Cond.{is_taken}
 use Rattle.alpha_values.specs.Numbers.{register_of}
@@ -45,7 +45,7 @@ program words how = record {
 
 -- how the run of at most so many steps ends, over an empty input
 unfoldable end : Completion → ℕ → List ℕ → Option End
-unfolding int_wrap digits number reg put class_at decoded memory_form branch_form jump_form operate_form misc_form fetch_form pal_form source_of pairwise is_taken register_of address_of high_address_of access_address result_of overflow_of completed_of fault_of each_within bytes_at write_bytes call longword place_of start_memory start_regs
+unfolding int_wrap digits number reg put class_at class_in pairwise is_taken register_of address_of high_address_of access_address result_of overflow_of completed_of fault_of each_within bytes_at write_bytes call longword place_of start_memory start_regs
 end how n words = (sequential (program words how) [] n false).end
 
 -- how many steps that run has, and what is noted of it

@@ -22,10 +22,12 @@ use Rattle.alpha_table.specs.declared.form.Form.TheVariants.{Operate, Misc}
 use Rattle.alpha_table.specs.declared.rows.MiscOp.{MiscOp}
 use Rattle.alpha_table.specs.Rows.{misc_row}
 use Rattle.alpha_table.specs.Op.{role_trap, trap_of, op_row}
-use Rattle.alpha_table.specs.Class.{Class, operate, trigger, barrier, idle, operate_class, class_of}
-use Rattle.alpha_table.specs.Columns.{class_kind, kind_of}
-use Rattle.alpha_table.specs.Code.{class_at}
+use Rattle.alpha_table.specs.Class.{Class, operate, trigger, barrier, idle}
+use Rattle.alpha_table.specs.ClassOf.{operate_class, class_of}
+use Rattle.alpha_table.specs.Columns.{kind_of}
+use Rattle.alpha_table.specs.Code.{class_kind, class_at}
 use Rattle.alpha_table.specs.Decoded.{decoded}
+use Rattle.alpha_table.proofs.Classes.{class_at-decoded}
 use Rattle.alpha_mem.specs.Block.{shapes}
 use Rattle.alpha_mem.specs.declared.access.MemFault.{MemFault}
 use Rattle.alpha_values.specs.Source.{source_value}
@@ -43,9 +45,8 @@ use Rattle.alpha_seq.proofs.Stepping.{Leaves-step}
 
 -- the class of a place's word is that of its instruction
 class_by_place : (words : List ℕ) (place : Option ℕ) → option_and_then (class_at words) place ≡ option_map class_of (option_and_then (λ k. option_and_then decoded (slice_get words k)) place)
-unfolding class_at
 class_by_place words None = refl
-class_by_place words (Some k) = refl
+class_by_place words (Some k) = class_at-decoded words k
 
 pub class_here-insn : (m : Machine) (insn : Option Form) → insn ≡ next_insn (program_of m) m.pc → class_here m ≡ option_map class_of insn
 class_here-insn m insn e = class_by_place m.image.words (place_of m.image m.pc) ∙ ap (option_map class_of) (sym e)

@@ -6,7 +6,8 @@ use Rattle.alpha_table.specs.declared.rows.Extension.{Extension}
 use Rattle.alpha_table.specs.declared.rows.MemRole.{MemRole}
 use Rattle.alpha_table.specs.declared.rows.MemRole.TheVariants.{Address, Load, Store, LoadLocked, StoreConditional}
 use Rattle.alpha_table.specs.declared.form.Form.{Form}
-use Rattle.alpha_table.specs.Class.{load, idle, memory_class}
+use Rattle.alpha_table.specs.Class.{load, idle}
+use Rattle.alpha_table.specs.ClassOf.{memory_class}
 use Rattle.alpha_seq.specs.State.{Event}
 use Rattle.alpha_seq.specs.Next.{by_event, by_class}
 

@@ -2,7 +2,8 @@
 use Rattle.std.specs.Prelude.{ℕ, Option, Some, None, slice_get}
 use Rattle.std.specs.Option.{option_and_then}
 use Rattle.alpha_table.specs.declared.form.Form.{Form}
-use Rattle.alpha_table.specs.Class.{Class, barrier, class_of}
+use Rattle.alpha_table.specs.Class.{Class, barrier}
+use Rattle.alpha_table.specs.ClassOf.{class_of}
 use Rattle.alpha_table.specs.Decoded.{decoded}
 use Rattle.alpha_image.specs.Parts.{place_of}
 use Rattle.alpha_seq.specs.declared.end.End.{End}

@@ -6,7 +6,7 @@ ghost use Rattle.alpha_mem.specs.Intent.{Load, Store};
 ghost use Rattle.alpha_words.specs.Regs.{reg};
 ghost use Rattle.alpha_values.specs.TrapOp.{overflow_of};
 ghost use Rattle.alpha_table.specs.Op.{trap_of};
-ghost use Rattle.alpha_table.specs.Class.{class_of};
+ghost use Rattle.alpha_table.specs.ClassOf.{class_of};
 ghost use Rattle.alpha_table.specs.declared.form.Form.{Form};
 ghost use Rattle.alpha_table.specs.declared.form.Form.TheVariants.{Mem};
 ghost use Rattle.alpha_values.specs.Source.{source_value};

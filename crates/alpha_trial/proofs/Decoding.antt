@@ -1,6 +1,7 @@
 -- The words of a trial's program stand for its instructions.
 use Rattle.std.proofs.Common.{◌≡◌, ◌<◌, ◌≤◌, ◌+◌, ◌%◌, ◌^◌, ◌++◌, ℕ, zero, suc, pos, Bool, true, false, cond, ltb, List, [], ◌∷◌, map, Option, Some, refl, sym, ap, subst, ◌∙◌, arith}
 use Rattle.std.specs.Prelude.{◌-ℤ◌, All, IsSomeAnd}
+use Rattle.std.specs.Option.{option_map}
 use Rattle.std.proofs.lemmas.Int.{ints}
 use Rattle.std.proofs.lemmas.Bool.{ltb-true, ltb-false}
 use Rattle.std.proofs.lemmas.List.{map-append}
@@ -16,8 +17,13 @@ use Rattle.alpha_table.specs.declared.form.Src.TheVariants.{Reg}
 use Rattle.alpha_table.specs.declared.form.Form.{Form}
 use Rattle.alpha_table.specs.declared.form.Form.TheVariants.{Mem, Operate, Misc}
 use Rattle.alpha_table.specs.Decoded.{decoded, memory_form, branch_form, jump_form, operate_form, misc_form, fetch_form, pal_form, source_of}
+use Rattle.alpha_table.specs.Class.{address}
+use Rattle.alpha_table.specs.ClassOf.{class_of}
+use Rattle.alpha_table.specs.Words.{class_in}
 use Rattle.alpha_table.specs.Columns.{level_of}
 use Rattle.alpha_table.proofs.Decoding.{decoded-Row}
+use Rattle.alpha_table.proofs.Classes.{class_in-decoded}
+use Rattle.alpha_table.proofs.Levels.{level_in-decoded}
 use Rattle.alpha_image.specs.Parts.{IsCodeWord, IsWithin}
 use Rattle.alpha_trial.specs.Program.{displacement, block, blocks, ending, program, seeded}
 use Rattle.alpha_trial.specs.Words.{displacement_field, block_words, blocks_words, ending_words, program_words}
@@ -50,6 +56,13 @@ decoded_second x =
     let w = 0x245f0000 + displacement_field x in
     let f = second_fields (displacement_field x) (low_half x) in
     decoded-Row w (Mem Ldah 2 31 (displacement x)) (f.0, f.1, f.2, signed_half (field 15 0 w) x (ltb (field 15 0 w) 32768) refl f.3)
+
+-- and their classes
+pub class_first : (x : ℕ) → class_in (0x243f0000 + displacement_field x) ≡ Some (address Ldah 1 31 (displacement x))
+class_first x = class_in-decoded (0x243f0000 + displacement_field x) ∙ ap (option_map class_of) (decoded_first x)
+
+pub class_second : (x : ℕ) → class_in (0x245f0000 + displacement_field x) ≡ Some (address Ldah 2 31 (displacement x))
+class_second x = class_in-decoded (0x245f0000 + displacement_field x) ∙ ap (option_map class_of) (decoded_second x)
 
 -- ---- all of the words
 
@@ -100,13 +113,14 @@ program_decoded n =
 -- ---- all are code words
 
 code_word : (w : ℕ) (i : Form) → w < 2 ^ 32 → decoded w ≡ Some i → IsWithin (level_of i) levels.One → IsCodeWord levels.One w
-code_word w i small e low = (small, subst (λ (o : Option Form). IsSomeAnd o (λ j. IsWithin (level_of j) levels.One)) (sym e) low)
+code_word w i small e low =
+    (small, (level_in-decoded levels.One w).1 (subst (λ (o : Option Form). IsSomeAnd o (λ j. IsWithin (level_of j) levels.One)) (sym e) low))
 
 abbrev Fine : ℕ → Type 0
 Fine w = IsCodeWord levels.One w
 
 fixed_fine : All Fine fixed_words
-unfolding decoded memory_form branch_form jump_form operate_form misc_form fetch_form pal_form source_of
+unfolding class_in
 fixed_fine =
     All-cons Fine 0x40220803 (0x20830001 ∷ 0x4c220805 ∷ 0x63ff0000 ∷ 0x44670807 ∷ 0x44870807 ∷ 0x44a70807 ∷ []) (omega arith, omega arith)
     (All-cons Fine 0x20830001 (0x4c220805 ∷ 0x63ff0000 ∷ 0x44670807 ∷ 0x44870807 ∷ 0x44a70807 ∷ []) (omega arith, omega arith)
@@ -117,7 +131,7 @@ fixed_fine =
     (All-cons Fine 0x44a70807 [] (omega arith, omega arith) (All-nil Fine)))))))
 
 ending_fine : All Fine ending_words
-unfolding decoded memory_form branch_form jump_form operate_form misc_form fetch_form pal_form source_of
+unfolding class_in
 ending_fine =
     All-cons Fine 0x251f1000 (0xb4e80000 ∷ 0x221f0001 ∷ 0x47e80411 ∷ 0x225f0008 ∷ 0x201f0004 ∷ 0x00000083 ∷ 0x221f0000 ∷ 0x201f0001 ∷ 0x00000083 ∷ []) (omega arith, omega arith)
     (All-cons Fine 0xb4e80000 (0x221f0001 ∷ 0x47e80411 ∷ 0x225f0008 ∷ 0x201f0004 ∷ 0x00000083 ∷ 0x221f0000 ∷ 0x201f0001 ∷ 0x00000083 ∷ []) (omega arith, omega arith)

@@ -12,7 +12,7 @@ use Rattle.alpha_table.specs.declared.columns.MemAccess.{MemAccess}
 use Rattle.alpha_table.specs.declared.form.Src.TheVariants.{Reg}
 use Rattle.alpha_table.specs.Class.{operate, address, store, barrier}
 use Rattle.alpha_table.specs.Code.{class_at}
-use Rattle.alpha_table.specs.Decoded.{decoded, memory_form, branch_form, jump_form, operate_form, misc_form, fetch_form, pal_form, source_of}
+use Rattle.alpha_table.specs.Words.{class_in}
 use Rattle.alpha_values.specs.Numbers.{register_of}
 use Rattle.alpha_values.specs.Op.{result_of}
 use Rattle.alpha_values.specs.Address.{address_of, high_address_of, access_address}
@@ -55,7 +55,7 @@ record Words (n : ℕ) : Type 0 where
   word9 : class_at (program_words n) (9 * n + 9) ≡ Some (barrier (Some Callsys))
 
 words_are : (n : ℕ) → Words n
-unfolding class_at decoded memory_form branch_form jump_form operate_form misc_form fetch_form pal_form source_of
+unfolding class_at class_in
 words_are n =
     let at = ending_class n in
     record {

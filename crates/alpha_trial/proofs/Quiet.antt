@@ -1,15 +1,14 @@
 -- The blocks of a trial end nothing and leave memory as it was.
 use Rattle.std.proofs.Common.{◌≡◌, ◌<◌, ◌≤◌, ◌+◌, ◌-◌, ◌*◌, ◌++◌, ℕ, zero, suc, Bool, true, false, cond, List, [], ◌∷◌, length, Option, Some, None, refl, sym, ap, subst, ◌∙◌, ⊎_elim, arith, add-one}
-use Rattle.std.specs.Option.{option_map}
 use Rattle.std.proofs.lemmas.Bool.{cases_lt}
 use Rattle.rand_pcg.specs.Lcg.{Lcg}
 use Rattle.rand_pcg.specs.Pcg.{pcg32}
 use Rattle.alpha_words.specs.declared.Completion.TheVariants.{Wrap}
 use Rattle.alpha_words.specs.Regs.{reg, put}
 use Rattle.alpha_words.proofs.RegLemmas.{length-put}
-use Rattle.alpha_table.specs.Class.{Class, operate, trigger, address, load, store, load_locked, store_conditional, branch, jump, barrier, idle, class_of}
+use Rattle.alpha_table.specs.Class.{Class, operate, trigger, address, load, store, load_locked, store_conditional, branch, jump, barrier, idle}
 use Rattle.alpha_table.specs.Code.{class_at}
-use Rattle.alpha_table.specs.Decoded.{decoded, memory_form, branch_form, jump_form, operate_form, misc_form, fetch_form, pal_form, source_of}
+use Rattle.alpha_table.specs.Words.{class_in}
 use Rattle.alpha_values.specs.Source.{source_value}
 use Rattle.alpha_values.specs.TrapOp.{overflow_of, completed_of}
 use Rattle.alpha_mem.specs.Block.{Block}
@@ -23,7 +22,7 @@ use Rattle.alpha_restart.proofs.Starting.{ready_start}
 use Rattle.alpha_trial.specs.Program.{seeded}
 use Rattle.alpha_trial.specs.Words.{block_words, blocks_words, ending_words, program_words, trial_image}
 use Rattle.alpha_trial.specs.Report.{wrapping}
-use Rattle.alpha_trial.proofs.Decoding.{decoded_first, decoded_second}
+use Rattle.alpha_trial.proofs.Decoding.{class_first, class_second}
 use Rattle.alpha_trial.proofs.Shadows.{behind_at}
 use Rattle.alpha_trial.proofs.Good.{image_good}
 use Rattle.alpha_trial.proofs.Stages.{Fact, fact, Holds, Leaves, Stage, trial, next_stage}
@@ -99,10 +98,18 @@ record Quiet (o : Option Class) : Type 0 where
   is : o ≡ Some class
   quiet : is_quiet class ≡ true
 
+quiet_first : (x y : ℕ) (rest : List ℕ) → Quiet (class_at (block_words x y ++ rest) 0)
+unfolding class_at
+quiet_first x y rest = record { class = _; is = class_first x; quiet = refl }
+
+quiet_second : (x y : ℕ) (rest : List ℕ) → Quiet (class_at (block_words x y ++ rest) 1)
+unfolding class_at
+quiet_second x y rest = record { class = _; is = class_second y; quiet = refl }
+
 quiet_block : (x y k : ℕ) (rest : List ℕ) → k < 9 → Quiet (class_at (block_words x y ++ rest) k)
-unfolding class_at decoded memory_form branch_form jump_form operate_form misc_form fetch_form pal_form source_of
-quiet_block x y zero rest low = record { class = _; is = ap (option_map class_of) (decoded_first x); quiet = refl }
-quiet_block x y (suc zero) rest low = record { class = _; is = ap (option_map class_of) (decoded_second y); quiet = refl }
+unfolding class_at class_in
+quiet_block x y zero rest low = quiet_first x y rest
+quiet_block x y (suc zero) rest low = quiet_second x y rest
 quiet_block x y (suc (suc zero)) rest low = record { class = _; is = refl; quiet = refl }
 quiet_block x y (suc (suc (suc zero))) rest low = record { class = _; is = refl; quiet = refl }
 quiet_block x y (suc (suc (suc (suc zero)))) rest low = record { class = _; is = refl; quiet = refl }

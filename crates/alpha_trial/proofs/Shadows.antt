@@ -1,5 +1,4 @@
 -- The program of a trial is accepted: a TRAPB ends the shadows of each block, and no condition holds in them.
-use Rattle.std.specs.Option.{option_map}
 use Rattle.std.proofs.Common.{◌≡◌, ◌≢◌, ◌⊎◌, ◌<◌, ◌≤◌, ◌+◌, ◌++◌, ℕ, zero, suc, pos, true, false, List, [], ◌∷◌, length, Option, None, Some, refl, sym, ap, ◌∙◌, inl, inr, ⊎_elim, arith}
 use Rattle.std.proofs.lemmas.Bool.{cases_lt}
 use Rattle.rand_pcg.specs.Lcg.{Lcg}
@@ -9,17 +8,17 @@ use Rattle.alpha_table.specs.declared.rows.MemOp.TheVariants.{Lda}
 use Rattle.alpha_table.specs.declared.columns.InsnKind.{InsnKind}
 use Rattle.alpha_table.specs.declared.columns.InsnKind.TheVariants as kinds
 use Rattle.alpha_table.specs.declared.form.Src.TheVariants.{Reg}
-use Rattle.alpha_table.specs.declared.form.Form.{Form}
-use Rattle.alpha_table.specs.Class.{Class, trigger, address, barrier, class_of}
-use Rattle.alpha_table.specs.Code.{class_at, kind, sets, uses, access, trap_rc, Straight}
-use Rattle.alpha_table.specs.Decoded.{decoded, memory_form, branch_form, jump_form, operate_form, misc_form, fetch_form, pal_form, source_of}
+use Rattle.alpha_table.specs.Class.{Class, trigger, address, barrier}
+use Rattle.alpha_table.specs.Code.{class_at, kind, trap_rc, Straight}
+use Rattle.alpha_table.specs.Uses.{sets, uses, access}
+use Rattle.alpha_table.specs.Words.{class_in}
 use Rattle.alpha_shadow.specs.declared.broken.Condition.{Condition}
 use Rattle.alpha_shadow.specs.declared.broken.Condition.TheVariants.{ZeroDestination, SourceLost, SameDestination, WildBase, LoadThenStore, Locked, Turn, Open, Long}
 use Rattle.alpha_shadow.specs.Code.{kind_at}
 use Rattle.alpha_shadow.specs.Broken.{Holds, IsAccepted, LosesSource}
 use Rattle.alpha_trial.specs.Program.{seeded}
 use Rattle.alpha_trial.specs.Words.{block_words, blocks_words, ending_words, program_words}
-use Rattle.alpha_trial.proofs.Decoding.{decoded_first, decoded_second}
+use Rattle.alpha_trial.proofs.Decoding.{class_first, class_second}
 
 -- ---- the shadows of a block
 
@@ -207,20 +206,20 @@ found_behind x y k t rest e f = record {
 }
 
 first_block : (x y : ℕ) (rest : List ℕ) → Block (block_words x y ++ rest) 0
-unfolding class_at decoded memory_form branch_form jump_form operate_form misc_form fetch_form pal_form source_of
+unfolding class_at class_in
 first_block x y rest = record { two = refl; three = refl; four = refl; five = refl }
 
 -- the words of a block that are no triggers
 first_plain : (x y : ℕ) (rest : List ℕ) → kind_at (block_words x y ++ rest) 0 ≡ Some kinds.Plain
 unfolding class_at
-first_plain x y rest = ap (λ (o : Option Form). kind (option_map class_of o)) (decoded_first x)
+first_plain x y rest = ap kind (class_first x)
 
 second_plain : (x y : ℕ) (rest : List ℕ) → kind_at (block_words x y ++ rest) 1 ≡ Some kinds.Plain
 unfolding class_at
-second_plain x y rest = ap (λ (o : Option Form). kind (option_map class_of o)) (decoded_second y)
+second_plain x y rest = ap kind (class_second y)
 
 others_plain : (x y : ℕ) (rest : List ℕ) → (kind_at (block_words x y ++ rest) 6 ≡ Some kinds.Plain) × (kind_at (block_words x y ++ rest) 7 ≡ Some kinds.Plain) × (kind_at (block_words x y ++ rest) 8 ≡ Some kinds.Plain)
-unfolding class_at decoded memory_form branch_form jump_form operate_form misc_form fetch_form pal_form source_of
+unfolding class_at class_in
 others_plain x y rest = (refl, refl, refl)
 
 no_trigger : {X : Type 0} (o : Option InsnKind) → o ≡ Some kinds.Plain → o ≡ Some kinds.Trigger → X
@@ -243,7 +242,7 @@ found_in x y (suc (suc (suc (suc (suc (suc (suc (suc (suc k))))))))) rest later 
 
 -- the ending has none
 ending_plain : (t : ℕ) → kind_at ending_words t ≡ Some kinds.Trigger → ⊥
-unfolding class_at decoded memory_form branch_form jump_form operate_form misc_form fetch_form pal_form source_of
+unfolding class_at class_in
 ending_plain zero h = cc
 ending_plain (suc zero) h = cc
 ending_plain (suc (suc zero)) h = cc

@@ -1,5 +1,5 @@
 use Rattle.std.proofs.Common.{Option, Some, ◌∷◌, [], ◌+◌, refl, sym, subst}
-use Rattle.alpha_table.specs.Class.{class_of}
+use Rattle.alpha_table.specs.ClassOf.{class_of}
 use Rattle.alpha_imprecise.specs.declared.pending.Pending.{Pending}
 use Rattle.alpha_imprecise.specs.Moment.{Waited}
 use Rattle.alpha_imprecise.specs.Wild.{wild_state}

@@ -3,7 +3,7 @@ use Rattle.std.specs.Int.{w16, cast_signed, cast_unsigned}
 use Rattle.std.proofs.lemmas.Int.{to_z-of_z}
 use Rattle.alpha_table.specs.declared.form.Form.{Form}
 use Rattle.alpha_table.specs.declared.form.Form.TheVariants.{Mem}
-use Rattle.alpha_table.specs.Class.{class_of}
+use Rattle.alpha_table.specs.ClassOf.{class_of}
 use Rattle.alpha_seq.specs.Executed.{row_access, NeverGoes}
 use Rattle.alpha_seq.proofs.Executing.{Does-plain, trap-never, fault-never, misc-never, barrier-never}
 use Rattle.alpha_seq.proofs.machine.Machine.goes.Goals as goal

@@ -1,5 +1,6 @@
 use Rattle.std.proofs.Common.{Option, None, Some, sym, subst, ◌∙◌}
-use Rattle.alpha_table.specs.Class.{Class, class_of}
+use Rattle.alpha_table.specs.Class.{Class}
+use Rattle.alpha_table.specs.ClassOf.{class_of}
 use Rattle.alpha_seq.specs.Executed.{NeverGoes}
 use Rattle.alpha_seq.proofs.Executing.{class_here-insn, fetch-never}
 use Rattle.alpha_seq.proofs.machine.Machine.goes_on.Goals as goal

@@ -3,7 +3,7 @@ use Rattle.std.specs.Int.{w16}
 use Rattle.std.proofs.lemmas.Int.{to_z-of_z}
 use Rattle.alpha_table.specs.declared.form.Form.{Form}
 use Rattle.alpha_table.specs.declared.form.Form.TheVariants.{Mem}
-use Rattle.alpha_table.specs.Class.{class_of}
+use Rattle.alpha_table.specs.ClassOf.{class_of}
 use Rattle.alpha_table.specs.Rows.{mem_row}
 use Rattle.alpha_seq.specs.declared.end.Next.TheVariants.{Faults}
 use Rattle.alpha_seq.specs.Step.{step}

@@ -1,5 +1,6 @@
 use Rattle.std.proofs.Common.{◌≡◌, [], None, Some, refl, sym, ap, ◌∙◌, inr}
-use Rattle.alpha_table.specs.Class.{barrier, class_of}
+use Rattle.alpha_table.specs.Class.{barrier}
+use Rattle.alpha_table.specs.ClassOf.{class_of}
 use Rattle.alpha_seq.specs.declared.end.End.TheVariants.{Fetch}
 use Rattle.alpha_seq.specs.State.{Went, Barriered, Overflowed, Ends}
 use Rattle.alpha_seq.specs.Step.{next_pc}
