@@ -1,6 +1,6 @@
 -- One precise step in both machines, at a word where nothing overflows: they stay matched.
 use Rattle.std.proofs.Common.{◌≡◌, ◌≢◌, ◌<◌, ◌+◌, ℕ, Bool, true, false, cond, List, [], ◌∷◌, Option, Some, None, refl, sym, ap, subst, ◌∙◌, arith}
-use Rattle.alpha_words.specs.Digits.{low_bytes}
+use Rattle.alpha_words.specs.Digits.{low_bytes, little}
 use Rattle.alpha_words.specs.Regs.{reg, put}
 use Rattle.alpha_words.proofs.RegLemmas.{length-put}
 use Rattle.alpha_table.specs.declared.op.Op.{Op}
@@ -24,7 +24,9 @@ use Rattle.alpha_mem.specs.Fault.{fault_of}
 use Rattle.alpha_mem.specs.Memory.{bytes_at, write_bytes}
 use Rattle.alpha_mem.proofs.LawLemmas as mem
 use Rattle.alpha_seq.specs.State.{Program, State, Went, Stepped}
-use Rattle.alpha_seq.specs.Step.{next_pc, onward, setting, went, overflowed, computed, accessed, unless, extended, loaded, written_memory, step}
+use Rattle.alpha_seq.specs.Step.{next_pc, onward, setting, went, overflowed, computed, accessed, unless, loaded, written_memory, step}
+use Rattle.alpha_seq.specs.Executed.{filled}
+use Rattle.alpha_seq.proofs.Loaded.{loaded_is}
 use Rattle.alpha_imprecise.specs.Step.{triggers}
 use Rattle.alpha_restart.specs.Safe.{is_steady}
 use Rattle.alpha_restart.specs.Match.{Alike, SameBytes, Match}
@@ -147,8 +149,10 @@ module _ (code : List ℕ) (q e : ℕ) (s a : State) (h : Match code q e s a) wh
         let fine_too = ap (λ n. fault_of (shapes a.mem) Load n c.bytes) where_too
         ∙ granted_there code q e s.regs s.mem a.mem c h.memory less accesses kinds.Load kind_is in
         let value : loaded extension c a ≡ loaded extension c s =
-        ap (λ n. extended extension (bytes_at a.mem n c.bytes)) where_too
-        ∙ ap (extended extension) (same_loaded code q e s.regs s.mem a.mem c h.memory less accesses kind_is) in
+        loaded_is extension c a
+        ∙ (ap (λ n. filled extension (little (bytes_at a.mem n c.bytes))) where_too
+        ∙ (ap (λ l. filled extension (little l)) (same_loaded code q e s.regs s.mem a.mem c h.memory less accesses kind_is)
+        ∙ sym (loaded_is extension c s))) in
         subst (λ x. BothWent code (q + 1) e s a x (step g (Some (load extension c ra)) a)) (granted _ (accessed c s) s (setting s ra (loaded extension c s)) fine)
         (subst (λ y. BothWent code (q + 1) e s a (went (setting s ra (loaded extension c s))) y)
         (granted _ (accessed c a) a (setting a ra (loaded extension c a)) fine_too)

@@ -1,5 +1,5 @@
 -- What a run has put and noted stays, and more may follow.
-use Rattle.std.proofs.Common.{◌≡◌, ◌∙◌, ◌≤◌, ◌<◌, ℕ, zero, suc, Bool, true, false, cond, eqb, not, List, [], ◌++◌, Option, None, Some, refl, sym, ap, subst, ⊎_elim, append_assoc, append-nil, arith}
+use Rattle.std.proofs.Common.{◌≡◌, ◌∙◌, ◌≤◌, ◌<◌, ℕ, zero, suc, Bool, true, false, cond, List, [], ◌++◌, Option, None, Some, refl, sym, ap, subst, ⊎_elim, append_assoc, append-nil, arith}
 use Rattle.std.proofs.Math.Nat.{eq-or-lt_of_le}
 use Rattle.alpha_words.specs.declared.Completion.{Completion}
 use Rattle.alpha_words.specs.declared.Completion.TheVariants.{Wrap, Saturate, Stop}
@@ -9,7 +9,7 @@ use Rattle.alpha_words.specs.Regs.{reg}
 use Rattle.alpha_table.specs.declared.columns.MemAccess.{MemAccess}
 use Rattle.alpha_table.specs.Class.{Class, operate, trigger, address, load, store, load_locked, store_conditional, branch, jump, barrier, idle}
 use Rattle.alpha_mem.specs.declared.access.MemFault.{MemFault}
-use Rattle.alpha_mem.specs.Intent.{Load, Store}
+use Rattle.alpha_mem.specs.Intent.{Load}
 use Rattle.alpha_mem.specs.Block.{Block, shapes, within}
 use Rattle.alpha_mem.specs.Memory.{bytes_at}
 use Rattle.alpha_pal.specs.Call.{Outside, Called, goes, exits, signals, call}

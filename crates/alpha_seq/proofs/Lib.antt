@@ -5,6 +5,7 @@ pub mod Running
 pub mod Executing
 pub mod Calls
 pub mod Looking
+pub mod Loaded
 pub mod Loading
 pub mod RunSteps
 pub mod RunEnds

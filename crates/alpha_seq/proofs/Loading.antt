@@ -19,8 +19,8 @@ use Rattle.alpha_image.specs.Parts.{Parts, Piece, IsImage, numbers, pieces, piec
 use Rattle.alpha_image.proofs.CodeWords.{length-flat_map_longword}
 use Rattle.alpha_image.proofs.Pieces.{length-pieces_of, piece_within}
 use Rattle.alpha_seq.specs.State.{State}
-use Rattle.alpha_seq.specs.Start.{stack_end, code_block, segment_block, stack_block, start_memory, start_regs, start}
-use Rattle.alpha_seq.specs.StartMemory.{memory_before}
+use Rattle.alpha_seq.specs.Start.{stack_end, start_memory, start_regs, start}
+use Rattle.alpha_seq.specs.StartMemory.{code_block, segment_block, stack_block, memory_before}
 
 -- an answer that promises one thing, and so another
 pub promised : {T E P Q : Type 0} (r : Result T E) → (P → Q) → OnOk r P → OnOk r Q

@@ -5,6 +5,7 @@ use Rattle.alpha_words.specs.declared.Completion.TheVariants.{Wrap, Saturate, St
 use Rattle.alpha_words.specs.declared.PalCall.{PalCall}
 use Rattle.alpha_words.specs.declared.PalCall.TheVariants.{Bpt, Bugchk, Callsys, Imb, Rdunique, Wrunique, Gentrap}
 use Rattle.alpha_words.specs.Regs.{reg}
+use Rattle.alpha_table.specs.declared.rows.Extension.TheVariants.{Zero, Sign}
 use Rattle.alpha_table.specs.declared.columns.MemAccess.{MemAccess}
 use Rattle.alpha_table.specs.Class.{Class, operate, trigger, address, load, store, load_locked, store_conditional, branch, jump, barrier, idle}
 use Rattle.alpha_table.specs.declared.op.TrapOp.{TrapOp}
@@ -105,9 +106,11 @@ step_over g None s i quiet = refl
 step_over g (Some (operate op ra src rc)) s i quiet = refl
 step_over g (Some (trigger op ra src rc)) s i quiet = trap-over i g.how op (reg s.regs ra) (source_value s.regs src) rc s
 step_over g (Some (address op ra rb disp)) s i quiet = refl
-step_over g (Some (load extension at ra)) s i quiet = unless-over i _ _ s _
+step_over g (Some (load Zero at ra)) s i quiet = unless-over i _ _ s _
+step_over g (Some (load Sign at ra)) s i quiet = unless-over i _ _ s _
 step_over g (Some (store at ra)) s i quiet = unless-over i _ _ s _
-step_over g (Some (load_locked extension at ra)) s i quiet = unless-over i _ _ s _
+step_over g (Some (load_locked Zero at ra)) s i quiet = unless-over i _ _ s _
+step_over g (Some (load_locked Sign at ra)) s i quiet = unless-over i _ _ s _
 step_over g (Some (store_conditional at ra)) s i quiet =
     ap (unless (fault_of (shapes s.mem) Store (accessed at s) at.bytes) (accessed at s) (over_input i s)) (conditional-over i (matches s.lock (lock_block at s)) at ra s)
     ∙ unless-over i _ _ s _

@@ -1,11 +1,15 @@
 -- What the execution of one word did, by its answer.
 use Rattle.std.specs.Prelude.{◌≡◌, ◌≢◌, ℕ, ℤ, ◌+◌, ◌%◌, ◌^◌, ◌⊎◌, List, [], Option, Some, None}
+use Rattle.std.specs.Int.{w32}
 use Rattle.alpha_words.specs.Regs.{put}
+use Rattle.alpha_table.specs.declared.rows.Extension.{Extension}
+use Rattle.alpha_table.specs.declared.rows.Extension.TheVariants.{Zero, Sign}
 use Rattle.alpha_table.specs.declared.rows.MemOp.{MemOp}
 use Rattle.alpha_table.specs.declared.columns.MemAccess.{MemAccess}
 use Rattle.alpha_table.specs.declared.form.Form.{Form}
 use Rattle.alpha_table.specs.Class.{Class, barrier}
 use Rattle.alpha_table.specs.Rows.{mem_row}
+use Rattle.alpha_values.specs.Numbers.{signed, register_of}
 use Rattle.alpha_mem.specs.declared.access.MemFault.{MemFault}
 use Rattle.alpha_seq.specs.declared.end.End.{End}
 use Rattle.alpha_seq.specs.declared.end.Next.{Next}
@@ -23,6 +27,11 @@ pub record Does (event : Event) (class : Class) (old new : Machine) : Type 0 whe
       → step (program_of old) (Some class) (state_of old input output) ≡ stepped (state_of new input output) event
   pub program : program_of new ≡ program_of old
   pub kernel : new.kernel ≡ kernel_left (Some class) (next_pc (state_of old [] [])) old.regs old.kernel
+
+-- what a load makes of a number; the longwords alone are extended with the sign
+abbrev pub filled : Extension → ℕ → ℕ
+filled Zero n = n
+filled Sign n = register_of (signed w32 n)
 
 -- what the execution of a word did, by its answer: nothing at a barrier
 abbrev pub ExecuteEffect : Executed → Class → Machine → Machine → Type 0

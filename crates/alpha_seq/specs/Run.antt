@@ -14,10 +14,9 @@ pub data Mark : Type 0 where
 
 -- what is noted of a step
 abbrev pub marks_of : Event → State → List Mark
-marks_of Went s = []
 marks_of Barriered s = Passed s.pc s.regs ∷ []
 marks_of (Overflowed at) s = Over at ∷ []
-marks_of (Ends end) s = []
+marks_of event s = []
 
 -- how many steps were made, where the program stands after them, what was noted, and how the last step went
 pub record Run : Type 0 where
@@ -32,16 +31,12 @@ started s = record { steps = 0; state = s; trace = []; last = Went }
 
 -- how the program ended, if it has
 abbrev pub end_of : Event → Option End
-end_of Went = None
-end_of Barriered = None
-end_of (Overflowed at) = None
 end_of (Ends end) = Some end
+end_of event = None
 
 abbrev pub is_over : Event → Bool
-is_over Went = false
-is_over Barriered = false
-is_over (Overflowed at) = false
 is_over (Ends end) = true
+is_over event = false
 
 abbrev pub extended_by : Run → Stepped → Run
 extended_by r t = record {

@@ -5,28 +5,18 @@ use Rattle.alpha_words.specs.Regs.{put}
 use Rattle.alpha_mem.specs.Block.{Block, block}
 use Rattle.alpha_pal.specs.Call.{outside}
 use Rattle.alpha_image.specs.Layout.{longword}
-use Rattle.alpha_image.specs.Parts.{Parts, Piece, pieces}
+use Rattle.alpha_image.specs.Parts.{Parts, pieces}
 use Rattle.alpha_seq.specs.State.{Program, State}
 
 -- where the stack ends
 abbrev pub stack_end : ℕ
 stack_end = 2 ^ 30
 
--- the code, which may be read alone
-abbrev pub code_block : Parts → Block
-code_block p = block p.code_base (flat_map longword p.words) 0 false
-
--- a segment: its bytes and its zeroed bytes, which may be written
-abbrev pub segment_block : Piece → Block
-segment_block piece = block piece.base piece.bytes piece.zeroed true
-
--- the stack, which may be written
-abbrev pub stack_block : Parts → Block
-stack_block p = block (stack_end - p.stack) [] p.stack true
-
--- the code, a block a segment, and the stack
+-- the code, which may be read alone, and a block a segment and the stack, which may be written
 unfoldable pub start_memory : Parts → List Block
-start_memory p = code_block p ∷ (map segment_block (pieces p) ++ stack_block p ∷ [])
+start_memory p =
+    block p.code_base (flat_map longword p.words) 0 false
+    ∷ (map (λ piece. block piece.base piece.bytes piece.zeroed true) (pieces p) ++ block (stack_end - p.stack) [] p.stack true ∷ [])
 
 -- all registers are 0 but for R27, the entry address, and R30, the end of the stack
 unfoldable pub start_regs : Parts → List ℕ

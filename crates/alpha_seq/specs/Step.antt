@@ -4,7 +4,7 @@ use Rattle.std.specs.Int.{w32}
 use Rattle.std.specs.Option.{option_and_then, option_map_or}
 use Rattle.alpha_words.specs.declared.Completion.{Completion}
 use Rattle.alpha_words.specs.declared.PalCall.{PalCall}
-use Rattle.alpha_words.specs.declared.PalCall.TheVariants.{Bpt, Bugchk, Callsys, Imb, Rdunique, Wrunique, Gentrap}
+use Rattle.alpha_words.specs.declared.PalCall.TheVariants.{Callsys}
 use Rattle.alpha_words.specs.Digits.{low_bytes, little}
 use Rattle.alpha_words.specs.Regs.{reg, put}
 use Rattle.alpha_table.specs.declared.op.Cond.{Cond}
@@ -24,7 +24,7 @@ use Rattle.alpha_values.specs.Cond.{is_taken}
 use Rattle.alpha_values.specs.Address.{address_of, high_address_of, access_address}
 use Rattle.alpha_mem.specs.declared.access.MemFault.{MemFault}
 use Rattle.alpha_mem.specs.declared.access.MemFault.TheVariants as faults
-use Rattle.alpha_mem.specs.Intent.{Load, Store}
+use Rattle.alpha_mem.specs.Intent.{Intent, Load, Store}
 use Rattle.alpha_mem.specs.Block.{Block, shapes}
 use Rattle.alpha_mem.specs.Fault.{fault_of}
 use Rattle.alpha_mem.specs.Memory.{bytes_at, write_bytes}
@@ -97,18 +97,14 @@ abbrev pub unless : Option MemFault → ℕ → State → State → Stepped
 unless None addr s after = went after
 unless (Some fault) addr s after = ended s (fault_end fault s.pc addr)
 
--- what a load makes of a number; the longwords alone are extended with the sign
-abbrev pub filled : Extension → ℕ → ℕ
-filled Zero n = n
-filled Sign n = register_of (signed w32 n)
+-- the state after an access that loads or stores, unless it faults
+abbrev pub accessing : Intent → MemAccess → State → State → Stepped
+accessing intent at s after = unless (fault_of (shapes s.mem) intent (accessed at s) at.bytes) (accessed at s) s after
 
--- what a register gets of bytes
-abbrev pub extended : Extension → List ℕ → ℕ
-extended extension bytes = filled extension (little bytes)
-
--- what a load puts into its register
+-- what a load puts into its register; the longwords alone are extended with the sign
 abbrev pub loaded : Extension → MemAccess → State → ℕ
-loaded extension at s = extended extension (bytes_at s.mem (accessed at s) at.bytes)
+loaded Zero at s = little (bytes_at s.mem (accessed at s) at.bytes)
+loaded Sign at s = register_of (signed w32 (little (bytes_at s.mem (accessed at s) at.bytes)))
 
 -- the memory after a store of a register's low bytes
 abbrev pub written_memory : MemAccess → ℕ → State → List Block
@@ -145,25 +141,16 @@ jumped ra rb s = record s { regs = put s.regs ra (next_pc s); pc = reg s.regs rb
 
 -- ---- barriers
 
--- the lock flag after a PAL call: a return from callsys clears it
+-- the lock flag after a PAL call: a return from callsys alone clears it
 abbrev pub lock_after : PalCall → Option ℕ → Option ℕ
 lock_after Callsys lock = None
-lock_after Bpt lock = lock
-lock_after Bugchk lock = lock
-lock_after Imb lock = lock
-lock_after Rdunique lock = lock
-lock_after Wrunique lock = lock
-lock_after Gentrap lock = lock
+lock_after function lock = lock
 
 abbrev pub returned : PalCall → Called → State → Stepped
 returned function (goes regs mem outside) s =
     stepped (record s { regs = regs; pc = next_pc s; mem = mem; lock = lock_after function s.lock; outside = outside }) Barriered
 returned function (exits v) s = ended s (ends.Exit v)
 returned function (signals code) s = ended s (ends.Signal code s.pc)
-
-abbrev pub passed : Option PalCall → State → Stepped
-passed None s = stepped (onward s) Barriered
-passed (Some function) s = returned function (call function s.regs s.mem s.outside) s
 
 -- ---- the step
 
@@ -178,19 +165,15 @@ step g (Some (operate op ra src rc)) s =
     went (setting s rc (result_of g.image.level op (reg s.regs ra) (source_value s.regs src) (reg s.regs rc)))
 step g (Some (trigger op ra src rc)) s = trap g.how op (reg s.regs ra) (source_value s.regs src) rc s
 step g (Some (address op ra rb disp)) s = went (setting s ra (computed op (reg s.regs rb) disp))
-step g (Some (load extension at ra)) s =
-    unless (fault_of (shapes s.mem) Load (accessed at s) at.bytes) (accessed at s) s (setting s ra (loaded extension at s))
-step g (Some (store at ra)) s =
-    unless (fault_of (shapes s.mem) Store (accessed at s) at.bytes) (accessed at s) s (record (onward s) { mem = written_memory at ra s })
+step g (Some (load extension at ra)) s = accessing Load at s (setting s ra (loaded extension at s))
+step g (Some (store at ra)) s = accessing Store at s (record (onward s) { mem = written_memory at ra s })
 step g (Some (load_locked extension at ra)) s =
-    unless (fault_of (shapes s.mem) Load (accessed at s) at.bytes) (accessed at s) s
-    (record (setting s ra (loaded extension at s)) { lock = Some (lock_block at s) })
-step g (Some (store_conditional at ra)) s =
-    unless (fault_of (shapes s.mem) Store (accessed at s) at.bytes) (accessed at s) s
-    (conditional (matches s.lock (lock_block at s)) at ra s)
+    accessing Load at s (record (setting s ra (loaded extension at s)) { lock = Some (lock_block at s) })
+step g (Some (store_conditional at ra)) s = accessing Store at s (conditional (matches s.lock (lock_block at s)) at ra s)
 step g (Some (branch condition ra disp)) s = went (branched condition ra disp s)
 step g (Some (jump ra rb)) s = went (jumped ra rb s)
-step g (Some (barrier function)) s = passed function s
+step g (Some (barrier None)) s = stepped (onward s) Barriered
+step g (Some (barrier (Some function))) s = returned function (call function s.regs s.mem s.outside) s
 step g (Some idle) s = went (onward s)
 
 -- the step from a state

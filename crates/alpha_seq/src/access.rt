@@ -9,10 +9,10 @@ ghost use Rattle.alpha_table.specs.Class.{load, store, load_locked, store_condit
 ghost use Rattle.alpha_table.specs.ClassOf.{class_of};
 ghost use Rattle.alpha_table.specs.declared.form.Form.TheVariants.{Mem};
 ghost use Rattle.alpha_values.specs.Numbers.{signed, register_of};
-ghost use Rattle.alpha_seq.specs.Step.{fault_end, accessed, filled, loaded};
+ghost use Rattle.alpha_seq.specs.Step.{fault_end, accessed, loaded};
 ghost use Rattle.alpha_seq.specs.State.{Went};
 ghost use Rattle.alpha_seq.specs.Machine.{state_of};
-ghost use Rattle.alpha_seq.specs.Executed.{Does, FaultEffect, IsSized, row_access};
+ghost use Rattle.alpha_seq.specs.Executed.{Does, FaultEffect, IsSized, filled, row_access};
 
 use crate::{End, Machine};
 use alpha_mem::{MemFault, Size};
@@ -160,6 +160,7 @@ impl Machine {
     }
 
     // What a load from an address puts into its register.
+    #[tactic(auto, using(crate::proofs::Loaded::loaded_is))]
     #[inline(always)]
     fn read(&self, extension: Extension, at: &MemAccess, addr: u64) -> Result<u64, MemFault>
         requires size { IsSized at.now.bytes }

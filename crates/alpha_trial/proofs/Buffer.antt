@@ -13,7 +13,8 @@ use Rattle.alpha_image.specs.declared.version.Version.TheVariants as versions
 use Rattle.alpha_image.specs.Layout.{longword}
 use Rattle.alpha_image.specs.Parts.{Parts}
 use Rattle.alpha_image.proofs.CodeWords.{length-flat_map_longword}
-use Rattle.alpha_seq.specs.Start.{code_block, stack_block, start_memory}
+use Rattle.alpha_seq.specs.Start.{start_memory}
+use Rattle.alpha_seq.specs.StartMemory.{code_block, stack_block}
 
 -- where the data stand
 abbrev pub data_base : ℕ
