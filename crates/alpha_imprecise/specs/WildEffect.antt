@@ -7,7 +7,8 @@ use Rattle.alpha_seq.specs.Notes.{overflow_line}
 use Rattle.alpha_pal.specs.Kernel.{KernelState}
 use Rattle.alpha_seq.specs.Step.{next_pc}
 use Rattle.alpha_seq.specs.Machine.{program_of, state_of, class_here, kernel_left}
-use Rattle.alpha_seq.specs.Devices.{Drawn, Draws, Idles}
+use Rattle.alpha_seq.specs.Devices.{Drawn, Idles}
+use Rattle.alpha_seq.specs.Draws.{Draws}
 use Rattle.alpha_seq.specs.StepEffect.{InputFails, OutputFails}
 use Rattle.alpha_seq.specs.RunEffect.{HasNoFault, HasInputFault, HasOutputFault, HasNotesFault}
 use Rattle.alpha_imprecise.specs.declared.end.WildEnd.{WildEnd}

@@ -8,7 +8,8 @@ use Rattle.alpha_seq.specs.declared.end.RunEnd.TheVariants as runs
 use Rattle.alpha_seq.specs.declared.machine.Machine.{Machine}
 use Rattle.alpha_seq.specs.Run.{notes_of, sequential}
 use Rattle.alpha_seq.specs.Machine.{program_of, state_of}
-use Rattle.alpha_seq.specs.Devices.{Drawn, Draws, drawn_until, drawn_from, sunk_until, sunk_from}
+use Rattle.alpha_seq.specs.Devices.{Drawn, drawn_until, drawn_from, sunk_until, sunk_from}
+use Rattle.alpha_seq.specs.Draws.{Draws}
 use Rattle.alpha_seq.specs.StepEffect.{InputFails, OutputFails}
 use Rattle.alpha_seq.specs.RunEffect.{HasNoFault, HasInputFault, HasOutputFault, HasNotesFault, Shows, ShowsPart}
 use Rattle.alpha_imprecise.specs.Moment.{Happening}

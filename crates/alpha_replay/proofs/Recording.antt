@@ -6,7 +6,8 @@ use Rattle.alpha_io.proofs.Sinks.{Puts-then}
 use Rattle.alpha_seq.specs.State.{Program}
 use Rattle.alpha_seq.specs.Machine.{program_of, state_of, class_here}
 use Rattle.alpha_seq.specs.Step.{next_class}
-use Rattle.alpha_seq.specs.Devices.{Drawn, Draws}
+use Rattle.alpha_seq.specs.Devices.{Drawn}
+use Rattle.alpha_seq.specs.Draws.{Draws}
 use Rattle.alpha_seq.proofs.RunSteps.{Times, drawn_before, drawn_after, drawn_over, sunk_before, sunk_after, sunk_over, joined}
 use Rattle.alpha_imprecise.specs.Moment.{Happening}
 use Rattle.alpha_imprecise.specs.Run.{WildRun, finished}

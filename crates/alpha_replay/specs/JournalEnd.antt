@@ -10,7 +10,8 @@ use Rattle.alpha_seq.specs.Run.{notes_of}
 use Rattle.alpha_seq.specs.Machine.{program_of}
 use Rattle.alpha_seq.specs.State.{Program}
 use Rattle.alpha_seq.specs.Start.{start}
-use Rattle.alpha_seq.specs.Devices.{Drawn, Draws, Rests, Idles}
+use Rattle.alpha_seq.specs.Devices.{Drawn, Rests, Idles}
+use Rattle.alpha_seq.specs.Draws.{Draws}
 use Rattle.alpha_seq.specs.RunEffect.{HasNoFault, HasInputFault, HasOutputFault, HasNotesFault}
 use Rattle.alpha_imprecise.specs.Made.{Making, begun, shown_making, first_words, most_words}
 use Rattle.alpha_imprecise.specs.Run.{WildRun}

@@ -17,7 +17,8 @@ use Rattle.alpha_seq.specs.State.{Event, Went, Barriered, Overflowed, Ends}
 use Rattle.alpha_seq.specs.Run.{Run, started, end_of, is_over, after, shown}
 use Rattle.alpha_seq.specs.Machine.{program_of, state_of, Stays}
 use Rattle.alpha_pal.specs.CallEffect.{Takes}
-use Rattle.alpha_seq.specs.Devices.{Drawn, Draws, Idles, AreCalm}
+use Rattle.alpha_seq.specs.Devices.{Drawn, Idles, AreCalm}
+use Rattle.alpha_seq.specs.Draws.{Draws}
 use Rattle.alpha_seq.specs.StepEffect.{InputFails, OutputFails, LineFails, StepEffect}
 use Rattle.alpha_seq.specs.Turn.{BarrierFails, TurnEffect, run_ended_by}
 use Rattle.alpha_seq.specs.RunEffect.{IsMade, IsCut, RunEffect, HasGrown, HasNoFault, HasOutputFault, HasNotesFault, RunCause, run_end, Shows, shown_from}

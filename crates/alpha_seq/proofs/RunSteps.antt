@@ -10,7 +10,8 @@ use Rattle.alpha_seq.specs.Step.{step_from}
 use Rattle.alpha_seq.specs.Notes.{overflow_line, barrier_lines}
 use Rattle.alpha_seq.specs.Run.{Run, Mark, marks_of, end_of, is_over, extended_by, advance, after, mark_lines, notes_of}
 use Rattle.alpha_seq.specs.Machine.{program_of, state_of}
-use Rattle.alpha_seq.specs.Devices.{Drawn, Draws}
+use Rattle.alpha_seq.specs.Devices.{Drawn}
+use Rattle.alpha_seq.specs.Draws.{Draws}
 use Rattle.alpha_seq.specs.StepEffect.{Steps}
 use Rattle.alpha_seq.specs.Turn.{Turns}
 use Rattle.alpha_seq.specs.RunEffect.{Runs, IsMade, IsUnnoted}

@@ -3,7 +3,6 @@ use Rattle.std.specs.Prelude.{◌≡◌, ℕ, List, Option}
 use Rattle.alpha_io.specs.declared.source.Source.{Ghosts}
 use Rattle.alpha_io.specs.Faults.{Calm}
 use Rattle.alpha_io.specs.Sunk.{Sunk, IsCalm}
-use Rattle.alpha_pal.specs.CallEffect.{Takes}
 
 -- What a call did to a source: its bytes still to come and its count of faults, before the call and after it.
 pub record Drawn : Type 0 where
@@ -19,11 +18,6 @@ drawn_by left faults old new = record { old = left old; new = left new; before =
 -- by the ghosts of the source's type, `Source.left` and `Source.faults`
 abbrev pub drawn : {S : Type 0} → Ghosts S → S → S → Drawn
 drawn g = drawn_by g.left g.faults
-
--- these bytes were taken, and the rest is left, without a fault
-pub record Draws (d : Drawn) (taken rest : List ℕ) : Type 0 where
-  pub took : Takes d.old d.new taken rest
-  pub same : d.now ≡ d.before
 
 -- nothing was taken and no fault came
 pub record Rests (d : Drawn) : Type 0 where

@@ -7,6 +7,7 @@ pub mod Run
 pub mod Next
 pub mod Machine
 pub mod Devices
+pub mod Draws
 pub mod StepEffect
 pub mod Turn
 pub mod RunEffect

@@ -10,7 +10,8 @@ use Rattle.alpha_seq.specs.declared.end.RunEnd.TheVariants as runs
 use Rattle.alpha_seq.specs.declared.machine.Machine.{Machine}
 use Rattle.alpha_seq.specs.Run.{Run, after, end_of, notes_of, Shown, shown}
 use Rattle.alpha_seq.specs.Machine.{program_of, state_of, Stays}
-use Rattle.alpha_seq.specs.Devices.{Drawn, Draws, drawn_until, drawn_from, sunk_until, sunk_from}
+use Rattle.alpha_seq.specs.Devices.{Drawn, drawn_until, drawn_from, sunk_until, sunk_from}
+use Rattle.alpha_seq.specs.Draws.{Draws}
 use Rattle.alpha_seq.specs.StepEffect.{InputFails, OutputFails}
 
 -- The run of at most n steps of the definition, at an input of what was taken and the rest: what it puts is the output's

@@ -13,7 +13,8 @@ use Rattle.alpha_seq.specs.State.{Event, Went, Barriered, Overflowed, Ends, step
 use Rattle.alpha_seq.specs.Step.{step_from}
 use Rattle.alpha_seq.specs.Notes.{overflow_line}
 use Rattle.alpha_seq.specs.Machine.{program_of, state_of, class_here}
-use Rattle.alpha_seq.specs.Devices.{Drawn, Draws, Rests, Idles}
+use Rattle.alpha_seq.specs.Devices.{Drawn, Rests, Idles}
+use Rattle.alpha_seq.specs.Draws.{Draws}
 
 -- The step of the definition, at an input of what was taken and the rest; what was put is the output's growth.
 pub record Steps (event : Event) (old new : Machine) (input : Drawn) (out : Sunk) : Type 0 where
