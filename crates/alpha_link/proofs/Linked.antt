@@ -6,11 +6,13 @@ use Rattle.std.specs.Option.{option_map, option_map_or}
 use Rattle.std.proofs.lemmas.List.{length-map}
 use Rattle.std.proofs.lemmas.List.Elements.{All-nil, All-cons, All-head, All-tail}
 use Rattle.alpha_words.specs.declared.Level.{Level}
+use Rattle.alpha_table.specs.declared.op.Cond.{Cond}
 use Rattle.alpha_table.specs.declared.rows.BranchOp.{BranchOp}
+use Rattle.alpha_table.specs.Rows.{branch_row}
 use Rattle.alpha_table.specs.declared.rows.MemOp.TheVariants as memories
 use Rattle.alpha_table.specs.declared.form.Form.{Form}
 use Rattle.alpha_table.specs.declared.form.Form.TheVariants.{Mem, Branch}
-use Rattle.alpha_table.specs.Class.{Class}
+use Rattle.alpha_table.specs.Class.{Class, branch}
 use Rattle.alpha_table.specs.ClassOf.{class_of}
 use Rattle.alpha_table.specs.Code.{class_at}
 use Rattle.alpha_table.specs.Decoded.{decoded}
@@ -85,8 +87,12 @@ match_at (i ∷ a) (j ∷ b) m zero = m.0
 match_at (i ∷ a) (j ∷ b) m (suc k) = match_at a b m.1 k
 
 -- a branch, and the two computations of an address, with another displacement
+turn_alike : (condition : Option Cond) (ra : ℕ) (x y : ℤ) → HaveSameColumns (Some (branch condition ra x)) (Some (branch condition ra y))
+turn_alike None ra x y = record { kind = refl; sets = refl; uses = λ r. refl; access = refl; destination = refl }
+turn_alike (Some condition) ra x y = record { kind = refl; sets = refl; uses = λ r. refl; access = refl; destination = refl }
+
 branch_alike : (op : BranchOp) (ra : ℕ) (x y : ℤ) → HaveSameColumns (Some (class_of (Branch op ra x))) (Some (class_of (Branch op ra y)))
-branch_alike op ra x y = record { kind = refl; sets = refl; uses = λ r. refl; access = refl; destination = refl }
+branch_alike op ra x y = turn_alike (branch_row op).condition ra x y
 
 high_alike : (ra rb : ℕ) (x y : ℤ) → HaveSameColumns (Some (class_of (Mem memories.Ldah ra rb x))) (Some (class_of (Mem memories.Ldah ra rb y)))
 high_alike ra rb x y = record { kind = refl; sets = refl; uses = λ r. refl; access = refl; destination = refl }
