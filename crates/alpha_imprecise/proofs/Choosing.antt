@@ -22,10 +22,10 @@ use Rattle.alpha_seq.specs.Executed.{GoesOn}
 use Rattle.alpha_seq.proofs.Executing.{GoesOn-kernel}
 use Rattle.alpha_imprecise.specs.declared.pending.Pending.{Pending}
 use Rattle.alpha_imprecise.specs.Moment.{Trap, with_register, Happening, Precisely, Triggered, Waited, moment}
-use Rattle.alpha_imprecise.specs.Step.{triggers, triggered, precisely, with_none, can_wait, report, mask_after, waited, with_trap}
+use Rattle.alpha_imprecise.specs.Step.{triggers, triggered, precisely, can_wait, report, waited, wild_at}
+use Rattle.alpha_imprecise.specs.Wild.{mask_after, wild_state, trap_of, trap_in, waited_in, bare, OverflowsAt, WaitsAt, Spoils}
 use Rattle.alpha_imprecise.specs.Chosen.{Draw, first_word, reporting, triggering, executing, must_report, draw_at, waited_after}
 use Rattle.alpha_imprecise.specs.Telling.{Telling, Goes, Counts, Moves}
-use Rattle.alpha_imprecise.specs.Wild.{wild_state, trap_of, trap_in, waited_in, bare, OverflowsAt, WaitsAt, Spoils}
 use Rattle.alpha_imprecise.specs.Report.{Reports}
 use Rattle.alpha_imprecise.specs.WildEffect.{WildSteps, Chooses, ChoosesReport, WildGoesOn}
 
@@ -225,7 +225,7 @@ trigger-chooses m new place rc value mask here is_new is_mask =
           record {
             count = ap (λ (b : Bool). (cond b (triggering value) (reporting 0)).count) e;
             step =
-                ap (λ (b : Bool). with_none g o s (cond b (triggering value) (reporting 0)).choice) e
+                ap (λ (b : Bool). wild_at g o s None (cond b (triggering value) (reporting 0)).choice) e
                 ∙ (ap (λ (b : Bool). cond b (triggered g o s c) (precisely (step g o s))) e
                 ∙ (ap (λ (d : ℕ). moment (setting s d value) (Some (record { place = unwrap_or (place_of m.image m.pc) 0; mask = with_register 0 d })) Triggered) here.into
                 ∙ (ap (λ (p : Option ℕ). moment (setting s rc value) (Some (record { place = unwrap_or p 0; mask = with_register 0 rc })) Triggered) here.at
@@ -275,8 +275,8 @@ wait-chooses m new trap class c value mask waited' here spoils small goes_on is_
           record {
             count = ap (λ (d : Draw). d.count) chooses;
             step =
-                ap (λ (d : Draw). with_trap g o s t d.choice) chooses
-                ∙ (ap (λ (x : Option Class). with_trap g x s t e) here.here
+                ap (λ (d : Draw). wild_at g o s (Some t) d.choice) chooses
+                ∙ (ap (λ (x : Option Class). wild_at g x s (Some t) e) here.here
                 ∙ (ap (λ (b : Bool). cond (not b) (report g s t) (waited (Some class) s t e)) can
                 ∙ (ap (λ (x : State). moment x (Some (record t { mask = mask_after (Some class) trap.mask (c / 4 % 2 == 1) })) Waited) (spoils.is input output e refl refl)
                 ∙ ap (λ (n : ℕ). moment (state_of new input output) (Some (record { place = trap.trigger; mask = n })) Waited) (sym is_mask))));
@@ -317,7 +317,7 @@ report-chooses happened m new trap left words chooses reports counted =
           let s = state_of m input output in
           record {
             count = ap (λ (d : Draw). d.count) (chooses coming input output);
-            step = ap (λ (d : Draw). with_trap g (class_here m) s t d.choice) (chooses coming input output) ∙ reports.is input output;
+            step = ap (λ (d : Draw). wild_at g (class_here m) s (Some t) d.choice) (chooses coming input output) ∙ reports.is input output;
           };
       waited = counted;
       program = reports.program;

@@ -9,7 +9,8 @@ use Rattle.alpha_seq.specs.Machine.{program_of}
 use Rattle.alpha_seq.specs.Devices.{Drawn}
 use Rattle.alpha_seq.proofs.Filling.{front, notes-grow}
 use Rattle.alpha_imprecise.specs.Moment.{Trap}
-use Rattle.alpha_imprecise.specs.Run.{HasUsed, finished, unit_of}
+use Rattle.alpha_imprecise.specs.Run.{finished, unit_of}
+use Rattle.alpha_imprecise.specs.Used.{HasUsed}
 use Rattle.alpha_imprecise.specs.Made.{Making, advance_making, Nearer, Used, Waiting, Settled, Finished}
 use Rattle.alpha_imprecise.specs.Telling.{Telling}
 use Rattle.alpha_imprecise.specs.Wild.{WildState}

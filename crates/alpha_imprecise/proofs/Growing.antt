@@ -9,7 +9,8 @@ use Rattle.alpha_seq.specs.State.{Program, State}
 use Rattle.alpha_seq.specs.Step.{next_class, matches, lock_block}
 use Rattle.alpha_seq.proofs.Growing.{Grows, Grows-same, Grows-by, Grows-trans, step-grows}
 use Rattle.alpha_imprecise.specs.Moment.{Trap, Choice, Moment}
-use Rattle.alpha_imprecise.specs.Step.{triggers, landed, report_at, can_wait, spoilt, spoilt_conditional, wild_at}
+use Rattle.alpha_imprecise.specs.Step.{triggers, landed, can_wait, spoilt, spoilt_conditional, wild_at}
+use Rattle.alpha_imprecise.proofs.Landed.{report_at}
 use Rattle.alpha_imprecise.specs.Run.{finished, wild_marks}
 use Rattle.alpha_imprecise.specs.Chosen.{most_waited, draw, chosen}
 use Rattle.alpha_imprecise.specs.Made.{Making, extended_making, advance_making, is_settled, settled_within, made}

@@ -1,3 +1,4 @@
+pub mod Landed
 mod Examples
 pub mod Looking
 pub mod Reporting

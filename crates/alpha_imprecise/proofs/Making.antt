@@ -7,7 +7,8 @@ use Rattle.alpha_seq.specs.Step.{next_class}
 use Rattle.alpha_trap.specs.Scan.{scan}
 use Rattle.alpha_values.specs.TrapOp.{stops}
 use Rattle.alpha_imprecise.specs.Moment.{Trap, Choice, Precisely, Waited, Reported, Moment, moment}
-use Rattle.alpha_imprecise.specs.Step.{completed, landed, report_at, report, can_wait, waited, with_trap, address_at, wild}
+use Rattle.alpha_imprecise.specs.Step.{completed, landed, report, can_wait, waited, address_at, wild, wild_at}
+use Rattle.alpha_imprecise.proofs.Landed.{report_at}
 use Rattle.alpha_imprecise.specs.Run.{WildRun, finished, extended_wild, advance_wild, run_wild, started_wild}
 use Rattle.alpha_imprecise.specs.Chosen.{most_waited, first_word, reporting, executing, must_report, draw, chosen}
 use Rattle.alpha_imprecise.specs.Made.{Making, extended_making, advance_making, is_settled, settled_within, made}
@@ -94,11 +95,11 @@ chosen_settles g s t n words = by (must_report (next_class g s.pc) s n) refl
     stays c value e false f = longer refl (leb-false most_waited n (neither (not (can_wait (next_class g s.pc) s)) (leb most_waited n) e).1)
 
     words_by : must_report (next_class g s.pc) s n ≡ false → (b : Bool)
-        → Settles n (with_trap g (next_class g s.pc) s t (cond b (reporting 1) (executing (first_word words) (first_word (drop 1 words)))).choice)
+        → Settles n (wild_at g (next_class g s.pc) s (Some t) (cond b (reporting 1) (executing (first_word words) (first_word (drop 1 words)))).choice)
     words_by e true = report_settles g s t n
     words_by e false = stays (first_word words) (first_word (drop 1 words)) e (not (can_wait (next_class g s.pc) s)) refl
 
     by : (b : Bool) → must_report (next_class g s.pc) s n ≡ b
-        → Settles n (with_trap g (next_class g s.pc) s t (cond b (reporting 0) (cond (eqb (first_word words % 4) 0) (reporting 1) (executing (first_word words) (first_word (drop 1 words))))).choice)
+        → Settles n (wild_at g (next_class g s.pc) s (Some t) (cond b (reporting 0) (cond (eqb (first_word words % 4) 0) (reporting 1) (executing (first_word words) (first_word (drop 1 words))))).choice)
     by true e = report_settles g s t n
     by false e = words_by e (eqb (first_word words % 4) 0)

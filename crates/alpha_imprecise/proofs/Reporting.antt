@@ -12,12 +12,14 @@ use Rattle.alpha_seq.specs.State.{State, Ends}
 use Rattle.alpha_seq.specs.Machine.{program_of, state_of}
 use Rattle.alpha_trap.specs.declared.handler.Lost.{Lost}
 use Rattle.alpha_trap.specs.Scan.{scan}
-use Rattle.alpha_trap.specs.Handler.{Handled, handled, handled_at, going_on, completed_regs, reported, mask_in, trap_in, place_of_trap}
+use Rattle.alpha_trap.specs.Handler.{Handled, handled, handled_at, going_on, reported, mask_in, trap_in, place_of_trap}
+use Rattle.alpha_trap.specs.Completed.{completed_regs}
 use Rattle.alpha_trap.proofs.Handling.{mask_in-entry, handled-entry}
 use Rattle.alpha_imprecise.specs.declared.report.Landing.{Landing}
 use Rattle.alpha_imprecise.specs.declared.report.Landing.TheVariants as landings
 use Rattle.alpha_imprecise.specs.Moment.{Trap, Moment, Precisely, Reported, moment}
-use Rattle.alpha_imprecise.specs.Step.{address_at, completed, report_at}
+use Rattle.alpha_imprecise.specs.Step.{address_at, completed}
+use Rattle.alpha_imprecise.proofs.Landed.{report_at}
 use Rattle.alpha_imprecise.specs.Wild.{returned_kernel}
 use Rattle.alpha_imprecise.specs.Report.{ReportEffect, handler_trap, landing_at, machine_at}
 

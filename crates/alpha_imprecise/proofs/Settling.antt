@@ -5,7 +5,8 @@ use Rattle.alpha_seq.specs.State.{Program}
 use Rattle.alpha_seq.specs.Step.{next_class, step}
 use Rattle.alpha_imprecise.specs.Moment.{Trap, Happening}
 use Rattle.alpha_imprecise.specs.Step.{triggers, triggered, precisely}
-use Rattle.alpha_imprecise.specs.Run.{HasUsed, finished, unit_of}
+use Rattle.alpha_imprecise.specs.Run.{finished, unit_of}
+use Rattle.alpha_imprecise.specs.Used.{HasUsed}
 use Rattle.alpha_imprecise.specs.Chosen.{most_waited, draw, chosen, waited_after}
 use Rattle.alpha_imprecise.specs.Made.{Making, extended_making, advance_making, is_settled, settled_within, settled, made}
 use Rattle.alpha_imprecise.proofs.Making.{Settles, none, over, longer, chosen_settles}

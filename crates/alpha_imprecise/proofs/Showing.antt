@@ -9,7 +9,8 @@ use Rattle.alpha_seq.specs.Step.{step_from}
 use Rattle.alpha_seq.specs.Run.{Run, after, is_over, end_of, extended_by, notes_of, shown}
 use Rattle.alpha_seq.proofs.Running.{after-over, after-steps}
 use Rattle.alpha_imprecise.specs.Moment.{Happening, Precisely, Triggered, Waited, Reported, Lost}
-use Rattle.alpha_imprecise.specs.Run.{WildRun, HasUsed, finished, started_wild, run_wild}
+use Rattle.alpha_imprecise.specs.Run.{WildRun, finished, started_wild, run_wild}
+use Rattle.alpha_imprecise.specs.Used.{HasUsed}
 use Rattle.alpha_imprecise.specs.Made.{Making, begun, made, wild_end, lost_trap, shown_making}
 use Rattle.alpha_imprecise.specs.Restart.{SameSoFar, Agrees, IsRestartable}
 use Rattle.alpha_imprecise.specs.Shown.{SameRun, ChoicesAlike, ShowsSame, RunsAlike}

@@ -17,7 +17,8 @@ use Rattle.alpha_seq.specs.Machine.{program_of, kernel_left}
 use Rattle.alpha_seq.specs.Devices.{Drawn}
 use Rattle.alpha_seq.specs.Inputs.{over_input, run_over, HasMade, WritesBetween}
 use Rattle.alpha_imprecise.specs.Moment.{Trap, Choice, Happening, Waited, Lost}
-use Rattle.alpha_imprecise.specs.Run.{WildRun, HasUsed, finished, started_wild, unit_of, advance_wild}
+use Rattle.alpha_imprecise.specs.Run.{WildRun, finished, started_wild, unit_of, advance_wild}
+use Rattle.alpha_imprecise.specs.Used.{HasUsed}
 use Rattle.alpha_imprecise.specs.Made.{Making, advance_making, steps_making, wild_end, lost_trap}
 use Rattle.alpha_imprecise.specs.Telling.{Telling, Moves}
 use Rattle.alpha_imprecise.specs.Wild.{WildState, returned_kernel}

@@ -1,6 +1,7 @@
 pub mod Moment
 pub mod Step
 pub mod Run
+pub mod Used
 pub mod Chosen
 pub mod Made
 pub mod Restart

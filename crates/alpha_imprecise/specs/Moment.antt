@@ -1,5 +1,5 @@
 -- What the imprecise machine is at a moment, and what it is free to choose at a step.
-use Rattle.std.specs.Prelude.{◌^◌, ◌<◌, ◌==◌, ℕ, Bool, bit_or, if◌then◌else◌, Option}
+use Rattle.std.specs.Prelude.{◌^◌, ◌==◌, ℕ, Bool, bit_or, if◌then◌else◌, Option}
 use Rattle.alpha_seq.specs.State.{State, Event}
 
 -- A trap that is pending: the place of its trigger, and the registers that may be spoilt. Places are numbers of code
@@ -19,11 +19,6 @@ pub record Choice : Type 0 where
   pub value : ℕ
   pub bytes : ℕ
   pub adds : Bool
-
--- the value and the bytes fit registers
-pub record IsChoice (c : Choice) : Type 0 where
-  pub value : c.value < 2 ^ 64
-  pub bytes : c.bytes < 2 ^ 64
 
 -- How a step went. With nothing pending it is a precise step with its event, or it triggered a trap. While a trap is
 -- pending its word was executed and the trap waited; or the trap was reported, and the trigger's address logged; or it

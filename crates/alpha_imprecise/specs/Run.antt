@@ -1,25 +1,21 @@
 -- A run of the imprecise machine is a row of steps, one a choice, which ends where the program does or a trap is lost.
-use Rattle.std.specs.Prelude.{◌≡◌, ◌≤◌, ◌||◌, ℕ, ◌+◌, Bool, true, false, is_none, if◌then◌else◌, List, [], ◌∷◌, ◌++◌, Option, Some, None}
+use Rattle.std.specs.Prelude.{ℕ, ◌+◌, Bool, true, false, if◌then◌else◌, List, [], ◌∷◌, ◌++◌, Option, Some, None}
 use Rattle.alpha_seq.specs.State.{Program, State, Went}
 use Rattle.alpha_seq.specs.Run.{Mark, Over, marks_of, is_over}
-use Rattle.alpha_imprecise.specs.Moment.{Trap, Choice, Happening, Precisely, Triggered, Waited, Reported, Lost, Moment}
+use Rattle.alpha_imprecise.specs.Moment.{Trap, Choice, Happening, Precisely, Reported, Lost, Moment}
 use Rattle.alpha_imprecise.specs.Step.{wild}
 
 -- what is noted of a step: that of a precise one, and a trap that was logged with the trigger's address
 abbrev pub wild_marks : Happening → State → List Mark
 wild_marks (Precisely event) s = marks_of event s
-wild_marks Triggered s = []
-wild_marks Waited s = []
 wild_marks (Reported at) s = Over at ∷ []
-wild_marks (Lost pc mask) s = []
+wild_marks happened s = []
 
 -- whether the program has ended, or a trap is lost
 abbrev pub finished : Happening → Bool
 finished (Precisely event) = is_over event
-finished Triggered = false
-finished Waited = false
-finished (Reported at) = false
 finished (Lost pc mask) = true
+finished happened = false
 
 -- How many units were used, where the program stands, the trap that is pending, what was noted, and how the last step
 -- went. A unit is a step that was made with nothing pending.
@@ -60,9 +56,3 @@ advance_wild g w c = if finished w.last then w else extended_wild w (wild g w.st
 abbrev pub run_wild : Program → List Choice → WildRun → WildRun
 run_wild g [] w = w
 run_wild g (c ∷ cs) w = run_wild g cs (advance_wild g w c)
-
--- A run has used so many units with nothing pending, or it is over before.
-pub record HasUsed (n : ℕ) (w : WildRun) : Type 0 where
-  pub settled : (finished w.last || is_none w.pending) ≡ true
-  pub most : w.units ≤ n
-  pub full : finished w.last ≡ false → w.units ≡ n

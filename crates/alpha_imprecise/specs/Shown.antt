@@ -6,7 +6,8 @@ use Rattle.alpha_seq.specs.State.{Program}
 use Rattle.alpha_seq.specs.Start.{start}
 use Rattle.alpha_seq.specs.Run.{Run, Shown, end_of, after, sequential}
 use Rattle.alpha_imprecise.specs.Moment.{Choice}
-use Rattle.alpha_imprecise.specs.Run.{WildRun, HasUsed, started_wild, run_wild}
+use Rattle.alpha_imprecise.specs.Run.{WildRun, started_wild, run_wild}
+use Rattle.alpha_imprecise.specs.Used.{HasUsed}
 use Rattle.alpha_imprecise.specs.Made.{ShownWild, wild_end, lost_trap, imprecise}
 
 -- ---- whatever is chosen

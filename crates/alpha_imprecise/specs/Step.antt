@@ -1,8 +1,8 @@
 -- The imprecise step: a trap may be reported late, and until then what the machine writes may be anything.
-use Rattle.std.specs.Prelude.{ℕ, ◌+◌, ◌*◌, ◌/◌, ◌%◌, ◌^◌, ℤ, Bool, true, false, not, ◌||◌, if◌then◌else◌, List, Option, Some, None, is_none, unwrap_or}
+use Rattle.std.specs.Prelude.{ℕ, ◌+◌, ◌*◌, ◌/◌, ◌%◌, ◌^◌, Bool, true, false, not, ◌||◌, if◌then◌else◌, List, Option, Some, None, is_none, unwrap_or}
+use Rattle.std.specs.Option.{option_map_or}
 use Rattle.alpha_words.specs.Digits.{low_bytes}
 use Rattle.alpha_words.specs.Regs.{reg, put}
-use Rattle.alpha_table.specs.declared.op.Cond.{Cond}
 use Rattle.alpha_table.specs.declared.columns.MemAccess.{MemAccess}
 use Rattle.alpha_table.specs.Class.{Class, operate, trigger, address, load, store, load_locked, store_conditional, branch, jump, barrier, idle}
 use Rattle.alpha_table.specs.Code.{class_at, trap_rc}
@@ -17,7 +17,7 @@ use Rattle.alpha_seq.specs.declared.end.End.TheVariants as ends
 use Rattle.alpha_seq.specs.State.{Program, State, Ends, Stepped}
 use Rattle.alpha_seq.specs.Step.{onward, setting, accessed, lock_block, matches, branch_target, branched, next_class, step}
 use Rattle.alpha_trap.specs.Scan.{scan}
-use Rattle.alpha_trap.specs.Handler.{completed_regs}
+use Rattle.alpha_trap.specs.Completed.{completed_regs}
 use Rattle.alpha_imprecise.specs.Moment.{Trap, with_register, Choice, Precisely, Triggered, Waited, Reported, Lost, Moment, moment}
 
 -- ---- with nothing pending
@@ -31,20 +31,15 @@ triggers _ s = false
 abbrev pub destination : Option Class → ℕ
 destination o = unwrap_or (trap_rc o) 31
 
--- the trap of the word at the PC
-abbrev pub new_trap : Program → Option Class → State → Trap
-new_trap g o s = record { place = unwrap_or (place_of g.image s.pc) 0; mask = with_register 0 (destination o) }
-
--- an overflow: the destination gets any value, and the trap is pending
+-- an overflow: the destination gets any value, and the trap of the word at the PC is pending
 abbrev pub triggered : Program → Option Class → State → Choice → Moment
-triggered g o s c = moment (setting s (destination o) c.value) (Some (new_trap g o s)) Triggered
+triggered g o s c =
+    moment (setting s (destination o) c.value)
+    (Some (record { place = unwrap_or (place_of g.image s.pc) 0; mask = with_register 0 (destination o) })) Triggered
 
 -- a precise step
 abbrev pub precisely : Stepped → Moment
 precisely t = moment t.state None (Precisely t.event)
-
-abbrev pub with_none : Program → Option Class → State → Choice → Moment
-with_none g o s c = if triggers o s then triggered g o s c else precisely (step g o s)
 
 -- ---- a report
 
@@ -71,12 +66,8 @@ landed g s at =
     else moment (completed g s at) None (Reported (address_at g.image at))
 
 -- a report by the place that the scan finds; it finds none for a trap that is lost, and the state stays
-abbrev pub report_at : Program → State → Trap → Option ℕ → Moment
-report_at g s t None = moment s (Some t) (Lost s.pc t.mask)
-report_at g s t (Some at) = landed g s at
-
 abbrev pub report : Program → State → Trap → Moment
-report g s t = report_at g s t (scan g.image s.pc t.mask)
+report g s t = option_map_or (landed g s) (scan g.image s.pc t.mask) (moment s (Some t) (Lost s.pc t.mask))
 
 -- ---- a word that is executed while a trap is pending
 
@@ -87,17 +78,12 @@ goes_well intent at s = is_none (fault_of (shapes s.mem) intent (accessed at s) 
 -- whether the word can be executed while a trap waits: it is no barrier, and an access doesn't fault
 abbrev pub can_wait : Option Class → State → Bool
 can_wait None s = false
-can_wait (Some (operate op ra src rc)) s = true
-can_wait (Some (trigger op ra src rc)) s = true
-can_wait (Some (address op ra rb disp)) s = true
+can_wait (Some (barrier call)) s = false
 can_wait (Some (load extension at ra)) s = goes_well Load at s
 can_wait (Some (store at ra)) s = goes_well Store at s
 can_wait (Some (load_locked extension at ra)) s = goes_well Load at s
 can_wait (Some (store_conditional at ra)) s = goes_well Store at s
-can_wait (Some (branch condition ra disp)) s = true
-can_wait (Some (jump ra rb)) s = true
-can_wait (Some (barrier call)) s = false
-can_wait (Some idle) s = true
+can_wait o s = true
 
 -- the memory after a store of any bytes
 abbrev pub spoilt_memory : MemAccess → State → Choice → List Block
@@ -108,15 +94,9 @@ abbrev pub spoilt_conditional : Bool → MemAccess → ℕ → State → Choice 
 spoilt_conditional true at ra s c = record (setting s ra c.value) { mem = spoilt_memory at s c; lock = None }
 spoilt_conditional false at ra s c = record (setting s ra c.value) { lock = None }
 
--- a branch goes by its actual register; one that leaves the next address leaves any value
-abbrev pub spoilt_branch : Option Cond → ℕ → ℤ → State → Choice → State
-spoilt_branch None ra disp s c = record s { regs = put s.regs ra c.value; pc = branch_target s disp }
-spoilt_branch (Some condition) ra disp s c = branched (Some condition) ra disp s
-
--- the state after the word: a destination gets any value, a store puts any bytes at its actual address, and a turn and
--- the lock flag go as in a precise step
+-- The state after the word: a destination gets any value, and so does the register that gets the next address; a store puts
+-- any bytes at its actual address; a turn and the lock flag go as in a precise step.
 abbrev pub spoilt : Option Class → State → Choice → State
-spoilt None s c = s
 spoilt (Some (operate op ra src rc)) s c = setting s rc c.value
 spoilt (Some (trigger op ra src rc)) s c = setting s rc c.value
 spoilt (Some (address op ra rb disp)) s c = setting s ra c.value
@@ -124,27 +104,23 @@ spoilt (Some (load extension at ra)) s c = setting s ra c.value
 spoilt (Some (store at ra)) s c = record (onward s) { mem = spoilt_memory at s c }
 spoilt (Some (load_locked extension at ra)) s c = record (setting s ra c.value) { lock = Some (lock_block at s) }
 spoilt (Some (store_conditional at ra)) s c = spoilt_conditional (matches s.lock (lock_block at s)) at ra s c
-spoilt (Some (branch condition ra disp)) s c = spoilt_branch condition ra disp s c
+spoilt (Some (branch None ra disp)) s c = record s { regs = put s.regs ra c.value; pc = branch_target s disp }
+spoilt (Some (branch condition ra disp)) s c = branched condition ra disp s
 spoilt (Some (jump ra rb)) s c = record s { regs = put s.regs ra c.value; pc = reg s.regs rb / 4 * 4 }
-spoilt (Some (barrier call)) s c = s
 spoilt (Some idle) s c = onward s
+spoilt o s c = s
 
--- the mask after the word: one that may trap adds its destination, if the machine chooses so
-abbrev pub mask_after : Option Class → ℕ → Bool → ℕ
-mask_after o mask adds = if adds then with_register mask (destination o) else mask
-
+-- a word that may trap adds its destination to the mask, if the machine chooses so
 abbrev pub waited : Option Class → State → Trap → Choice → Moment
-waited o s t c = moment (spoilt o s c) (Some (record t { mask = mask_after o t.mask c.adds })) Waited
-
-abbrev pub with_trap : Program → Option Class → State → Trap → Choice → Moment
-with_trap g o s t c = if c.report || not (can_wait o s) then report g s t else waited o s t c
+waited o s t c =
+    moment (spoilt o s c) (Some (record t { mask = (if c.adds then with_register t.mask (destination o) else t.mask) })) Waited
 
 -- ---- the step
 
--- a step at a word of this class
+-- the step at a word of this class
 abbrev pub wild_at : Program → Option Class → State → Option Trap → Choice → Moment
-wild_at g o s None c = with_none g o s c
-wild_at g o s (Some t) c = with_trap g o s t c
+wild_at g o s None c = if triggers o s then triggered g o s c else precisely (step g o s)
+wild_at g o s (Some t) c = if c.report || not (can_wait o s) then report g s t else waited o s t c
 
 -- the step from a state
 abbrev pub wild : Program → State → Option Trap → Choice → Moment

@@ -1,5 +1,5 @@
 -- How the code's machine stands to the definition.
-use Rattle.std.specs.Prelude.{◌≡◌, ℕ, true, List, [], Option, None, Some}
+use Rattle.std.specs.Prelude.{◌≡◌, ℕ, Bool, true, if◌then◌else◌, List, [], Option, None, Some}
 use Rattle.std.specs.Option.{option_map, option_map_or}
 use Rattle.alpha_words.specs.Regs.{reg}
 use Rattle.alpha_pal.specs.Kernel.{KernelState, arith_frame}
@@ -10,7 +10,7 @@ use Rattle.alpha_seq.specs.State.{State}
 use Rattle.alpha_seq.specs.Start.{start}
 use Rattle.alpha_seq.specs.Machine.{program_of, state_of, class_here}
 use Rattle.alpha_imprecise.specs.declared.pending.Pending.{Pending}
-use Rattle.alpha_imprecise.specs.Moment.{Trap, Choice}
+use Rattle.alpha_imprecise.specs.Moment.{Trap, Choice, with_register}
 use Rattle.alpha_imprecise.specs.Step.{triggers, destination, can_wait, spoilt}
 
 -- the machine, and the trap that is pending
@@ -49,6 +49,10 @@ pub record OverflowsAt (m : Machine) (place rc : ℕ) : Type 0 where
 pub record WaitsAt (m : Machine) (class : Class) : Type 0 where
   pub here : class_here m ≡ Some class
   pub waits : can_wait (Some class) (bare m) ≡ true
+
+-- the mask after a word of this class that was executed: one that may trap adds its destination, if the machine chooses so
+abbrev pub mask_after : Option Class → ℕ → Bool → ℕ
+mask_after o mask adds = if adds then with_register mask (destination o) else mask
 
 -- A word of this class was executed while a trap waits, by one value for its destination and its bytes, at each input and
 -- output, which it leaves.

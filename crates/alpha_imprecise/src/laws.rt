@@ -2,7 +2,8 @@ ghost use Rattle.std.specs.Prelude.{◌≡◌, ◌≤◌, ◌+◌, ℕ, Bool, Li
 ghost use Rattle.alpha_io.specs.Sunk.{Sunk};
 ghost use Rattle.alpha_seq.specs.Devices.{Drawn};
 ghost use Rattle.alpha_seq.specs.State.{Program, State};
-ghost use Rattle.alpha_imprecise.specs.Run.{HasUsed, finished};
+ghost use Rattle.alpha_imprecise.specs.Run.{finished};
+ghost use Rattle.alpha_imprecise.specs.Used.{HasUsed};
 ghost use Rattle.alpha_imprecise.specs.Chosen.{most_waited};
 ghost use Rattle.alpha_imprecise.specs.Made.{Making, begun, advance_making, steps_making, made, most_steps, most_words, IsWithin, Nearer};
 ghost use Rattle.alpha_imprecise.specs.Telling.{Telling};

@@ -8,9 +8,9 @@ ghost use Rattle.alpha_seq.specs.Step.{next_pc};
 ghost use Rattle.alpha_seq.specs.Machine.{class_here, program_of, kernel_left};
 ghost use Rattle.alpha_seq.specs.Devices.{drawn};
 ghost use Rattle.alpha_imprecise.specs.Moment.{Triggered, Waited, with_register};
-ghost use Rattle.alpha_imprecise.specs.Step.{triggers, destination, mask_after};
+ghost use Rattle.alpha_imprecise.specs.Step.{triggers, destination};
+ghost use Rattle.alpha_imprecise.specs.Wild.{mask_after, bare, wild_state, OverflowsAt, WaitsAt};
 ghost use Rattle.alpha_imprecise.specs.Telling.{Telling, telling};
-ghost use Rattle.alpha_imprecise.specs.Wild.{bare, wild_state, OverflowsAt, WaitsAt};
 ghost use Rattle.alpha_imprecise.specs.WildEffect.{WildEffect, AloneEffect, StepsAlone, Chooses, ChoosesReport, IsFramed, Framed};
 
 use crate::look::{Overflow, overflow_of};
