@@ -76,30 +76,32 @@ may_hold code t i Long = (i == t + 1025) && ltb i (length code)
 holds_may : (code : List ℕ) (t i : ℕ) (c : Condition) → t ≤ i → Holds code t i c → may_hold code t i c ≡ true
 holds_may code t i ZeroDestination order h = and_true (i == t) _ (eq-eqb i t h.0) (rc_spoils (class_at code t) 31 h.1)
 holds_may code t i SourceLost order h =
-    let r = h.register in
-    let j = h.source.place in
-    let low = h.source.above in
-    let high = h.source.below in
-    ap (λ o. option_map_or (λ x. list_any (exposes code t x) (range_with_len t (i + 1 - t))) o false) h.sets
+    let r = h.0 in
+    let j = h.2.place in
+    let low = h.2.above in
+    let high = h.2.below in
+    ap (λ o. option_map_or (λ x. list_any (exposes code t x) (range_with_len t (i + 1 - t))) o false) h.1
     ∙ within_any (exposes code t r) t (i + 1 - t) j low (omega arith)
-    (and_true (uses (class_at code j) r) _ h.source.uses
+    (and_true (uses (class_at code j) r) _ h.2.uses
     (within_all (λ k. not (names (sets (class_at code k)) r)) t (j - t)
-    (λ k above below. unnamed (sets (class_at code k)) r (λ e. h.source.unset (record { place = k; above = above; below = omega arith; sets = e })))))
+    (λ k above below. unnamed (sets (class_at code k)) r (λ e. h.2.unset (record { place = k; above = above; below = omega arith; sets = e })))))
 holds_may code t i SameDestination order h = and_true (ltb t i) _ (lt-ltb t i h.0) (trigger_has_rc (class_at code i) h.1)
 holds_may code t i WildBase order h =
-    let w = h.1 in
-    let low = w.base.above in
-    let high = w.base.below in
+    let base = h.1.0.base in
+    let set = h.1.2 in
+    let low = set.above in
+    let high = set.below in
     and_true (ltb t i) _ (lt-ltb t i h.0)
-    (ap (λ o. option_map_or (λ (a : MemAccess). list_any (λ k. names (sets (class_at code k)) a.base) (range_with_len t (i - t))) o false) w.accesses
-    ∙ within_any (λ k. names (sets (class_at code k)) w.access.base) t (i - t) w.base.place low (omega arith)
-    (named (sets (class_at code w.base.place)) w.access.base w.base.sets))
+    (ap (λ o. option_map_or (λ (a : MemAccess). list_any (λ k. names (sets (class_at code k)) a.base) (range_with_len t (i - t))) o false) h.1.1
+    ∙ within_any (λ k. names (sets (class_at code k)) base) t (i - t) set.place low (omega arith)
+    (named (sets (class_at code set.place)) base set.sets))
 holds_may code t i LoadThenStore order h =
-    let low = h.load.above in
-    let high = h.load.below in
-    and_true (of_kind stores (class_at code i)) _ (kind_is stores (class_at code i) kinds.Store h.store refl)
-    (within_any (λ k. of_kind loads (class_at code k)) (t + 1) (i - (t + 1)) h.load.place low (omega arith)
-    (kind_is loads (class_at code h.load.place) kinds.Load h.load.load refl))
+    let low = h.1 in
+    let high = h.2 in
+    let meets = h.3.1.1 in
+    and_true (of_kind stores (class_at code i)) _ (kind_is stores (class_at code i) kinds.Store meets.2 refl)
+    (within_any (λ k. of_kind loads (class_at code k)) (t + 1) (i - (t + 1)) h.0 (omega arith) (omega arith)
+    (kind_is loads (class_at code h.0) kinds.Load meets.0 refl))
 holds_may code t i Locked order h = kind_is locks (class_at code i) kinds.Locked h refl
 holds_may code t i Turn order h = kind_is turns (class_at code i) kinds.Turn h refl
 holds_may code t i Open order h = eq-eqb i (length code) h
@@ -129,10 +131,10 @@ holds_within code t i c low h = ⊎_elim (λ (far : length code < i). absurd (by
   where
     by : (c : Condition) → Holds code t i c → length code < i → class_at code i ≡ None → ⊥
     by ZeroDestination h far none = let same = h.0 in omega arith
-    by SourceLost h far none = let e : None ≡ Some h.register = sym (ap sets none) ∙ h.sets in cc
+    by SourceLost h far none = let e : None ≡ Some h.0 = sym (ap sets none) ∙ h.1 in cc
     by SameDestination h far none = let e : None ≡ Some kinds.Trigger = sym (ap kind none) ∙ h.1 in cc
-    by WildBase h far none = let e : None ≡ Some h.1.access = sym (ap access none) ∙ h.1.accesses in cc
-    by LoadThenStore h far none = let e : None ≡ Some kinds.Store = sym (ap kind none) ∙ h.store in cc
+    by WildBase h far none = let e : None ≡ Some h.1.0 = sym (ap access none) ∙ h.1.1 in cc
+    by LoadThenStore h far none = let e : None ≡ Some kinds.Store = sym (ap kind none) ∙ h.3.1.1.2 in cc
     by Locked h far none = let e : None ≡ Some kinds.Locked = sym (ap kind none) ∙ h in cc
     by Turn h far none = let e : None ≡ Some kinds.Turn = sym (ap kind none) ∙ h in cc
     by Open h far none = omega arith

@@ -10,7 +10,8 @@ use Rattle.alpha_seq.specs.Inputs.{over_input, advance_over, run_over}
 use Rattle.alpha_seq.proofs.Inputs.{run_over-last, advance_over-going}
 use Rattle.alpha_seq.proofs.RunSteps.{over-end}
 use Rattle.alpha_imprecise.specs.Moment.{Happening, Precisely, Triggered, Waited, Reported, Lost}
-use Rattle.alpha_imprecise.specs.Run.{WildRun, HasUsed, finished, started_wild, advance_wild}
+use Rattle.alpha_imprecise.specs.Run.{WildRun, finished, started_wild, advance_wild}
+use Rattle.alpha_imprecise.specs.Used.{HasUsed}
 use Rattle.alpha_imprecise.specs.Made.{wild_end, lost_trap}
 use Rattle.alpha_imprecise.specs.Free.{Free, wild_over, advance_free, run_free, SameFree, FreeAlike}
 use Rattle.alpha_restart.specs.Safe.{IsSafe}

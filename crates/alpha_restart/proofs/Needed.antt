@@ -24,7 +24,7 @@ use Rattle.alpha_mem.specs.Memory.{bytes_at, write_bytes}
 use Rattle.alpha_pal.specs.Call.{call}
 use Rattle.alpha_image.specs.declared.version.Version.TheVariants as versions
 use Rattle.alpha_image.specs.Layout.{longword}
-use Rattle.alpha_image.specs.Rules.{is_base, data_bases_fit, code_words_fit, data_bytes_fit, zeroed_bytes_fit, stack_bytes_fit, entry_fits, are_apart, regions_fit, level_fits, segments_fit, least_bad_field}
+use Rattle.alpha_image.specs.FieldTests.{is_base, data_bases_fit, code_words_fit, data_bytes_fit, zeroed_bytes_fit, stack_bytes_fit, entry_fits, are_apart, regions_fit, level_fits, segments_fit, least_bad_field}
 use Rattle.alpha_image.specs.ImageFault.{bad_place, word_fault}
 use Rattle.alpha_image.specs.Parts.{Parts, IsImage, IsByte, numbers, place_of}
 use Rattle.alpha_image.proofs.FieldRules.{FieldsFit-least}
@@ -36,10 +36,11 @@ use Rattle.alpha_seq.specs.Start.{start_memory, start_regs, start}
 use Rattle.alpha_seq.specs.Run.{sequential}
 use Rattle.alpha_shadow.specs.declared.broken.Condition.{Condition}
 use Rattle.alpha_shadow.specs.declared.broken.Condition.TheVariants.{ZeroDestination, SourceLost, SameDestination, WildBase, LoadThenStore, Locked, Turn, Open, Long}
-use Rattle.alpha_shadow.specs.Broken.{condition_number}
+use Rattle.alpha_shadow.specs.Least.{condition_number}
 use Rattle.alpha_trap.specs.Scan.{fits, greatest_below}
 use Rattle.alpha_trap.proofs.Ranges.{and_parts}
-use Rattle.alpha_imprecise.specs.Moment.{Choice, IsChoice}
+use Rattle.alpha_imprecise.specs.Moment.{Choice}
+use Rattle.alpha_restart.specs.Table.{IsChoice}
 use Rattle.alpha_imprecise.specs.Run.{WildRun, started_wild, run_wild}
 use Rattle.alpha_imprecise.specs.Made.{LostTrap, imprecise}
 use Rattle.alpha_imprecise.specs.Restart.{IsRestartable}

@@ -7,9 +7,10 @@ use Rattle.alpha_image.specs.Parts.{IsImage}
 use Rattle.alpha_seq.specs.declared.end.End.TheVariants.{Overflow}
 use Rattle.alpha_seq.specs.State.{Program, Ends}
 use Rattle.alpha_seq.specs.Run.{Run}
-use Rattle.alpha_trap.specs.Handler.{completed_regs}
+use Rattle.alpha_trap.specs.Completed.{completed_regs}
 use Rattle.alpha_imprecise.specs.Moment.{Trap, Choice, Precisely, Reported, moment}
-use Rattle.alpha_imprecise.specs.Step.{can_wait, waited, address_at, completed, landed, report_at, report, with_trap}
+use Rattle.alpha_imprecise.specs.Step.{can_wait, waited, address_at, completed, landed, report, wild_at}
+use Rattle.alpha_imprecise.proofs.Landed.{report_at}
 use Rattle.alpha_imprecise.specs.Run.{WildRun, extended_wild, advance_wild}
 use Rattle.alpha_restart.specs.Safe.{IsSafe}
 use Rattle.alpha_restart.specs.Match.{Alike, Match}
@@ -56,7 +57,7 @@ module _ (g : Program) (good : IsImage g.image) (safe : IsSafe g.image.words) wh
     pending_step P lands stays =
         subst (λ (v : WildRun). P (advance_wild g v c)) (ap (λ (o : Option Trap). record w { pending = o }) (sym h.pending))
         (subst P (advance_wild-going g (pending_run w p h.mask) c h.going)
-        (subst (λ (o : Option Class). P (extended_wild (pending_run w p h.mask) (with_trap g o w.state (trap_of p h.mask) c)))
+        (subst (λ (o : Option Class). P (extended_wild (pending_run w p h.mask) (wild_at g o w.state (Some (trap_of p h.mask)) c)))
         (sym (class_here g good i w.state.pc h.pc))
         (by (c.report || not (can_wait (class_at g.image.words i) w.state)) refl)))
       where

@@ -14,9 +14,9 @@ use Rattle.alpha_table.specs.Uses.{access}
 use Rattle.alpha_image.specs.Parts.{IsByte, place_of}
 use Rattle.alpha_seq.specs.State.{Program, State}
 use Rattle.alpha_seq.specs.Step.{onward, setting, lock_block, matches, next_class, step}
-use Rattle.alpha_imprecise.specs.Moment.{Trap, with_register, Choice, IsChoice, Waited, Moment, moment}
+use Rattle.alpha_imprecise.specs.Moment.{Trap, with_register, Choice, Waited, Moment, moment}
 use Rattle.alpha_imprecise.specs.Step.{triggers, triggered, destination, precisely, report, can_wait, spoilt, spoilt_conditional, waited, wild}
-use Rattle.alpha_restart.specs.Table.{SetsAny, AreBytes, StoresAny, storing, StoresIf, Branches, Executed, Steps, Overflows, Reports, Waits, Row, steps, overflows, reports, waits}
+use Rattle.alpha_restart.specs.Table.{IsChoice, SetsAny, AreBytes, StoresAny, storing, StoresIf, Branches, Executed, Steps, Overflows, Reports, Waits, Row, steps, overflows, reports, waits}
 use Rattle.alpha_restart.proofs.Words.{IsNarrow, narrow}
 
 -- ---- bytes and their number

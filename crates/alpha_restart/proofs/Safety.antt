@@ -31,17 +31,17 @@ module _ (code : List ℕ) (accepted : IsAccepted code) where
 
   source : (p i j r : ℕ) → Shadowed code p i → p ≤ j → j ≤ i → sets (class_at code i) ≡ Some r
       → uses (class_at code j) r ≡ true → ((k : ℕ) → p ≤ k → k < j → sets (class_at code k) ≢ Some r) → ⊥
-  source p i j r h low high set used unset = none p i conditions.SourceLost h (record {
-    register = r;
-    sets = set;
-    source = record {
+  source p i j r h low high set used unset = none p i conditions.SourceLost h (
+    r,
+    set,
+    record {
       place = j;
       above = low;
       below = omega arith;
       uses = used;
       unset = λ (s : SetIn code p j r). unset s.place s.above s.below s.sets;
-    };
-  })
+    },
+  )
 
   same : (p i c : ℕ) → Shadowed code p i → p < i → trap_rc (class_at code p) ≡ Some c → trap_rc (class_at code i) ≢ Some c
   same p i c h above own_rc rc =
@@ -50,24 +50,12 @@ module _ (code : List ℕ) (accepted : IsAccepted code) where
   base : (p i k : ℕ) (a : MemAccess) → Shadowed code p i → p < i → access (class_at code i) ≡ Some a → p ≤ k → k < i
       → sets (class_at code k) ≢ Some a.base
   base p i k a h above e low high set =
-      none p i conditions.WildBase h (
-        above,
-        record {
-          access = a;
-          accesses = e;
-          base = record { place = k; above = low; below = high; sets = set };
-        },
-      )
+      none p i conditions.WildBase h (above, (a, e, record { place = k; above = low; below = high; sets = set }))
 
   meets : (p i j : ℕ) (a b : MemAccess) → Shadowed code p i → kind (class_at code i) ≡ Some kinds.Store
       → access (class_at code i) ≡ Some a → p < j → j < i → kind (class_at code j) ≡ Some kinds.Load
       → access (class_at code j) ≡ Some b → ((b.base ≢ a.base) ⊎ AccessesMeet b a) → ⊥
-  meets p i j a b h store e low high load f meet = none p i conditions.LoadThenStore h (record {
-    store = store;
-    access = a;
-    accesses = e;
-    load = record { place = j; above = omega arith; below = high; load = load; access = b; accesses = f; meets = meet };
-  })
+  meets p i j a b h store e low high load f meet = none p i conditions.LoadThenStore h (j, low, high, (b, (a, (load, f, store, e, meet))))
 
   pub safe : IsSafe code
   safe = record {

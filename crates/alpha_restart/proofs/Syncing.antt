@@ -11,7 +11,7 @@ use Rattle.alpha_seq.specs.State.{Program, State, Event, Went, Barriered, Steppe
 use Rattle.alpha_seq.specs.Step.{next_class, step}
 use Rattle.alpha_seq.specs.Run.{Run, Mark, extended_by, is_over, advance, marks_of}
 use Rattle.alpha_imprecise.specs.Moment.{Trap, Choice, Precisely}
-use Rattle.alpha_imprecise.specs.Step.{triggers, triggered, precisely, with_none, address_at, wild}
+use Rattle.alpha_imprecise.specs.Step.{triggers, triggered, precisely, address_at, wild, wild_at}
 use Rattle.alpha_imprecise.specs.Run.{WildRun, extended_wild, advance_wild}
 use Rattle.alpha_restart.specs.Safe.{IsSafe, is_steady}
 use Rattle.alpha_restart.specs.Match.{Match}
@@ -80,7 +80,7 @@ module _ (g : Program) (good : IsImage g.image) (safe : IsSafe g.image.words) wh
     overflow_on (Some idle) is over = cc
 
     at_word : (o : Option Class) → class_at g.image.words h.at ≡ o
-        → Together g (extended_by r (step g o r.state)) (extended_wild (clear w) (with_none g o w.state c))
+        → Together g (extended_by r (step g o r.state)) (extended_wild (clear w) (wild_at g o w.state None c))
     at_word o is = by (triggers o w.state) refl
       where
         by : (b : Bool) → triggers o w.state ≡ b
@@ -93,7 +93,7 @@ module _ (g : Program) (good : IsImage g.image) (safe : IsSafe g.image.words) wh
     here : Together g (extended_by r (step g (next_class g r.state.pc) r.state)) (extended_wild (clear w) (wild g w.state None c))
     here =
         subst (λ (x : Option Class). Together g (extended_by r (step g x r.state)) (extended_wild (clear w) (wild g w.state None c))) (sym (class_here g good h.at r.state.pc h.pc))
-        (subst (λ (y : Option Class). Together g (extended_by r (step g (class_at g.image.words h.at) r.state)) (extended_wild (clear w) (with_none g y w.state c)))
+        (subst (λ (y : Option Class). Together g (extended_by r (step g (class_at g.image.words h.at) r.state)) (extended_wild (clear w) (wild_at g y w.state None c)))
         (sym (class_here g good h.at w.state.pc (h.pc_too ∙ h.pc)))
         (at_word (class_at g.image.words h.at) refl))
 

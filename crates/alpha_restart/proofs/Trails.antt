@@ -10,7 +10,8 @@ use Rattle.alpha_table.specs.Code.{class_at, trap_rc}
 use Rattle.alpha_image.specs.Parts.{IsImage, place_of}
 use Rattle.alpha_seq.specs.State.{Program}
 use Rattle.alpha_imprecise.specs.Moment.{with_register, Choice}
-use Rattle.alpha_imprecise.specs.Step.{destination, triggered, address_at, mask_after, spoilt, waited}
+use Rattle.alpha_imprecise.specs.Step.{destination, triggered, address_at, spoilt, waited}
+use Rattle.alpha_imprecise.specs.Wild.{mask_after}
 use Rattle.alpha_imprecise.specs.Run.{WildRun, extended_wild}
 use Rattle.alpha_restart.specs.Safe.{IsSafe, is_steady}
 use Rattle.alpha_restart.specs.Trigger.{Trigger, trigger_word}

@@ -8,11 +8,12 @@ use Rattle.alpha_image.specs.Parts.{Parts}
 use Rattle.alpha_seq.specs.State.{Program, State}
 use Rattle.alpha_seq.specs.Start.{start}
 use Rattle.alpha_seq.specs.Step.{lock_block, matches, next_class, step}
-use Rattle.alpha_imprecise.specs.Moment.{Trap, with_register, Choice, IsChoice, Moment}
-use Rattle.alpha_imprecise.specs.Step.{triggers, triggered, destination, precisely, report, can_wait, spoilt, spoilt_conditional, spoilt_branch, mask_after, waited, wild}
+use Rattle.alpha_imprecise.specs.Moment.{Trap, with_register, Choice, Moment}
+use Rattle.alpha_imprecise.specs.Step.{triggers, triggered, destination, precisely, report, can_wait, spoilt, spoilt_conditional, waited, wild}
+use Rattle.alpha_imprecise.specs.Wild.{mask_after}
 use Rattle.alpha_imprecise.specs.Run.{WildRun, extended_wild, advance_wild, started_wild, run_wild}
 use Rattle.alpha_imprecise.specs.Restart.{Agrees, IsRestartable}
-use Rattle.alpha_restart.specs.Table.{StoresIf, Branches, Executed, Row, steps, overflows, reports, waits, IsWalk, walked, WalksAgree}
+use Rattle.alpha_restart.specs.Table.{IsChoice, StoresIf, Branches, Executed, Row, steps, overflows, reports, waits, IsWalk, walked, WalksAgree}
 use Rattle.alpha_restart.proofs.Precise.{advance_wild-going}
 use Rattle.alpha_restart.proofs.Reporting.{can_be_executed}
 use Rattle.alpha_restart.proofs.Rows.{low_bytes_are, row_chosen}
@@ -23,7 +24,7 @@ executed_if : (at : MemAccess) (ra : ℕ) (s : State) (c : Choice) (flag : Bool)
 executed_if at ra s c true small = (c.value, small.value, (low_bytes at.bytes c.bytes, low_bytes_are at.bytes c.bytes, refl))
 executed_if at ra s c false small = (c.value, small.value, refl)
 
-executed_branch : (condition : Option Cond) (ra : ℕ) (disp : ℤ) (s : State) (c : Choice) → IsChoice c → Branches condition ra disp s (spoilt_branch condition ra disp s c)
+executed_branch : (condition : Option Cond) (ra : ℕ) (disp : ℤ) (s : State) (c : Choice) → IsChoice c → Branches condition ra disp s (spoilt (Some (branch condition ra disp)) s c)
 executed_branch None ra disp s c small = (c.value, small.value, refl)
 executed_branch (Some condition) ra disp s c small = refl
 

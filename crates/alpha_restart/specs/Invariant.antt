@@ -8,7 +8,7 @@ use Rattle.alpha_mem.specs.Memory.{IsLayout}
 use Rattle.alpha_seq.specs.declared.end.End.TheVariants.{Overflow}
 use Rattle.alpha_seq.specs.State.{Program, State, Barriered, Ends}
 use Rattle.alpha_seq.specs.Run.{Run, Over, is_over}
-use Rattle.alpha_trap.specs.Scan.{Covers}
+use Rattle.alpha_trap.specs.Finds.{Covers}
 use Rattle.alpha_imprecise.specs.Moment.{Precisely}
 use Rattle.alpha_imprecise.specs.Step.{address_at}
 use Rattle.alpha_imprecise.specs.Run.{WildRun, finished}

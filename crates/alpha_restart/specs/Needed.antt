@@ -9,7 +9,8 @@ use Rattle.alpha_seq.specs.declared.end.End.TheVariants.{Overflow}
 use Rattle.alpha_seq.specs.State.{Program, Ends}
 use Rattle.alpha_seq.specs.Start.{start}
 use Rattle.alpha_seq.specs.Run.{after}
-use Rattle.alpha_imprecise.specs.Moment.{Choice, IsChoice, Precisely}
+use Rattle.alpha_imprecise.specs.Moment.{Choice, Precisely}
+use Rattle.alpha_restart.specs.Table.{IsChoice}
 use Rattle.alpha_imprecise.specs.Run.{started_wild, run_wild}
 use Rattle.alpha_imprecise.specs.Restart.{IsRestartable}
 

@@ -1,5 +1,5 @@
 -- The imprecise step as a table: what the machine may do at each moment, with nothing said of how it is chosen.
-use Rattle.std.specs.Prelude.{◌≡◌, ◌<◌, ◌*◌, ◌/◌, ◌^◌, ℕ, ℤ, Bool, true, false, ◌⊎◌, All, List, [], ◌∷◌, length, Option, Some, None, ⊤}
+use Rattle.std.specs.Prelude.{◌≡◌, ◌<◌, ◌*◌, ◌/◌, ◌^◌, ℕ, ℤ, Bool, true, false, ◌⊎◌, All, List, [], ◌∷◌, length, Option, Some, None, unwrap_or, ⊤}
 use Rattle.alpha_words.specs.declared.Completion.{Completion}
 use Rattle.alpha_words.specs.Regs.{reg, put}
 use Rattle.alpha_table.specs.declared.op.Cond.{Cond}
@@ -7,12 +7,12 @@ use Rattle.alpha_table.specs.declared.columns.MemAccess.{MemAccess}
 use Rattle.alpha_table.specs.Class.{Class, operate, trigger, address, load, store, load_locked, store_conditional, branch, jump, barrier, idle}
 use Rattle.alpha_mem.specs.Intent.{Load, Store}
 use Rattle.alpha_mem.specs.Memory.{write_bytes}
-use Rattle.alpha_image.specs.Parts.{Parts, IsByte}
+use Rattle.alpha_image.specs.Parts.{Parts, IsByte, place_of}
 use Rattle.alpha_seq.specs.State.{Program, State}
 use Rattle.alpha_seq.specs.Start.{start}
 use Rattle.alpha_seq.specs.Step.{onward, setting, accessed, lock_block, matches, branch_target, branched, next_class, step}
-use Rattle.alpha_imprecise.specs.Moment.{Trap, with_register, Triggered, Waited, Moment, moment}
-use Rattle.alpha_imprecise.specs.Step.{triggers, destination, new_trap, precisely, report, goes_well}
+use Rattle.alpha_imprecise.specs.Moment.{Trap, with_register, Choice, Triggered, Waited, Moment, moment}
+use Rattle.alpha_imprecise.specs.Step.{triggers, destination, precisely, report, goes_well}
 use Rattle.alpha_imprecise.specs.Run.{WildRun, finished, extended_wild, started_wild}
 use Rattle.alpha_imprecise.specs.Restart.{Agrees}
 
@@ -77,7 +77,9 @@ pub record Overflows (g : Program) (s : State) (pending : Option Trap) (m : Mome
   pub over : triggers (next_class g s.pc) s ≡ true
   pub value : ℕ
   pub small : value < 2 ^ 64
-  pub is : m ≡ moment (setting s (destination (next_class g s.pc)) value) (Some (new_trap g (next_class g s.pc) s)) Triggered
+  pub is : let o = next_class g s.pc in
+      let t : Trap = record { place = unwrap_or (place_of g.image s.pc) 0; mask = with_register 0 (destination o) } in
+      m ≡ moment (setting s (destination o) value) (Some t) Triggered
 
 -- a pending trap is reported, at any place
 pub record Reports (g : Program) (s : State) (pending : Option Trap) (m : Moment) : Type 0 where
@@ -100,6 +102,11 @@ pub data Row (g : Program) (s : State) (pending : Option Trap) (m : Moment) : Ty
   overflows : Overflows g s pending m → Row g s pending m
   reports : Reports g s pending m → Row g s pending m
   waits : Waits g s pending m → Row g s pending m
+
+-- a choice whose value and bytes fit registers: such choices make just the rows
+pub record IsChoice (c : Choice) : Type 0 where
+  pub value : c.value < 2 ^ 64
+  pub bytes : c.bytes < 2 ^ 64
 
 -- ---- walks
 

@@ -3,14 +3,15 @@
 ghost use Rattle.std.specs.Prelude.{◌≡◌, ◌≤◌, Option};
 ghost use Rattle.alpha_image.specs.Parts.{Parts, IsImage};
 ghost use Rattle.alpha_shadow.specs.declared.broken.Condition.{Condition};
-ghost use Rattle.alpha_shadow.specs.Broken.{IsAccepted, condition_number};
+ghost use Rattle.alpha_shadow.specs.Broken.{IsAccepted};
+ghost use Rattle.alpha_shadow.specs.Least.{condition_number};
 ghost use Rattle.alpha_seq.specs.State.{Program, State};
-ghost use Rattle.alpha_imprecise.specs.Moment.{Trap, Choice, IsChoice, Moment};
+ghost use Rattle.alpha_imprecise.specs.Moment.{Trap, Choice, Moment};
 ghost use Rattle.alpha_imprecise.specs.Step.{wild};
 ghost use Rattle.alpha_imprecise.specs.Restart.{IsRestartable};
 ghost use Rattle.alpha_imprecise.specs.Free.{NeverLoses, FreeAlike};
 ghost use Rattle.alpha_restart.specs.Safe.{IsSafe};
-ghost use Rattle.alpha_restart.specs.Table.{Row, WalksAgree};
+ghost use Rattle.alpha_restart.specs.Table.{IsChoice, Row, WalksAgree};
 ghost use Rattle.alpha_imprecise.specs.Shown.{ChoicesAlike, RunsAlike};
 ghost use Rattle.alpha_restart.specs.Needed.{Needs, StopsApart};
 
