@@ -16,8 +16,9 @@ use Rattle.alpha_asm.specs.declared.fault.AsmFault.TheVariants.{Undefined, Image
 use Rattle.alpha_asm.specs.declared.pass.Pass.{Pass}
 use Rattle.alpha_image.specs.declared.segment.Segment.{Segment}
 use Rattle.alpha_image.specs.Layout.{filled_size}
-use Rattle.alpha_image.specs.Numbers.{level_numbers}
-use Rattle.alpha_image.specs.Rules.{FieldsFit, size_of_segment, least_bad_field}
+use Rattle.alpha_image.specs.Fields.{level_numbers}
+use Rattle.alpha_image.specs.Rules.{FieldsFit, size_of_segment}
+use Rattle.alpha_image.specs.FieldTests.{least_bad_field}
 use Rattle.alpha_image.proofs.FieldRules.{FieldsFit-least}
 use Rattle.std.proofs.lemmas.List.Sums.{sum_by-cons}
 use Rattle.std.specs.Prelude.{slice_get, slice_set}

@@ -7,7 +7,7 @@ use Rattle.std.specs.Str.Lines.{lines}
 use Rattle.alpha_text.specs.declared.reader.LineFault.{LineFault}
 use Rattle.alpha_text.specs.Statements.{empty}
 use Rattle.alpha_text.specs.Reading.{LineSaid, read}
-use Rattle.alpha_image.specs.Rules.{least_bad_field}
+use Rattle.alpha_image.specs.FieldTests.{least_bad_field}
 use Rattle.alpha_asm.specs.declared.kind.SourceKind.{SourceKind}
 use Rattle.alpha_asm.specs.declared.kind.SourceKind.TheVariants as kinds
 use Rattle.alpha_asm.specs.declared.fault.AsmFault.{AsmFault}

@@ -4,9 +4,11 @@ use Rattle.std.specs.Option.{option_map, unwrap_or}
 use Rattle.std.specs.List.{flat_map}
 use Rattle.alpha_text.specs.Reading.{LineSaid}
 use Rattle.alpha_image.specs.declared.fields.LevelFields.{LevelFields}
-use Rattle.alpha_image.specs.Numbers.{Numbers, level_numbers}
+use Rattle.alpha_image.specs.Numbers.{Numbers}
+use Rattle.alpha_image.specs.Fields.{level_numbers}
 use Rattle.alpha_image.specs.Layout.{filled_size}
-use Rattle.alpha_image.specs.Rules.{FieldsFit, least_bad_field}
+use Rattle.alpha_image.specs.Rules.{FieldsFit}
+use Rattle.alpha_image.specs.FieldTests.{least_bad_field}
 use Rattle.alpha_asm.specs.declared.fault.AsmFault.{AsmFault}
 use Rattle.alpha_asm.specs.declared.fault.AsmFault.TheVariants.{ImageField, Reach}
 use Rattle.alpha_asm.specs.declared.program.Finished.{Finished}

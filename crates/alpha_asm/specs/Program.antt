@@ -13,7 +13,8 @@ use Rattle.alpha_image.specs.declared.segment.Segment.{Segment}
 use Rattle.alpha_image.specs.declared.version.Version.{Version}
 use Rattle.alpha_image.specs.declared.version.Version.TheVariants.{One, Two}
 use Rattle.alpha_image.specs.Numbers.{Numbers}
-use Rattle.alpha_image.specs.Parts.{Parts, numbered_level}
+use Rattle.alpha_image.specs.Parts.{Parts}
+use Rattle.alpha_image.specs.Reading.{numbered_level}
 use Rattle.alpha_asm.specs.declared.statement.Use.{Use}
 use Rattle.alpha_asm.specs.declared.statement.Use.TheVariants as uses
 use Rattle.alpha_asm.specs.declared.patch.Displacement.{Displacement}

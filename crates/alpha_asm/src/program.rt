@@ -2,7 +2,8 @@ ghost use Rattle.std.specs.Prelude.{◌≡◌, ◌≢◌, ◌++◌, ◌∷◌, [
 ghost use Rattle.std.specs.List.{flat_map};
 ghost use Rattle.std.specs.Option.{option_map, option_or};
 ghost use Rattle.alpha_table.specs.Row.{IsInsn};
-ghost use Rattle.alpha_image.specs.Rules.{FieldsFit, least_bad_field};
+ghost use Rattle.alpha_image.specs.Rules.{FieldsFit};
+ghost use Rattle.alpha_image.specs.FieldTests.{least_bad_field};
 ghost use Rattle.alpha_asm.specs.Layout.{first, layout};
 ghost use Rattle.alpha_asm.specs.Program.{program_of, version_of, based, own_segments, known, names_in, undefined_line};
 ghost use Rattle.alpha_asm.specs.Assembled.{made};

@@ -2,7 +2,7 @@ ghost use Rattle.std.specs.Prelude.{◌≡◌, ◌≢◌, ◌≤◌, ◌<◌, �
 ghost use Rattle.std.specs.List.{AllByRecursion};
 ghost use Rattle.std.specs.Str.Lines.{lines};
 ghost use Rattle.alpha_words.specs.declared.Level.TheVariants.{One};
-ghost use Rattle.alpha_image.specs.Parts.{IsCodeInsn};
+ghost use Rattle.alpha_image.specs.Insns.{IsCodeInsn};
 ghost use Rattle.alpha_asm.specs.Layout.{end};
 ghost use Rattle.alpha_asm.specs.Assembled.{item_at, first_refused};
 ghost use Rattle.alpha_asm.specs.Pass.{Stands};

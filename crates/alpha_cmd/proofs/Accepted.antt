@@ -8,21 +8,24 @@ use Rattle.alpha_image.specs.declared.segment.Segment.{Segment}
 use Rattle.alpha_image.specs.declared.version.Version.{Version}
 use Rattle.alpha_image.specs.declared.version.Version.TheVariants.{One, Two}
 use Rattle.alpha_image.specs.Numbers.{Numbers}
-use Rattle.alpha_image.specs.Layout.{filled_size, size_of}
+use Rattle.alpha_image.specs.Layout.{filled_size}
+use Rattle.alpha_image.specs.Reading.{size_of}
 use Rattle.alpha_image.specs.Rules.{FieldsFit, size_of_segment}
 use Rattle.alpha_image.specs.Parts.{Parts, IsImage, numbers, spelling}
 use Rattle.alpha_image.proofs.Spelled.{length-spelling}
 use Rattle.alpha_shadow.specs.Broken.{IsAccepted}
 use Rattle.alpha_request.specs.Command.{Command, check}
-use Rattle.alpha_request.specs.Options.{seed, file}
+use Rattle.alpha_request.specs.Origin.{seed, file}
 use Rattle.alpha_imprecise.specs.Pcg.{pcg_word, seeded}
 use Rattle.alpha_cmd.specs.declared.status.Status.{Status}
 use Rattle.alpha_cmd.specs.declared.status.Status.TheVariants.{Done, NoMemory}
 use Rattle.alpha_cmd.specs.Outcome.{goes}
 use Rattle.alpha_cmd.specs.Image.{ImageOf, image_limit}
-use Rattle.alpha_cmd.specs.Choosing.{choices_limit, listed_word}
+use Rattle.alpha_cmd.specs.Choosing.{listed_word}
+use Rattle.alpha_cmd.specs.ChoicesLimit.{choices_limit}
 use Rattle.alpha_cmd.specs.Asks.{Asks}
-use Rattle.alpha_cmd.specs.Answer.{World, Answer, IsAnswered}
+use Rattle.alpha_cmd.specs.Answer.{Answer, IsAnswered}
+use Rattle.alpha_cmd.specs.AnswerBy.{World}
 use Rattle.alpha_cmd.specs.Commands.{IsTold}
 use Rattle.alpha_cmd.specs.Commands.Check.{accepted}
 use Rattle.alpha_cmd.specs.Tried.{AreTold, IsAnswer}

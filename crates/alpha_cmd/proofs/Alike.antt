@@ -8,7 +8,7 @@ use Rattle.alpha_image.specs.Parts.{Parts, IsImage, spelling}
 use Rattle.alpha_shadow.specs.Broken.{IsAccepted}
 use Rattle.alpha_request.specs.Command.{check, run, imprecise}
 use Rattle.alpha_request.specs.declared.options.RunOptions.{RunOptions}
-use Rattle.alpha_request.specs.Options.{Origin}
+use Rattle.alpha_request.specs.Origin.{Origin}
 use Rattle.alpha_restart.proofs.Agreeing.{accepted_restarts}
 use Rattle.alpha_restart.proofs.FreeTogether.{accepted_free}
 use Rattle.alpha_seq.specs.declared.end.End.{End}
@@ -26,10 +26,12 @@ use Rattle.alpha_cmd.specs.Status.{class_of}
 use Rattle.alpha_cmd.specs.Outcome.{Outcome, goes, stops, Then}
 use Rattle.alpha_cmd.specs.Image.{ImageOf}
 use Rattle.alpha_cmd.specs.Asks.{Asks}
-use Rattle.alpha_cmd.specs.Answer.{World, Answer, AnswerBy, answer_of, IsAnswered}
+use Rattle.alpha_cmd.specs.Answer.{Answer, IsAnswered}
+use Rattle.alpha_cmd.specs.AnswerBy.{World, AnswerBy, answer_of}
 use Rattle.alpha_cmd.specs.Commands.Check as checks
 use Rattle.alpha_cmd.specs.Commands.Run as runs
-use Rattle.alpha_cmd.specs.Commands.Run.{program_by, run_by_reads, MayShow, answer_shown}
+use Rattle.alpha_cmd.specs.Commands.Run.{run_by_reads, MayShow}
+use Rattle.alpha_cmd.specs.RunAnswer.{program_by, answer_shown}
 use Rattle.alpha_cmd.specs.Commands.Imprecise as wilds
 use Rattle.alpha_cmd.specs.Commands.Imprecise.{Plan, plan_by, PlanOf, Passes, with_drawn, run_by, MayShowWild, answer_wild, RunsWild}
 use Rattle.alpha_cmd.specs.Tried.{TriedBy, IsGiven}

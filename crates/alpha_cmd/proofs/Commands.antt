@@ -1,6 +1,6 @@
 -- Each command has the laws of a form.
 use Rattle.alpha_request.specs.Command.{Command, check, dis, asm, fix, make_module, link, replay, record_run, run, imprecise, debug, trial}
-use Rattle.alpha_cmd.specs.Answer.{World}
+use Rattle.alpha_cmd.specs.AnswerBy.{World}
 use Rattle.alpha_cmd.specs.Commands.{form_of, there_of}
 use Rattle.alpha_cmd.proofs.Forms.{IsLawfulForm}
 use Rattle.alpha_cmd.proofs.Commands.Asm as assemblies

@@ -8,7 +8,8 @@ use Rattle.alpha_io.proofs.Sinks.{Puts-none, Puts-then, Partly-then, HasFailed-n
 use Rattle.alpha_cmd.specs.declared.decision.Decision.{Decision}
 use Rattle.alpha_cmd.specs.declared.status.Status.{Status}
 use Rattle.alpha_cmd.specs.declared.status.Status.TheVariants.{SinkFault, NoMemory}
-use Rattle.alpha_cmd.specs.Answer.{World, Answer, notes_of, IsLeft, IsAnswered}
+use Rattle.alpha_cmd.specs.Answer.{Answer, notes_of, IsLeft, IsAnswered}
+use Rattle.alpha_cmd.specs.AnswerBy.{World}
 use Rattle.alpha_cmd.specs.Kept.{Kept, nothing, HasKept}
 use Rattle.alpha_cmd.specs.Ends.{Ends, EndsPart, Leaves, Decides, still}
 use Rattle.alpha_cmd.specs.Tried.{IsAnswer, TriedBy, IsGiven}

@@ -9,7 +9,8 @@ use Rattle.alpha_fix.proofs.FixedSources.{is_accepted, is_needed, is_unchanged}
 use Rattle.alpha_cmd.specs.declared.status.Status.TheVariants.{Done}
 use Rattle.alpha_cmd.specs.Status.{class_of}
 use Rattle.alpha_cmd.specs.Asks.{Asks}
-use Rattle.alpha_cmd.specs.Answer.{World, Answer}
+use Rattle.alpha_cmd.specs.Answer.{Answer}
+use Rattle.alpha_cmd.specs.AnswerBy.{World}
 use Rattle.alpha_cmd.specs.Commands.Fix.{form, there}
 use Rattle.alpha_cmd.specs.Fixed.{IsFixed}
 use Rattle.alpha_cmd.specs.Kept.{HasKept}

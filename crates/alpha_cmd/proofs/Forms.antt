@@ -4,7 +4,8 @@ use Rattle.alpha_cmd.specs.declared.status.Status.{Status}
 use Rattle.alpha_cmd.specs.declared.status.Status.TheVariants.{ShelfFault}
 use Rattle.alpha_cmd.specs.Status.{Class, done, refused, ended, failed, class_of}
 use Rattle.alpha_cmd.specs.Outcome.{Outcome, goes, stops}
-use Rattle.alpha_cmd.specs.Answer.{World, Answer, AnswerBy, HaveBytes, answer_of}
+use Rattle.alpha_cmd.specs.Answer.{Answer}
+use Rattle.alpha_cmd.specs.AnswerBy.{World, AnswerBy, HaveBytes, answer_of}
 use Rattle.alpha_cmd.specs.Keeping.{KeepsAs}
 use Rattle.alpha_cmd.specs.Form.{Form, IsToldFor, making, making_there}
 use Rattle.alpha_cmd.proofs.Lawful.{Lawful, IsRefusal, Then-lawful}

@@ -9,7 +9,7 @@ use Rattle.alpha_io.specs.Sunk.{Sunk, Puts}
 use Rattle.alpha_io.specs.Written.{WritesPrefix}
 use Rattle.alpha_io.proofs.Sinks.{Partly-more}
 use Rattle.alpha_request.specs.declared.options.RunOptions.{RunOptions}
-use Rattle.alpha_request.specs.Options as choices
+use Rattle.alpha_request.specs.Origin as choices
 use Rattle.alpha_seq.specs.declared.end.RunEnd.{RunEnd}
 use Rattle.alpha_seq.specs.declared.end.RunEnd.TheVariants as runs
 use Rattle.alpha_seq.specs.State.{Program}
@@ -33,14 +33,15 @@ use Rattle.alpha_cmd.specs.declared.record.Recorded.{Recorded}
 use Rattle.alpha_cmd.specs.declared.record.Recorded.TheVariants as ends
 use Rattle.alpha_cmd.specs.declared.status.Status.{Status}
 use Rattle.alpha_cmd.specs.declared.status.Status.TheVariants.{InputFault, NoMemory, JournalFull}
-use Rattle.alpha_cmd.specs.Answer.{World, Answer, said}
+use Rattle.alpha_cmd.specs.Answer.{Answer}
+use Rattle.alpha_cmd.specs.AnswerBy.{World, said}
 use Rattle.alpha_cmd.specs.Decision.{answer_in}
 use Rattle.alpha_cmd.specs.Kept.{nothing}
 use Rattle.alpha_cmd.specs.Ends.{EndsPart, Leaves}
 use Rattle.alpha_cmd.specs.Outcome.{goes}
 use Rattle.alpha_cmd.specs.Status.{status_line}
 use Rattle.alpha_cmd.specs.Tries.{TriesBy}
-use Rattle.alpha_cmd.specs.Commands.Run.{program_by}
+use Rattle.alpha_cmd.specs.RunAnswer.{program_by}
 use Rattle.alpha_cmd.specs.Commands.Imprecise.{Plan, plan_by, PlanOf, Passes, answer_wild, answer_status, answer_line}
 use Rattle.alpha_cmd.specs.Commands.Record.{unwatched, HasJournal, MomentByReads, IsStopped, KeepsBehind, IsKeptRun, full_answer, IsFullRun, form, RunsOn, WhenMade, WhenOver}
 use Rattle.alpha_cmd.proofs.Endings.{IsLeft-own}

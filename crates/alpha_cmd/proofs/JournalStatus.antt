@@ -4,7 +4,7 @@ use Rattle.alpha_io.specs.Files.{HasFile}
 use Rattle.alpha_io.specs.Shelved.{Shelved}
 use Rattle.alpha_io.specs.Sunk.{Sunk}
 use Rattle.alpha_request.specs.declared.options.RunOptions.{RunOptions}
-use Rattle.alpha_request.specs.Options as choices
+use Rattle.alpha_request.specs.Origin as choices
 use Rattle.alpha_seq.specs.declared.end.End.{End}
 use Rattle.alpha_seq.specs.declared.end.End.TheVariants as ended_by
 use Rattle.alpha_imprecise.specs.Made.{LostTrap}
@@ -12,13 +12,14 @@ use Rattle.alpha_replay.specs.Journal.{Parts, spelling}
 use Rattle.alpha_cmd.specs.declared.decision.Decision.{Decision}
 use Rattle.alpha_cmd.specs.declared.status.Status.{Status}
 use Rattle.alpha_cmd.specs.declared.status.Status.TheVariants.{ShelfFault, InputFault, NoMemory, JournalFull}
-use Rattle.alpha_cmd.specs.Answer.{World, Answer}
+use Rattle.alpha_cmd.specs.Answer.{Answer}
+use Rattle.alpha_cmd.specs.AnswerBy.{World}
 use Rattle.alpha_cmd.specs.Form.{MayTakeBy, SparesBy}
 use Rattle.alpha_cmd.specs.Outcome.{stops}
 use Rattle.alpha_cmd.specs.Status.{done, refused, ended, class_of}
 use Rattle.alpha_cmd.specs.Tries.{CutBy}
 use Rattle.alpha_cmd.specs.Commands.Imprecise.{Plan, wild_status}
-use Rattle.alpha_cmd.specs.Commands.Run.{drawn_status}
+use Rattle.alpha_cmd.specs.RunAnswer.{drawn_status}
 use Rattle.alpha_cmd.specs.Commands.Record.{unwatched, Planned, IsEndStatus, kind, there, SaysAlone, RunsOn, IsOver, KeptBehind, stands, untaken, lost, spent}
 use Rattle.alpha_cmd.proofs.Commands.Imprecise.{may_lose, wild_plain}
 use Rattle.alpha_cmd.proofs.Commands.Record.{lawful}

@@ -12,7 +12,8 @@ use Rattle.alpha_cmd.specs.declared.status.Status.TheVariants.{ShelfFault}
 use Rattle.alpha_cmd.specs.Status.{status_line}
 use Rattle.alpha_cmd.specs.Outcome.{Outcome, goes, stops}
 use Rattle.alpha_cmd.specs.Kept.{Kept, nothing, file, spoilt, HasKept}
-use Rattle.alpha_cmd.specs.Answer.{World, Answer, answer_of, said}
+use Rattle.alpha_cmd.specs.Answer.{Answer}
+use Rattle.alpha_cmd.specs.AnswerBy.{World, answer_of, said}
 use Rattle.alpha_cmd.specs.Ends.{Settles}
 use Rattle.alpha_cmd.specs.Form.{Kind, SparesBy, making}
 use Rattle.alpha_cmd.specs.Keeping.{KeepsAs, TriesKeep, Untaken}

@@ -12,7 +12,8 @@ use Rattle.alpha_link.specs.Spelled.{spelling}
 use Rattle.alpha_link.proofs.Linked.{IsGood, image_known, linked_accepted}
 use Rattle.alpha_request.specs.Command.{link}
 use Rattle.alpha_cmd.specs.declared.status.Status.TheVariants.{Done}
-use Rattle.alpha_cmd.specs.Answer.{World, Answer}
+use Rattle.alpha_cmd.specs.Answer.{Answer}
+use Rattle.alpha_cmd.specs.AnswerBy.{World}
 use Rattle.alpha_cmd.specs.Asks.{Asks}
 use Rattle.alpha_cmd.specs.Commands.Link.{form, there, Spell, HasAccepted, KeepsLink}
 use Rattle.alpha_cmd.specs.Kept.{Kept, HasKept}

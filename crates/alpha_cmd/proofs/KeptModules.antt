@@ -4,7 +4,8 @@ use Rattle.alpha_io.specs.Files.{HasFile}
 use Rattle.alpha_io.specs.Shelved.{Shelved}
 use Rattle.alpha_request.specs.Command.{make_module}
 use Rattle.alpha_cmd.specs.declared.status.Status.TheVariants.{Done}
-use Rattle.alpha_cmd.specs.Answer.{World, Answer}
+use Rattle.alpha_cmd.specs.Answer.{Answer}
+use Rattle.alpha_cmd.specs.AnswerBy.{World}
 use Rattle.alpha_cmd.specs.Asks.{Asks}
 use Rattle.alpha_cmd.specs.Commands.Module.{form, there, KeepsModule}
 use Rattle.alpha_cmd.specs.Kept.{Kept, HasKept}

@@ -4,7 +4,7 @@ use Rattle.std.proofs.lemmas.List.{length-append}
 use Rattle.std.specs.List.{flat_map}
 use Rattle.alpha_image.specs.Parts.{Parts as Image}
 use Rattle.alpha_request.specs.declared.options.RunOptions.{RunOptions}
-use Rattle.alpha_request.specs.Options.{Origin}
+use Rattle.alpha_request.specs.Origin.{Origin}
 use Rattle.alpha_imprecise.specs.Made.{first_words, most_words}
 use Rattle.alpha_replay.specs.declared.item.Item.{Item}
 use Rattle.alpha_replay.specs.declared.item.Item.TheVariants.{Units, Trigger, Wait, Report}
@@ -19,12 +19,13 @@ use Rattle.alpha_replay.proofs.ItemBytes.{length-item_bytes}
 use Rattle.alpha_replay.proofs.JournaledReplays.{journaled_lists, journaled_replays}
 use Rattle.alpha_cmd.specs.declared.status.Status.TheVariants.{Done}
 use Rattle.alpha_cmd.specs.Outcome.{goes}
-use Rattle.alpha_cmd.specs.Answer.{World, Answer, AnswerBy}
+use Rattle.alpha_cmd.specs.Answer.{Answer}
+use Rattle.alpha_cmd.specs.AnswerBy.{World, AnswerBy}
 use Rattle.alpha_cmd.specs.Image.{ImageOf}
 use Rattle.alpha_cmd.specs.Commands.Imprecise.{Plan, Passes}
 use Rattle.alpha_cmd.specs.Commands.Record.{HasJournal, KeepsRun}
 use Rattle.alpha_cmd.specs.Commands.Replay as replays
-use Rattle.alpha_cmd.specs.Commands.Run.{program_by}
+use Rattle.alpha_cmd.specs.RunAnswer.{program_by}
 use Rattle.alpha_cmd.proofs.Commands.Replay.{lawful}
 use Rattle.alpha_cmd.proofs.Forms.{one_answer}
 

@@ -16,9 +16,11 @@ use Rattle.alpha_text.specs.declared.reader.LineFault.{LineFault}
 use Rattle.alpha_text.specs.Statements.{Said}
 use Rattle.alpha_text.specs.Statements as says
 use Rattle.alpha_text.specs.Reading.{LineSaid, read}
-use Rattle.alpha_image.specs.Layout.{longword, longword_at, words_of}
-use Rattle.alpha_image.specs.Parts.{IsCodeInsn, IsCodeWord, IsWithin}
-use Rattle.alpha_image.specs.Rules.{unless as field_unless, first_of}
+use Rattle.alpha_image.specs.Layout.{longword}
+use Rattle.alpha_image.specs.Reading.{longword_at, words_of}
+use Rattle.alpha_image.specs.Parts.{IsCodeWord, IsWithin}
+use Rattle.alpha_image.specs.Insns.{IsCodeInsn}
+use Rattle.alpha_image.specs.FirstOf.{unless as field_unless, first_of}
 use Rattle.alpha_image.proofs.CodeInsns.{code_words_of_insns}
 use Rattle.alpha_image.proofs.CodeWords.{words_of-flat_map, length-flat_map_longword}
 use Rattle.alpha_image.proofs.FieldRules.{option_or-none}

@@ -4,7 +4,7 @@ use Rattle.alpha_io.specs.Faults.{Rose}
 use Rattle.alpha_io.proofs.Counts.{Rose-not_calm}
 use Rattle.alpha_request.specs.Asked.{asked}
 use Rattle.alpha_request.specs.Command.{Command, check, fix, make_module, link, replay, run, imprecise}
-use Rattle.alpha_request.specs.Options.{seed}
+use Rattle.alpha_request.specs.Origin.{seed}
 use Rattle.alpha_request.specs.Plain.{IsPlain, defaults}
 use Rattle.alpha_request.proofs.AskedBy.{asked_rows}
 use Rattle.alpha_request.proofs.PlainWords.{plain_check, plain_run, plain_imprecise}
@@ -13,18 +13,20 @@ use Rattle.alpha_cmd.specs.declared.status.Status.TheVariants.{Done, SinkFault, 
 use Rattle.alpha_cmd.specs.Status.{class_of}
 use Rattle.alpha_cmd.specs.Drawn.{but_drawn}
 use Rattle.alpha_cmd.specs.Alike.{undrawn, Alike}
-use Rattle.alpha_cmd.specs.Answer.{World, Answer}
+use Rattle.alpha_cmd.specs.Answer.{Answer}
+use Rattle.alpha_cmd.specs.AnswerBy.{World, told}
 use Rattle.alpha_cmd.specs.Asks.{Asks}
 use Rattle.alpha_cmd.specs.Call.{Call, Quiet}
 use Rattle.alpha_cmd.specs.Checked.{Checked, SpellsRestartable}
-use Rattle.alpha_cmd.specs.Restarts.{Restarts, Accepts}
+use Rattle.alpha_cmd.specs.Restarts.{Restarts}
+use Rattle.alpha_cmd.specs.Accepts.{Accepts}
 use Rattle.alpha_cmd.specs.Sequential.{Sequential}
 use Rattle.alpha_cmd.specs.Commands.{EndsBy}
 use Rattle.alpha_cmd.specs.Commands.Link.{KeepsLinks}
 use Rattle.alpha_cmd.specs.Commands.Module.{KeepsModules}
 use Rattle.alpha_cmd.specs.Ends.{Ends}
 use Rattle.alpha_cmd.specs.Fixed.{Fixes}
-use Rattle.alpha_cmd.specs.Gave.{told, Gave}
+use Rattle.alpha_cmd.specs.Gave.{Gave}
 use Rattle.alpha_cmd.specs.Promises.{tried_in, EndsWhole, EndsCut, GivesOne, GivesThe, EndsAsked, LosesNone}
 use Rattle.alpha_cmd.specs.ReadsNothing.{Unread, UnreadAlike}
 use Rattle.alpha_cmd.specs.Replayed.{ShowsRuns}

@@ -19,8 +19,10 @@ use Rattle.alpha_cmd.specs.declared.status.Status.TheVariants.{InputFault}
 use Rattle.alpha_cmd.specs.Status.{status_line}
 use Rattle.alpha_cmd.specs.Outcome.{goes}
 use Rattle.alpha_cmd.specs.Image.{ImageOf}
-use Rattle.alpha_cmd.specs.Commands.Run.{run_status, run_line, program_by, run_by_reads, MayShow, answer_shown, form}
-use Rattle.alpha_cmd.specs.Answer.{World, Answer, said}
+use Rattle.alpha_cmd.specs.Commands.Run.{run_by_reads, MayShow, form}
+use Rattle.alpha_cmd.specs.RunAnswer.{run_status, run_line, program_by, answer_shown}
+use Rattle.alpha_cmd.specs.Answer.{Answer}
+use Rattle.alpha_cmd.specs.AnswerBy.{World, said}
 use Rattle.alpha_cmd.specs.Kept.{nothing}
 use Rattle.alpha_cmd.specs.Ends.{EndsPart, Leaves}
 use Rattle.alpha_cmd.specs.Tries.{TriesBy}

@@ -5,7 +5,7 @@ use Rattle.alpha_io.specs.Shelved.{Shelved}
 use Rattle.alpha_io.specs.Sunk.{Sunk}
 use Rattle.alpha_image.specs.Parts.{Parts}
 use Rattle.alpha_request.specs.Command.{run, imprecise}
-use Rattle.alpha_request.specs.Options.{Origin}
+use Rattle.alpha_request.specs.Origin.{Origin}
 use Rattle.alpha_request.specs.declared.options.RunOptions.{RunOptions}
 use Rattle.alpha_seq.specs.State.{Program, State, Event, Went, Barriered, Overflowed, Ends, Stepped, stepped}
 use Rattle.alpha_seq.specs.Start.{start}
@@ -22,10 +22,12 @@ use Rattle.alpha_cmd.specs.Image.{ImageOf}
 use Rattle.alpha_cmd.specs.Asks.{Asks}
 use Rattle.alpha_cmd.specs.Drawn.{but_drawn}
 use Rattle.alpha_cmd.specs.Alike.{undrawn, HasWords, IsChecked}
-use Rattle.alpha_cmd.specs.Answer.{World, Answer, AnswerBy, answer_of, IsAnswered}
+use Rattle.alpha_cmd.specs.Answer.{Answer, IsAnswered}
+use Rattle.alpha_cmd.specs.AnswerBy.{World, AnswerBy, answer_of}
 use Rattle.alpha_cmd.specs.Commands.Imprecise as wilds
 use Rattle.alpha_cmd.specs.Commands.Run as runs
-use Rattle.alpha_cmd.specs.Commands.Run.{program_by, MayShow, answer_shown, Runs}
+use Rattle.alpha_cmd.specs.Commands.Run.{MayShow, Runs}
+use Rattle.alpha_cmd.specs.RunAnswer.{program_by, answer_shown}
 use Rattle.alpha_cmd.specs.Tried.{IsGiven}
 use Rattle.alpha_cmd.specs.ReadsNothing.{ReadsNothing, answer_unread}
 use Rattle.alpha_cmd.proofs.Lawful.{Then-found}

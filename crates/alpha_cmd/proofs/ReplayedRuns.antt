@@ -7,7 +7,8 @@ use Rattle.alpha_replay.proofs.Listing.{replayed_is, restarted_is}
 use Rattle.alpha_cmd.specs.declared.status.Status.TheVariants.{Done}
 use Rattle.alpha_cmd.specs.Status.{class_of}
 use Rattle.alpha_cmd.specs.Asks.{Asks}
-use Rattle.alpha_cmd.specs.Answer.{World, Answer}
+use Rattle.alpha_cmd.specs.Answer.{Answer}
+use Rattle.alpha_cmd.specs.AnswerBy.{World}
 use Rattle.alpha_cmd.specs.Commands.Replay.{form, there}
 use Rattle.alpha_cmd.specs.Replayed.{ShowsRun}
 use Rattle.alpha_cmd.specs.Tried.{TriedBy}

@@ -4,12 +4,14 @@ use Rattle.std.proofs.lemmas.Bool.{cases_lt}
 use Rattle.alpha_io.specs.Files.{Files, HasFile, KeepsFiles, IfTold, Refuses}
 use Rattle.alpha_io.proofs.Shelved.{Lacks-not_told}
 use Rattle.alpha_image.specs.declared.fault.ImageFault.{ImageFault}
-use Rattle.alpha_image.specs.Parts.{Parts, IsByte, IsImage, parts_of, spelling}
+use Rattle.alpha_image.specs.Parts.{Parts, IsByte, IsImage, spelling}
+use Rattle.alpha_image.specs.PartsOf.{parts_of}
 use Rattle.alpha_image.specs.ImageFault.{first_fault}
 use Rattle.alpha_image.proofs.Form.{IsBytes-All, no_fault}
 use Rattle.alpha_image.proofs.Spelled.{one_image, first_fault-spelling}
 use Rattle.alpha_shadow.specs.declared.broken.Broken.{Broken}
-use Rattle.alpha_shadow.specs.Broken.{IsAccepted, IsLeastBroken, NoLater}
+use Rattle.alpha_shadow.specs.Broken.{IsAccepted}
+use Rattle.alpha_shadow.specs.Least.{IsLeastBroken, NoLater}
 use Rattle.alpha_shadow.specs.Report.{broken_line}
 use Rattle.alpha_shadow.proofs.Conditions.{condition_number-injective}
 use Rattle.alpha_shadow.proofs.Decided.{verdict}
@@ -18,7 +20,7 @@ use Rattle.alpha_cmd.specs.declared.status.Status.TheVariants.{NotRestartable, B
 use Rattle.alpha_cmd.specs.Status.{class_of, status_line, Says}
 use Rattle.alpha_cmd.specs.Outcome.{goes, stops}
 use Rattle.alpha_cmd.specs.Image.{Unread, Reads, NoImage, Spells, ImageOf, IsRefused, Judges, image_limit}
-use Rattle.alpha_cmd.specs.Answer.{World, HaveBytes, kept_as}
+use Rattle.alpha_cmd.specs.AnswerBy.{World, HaveBytes, kept_as}
 use Rattle.alpha_cmd.specs.Keeping.{Untaken, KeepsAs}
 use Rattle.alpha_cmd.proofs.Lawful.{Lawful, HasOutcome, IsSingle, IsRefusal, Either-single, Says-one, Then-lawful}
 

@@ -8,7 +8,7 @@ use Rattle.alpha_trial.specs.Report.{trial_text}
 use Rattle.alpha_cmd.specs.declared.status.Status.TheVariants.{Done, NoMemory}
 use Rattle.alpha_cmd.specs.Status.{status_line}
 use Rattle.alpha_cmd.specs.Outcome.{goes}
-use Rattle.alpha_cmd.specs.Answer.{World, done_with, said}
+use Rattle.alpha_cmd.specs.AnswerBy.{World, done_with, said}
 use Rattle.alpha_cmd.specs.Ends.{EndsPart, Leaves, still}
 use Rattle.alpha_cmd.specs.Commands.Trial.{form}
 use Rattle.alpha_cmd.specs.Tries.{TriesBy}

@@ -16,7 +16,8 @@ use Rattle.alpha_cmd.specs.Status.{status_line}
 use Rattle.alpha_cmd.specs.Outcome.{goes}
 use Rattle.alpha_cmd.specs.Image.{ImageOf}
 use Rattle.alpha_cmd.specs.Commands.Debug.{MayTell, session_status, LeavesTail, script_most, answer_told, form}
-use Rattle.alpha_cmd.specs.Answer.{World, Answer, said}
+use Rattle.alpha_cmd.specs.Answer.{Answer}
+use Rattle.alpha_cmd.specs.AnswerBy.{World, said}
 use Rattle.alpha_cmd.specs.Kept.{nothing}
 use Rattle.alpha_cmd.specs.Ends.{EndsPart, Leaves, still}
 use Rattle.alpha_cmd.specs.Tries.{TriesBy}

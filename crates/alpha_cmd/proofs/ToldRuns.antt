@@ -5,7 +5,7 @@ use Rattle.alpha_io.specs.Files.{Files, HasFile}
 use Rattle.alpha_image.specs.Parts.{Parts, IsImage, spelling}
 use Rattle.alpha_shadow.specs.Broken.{IsAccepted}
 use Rattle.alpha_request.specs.Command.{Command, run, imprecise}
-use Rattle.alpha_request.specs.Options.{Origin, seed, file}
+use Rattle.alpha_request.specs.Origin.{Origin, seed, file}
 use Rattle.alpha_request.specs.declared.options.RunOptions.{RunOptions}
 use Rattle.alpha_seq.specs.declared.end.End.{End}
 use Rattle.alpha_seq.specs.declared.end.End.TheVariants as ends
@@ -16,9 +16,11 @@ use Rattle.alpha_cmd.specs.Outcome.{goes}
 use Rattle.alpha_cmd.specs.Image.{ImageOf}
 use Rattle.alpha_cmd.specs.Choosing.{listed_word}
 use Rattle.alpha_cmd.specs.Asks.{Asks}
-use Rattle.alpha_cmd.specs.Answer.{World, Answer, AnswerBy}
+use Rattle.alpha_cmd.specs.Answer.{Answer}
+use Rattle.alpha_cmd.specs.AnswerBy.{World, AnswerBy}
 use Rattle.alpha_cmd.specs.Commands.Run as runs
-use Rattle.alpha_cmd.specs.Commands.Run.{program_by, run_status, MayShow, answer_shown}
+use Rattle.alpha_cmd.specs.Commands.Run.{MayShow}
+use Rattle.alpha_cmd.specs.RunAnswer.{program_by, run_status, answer_shown}
 use Rattle.alpha_cmd.specs.Drawn.{but_drawn}
 use Rattle.alpha_cmd.specs.Alike.{undrawn, IsChecked, HasWords}
 use Rattle.alpha_cmd.specs.Tried.{IsAnswer}

@@ -3,7 +3,7 @@ use Rattle.std.proofs.Common.{◌≡◌, ◌≢◌, ◌⊎◌, ◌∙◌, ℕ, B
 use Rattle.alpha_io.specs.Faults.{Rose, Calm}
 use Rattle.alpha_trap.specs.declared.handler.Lost.{Lost}
 use Rattle.alpha_request.specs.Command.{Command, check, dis, asm, fix, make_module, link, replay, record_run, run, imprecise, debug, trial}
-use Rattle.alpha_request.specs.Options.{Origin}
+use Rattle.alpha_request.specs.Origin.{Origin}
 use Rattle.alpha_request.specs.declared.options.RunOptions.{RunOptions}
 use Rattle.alpha_request.specs.Asked.{asked}
 use Rattle.alpha_cmd.specs.declared.status.Status.{Status}
@@ -11,7 +11,8 @@ use Rattle.alpha_cmd.specs.declared.status.Status.TheVariants.{Done, BadWords, S
 use Rattle.alpha_cmd.specs.declared.status.Status.TheVariants as statuses
 use Rattle.alpha_cmd.specs.Status.{refused, ended, failed, class_of, status_line}
 use Rattle.alpha_cmd.specs.Asks.{Asks}
-use Rattle.alpha_cmd.specs.Answer.{World, Answer, HaveBytes, said}
+use Rattle.alpha_cmd.specs.Answer.{Answer}
+use Rattle.alpha_cmd.specs.AnswerBy.{World, HaveBytes, said}
 use Rattle.alpha_cmd.specs.Form.{Form, Needs, needs_nothing, needs_files, needs_files_and_input, IsToldFor}
 use Rattle.alpha_cmd.specs.Tries.{CutBy, FailsBy, TriesBy}
 use Rattle.alpha_cmd.specs.Commands.{form_of, there_of, AnswerOf, EndsBy}

@@ -6,7 +6,8 @@ use Rattle.alpha_cmd.specs.declared.status.Status.{Status}
 use Rattle.alpha_cmd.specs.declared.status.Status.TheVariants.{ShelfFault, InputFault, SinkFault, NoMemory}
 use Rattle.alpha_cmd.specs.Status.{status_line}
 use Rattle.alpha_cmd.specs.Outcome.{stops}
-use Rattle.alpha_cmd.specs.Answer.{World, Answer, said}
+use Rattle.alpha_cmd.specs.Answer.{Answer}
+use Rattle.alpha_cmd.specs.AnswerBy.{World, said}
 use Rattle.alpha_cmd.specs.Decision.{answer_in, SaysBy}
 use Rattle.alpha_cmd.specs.Form.{Form, Kind, MayTakeBy, SparesBy}
 use Rattle.alpha_cmd.specs.Tries.{CutBy, IsCutBy, FailsBy, TriesBy}

@@ -4,11 +4,13 @@ use Rattle.alpha_image.specs.Parts.{Parts}
 use Rattle.alpha_request.specs.declared.options.RunOptions.{RunOptions}
 use Rattle.alpha_seq.specs.Start.{start}
 use Rattle.alpha_seq.specs.Run.{shown}
-use Rattle.alpha_imprecise.specs.Run.{WildRun, HasUsed, started_wild}
+use Rattle.alpha_imprecise.specs.Run.{WildRun, started_wild}
+use Rattle.alpha_imprecise.specs.Used.{HasUsed}
 use Rattle.alpha_imprecise.specs.Made.{Making, begun, first_words}
 use Rattle.alpha_imprecise.specs.Free.{run_free, SameFree, FreeAlike}
 use Rattle.alpha_imprecise.proofs.Freely.{all_free}
-use Rattle.alpha_cmd.specs.Commands.Run.{program_by, run_by_reads, MayShow}
+use Rattle.alpha_cmd.specs.Commands.Run.{run_by_reads, MayShow}
+use Rattle.alpha_cmd.specs.RunAnswer.{program_by}
 use Rattle.alpha_cmd.specs.Commands.Imprecise.{Plan, MadeByReads}
 
 -- a run by coming words on accepted code is one of the sequential machine over some inputs

@@ -1,17 +1,18 @@
 -- What it means that a run of the imprecise machine has the answer of the sequential run.
 use Rattle.std.specs.Prelude.{◌≡◌, ℕ, Bool, List, IsSome}
 use Rattle.alpha_io.specs.Files.{Files}
-use Rattle.alpha_request.specs.Options.{Origin}
+use Rattle.alpha_request.specs.Origin.{Origin}
 use Rattle.alpha_request.specs.declared.options.RunOptions.{RunOptions}
 use Rattle.alpha_request.specs.Commands.Run as run_words
 use Rattle.alpha_cmd.specs.declared.status.Status.{Status}
 use Rattle.alpha_cmd.specs.declared.status.Status.TheVariants.{Done}
 use Rattle.alpha_cmd.specs.Outcome.{goes}
 use Rattle.alpha_cmd.specs.Choosing.{ChoicesOf}
-use Rattle.alpha_cmd.specs.Answer.{World, Answer, AnswerBy}
+use Rattle.alpha_cmd.specs.Answer.{Answer}
+use Rattle.alpha_cmd.specs.AnswerBy.{World, AnswerBy, told}
 use Rattle.alpha_cmd.specs.Call.{Call, Quiet}
 use Rattle.alpha_cmd.specs.Drawn.{but_drawn}
-use Rattle.alpha_cmd.specs.Gave.{told, Gave}
+use Rattle.alpha_cmd.specs.Gave.{Gave}
 use Rattle.alpha_cmd.specs.Commands.Check as checks
 use Rattle.alpha_cmd.specs.Commands.Run as runs
 

@@ -2,7 +2,8 @@
 use Rattle.alpha_request.specs.Command.{Command, check, dis, asm, fix, make_module, link, replay, record_run, run, imprecise, debug, trial}
 use Rattle.alpha_io.specs.Files.{Files}
 use Rattle.alpha_cmd.specs.declared.status.Status.{Status}
-use Rattle.alpha_cmd.specs.Answer.{World, Answer, AnswerBy}
+use Rattle.alpha_cmd.specs.Answer.{Answer}
+use Rattle.alpha_cmd.specs.AnswerBy.{World, AnswerBy}
 use Rattle.alpha_cmd.specs.Form.{Form, Kind, IsToldFor, MayTakeBy, SparesBy}
 use Rattle.alpha_cmd.specs.Commands.Asm as assemblies
 use Rattle.alpha_cmd.specs.Commands.Check as checks

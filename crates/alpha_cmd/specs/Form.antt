@@ -5,7 +5,8 @@ use Rattle.alpha_io.specs.Files.{Files, IfTold, KeepsFiles, KeepsOtherFiles}
 use Rattle.alpha_cmd.specs.declared.status.Status.{Status}
 use Rattle.alpha_cmd.specs.declared.status.Status.TheVariants.{Done, ShelfFault, InputFault, SinkFault, NoMemory}
 use Rattle.alpha_cmd.specs.Outcome.{Outcome, goes, Then}
-use Rattle.alpha_cmd.specs.Answer.{World, Answer}
+use Rattle.alpha_cmd.specs.Answer.{Answer}
+use Rattle.alpha_cmd.specs.AnswerBy.{World}
 use Rattle.alpha_cmd.specs.Keeping.{KeepsAs}
 
 -- ---- what a command needs to be told, so that it has one answer

@@ -5,7 +5,8 @@ use Rattle.alpha_cmd.specs.declared.status.Status.TheVariants.{ShelfFault}
 use Rattle.alpha_cmd.specs.Outcome.{Outcome, Either}
 use Rattle.alpha_cmd.specs.Status.{Says, status_line}
 use Rattle.alpha_cmd.specs.Kept.{spoilt}
-use Rattle.alpha_cmd.specs.Answer.{World, Answer, answer_of, kept_as, said}
+use Rattle.alpha_cmd.specs.Answer.{Answer}
+use Rattle.alpha_cmd.specs.AnswerBy.{World, answer_of, kept_as, said}
 
 -- these bytes aren't taken under this name
 abbrev pub Untaken : World → List ℕ → List ℕ → Type 0

@@ -1,10 +1,13 @@
+pub mod Accepts
 pub mod Alike
 pub mod Answer
+pub mod AnswerBy
 pub mod Asks
 pub mod Call
 pub mod Called
 pub mod Checked
 pub mod Chooser
+pub mod ChoicesLimit
 pub mod Choosing
 pub mod Commands
 pub mod Decision
@@ -21,7 +24,9 @@ pub mod Promises
 pub mod ReadsNothing
 pub mod Replayed
 pub mod Restarts
+pub mod RunAnswer
 pub mod Sequential
+pub mod SpentLine
 pub mod Status
 pub mod Sure
 pub mod ToldRun

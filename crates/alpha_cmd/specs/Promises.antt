@@ -5,7 +5,7 @@ use Rattle.alpha_io.specs.Files.{Files, KeepsFiles}
 use Rattle.alpha_io.specs.Shelved.{Shelved}
 use Rattle.alpha_request.specs.Command.{Command, debug}
 use Rattle.alpha_request.specs.Commands.Run as run_words
-use Rattle.alpha_request.specs.Options.{Origin}
+use Rattle.alpha_request.specs.Origin.{Origin}
 use Rattle.alpha_request.specs.declared.options.RunOptions.{RunOptions}
 use Rattle.alpha_seq.specs.Devices.{Drawn}
 use Rattle.alpha_trap.specs.declared.handler.Lost.{Lost}
@@ -19,7 +19,8 @@ use Rattle.alpha_cmd.specs.Call.{Call, Quiet}
 use Rattle.alpha_cmd.specs.Commands.{EndsBy, MayTake, Spares}
 use Rattle.alpha_cmd.specs.Commands.Debug.{LeavesTail, script_most}
 use Rattle.alpha_cmd.specs.Ends.{Ends, EndsPart}
-use Rattle.alpha_cmd.specs.Gave.{told, Gave}
+use Rattle.alpha_cmd.specs.Gave.{Gave}
+use Rattle.alpha_cmd.specs.AnswerBy.{told}
 use Rattle.alpha_cmd.specs.Kept.{Serves}
 use Rattle.alpha_cmd.specs.Tried.{AreTold, IsAnswer, IsGiven, TriedBy}
 use Rattle.alpha_cmd.specs.Tries.{CountStays}

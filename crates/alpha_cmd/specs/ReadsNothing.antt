@@ -1,7 +1,7 @@
 -- Programs that read nothing, and the one answer of their runs.
 use Rattle.std.specs.Prelude.{ℕ, Bool, List, [], Option, None, IsSome}
 use Rattle.alpha_image.specs.Parts.{Parts}
-use Rattle.alpha_request.specs.Options.{Origin}
+use Rattle.alpha_request.specs.Origin.{Origin}
 use Rattle.alpha_request.specs.declared.options.RunOptions.{RunOptions}
 use Rattle.alpha_request.specs.Commands.Run as run_words
 use Rattle.alpha_seq.specs.Start.{start}
@@ -12,10 +12,11 @@ use Rattle.alpha_cmd.specs.Alike.{HasWords, IsChecked}
 use Rattle.alpha_cmd.specs.Answer.{Answer}
 use Rattle.alpha_cmd.specs.Call.{Call, Quiet}
 use Rattle.alpha_cmd.specs.Drawn.{but_drawn}
-use Rattle.alpha_cmd.specs.Gave.{told, Gave}
+use Rattle.alpha_cmd.specs.Gave.{Gave}
+use Rattle.alpha_cmd.specs.AnswerBy.{told}
 use Rattle.alpha_cmd.specs.Image.{ImageOf}
 use Rattle.alpha_cmd.specs.Outcome.{goes}
-use Rattle.alpha_cmd.specs.Commands.Run.{program_by, answer_shown}
+use Rattle.alpha_cmd.specs.RunAnswer.{program_by, answer_shown}
 
 -- None of the steps that are asked for looks at the input: none is a system call that asks for a good read. The run over no
 -- input tells that of every run, since up to the first such call they are the same.

@@ -1,20 +1,11 @@
 -- What a call of `check FILE` shows, by whatever words.
-use Rattle.std.specs.Prelude.{◌≡◌, ◌⊎◌, ℕ, List, IsSome}
-use Rattle.alpha_io.specs.Files.{Files, HasFile}
-use Rattle.alpha_image.specs.Parts.{Parts, IsImage, spelling}
-use Rattle.alpha_shadow.specs.Broken.{IsAccepted}
+use Rattle.std.specs.Prelude.{◌≡◌, ℕ, List}
+use Rattle.alpha_io.specs.Files.{Files}
 use Rattle.alpha_request.specs.Commands.Check as check_words
 use Rattle.alpha_cmd.specs.declared.status.Status.{Status}
-use Rattle.alpha_cmd.specs.declared.status.Status.TheVariants.{Done, NoMemory}
-use Rattle.alpha_cmd.specs.Call.{Call, Quiet}
+use Rattle.alpha_cmd.specs.declared.status.Status.TheVariants.{Done}
 use Rattle.alpha_cmd.specs.Checked.{SpellsRestartable}
 
 -- where it is done, its file spells an image that can be restarted
 abbrev pub Restarts : List (List ℕ) → Status → Files → Type 0
 Restarts words status files = (file : List ℕ) → check_words.Asks words file → status ≡ Done 0 → SpellsRestartable files file
-
--- where the shelf tells that the file spells an accepted image and no device fails, it is done, or memory ran out
-abbrev pub Accepts : List (List ℕ) → Status → Call → Type 0
-Accepts words status c = (image : Parts) (file : List ℕ) → check_words.Asks words file
-    → IsImage image → IsAccepted image.words → IsSome c.shelf.old → HasFile c.shelf.old file (spelling image)
-    → Quiet c → (status ≡ Done 0) ⊎ (status ≡ NoMemory)

@@ -16,9 +16,10 @@ use Rattle.alpha_replay.specs.declared.replay_fault.ReplayFault.{ReplayFault}
 use Rattle.alpha_replay.specs.declared.replay_fault.ReplayFault.TheVariants as replays
 use Rattle.alpha_io.specs.Line.{hex_digits}
 use Rattle.alpha_shadow.specs.declared.broken.Broken.{Broken}
-use Rattle.alpha_shadow.specs.Broken.{condition_number}
+use Rattle.alpha_shadow.specs.Least.{condition_number}
 use Rattle.alpha_shadow.specs.Report.{place_address}
 use Rattle.alpha_seq.specs.Notes.{end_line}
+use Rattle.alpha_cmd.specs.SpentLine.{spent_line}
 use Rattle.alpha_cmd.specs.declared.status.Status.{Status}
 use Rattle.alpha_cmd.specs.declared.status.Status.TheVariants.{Done, NotRestartable, BadWords, BadSource, BadImage, Stopped, StepsSpent, Lost, ShelfFault, InputFault, SinkFault, TooLarge, NoMemory, Unfixable, FixedLine, Far, BadModule, BadLink, BadJournal, NotARun, JournalFull}
 
@@ -135,10 +136,6 @@ pub record Row : Type 0 where
 
 abbrev pub row : ℕ → List ℕ → Class → Row
 row number line class = record { number = number; line = line; class = class }
-
--- that of a run whose steps are all made
-abbrev pub spent_line : List ℕ
-spent_line = codes "steps" ++ 10 ∷ []
 
 -- the line of a broken place needs the image's code base, and a failed sink gets none
 abbrev pub row_of : Status → Row

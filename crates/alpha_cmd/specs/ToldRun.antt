@@ -9,7 +9,7 @@ use Rattle.alpha_seq.specs.Run.{sequential}
 use Rattle.alpha_cmd.specs.declared.status.Status.{Status}
 use Rattle.alpha_cmd.specs.Answer.{Answer}
 use Rattle.alpha_cmd.specs.Call.{Call, Quiet}
-use Rattle.alpha_cmd.specs.Commands.Run.{program_by, answer_shown}
+use Rattle.alpha_cmd.specs.RunAnswer.{program_by, answer_shown}
 use Rattle.alpha_cmd.specs.Drawn.{but_drawn}
 use Rattle.alpha_cmd.specs.Gave.{Gave}
 

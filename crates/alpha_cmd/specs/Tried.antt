@@ -7,7 +7,8 @@ use Rattle.alpha_cmd.specs.declared.status.Status.{Status}
 use Rattle.alpha_cmd.specs.declared.status.Status.TheVariants.{BadWords, NoMemory}
 use Rattle.alpha_cmd.specs.Status.{status_line}
 use Rattle.alpha_cmd.specs.Asks.{Asks, AsksNothing}
-use Rattle.alpha_cmd.specs.Answer.{World, Answer, said, IsAnswered}
+use Rattle.alpha_cmd.specs.Answer.{Answer, IsAnswered}
+use Rattle.alpha_cmd.specs.AnswerBy.{World, said}
 use Rattle.alpha_cmd.specs.Tries.{FailsBy}
 use Rattle.alpha_cmd.specs.Commands.{form_of, AnswerOf, IsTold}
 

@@ -5,7 +5,8 @@ use Rattle.alpha_cmd.specs.declared.status.Status.{Status}
 use Rattle.alpha_cmd.specs.declared.status.Status.TheVariants.{ShelfFault, InputFault, NoMemory}
 use Rattle.alpha_cmd.specs.Status.{status_line}
 use Rattle.alpha_cmd.specs.Kept.{Kept, nothing, spoilt}
-use Rattle.alpha_cmd.specs.Answer.{World, Answer, AnswerBy, said}
+use Rattle.alpha_cmd.specs.Answer.{Answer}
+use Rattle.alpha_cmd.specs.AnswerBy.{World, AnswerBy, said}
 use Rattle.alpha_cmd.specs.Form.{Form, Kind}
 
 -- the statuses that cut a command short, each with its cause; the first fact is that the shelf failed

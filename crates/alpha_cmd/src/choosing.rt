@@ -3,7 +3,7 @@
 ghost use Rattle.std.specs.Prelude.{◌≢◌, ◌⊎◌, IfOk, IfErr, Some, None, Err};
 ghost use Rattle.alpha_io.specs.Faults.{Rose};
 ghost use Rattle.alpha_io.specs.Shelved.{shelved, OnlyReads};
-ghost use Rattle.alpha_request.specs.Options as choices;
+ghost use Rattle.alpha_request.specs.Origin as choices;
 ghost use Rattle.alpha_request.specs.Options.{origin_of};
 ghost use Rattle.alpha_cmd.specs.Outcome.{goes, stops};
 ghost use Rattle.alpha_cmd.specs.Status.{status_line};

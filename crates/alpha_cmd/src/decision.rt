@@ -3,10 +3,10 @@ ghost use Rattle.alpha_io.specs.Sunk.{sunk, Puts, Partly, HasFailed};
 ghost use Rattle.alpha_shadow.specs.Report.{broken_line};
 ghost use Rattle.alpha_seq.specs.Notes.{end_line};
 ghost use Rattle.alpha_cmd.specs.Status.{status_line, unfixable_line};
-ghost use Rattle.alpha_cmd.specs.Answer.{said};
+ghost use Rattle.alpha_cmd.specs.AnswerBy.{said};
 ghost use Rattle.alpha_cmd.specs.Commands.Check.{accepted};
 ghost use Rattle.alpha_cmd.specs.Commands.Replay.{shown};
-ghost use Rattle.alpha_cmd.specs.Commands.Run.{drawn_status, end_status};
+ghost use Rattle.alpha_cmd.specs.RunAnswer.{drawn_status, end_status};
 ghost use Rattle.alpha_cmd.specs.Decision.{answer_in};
 
 use crate::Status;

@@ -4,7 +4,7 @@ ghost use Rattle.std.specs.Prelude.{◌≡◌, ◌⊎◌, [], IfOk, OnOk, map, s
 ghost use Rattle.alpha_io.specs.Shelved.{shelved};
 ghost use Rattle.alpha_seq.specs.Devices.{drawn};
 ghost use Rattle.alpha_cmd.specs.Alike.{Alike};
-ghost use Rattle.alpha_cmd.specs.Answer.{world};
+ghost use Rattle.alpha_cmd.specs.AnswerBy.{world};
 ghost use Rattle.alpha_cmd.specs.Asks.{Asks};
 ghost use Rattle.alpha_cmd.specs.Call.{called};
 ghost use Rattle.alpha_cmd.specs.Called.{words_in};
@@ -16,7 +16,8 @@ ghost use Rattle.alpha_cmd.specs.Fixed.{Fixes};
 ghost use Rattle.alpha_cmd.specs.Promises.{EndsWhole, EndsCut, GivesOne, GivesThe, ServesUnder, SparesFiles, TakesInput, DrawsUnder, LeavesScript, EndsAsked, LosesNone};
 ghost use Rattle.alpha_cmd.specs.ReadsNothing.{Unread, UnreadAlike};
 ghost use Rattle.alpha_cmd.specs.Replayed.{ShowsRuns};
-ghost use Rattle.alpha_cmd.specs.Restarts.{Restarts, Accepts};
+ghost use Rattle.alpha_cmd.specs.Restarts.{Restarts};
+ghost use Rattle.alpha_cmd.specs.Accepts.{Accepts};
 ghost use Rattle.alpha_cmd.specs.Sequential.{Sequential};
 ghost use Rattle.alpha_cmd.specs.ToldRun.{Ran};
 

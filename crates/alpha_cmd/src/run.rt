@@ -10,7 +10,7 @@ ghost use Rattle.alpha_seq.specs.Machine.{program_of, state_of};
 ghost use Rattle.alpha_seq.specs.Start.{start};
 ghost use Rattle.alpha_cmd.specs.Outcome.{goes};
 ghost use Rattle.alpha_cmd.specs.Image.{ImageOf};
-ghost use Rattle.alpha_cmd.specs.Answer.{world};
+ghost use Rattle.alpha_cmd.specs.AnswerBy.{world};
 ghost use Rattle.alpha_cmd.specs.Commands.Run as runs;
 ghost use Rattle.alpha_cmd.specs.Ends.{Decides, status_in};
 ghost use Rattle.alpha_cmd.specs.Form.{MayTakeBy};

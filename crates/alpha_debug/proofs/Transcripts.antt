@@ -3,7 +3,8 @@ use Rattle.std.proofs.Common.{◌≡◌, ◌∙◌, ℕ, List, Option, Some, Non
 use Rattle.alpha_words.specs.declared.Completion.TheVariants.{Wrap}
 use Rattle.alpha_image.specs.Parts.{Parts}
 use Rattle.alpha_shadow.specs.declared.broken.Broken.{Broken}
-use Rattle.alpha_shadow.specs.Broken.{IsAccepted, IsLeastBroken}
+use Rattle.alpha_shadow.specs.Broken.{IsAccepted}
+use Rattle.alpha_shadow.specs.Least.{IsLeastBroken}
 use Rattle.alpha_shadow.proofs.Decided.{verdict}
 use Rattle.alpha_seq.specs.State.{Program}
 use Rattle.alpha_debug.specs.Session.{Setting, IsVerdict}

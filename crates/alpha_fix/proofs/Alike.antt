@@ -7,7 +7,7 @@ use Rattle.alpha_table.specs.Uses.{sets, uses, access}
 use Rattle.alpha_shadow.specs.declared.broken.Condition.{Condition}
 use Rattle.alpha_shadow.specs.declared.broken.Condition.TheVariants.{ZeroDestination, SourceLost, SameDestination, WildBase, LoadThenStore, Locked, Turn, Open, Long}
 use Rattle.alpha_shadow.specs.Code.{kind_at, destination_at, access_at, sets_at, SetIn, ExposedIn}
-use Rattle.alpha_shadow.specs.Broken.{LoadMeets, Holds, IsBroken}
+use Rattle.alpha_shadow.specs.Broken.{Holds, IsBroken}
 
 -- two words have the same columns
 pub record LooksAlike (code : List ℕ) (at : ℕ) (other : List ℕ) (there : ℕ) : Type 0 where
@@ -64,32 +64,12 @@ module _ (code : List ℕ) (p at : ℕ) (other : List ℕ) (q there : ℕ) (s : 
         unset = λ t. h.unset (set_back p h.place q j r (omega arith) (omega arith) (omega arith) g t);
       }
 
-  load_along : (store : _) → LoadMeets code (p + 1) at store → LoadMeets other (q + 1) there store
-  load_along store h =
-      let j : ℕ = h.place + q - p in
-      let e : there + p ≡ at + q = s.shift in
-      let g : j + p ≡ h.place + q = omega arith in
-      let w = s.alike h.place j (omega arith) (omega arith) g in
-      record {
-        place = j;
-        above = omega arith;
-        below = omega arith;
-        load = sym w.same_kind ∙ h.load;
-        access = h.access;
-        accesses = sym w.same_access ∙ h.accesses;
-        meets = h.meets;
-      }
-
   holds_along : p ≤ at → (c : Condition) → Holds code p at c → Holds other q there c
   holds_along o ZeroDestination h =
       let e : there + p ≡ at + q = s.shift in let same : at ≡ p = h.0 in
       (omega arith, sym (s.alike p q (omega arith) (omega arith) (omega arith)).same_destination ∙ h.1)
   holds_along o SourceLost h =
-      record {
-        register = h.register;
-        sets = sym (s.alike at there (omega arith) (omega arith) s.shift).same_set ∙ h.sets;
-        source = exposed_along h.register h.source;
-      }
+      (h.0, sym (s.alike at there (omega arith) (omega arith) s.shift).same_set ∙ h.1, exposed_along h.0 h.2)
   holds_along o SameDestination h =
       let w = s.alike at there (omega arith) (omega arith) s.shift in
       let v = s.alike p q (omega arith) (omega arith) (omega arith) in
@@ -97,17 +77,23 @@ module _ (code : List ℕ) (p at : ℕ) (other : List ℕ) (q there : ℕ) (s : 
       (omega arith, sym w.same_kind ∙ h.1, sym w.same_destination ∙ (h.2 ∙ v.same_destination))
   holds_along o WildBase h =
       let w = s.alike at there (omega arith) (omega arith) s.shift in
-      let e : there + p ≡ at + q = s.shift in let l : p < at = h.0 in (
-        omega arith,
-        record {
-          access = h.1.access;
-          accesses = sym w.same_access ∙ h.1.accesses;
-          base = set_along p at q there h.1.access.base (omega arith) (omega arith) (omega arith) e h.1.base;
-        },
-      )
+      let e : there + p ≡ at + q = s.shift in let l : p < at = h.0 in
+      let set = set_along p at q there h.1.0.base (omega arith) (omega arith) (omega arith) e h.1.2 in
+      (omega arith, (h.1.0, sym w.same_access ∙ h.1.1, set))
   holds_along o LoadThenStore h =
       let w = s.alike at there (omega arith) (omega arith) s.shift in
-      record { store = sym w.same_kind ∙ h.store; access = h.access; accesses = sym w.same_access ∙ h.accesses; load = load_along h.access h.load }
+      let e : there + p ≡ at + q = s.shift in
+      let above = h.1 in
+      let below = h.2 in
+      let j : ℕ = h.0 + q - p in
+      let g : j + p ≡ h.0 + q = omega arith in
+      let v = s.alike h.0 j (omega arith) (omega arith) g in
+      let m = h.3.1.1 in (
+        j,
+        omega arith,
+        omega arith,
+        (h.3.0, (h.3.1.0, (sym v.same_kind ∙ m.0, sym v.same_access ∙ m.1, sym w.same_kind ∙ m.2, sym w.same_access ∙ m.3, m.4))),
+      )
   holds_along o Locked h = sym (s.alike at there (omega arith) (omega arith) s.shift).same_kind ∙ h
   holds_along o Turn h = sym (s.alike at there (omega arith) (omega arith) s.shift).same_kind ∙ h
   holds_along o Open h = s.ends h

@@ -114,10 +114,10 @@ trapb_kind code at is = rw is refl
 -- a barrier breaks nothing by itself
 barrier_sound : (code : List ℕ) (t at : ℕ) (c : Condition) → kind_at code at ≡ Some kinds.Barrier → IsBroken code t at c → ⊥
 barrier_sound code t at ZeroDestination k b = let e : at ≡ t = b.holds.0 in let f = ap (kind_at code) e in let g = b.trigger_kind in cc
-barrier_sound code t at SourceLost k b = let n = no_set code at k in let h = b.holds.sets in cc
+barrier_sound code t at SourceLost k b = let n = no_set code at k in let h = b.holds.1 in cc
 barrier_sound code t at SameDestination k b = let h = b.holds.1 in cc
-barrier_sound code t at WildBase k b = let n = no_access code at kinds.Barrier k (inr (inr (inr refl))) in let h = b.holds.1.accesses in cc
-barrier_sound code t at LoadThenStore k b = let h = b.holds.store in cc
+barrier_sound code t at WildBase k b = let n = no_access code at kinds.Barrier k (inr (inr (inr refl))) in let h = b.holds.1.1 in cc
+barrier_sound code t at LoadThenStore k b = let h = b.holds.3.1.1.2 in cc
 barrier_sound code t at Locked k b = let h = b.holds in cc
 barrier_sound code t at Turn k b = let h = b.holds in cc
 barrier_sound code t at Open k b = let w = kind_within code at kinds.Barrier k in let h : at ≡ length code = b.holds in absurd (omega arith)

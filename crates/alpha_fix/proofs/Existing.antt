@@ -3,7 +3,8 @@ use Rattle.std.proofs.Common.{◌≡◌, ◌<◌, ◌≤◌, ◌+◌, ◌-◌, �
 use Rattle.std.proofs.lemmas.Bool.{cases_eq}
 use Rattle.alpha_shadow.specs.declared.broken.Condition.{Condition}
 use Rattle.alpha_shadow.specs.declared.broken.Broken.{Broken}
-use Rattle.alpha_shadow.specs.Broken.{IsAccepted, IsLeastBroken, condition_number}
+use Rattle.alpha_shadow.specs.Broken.{IsAccepted}
+use Rattle.alpha_shadow.specs.Least.{IsLeastBroken, condition_number}
 use Rattle.alpha_shadow.proofs.Conditions.{condition_number-injective}
 use Rattle.alpha_shadow.proofs.Decided.{verdict}
 use Rattle.alpha_fix.specs.Cuts.{AreCuts, NoneAlone, NoneFrom, IsLeastFrom}

@@ -24,7 +24,7 @@ use Rattle.alpha_asm.specs.Layout.{Place, Placed, start, behind, placed, layout,
 use Rattle.alpha_asm.specs.Program.{Program, program_of, names_in, undefined_line, unmet_line, code_in, known, numbers_of, program, insn_in}
 use Rattle.alpha_asm.specs.declared.kind.SourceKind.TheVariants as source_kinds
 use Rattle.alpha_asm.specs.Assembled.{item_at, refused_read, refused, first_refused, unless, made_at, made, assembled}
-use Rattle.alpha_image.specs.Rules.{least_bad_field}
+use Rattle.alpha_image.specs.FieldTests.{least_bad_field}
 use Rattle.alpha_fix.specs.Cuts.{trapb, barred, without, HasBroken}
 use Rattle.alpha_fix.specs.SourceLines.{SourceLine, ended, unended, line_bytes, line_text, with_feed, source_lines, line_item}
 use Rattle.alpha_fix.specs.FixedSource.{is_cut, trapb_line, has_insn, has_word, word_count, bar_if, then_bar, fixed_lines, fixed_source}

@@ -4,7 +4,8 @@ use Rattle.std.proofs.lemmas.List.{append-nil}
 use Rattle.std.proofs.lemmas.Bool.{cases_lt}
 use Rattle.alpha_shadow.specs.declared.broken.Condition.{Condition}
 use Rattle.alpha_shadow.specs.declared.broken.Broken.{Broken}
-use Rattle.alpha_shadow.specs.Broken.{IsBroken, IsAccepted, condition_number, IsLeastBroken}
+use Rattle.alpha_shadow.specs.Broken.{IsBroken, IsAccepted}
+use Rattle.alpha_shadow.specs.Least.{condition_number, IsLeastBroken}
 use Rattle.alpha_fix.specs.Cuts.{IsNextCut, AreCutsAbove, AreCuts, IsBrokenAlone, NoneAlone, NoneFrom, IsLeastFrom}
 use Rattle.alpha_fix.specs.Fix.{IsLeastAlone}
 use Rattle.alpha_fix.proofs.Alike.{broken_along}

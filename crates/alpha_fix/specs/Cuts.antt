@@ -2,7 +2,8 @@
 use Rattle.std.specs.Prelude.{◌<◌, ◌≤◌, ◌+◌, ◌-◌, ◌++◌, ℕ, zero, suc, List, [], ◌∷◌, take, drop}
 use Rattle.alpha_shadow.specs.declared.broken.Condition.{Condition}
 use Rattle.alpha_shadow.specs.declared.broken.Broken.{Broken}
-use Rattle.alpha_shadow.specs.Broken.{IsBroken, NoLater}
+use Rattle.alpha_shadow.specs.Broken.{IsBroken}
+use Rattle.alpha_shadow.specs.Least.{NoLater}
 
 -- a place behind another one, `from`, is broken for a trigger that doesn't stand before that
 pub record BreaksAbove (code : List ℕ) (from at : ℕ) : Type 0 where

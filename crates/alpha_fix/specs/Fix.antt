@@ -3,7 +3,7 @@ use Rattle.std.specs.Prelude.{◌≡◌, ◌≢◌, ◌<◌, ◌≤◌, ◌⊎�
 use Rattle.alpha_image.specs.Parts.{Parts, IsImage}
 use Rattle.alpha_shadow.specs.declared.broken.Condition.{Condition}
 use Rattle.alpha_shadow.specs.declared.broken.Broken.{Broken}
-use Rattle.alpha_shadow.specs.Broken.{condition_number}
+use Rattle.alpha_shadow.specs.Least.{condition_number}
 use Rattle.alpha_asm.specs.Program.{program_of}
 use Rattle.alpha_asm.specs.Assembled.{assembled}
 use Rattle.alpha_fix.specs.declared.fault.CutFault.{CutFault}

@@ -8,7 +8,8 @@ use Rattle.std.proofs.lemmas.Bool.Decides.{nat_tests}
 use Rattle.std.proofs.lemmas.List.{length-append}
 use Rattle.std.proofs.lemmas.Slice.Eq.{starts_is}
 use Rattle.std.proofs.lemmas.Bool.Decides.{Decides-eqb}
-use Rattle.alpha_image.specs.Layout.{longword, longword_at}
+use Rattle.alpha_image.specs.Layout.{longword}
+use Rattle.alpha_image.specs.Reading.{longword_at}
 use Rattle.alpha_image.proofs.Numbers.{IsBytes, IsBytes-drop, longword_at-lt, longword_at-front, drop-longword}
 use Rattle.alpha_link.specs.declared.fault.ModuleFault.{ModuleFault}
 use Rattle.alpha_link.specs.declared.fault.ModuleFault.TheVariants.{Header, Size}

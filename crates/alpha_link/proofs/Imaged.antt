@@ -16,8 +16,11 @@ use Rattle.alpha_table.specs.Decoded.{decoded}
 use Rattle.alpha_table.proofs.Levels.{level_in-decoded}
 use Rattle.alpha_table.specs.Encoded.{encoded}
 use Rattle.alpha_table.proofs.Decoding.{Row-decoded, IsInsn-Row}
-use Rattle.alpha_image.specs.Parts.{Parts, parts_with, IsByte, IsCodeWord, IsCodeInsn, IsWithin, IsImage}
-use Rattle.alpha_image.specs.Rules.{FieldsFit, least_bad_field}
+use Rattle.alpha_image.specs.Parts.{Parts, IsByte, IsCodeWord, IsWithin, IsImage}
+use Rattle.alpha_image.specs.PartsOf.{parts_with}
+use Rattle.alpha_image.specs.Insns.{IsCodeInsn}
+use Rattle.alpha_image.specs.Rules.{FieldsFit}
+use Rattle.alpha_image.specs.FieldTests.{least_bad_field}
 use Rattle.alpha_image.specs.declared.version.Version.TheVariants.{One}
 use Rattle.alpha_image.proofs.CodeInsns.{code_words_of_insns}
 use Rattle.alpha_image.proofs.FieldRules.{FieldsFit-least}

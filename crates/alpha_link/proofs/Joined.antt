@@ -15,7 +15,7 @@ use Rattle.alpha_table.specs.Words.{class_in}
 use Rattle.alpha_shadow.specs.declared.broken.Condition.{Condition}
 use Rattle.alpha_shadow.specs.declared.broken.Condition.TheVariants.{ZeroDestination, SourceLost, SameDestination, WildBase, LoadThenStore, Locked, Turn, Open, Long}
 use Rattle.alpha_shadow.specs.Code.{kind_at, destination_at, access_at, Sets, Uses, SetIn, ExposedIn}
-use Rattle.alpha_shadow.specs.Broken.{LoadMeets, Holds, IsBroken, IsAccepted}
+use Rattle.alpha_shadow.specs.Broken.{Holds, IsBroken, IsAccepted}
 use Rattle.alpha_shadow.proofs.Tables.{kind_within}
 use Rattle.alpha_link.specs.Alike.{HaveSameColumns, AreAlike}
 
@@ -67,20 +67,32 @@ access_down whole part from i a s within e = sym (s.columns i within).access ∙
 kind_down : (whole part : List ℕ) (from i : ℕ) (k : Option InsnKind) → Shows whole part from → i < length part → kind_at whole (from + i) ≡ k → kind_at part i ≡ k
 kind_down whole part from i k s within e = sym (s.columns i within).kind ∙ e
 
-meets_down : (whole part : List ℕ) (from f t : ℕ) (a : MemAccess) → Shows whole part from → t ≤ length part → LoadMeets whole (from + f) (from + t) a → LoadMeets part f t a
-meets_down whole part from f t a s within h =
-    let k = h.place - from in
-    let above : from ≤ h.place = omega (arith, h.above) in
-    let below : k < t = omega (arith, h.below) in
-    record {
-      place = k;
-      above = omega (arith, h.above);
-      below = below;
-      load = kind_down whole part from k (Some kinds.Load) s (omega arith) (at_place (λ p. kind_at whole p ≡ Some kinds.Load) from h.place above h.load);
-      access = h.access;
-      accesses = access_down whole part from k h.access s (omega arith) (at_place (λ p. access_at whole p ≡ Some h.access) from h.place above h.accesses);
-      meets = h.meets;
-    }
+meets_down : (whole part : List ℕ) (from p i : ℕ) → Shows whole part from → i < length part
+    → Holds whole (from + p) (from + i) LoadThenStore → Holds part p i LoadThenStore
+meets_down whole part from p i s within h =
+    let k = h.0 - from in
+    let above : from ≤ h.0 = omega (arith, h.1) in
+    let below : k < i = omega (arith, h.2) in
+    let load = h.3.0 in
+    let store = h.3.1.0 in
+    let m = h.3.1.1 in (
+      k,
+      omega (arith, h.1),
+      below,
+      (
+        load,
+        (
+          store,
+          (
+            kind_down whole part from k (Some kinds.Load) s (omega arith) (at_place (λ p. kind_at whole p ≡ Some kinds.Load) from h.0 above m.0),
+            access_down whole part from k load s (omega arith) (at_place (λ p. access_at whole p ≡ Some load) from h.0 above m.1),
+            kind_down whole part from i (Some kinds.Store) s within m.2,
+            access_down whole part from i store s within m.3,
+            m.4,
+          ),
+        ),
+      ),
+    )
 
 destination_down : (whole part : List ℕ) (from i : ℕ) (d : Option ℕ) → Shows whole part from → i < length part → destination_at whole (from + i) ≡ d → destination_at part i ≡ d
 destination_down whole part from i d s within e = sym (s.columns i within).destination ∙ e
@@ -90,12 +102,11 @@ holds_down : (whole part : List ℕ) (from p i : ℕ) (c : Condition) → Shows 
 holds_down whole part from p i ZeroDestination s order within h =
     (omega (arith, h.0), destination_down whole part from p (Some 31) s (omega arith) h.1)
 holds_down whole part from p i SourceLost s order within h =
-    let next : from + i + 1 ≡ from + (i + 1) = omega arith in
-    record {
-      register = h.register;
-      sets = sym (s.columns i within).sets ∙ h.sets;
-      source = exposed_down whole part from p (i + 1) h.register s (omega arith) (subst (λ (t : ℕ). ExposedIn whole (from + p) t h.register) next h.source);
-    }
+    let next : from + i + 1 ≡ from + (i + 1) = omega arith in (
+      h.0,
+      sym (s.columns i within).sets ∙ h.1,
+      exposed_down whole part from p (i + 1) h.0 s (omega arith) (subst (λ (t : ℕ). ExposedIn whole (from + p) t h.0) next h.2),
+    )
 holds_down whole part from p i SameDestination s order within h = (
   omega (arith, h.0),
   kind_down whole part from i (Some kinds.Trigger) s within h.1,
@@ -103,16 +114,9 @@ holds_down whole part from p i SameDestination s order within h = (
 )
 holds_down whole part from p i WildBase s order within h = (
   omega (arith, h.0),
-  record { access = h.1.access; accesses = access_down whole part from i h.1.access s within h.1.accesses; base = set_down whole part from p i h.1.access.base s (omega arith) h.1.base },
+  (h.1.0, access_down whole part from i h.1.0 s within h.1.1, set_down whole part from p i h.1.0.base s (omega arith) h.1.2),
 )
-holds_down whole part from p i LoadThenStore s order within h =
-    let next : from + p + 1 ≡ from + (p + 1) = omega arith in
-    record {
-      store = kind_down whole part from i (Some kinds.Store) s within h.store;
-      access = h.access;
-      accesses = access_down whole part from i h.access s within h.accesses;
-      load = meets_down whole part from (p + 1) i h.access s (omega arith) (subst (λ (f : ℕ). LoadMeets whole f (from + i) h.access) next h.load);
-    }
+holds_down whole part from p i LoadThenStore s order within h = meets_down whole part from p i s within h
 holds_down whole part from p i Locked s order within h = kind_down whole part from i (Some kinds.Locked) s within h
 holds_down whole part from p i Turn s order within h = kind_down whole part from i (Some kinds.Turn) s within h
 holds_down whole part from p i Open s order within h = absurd (omega (arith, h, s.within))

@@ -19,7 +19,7 @@ use Rattle.alpha_table.specs.Decoded.{decoded}
 use Rattle.alpha_table.proofs.Classes.{class_in-decoded}
 use Rattle.alpha_table.proofs.Levels.{level_in-decoded}
 use Rattle.alpha_image.specs.Parts.{Parts, IsImage, IsCodeWord}
-use Rattle.alpha_image.specs.Rules.{least_bad_field}
+use Rattle.alpha_image.specs.FieldTests.{least_bad_field}
 use Rattle.alpha_shadow.specs.Broken.{IsAccepted}
 use Rattle.alpha_asm.specs.declared.patch.Displacement.{Displacement}
 use Rattle.alpha_asm.specs.declared.patch.Displacement.TheVariants.{Words, Bytes}

@@ -9,7 +9,8 @@ use Rattle.alpha_table.specs.declared.form.Form.{Form}
 use Rattle.alpha_table.specs.Encoded.{encoded}
 use Rattle.alpha_text.specs.References.{IsLabel}
 use Rattle.alpha_text.specs.Reading.{LineSaid}
-use Rattle.alpha_image.specs.Parts.{IsByte, IsCodeInsn}
+use Rattle.alpha_image.specs.Parts.{IsByte}
+use Rattle.alpha_image.specs.Insns.{IsCodeInsn}
 use Rattle.alpha_image.specs.Rules.{size_of_segment}
 use Rattle.alpha_image.proofs.CodeInsns.{code_words_of_insns}
 use Rattle.alpha_asm.specs.declared.fault.AsmFault.TheVariants.{ImageField}

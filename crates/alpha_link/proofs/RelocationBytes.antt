@@ -7,7 +7,8 @@ use Rattle.std.proofs.lemmas.Bool.{ltb-false, ltb-true, le-ltb}
 use Rattle.std.proofs.lemmas.Int.{to_z-of_z, of_z-to_z}
 use Rattle.std.proofs.lemmas.List.{length-append}
 use mir.Val.{SFits}
-use Rattle.alpha_image.specs.Layout.{longword, longword_at}
+use Rattle.alpha_image.specs.Layout.{longword}
+use Rattle.alpha_image.specs.Reading.{longword_at}
 use Rattle.alpha_image.proofs.Numbers.{IsBytes, IsBytes-drop, longword_at-lt, longword_at-front, drop-longword}
 use Rattle.alpha_link.specs.declared.fault.ModuleFault.TheVariants as faults
 use Rattle.alpha_link.specs.declared.header.Sizes.{Sizes}

@@ -6,11 +6,13 @@ use Rattle.std.specs.Option.{option_map}
 use Rattle.std.proofs.lemmas.Bool.{le-ltb, lt-ltb, cases_lt}
 use Rattle.std.proofs.lemmas.List.{length-append, length-take, length-take-le, take_all, take_at, drop_at, take-append-drop}
 use Rattle.alpha_words.specs.declared.Level.TheVariants.{One}
-use Rattle.alpha_image.specs.Layout.{longword, words_of}
+use Rattle.alpha_image.specs.Layout.{longword}
+use Rattle.alpha_image.specs.Reading.{words_of}
 use Rattle.alpha_image.specs.Parts.{IsCodeWord}
 use Rattle.alpha_image.specs.declared.fault.ImageFault.{ImageFault}
 use Rattle.alpha_image.specs.declared.fault.ImageFault.TheVariants.{Short, Magic, Field, Length, BadWord, NoMemory}
-use Rattle.alpha_image.specs.ImageFault.{bad_place, word_fault, Refuses}
+use Rattle.alpha_image.specs.ImageFault.{bad_place, word_fault}
+use Rattle.alpha_image.specs.Tells.{Refuses}
 use Rattle.alpha_image.proofs.CodeInsns.{words_of_insns}
 use Rattle.alpha_table.specs.declared.form.Form.{Form}
 use Rattle.alpha_table.specs.Decoded.{decoded}

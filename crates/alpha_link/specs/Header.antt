@@ -2,8 +2,9 @@
 use Rattle.std.specs.Prelude.{ℕ, ◌+◌, ◌||◌, not, nat_eq, nat_lt, nat_le, List, [], ◌∷◌, ◌++◌, length, drop, Option, Ok, Err, if◌then◌else◌}
 use Rattle.std.specs.List.{starts_with}
 use Rattle.std.specs.Option.{option_map_or}
-use Rattle.alpha_image.specs.Layout.{longword, longword_at}
-use Rattle.alpha_image.specs.Rules.{unless, first_of}
+use Rattle.alpha_image.specs.Layout.{longword}
+use Rattle.alpha_image.specs.Reading.{longword_at}
+use Rattle.alpha_image.specs.FirstOf.{unless, first_of}
 use Rattle.alpha_link.specs.declared.fault.ModuleFault.TheVariants.{Header, Size}
 use Rattle.alpha_link.specs.declared.header.Sizes.{Sizes}
 use Rattle.alpha_link.specs.Reading.{Read}

@@ -9,7 +9,7 @@ use Rattle.std.specs.Str.{bytes_eq}
 use Rattle.std.specs.Str.Lines.{lines}
 use Rattle.alpha_table.specs.Encoded.{encoded}
 use Rattle.alpha_text.specs.Reading.{LineSaid}
-use Rattle.alpha_image.specs.Rules.{unless as field_unless, first_of}
+use Rattle.alpha_image.specs.FirstOf.{unless as field_unless, first_of}
 use Rattle.alpha_asm.specs.declared.kind.SourceKind.TheVariants as source_kinds
 use Rattle.alpha_asm.specs.declared.fault.AsmFault.{AsmFault}
 use Rattle.alpha_asm.specs.declared.fault.AsmFault.TheVariants.{ImageField}

@@ -2,7 +2,8 @@
 use Rattle.std.specs.Prelude.{◌*◌, ◌-◌, ℕ, List, [], ◌∷◌, ◌++◌, length, take, Option, None, Some, Result, Ok, Err}
 use Rattle.std.specs.List.{flat_map}
 use Rattle.alpha_words.specs.declared.Level.TheVariants.{One}
-use Rattle.alpha_image.specs.Layout.{longword, words_of}
+use Rattle.alpha_image.specs.Layout.{longword}
+use Rattle.alpha_image.specs.Reading.{words_of}
 use Rattle.alpha_image.specs.declared.fault.ImageFault.{ImageFault}
 use Rattle.alpha_image.specs.declared.fault.ImageFault.TheVariants.{BadWord}
 use Rattle.alpha_image.specs.ImageFault.{bad_place}

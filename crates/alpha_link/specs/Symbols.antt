@@ -6,7 +6,8 @@ use Rattle.std.specs.Char.{is_ascii_alphabetic, is_ascii_alphanumeric}
 use Rattle.std.specs.Ordering.{nat_cmp}
 use Rattle.std.specs.Cmp.Lexicographic.{slice_cmp}
 use Rattle.std.specs.Ordering.{is_lt}
-use Rattle.alpha_image.specs.Layout.{longword, longword_at}
+use Rattle.alpha_image.specs.Layout.{longword}
+use Rattle.alpha_image.specs.Reading.{longword_at}
 use Rattle.alpha_link.specs.declared.fault.ModuleFault.TheVariants.{Cut, Symbol}
 use Rattle.alpha_link.specs.declared.header.Sizes.{Sizes}
 use Rattle.alpha_link.specs.declared.symbol.SymbolSection.{SymbolSection}

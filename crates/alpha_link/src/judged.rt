@@ -1,7 +1,8 @@
 //! The verdict on a module's code.
 
 ghost use Rattle.std.specs.Prelude.{OnOk, IfErr};
-ghost use Rattle.alpha_shadow.specs.Broken.{IsAccepted, IsLeastBroken};
+ghost use Rattle.alpha_shadow.specs.Broken.{IsAccepted};
+ghost use Rattle.alpha_shadow.specs.Least.{IsLeastBroken};
 
 use crate::module::Module;
 use alpha_shadow::{Broken, ImageCode, judge};

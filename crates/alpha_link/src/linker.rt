@@ -2,14 +2,14 @@
 
 ghost use Rattle.std.specs.Prelude.{◌≡◌, ◌≢◌, ◌≤◌, ℕ, List, length, [], ◌∷◌, Some, Ok, Err, All, IfOk, IfErr};
 ghost use Rattle.std.specs.Option.{option_map};
-ghost use Rattle.alpha_image.specs.Numbers.{level_numbers};
+ghost use Rattle.alpha_image.specs.Fields.{level_numbers};
 ghost use Rattle.alpha_asm.specs.Program.{program_of, program_with};
 ghost use Rattle.alpha_link.specs.declared.fault.LinkFault.TheVariants as faults;
 ghost use Rattle.alpha_link.specs.Linked.{places, address_of, missing, unmet, entry_of, words_in, filled_in, zeroed_in, linked_at, linked};
 ghost use Rattle.alpha_link.specs.Names.{found_in};
 ghost use Rattle.alpha_link.specs.Output.{StandBehind, JoinsAll};
 ghost use Rattle.alpha_image.specs.Rules.{FieldsFit};
-ghost use Rattle.alpha_image.specs.Parts.{IsCodeInsn};
+ghost use Rattle.alpha_image.specs.Insns.{IsCodeInsn};
 ghost use Rattle.alpha_words.specs.declared.Level.TheVariants as levels;
 ghost use Rattle.alpha_image.specs.declared.version.Version.TheVariants.{One};
 

@@ -2,7 +2,8 @@
 
 ghost use Rattle.std.specs.Prelude.{◌≡◌, ◌≢◌, ◌+◌, ◌<◌, ◌≤◌, ◌^◌, length, Ok, Err, All, IfOk, IfErr, IfNone};
 ghost use Rattle.alpha_words.specs.declared.Level.TheVariants.{One};
-ghost use Rattle.alpha_image.specs.Parts.{IsByte, IsCodeInsn};
+ghost use Rattle.alpha_image.specs.Parts.{IsByte};
+ghost use Rattle.alpha_image.specs.Insns.{IsCodeInsn};
 ghost use Rattle.alpha_asm.specs.Unlinked.{Makes};
 ghost use Rattle.alpha_asm.specs.declared.fault.AsmFault.TheVariants as faults;
 ghost use Rattle.alpha_link.specs.Made.{bad_field, sized, module_of, made_module};

@@ -5,7 +5,7 @@ ghost use Rattle.std.specs.Option.{option_and_then};
 ghost use Rattle.std.specs.List.{filter_map};
 ghost use Rattle.alpha_words.specs.declared.Level.TheVariants.{One};
 ghost use Rattle.alpha_table.specs.Decoded.{decoded};
-ghost use Rattle.alpha_image.specs.Parts.{IsCodeInsn};
+ghost use Rattle.alpha_image.specs.Insns.{IsCodeInsn};
 ghost use Rattle.alpha_asm.specs.Patches.{IsField, IsNear};
 ghost use Rattle.alpha_asm.specs.Program.{reached};
 ghost use Rattle.alpha_link.specs.Linked.{use_of, target, insn_with, code_at, displacement, quadword, is_met, addresses_by};

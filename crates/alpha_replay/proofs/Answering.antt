@@ -7,7 +7,7 @@ use Rattle.std.proofs.lemmas.Bool.{eq-eqb}
 use Rattle.std.proofs.lemmas.Bool.Decides.{eqb_tells}
 use Rattle.alpha_words.specs.declared.Completion.{Completion}
 use Rattle.alpha_replay.specs.declared.ending.Ending.{Ending}
-use Rattle.alpha_image.specs.Rules.{unless, first_of}
+use Rattle.alpha_image.specs.FirstOf.{unless, first_of}
 use Rattle.alpha_image.specs.Parts.{Parts as Image}
 use Rattle.alpha_seq.specs.State.{Program, State, Went}
 use Rattle.alpha_seq.specs.Start.{start}

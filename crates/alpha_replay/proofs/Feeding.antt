@@ -15,7 +15,9 @@ use Rattle.alpha_seq.specs.Run.{Mark, marks_of}
 use Rattle.alpha_seq.specs.Inputs.{over_input}
 use Rattle.alpha_seq.proofs.Unread.{step_over}
 use Rattle.alpha_imprecise.specs.Moment.{Trap, Choice, Happening, Precisely, Triggered, Waited, Reported, Lost, Moment, moment}
-use Rattle.alpha_imprecise.specs.Step.{triggers, triggered, precisely, landed, report_at, report, can_wait, spoilt_conditional, spoilt, mask_after, waited, wild_at}
+use Rattle.alpha_imprecise.specs.Step.{triggers, triggered, precisely, landed, report, can_wait, spoilt_conditional, spoilt, waited, wild_at}
+use Rattle.alpha_imprecise.proofs.Landed.{report_at}
+use Rattle.alpha_imprecise.specs.Wild.{mask_after}
 use Rattle.alpha_imprecise.specs.Run.{finished, unit_of, wild_marks}
 use Rattle.alpha_imprecise.specs.Chosen.{most_waited, waited_after}
 use Rattle.alpha_replay.specs.declared.item.Item.{Item}

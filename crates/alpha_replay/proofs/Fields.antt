@@ -4,7 +4,7 @@ use Rattle.std.specs.Prelude.{◌&&◌}
 use Rattle.std.proofs.lemmas.Bool.{eqb-true, leb-true, ltb-true, le-leb, lt-ltb}
 use Rattle.alpha_words.specs.declared.Completion.{Completion}
 use Rattle.alpha_words.specs.declared.Completion.TheVariants.{Wrap, Saturate, Stop}
-use Rattle.alpha_image.specs.Rules.{unless}
+use Rattle.alpha_image.specs.FirstOf.{unless}
 use Rattle.alpha_image.proofs.FieldRules.{option_or-none, unless-none}
 use Rattle.alpha_replay.specs.declared.ending.Ending.{Ending}
 use Rattle.alpha_replay.specs.declared.ending.Ending.TheVariants.{Spent, Exit, Signal, Fetch, Access, Align, Lost, Overflow}

@@ -2,7 +2,8 @@
 use Rattle.std.proofs.Common.{◌≡◌, ℕ, zero, suc, ◌<◌, ◌≤◌, Bool, true, false, cond, eqb, leb, List, [], ◌∷◌, ◌++◌, length, get_or, drop, Option, Some, None, ◌⊎◌, inl, inr, refl, sym, ap, ◌∙◌, arith}
 use Rattle.std.specs.Prelude.{not, ◌&&◌}
 use Rattle.std.proofs.lemmas.Bool.{eqb-true, ne_eqb, le-leb, leb-true}
-use Rattle.alpha_image.specs.Layout.{quadword, longword, quadword_at, longword_at}
+use Rattle.alpha_image.specs.Layout.{quadword, longword}
+use Rattle.alpha_image.specs.Reading.{quadword_at, longword_at}
 use Rattle.alpha_image.proofs.Numbers.{IsBytes, quadword_at-front, longword_at-front, drop-quadword, drop-longword, quadword_at-lt, longword_at-lt}
 use Rattle.alpha_replay.specs.declared.item.Item.{Item}
 use Rattle.alpha_replay.specs.declared.item.Item.TheVariants.{Units, Trigger, Wait, Report}

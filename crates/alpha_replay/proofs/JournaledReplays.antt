@@ -4,7 +4,7 @@ use Rattle.std.proofs.lemmas.Bool.{eq-eqb}
 use Rattle.std.specs.Option.{option_map}
 use Rattle.alpha_words.specs.declared.Completion.{Completion}
 use Rattle.alpha_image.specs.Parts.{Parts as Image}
-use Rattle.alpha_image.specs.Rules.{unless, first_of}
+use Rattle.alpha_image.specs.FirstOf.{unless, first_of}
 use Rattle.alpha_seq.specs.State.{Program}
 use Rattle.alpha_seq.specs.Start.{start}
 use Rattle.alpha_imprecise.specs.Run.{WildRun, finished}

@@ -8,7 +8,8 @@ use Rattle.alpha_table.specs.Class.{Class, operate, trigger, address, load, stor
 use Rattle.alpha_seq.specs.State.{Program, State}
 use Rattle.alpha_seq.specs.Step.{matches, lock_block, next_class}
 use Rattle.alpha_imprecise.specs.Moment.{Trap, Choice, Waited, Moment, moment}
-use Rattle.alpha_imprecise.specs.Step.{triggers, destination, can_wait, report, spoilt_conditional, spoilt, mask_after, wild_at}
+use Rattle.alpha_imprecise.specs.Step.{triggers, destination, can_wait, report, spoilt_conditional, spoilt, wild_at}
+use Rattle.alpha_imprecise.specs.Wild.{mask_after}
 use Rattle.alpha_imprecise.specs.Run.{finished}
 use Rattle.alpha_imprecise.specs.Chosen.{first_word, must_report, reporting, triggering, executing, draw_at, draw, chosen}
 use Rattle.alpha_imprecise.specs.Made.{Making, advance_making, steps_making}

@@ -2,7 +2,7 @@
 use Rattle.std.proofs.Common.{◌≡◌, ◌+◌, ◌&&◌, ◌||◌, not, ℕ, zero, suc, Bool, true, false, cond, eqb, List, [], ◌∷◌, ◌++◌, length, Option, Some, None, is_none, Result, Ok, Err, refl, sym, ap, subst, ◌∙◌, option_and_then, arith, add-one}
 use Rattle.std.proofs.lemmas.Bool.{eqb-true}
 use Rattle.alpha_image.specs.Parts.{Parts as Image}
-use Rattle.alpha_image.specs.Rules.{unless}
+use Rattle.alpha_image.specs.FirstOf.{unless}
 use Rattle.std.specs.Option.{option_map, option_or}
 use Rattle.std.proofs.lemmas.List.Sums.{sum_by-cons}
 use Rattle.alpha_table.specs.Class.{Class}
@@ -13,7 +13,8 @@ use Rattle.alpha_seq.specs.Run.{after, end_of}
 use Rattle.alpha_pal.specs.Call.{Outside}
 use Rattle.alpha_imprecise.specs.Moment.{Trap, Choice, Happening, Precisely, Triggered, Waited, Reported, Lost}
 use Rattle.alpha_imprecise.specs.Step.{wild}
-use Rattle.alpha_imprecise.specs.Run.{WildRun, HasUsed, finished, started_wild, unit_of, extended_wild, advance_wild, run_wild}
+use Rattle.alpha_imprecise.specs.Run.{WildRun, finished, started_wild, unit_of, extended_wild, advance_wild, run_wild}
+use Rattle.alpha_imprecise.specs.Used.{HasUsed}
 use Rattle.alpha_imprecise.specs.Made.{wild_end, lost_trap}
 use Rattle.alpha_imprecise.specs.Restart.{IsRestartable}
 use Rattle.alpha_imprecise.specs.Shown.{SameRun}

@@ -18,7 +18,8 @@ use Rattle.alpha_seq.specs.Devices.{Drawn}
 use Rattle.alpha_imprecise.specs.declared.end.WildEnd.{WildEnd}
 use Rattle.alpha_imprecise.specs.declared.end.WildEnd.TheVariants as ends
 use Rattle.alpha_imprecise.specs.Moment.{Trap, Choice, Happening, Precisely, Triggered, Waited, Reported, Lost, Moment, moment}
-use Rattle.alpha_imprecise.specs.Step.{triggers, triggered, precisely, can_wait, address_at, completed, landed, report_at, report, waited, with_trap, wild_at}
+use Rattle.alpha_imprecise.specs.Step.{triggers, triggered, precisely, can_wait, address_at, completed, landed, report, waited, wild_at}
+use Rattle.alpha_imprecise.proofs.Landed.{report_at}
 use Rattle.alpha_imprecise.specs.Run.{wild_marks}
 use Rattle.alpha_imprecise.specs.Chosen.{first_word, most_waited, reporting, triggering, executing, must_report, draw_at, chosen}
 use Rattle.alpha_imprecise.specs.Telling.{Telling, Goes}
@@ -99,11 +100,11 @@ module _ (g : Program) (o : Option Class) (s : State) where
   reports : (t : Trap) (n : ℕ) → IsMove g o s (Some t) n Reports
   reports t n = record { fit = fit (must_report o s n); same = same (must_report o s n) }
     where
-      fit : (b : Bool) → true ≡ (true && not (is_waited (with_trap g o s t (drawn_for b 0 0)).happened))
+      fit : (b : Bool) → true ≡ (true && not (is_waited (wild_at g o s (Some t) (drawn_for b 0 0)).happened))
       fit true = ap not (sym (report_calm g s t))
       fit false = ap not (sym (report_calm g s t))
 
-      same : (b : Bool) → (true && not (is_waited (with_trap g o s t (drawn_for b 0 0)).happened)) ≡ true → with_trap g o s t (choice_of Reports) ≡ with_trap g o s t (drawn_for b 0 0)
+      same : (b : Bool) → (true && not (is_waited (wild_at g o s (Some t) (drawn_for b 0 0)).happened)) ≡ true → wild_at g o s (Some t) (choice_of Reports) ≡ wild_at g o s (Some t) (drawn_for b 0 0)
       same true e = refl
       same false e = refl
 
@@ -121,20 +122,20 @@ module _ (g : Program) (o : Option Class) (s : State) where
   waits : (t : Trap) (n : ℕ) (adds : Bool) (value : ℕ) → IsMove g o s (Some t) n (Waits adds value)
   waits t n true value = record { fit = fit (must_report o s n) refl; same = same (must_report o s n) }
     where
-      fit : (b : Bool) → must_report o s n ≡ b → not b ≡ (true && is_waited (with_trap g o s t (drawn_for b 5 value)).happened)
+      fit : (b : Bool) → must_report o s n ≡ b → not b ≡ (true && is_waited (wild_at g o s (Some t) (drawn_for b 5 value)).happened)
       fit true e = sym (report_calm g s t)
       fit false e = ap (λ (b : Bool). is_waited (tried t b (drawn_for false 5 value)).happened) (sym (can_by n e))
 
-      same : (b : Bool) → (true && is_waited (with_trap g o s t (drawn_for b 5 value)).happened) ≡ true → with_trap g o s t (choice_of (Waits true value)) ≡ with_trap g o s t (drawn_for b 5 value)
+      same : (b : Bool) → (true && is_waited (wild_at g o s (Some t) (drawn_for b 5 value)).happened) ≡ true → wild_at g o s (Some t) (choice_of (Waits true value)) ≡ wild_at g o s (Some t) (drawn_for b 5 value)
       same true e = never (sym (report_calm g s t) ∙ e)
       same false e = refl
   waits t n false value = record { fit = fit (must_report o s n) refl; same = same (must_report o s n) }
     where
-      fit : (b : Bool) → must_report o s n ≡ b → not b ≡ (true && is_waited (with_trap g o s t (drawn_for b 1 value)).happened)
+      fit : (b : Bool) → must_report o s n ≡ b → not b ≡ (true && is_waited (wild_at g o s (Some t) (drawn_for b 1 value)).happened)
       fit true e = sym (report_calm g s t)
       fit false e = ap (λ (b : Bool). is_waited (tried t b (drawn_for false 1 value)).happened) (sym (can_by n e))
 
-      same : (b : Bool) → (true && is_waited (with_trap g o s t (drawn_for b 1 value)).happened) ≡ true → with_trap g o s t (choice_of (Waits false value)) ≡ with_trap g o s t (drawn_for b 1 value)
+      same : (b : Bool) → (true && is_waited (wild_at g o s (Some t) (drawn_for b 1 value)).happened) ≡ true → wild_at g o s (Some t) (choice_of (Waits false value)) ≡ wild_at g o s (Some t) (drawn_for b 1 value)
       same true e = never (sym (report_calm g s t) ∙ e)
       same false e = refl
 

@@ -21,7 +21,8 @@ use Rattle.alpha_seq.specs.Machine.{state_of}
 use Rattle.alpha_seq.specs.State.{Program, State, Ends, Stepped}
 use Rattle.alpha_seq.specs.Step.{step, unless, overflowed, conditional, matches, lock_block, returned}
 use Rattle.alpha_imprecise.specs.Moment.{Trap, Choice, Precisely, Reported, Moment, moment}
-use Rattle.alpha_imprecise.specs.Step.{triggers, triggered, precisely, address_at, completed, landed, report_at, report, spoilt, spoilt_conditional, waited, wild_at}
+use Rattle.alpha_imprecise.specs.Step.{triggers, triggered, precisely, address_at, completed, landed, report, spoilt, spoilt_conditional, waited, wild_at}
+use Rattle.alpha_imprecise.proofs.Landed.{report_at}
 use Rattle.alpha_imprecise.specs.Wild.{bare}
 use Rattle.alpha_replay.specs.Puts.{puts, puts_at}
 

@@ -8,7 +8,7 @@ use Rattle.std.proofs.lemmas.Bool.{eqb-true, leb-true, le-leb}
 use Rattle.std.proofs.lemmas.List.{append-nil, length-append, length-take, length-drop, take-append-drop, take_at, drop_at, drop-drop, nil_from_length}
 use Rattle.std.proofs.lemmas.List.Elements.{All-from_get_or}
 use Rattle.alpha_image.specs.Parts.{IsByte}
-use Rattle.alpha_image.specs.Rules.{unless}
+use Rattle.alpha_image.specs.FirstOf.{unless}
 use Rattle.alpha_image.proofs.Numbers.{IsBytes, IsBytes-take, IsBytes-drop, quadword_at-lt}
 use Rattle.alpha_image.proofs.FieldRules.{option_or-none, unless-none}
 use Rattle.alpha_image.proofs.CodeWords.{option_map-none}

@@ -4,7 +4,8 @@ use Rattle.std.proofs.lemmas.Bool.{eq-eqb}
 use Rattle.std.proofs.Math.Nat.{eq-or-lt_of_le}
 use Rattle.alpha_seq.specs.State.{Program, State}
 use Rattle.alpha_imprecise.specs.Moment.{Trap}
-use Rattle.alpha_imprecise.specs.Run.{HasUsed, finished, unit_of}
+use Rattle.alpha_imprecise.specs.Run.{finished, unit_of}
+use Rattle.alpha_imprecise.specs.Used.{HasUsed}
 use Rattle.alpha_imprecise.specs.Made.{Making, begun, advance_making, steps_making, most_words}
 use Rattle.alpha_imprecise.specs.Free.{lefts_making}
 use Rattle.alpha_imprecise.proofs.FreeDrawing.{free_draws}

@@ -22,7 +22,8 @@ use Rattle.alpha_seq.specs.Step.{next_pc, step, matches, lock_block}
 use Rattle.alpha_seq.specs.Inputs.{takes_input}
 use Rattle.alpha_seq.proofs.Unread.{step_over}
 use Rattle.alpha_imprecise.specs.Moment.{Trap, Choice, Happening, Precisely, Reported, Moment, moment}
-use Rattle.alpha_imprecise.specs.Step.{triggers, triggered, precisely, address_at, completed, landed, report_at, report, spoilt, spoilt_conditional, waited, wild_at}
+use Rattle.alpha_imprecise.specs.Step.{triggers, triggered, precisely, address_at, completed, landed, report, spoilt, spoilt_conditional, waited, wild_at}
+use Rattle.alpha_imprecise.proofs.Landed.{report_at}
 use Rattle.alpha_imprecise.specs.Wild.{bare}
 use Rattle.alpha_replay.specs.Looks.{takes_at}
 

@@ -1,6 +1,7 @@
 -- The items of a journal, and their bytes.
 use Rattle.std.specs.Prelude.{◌≡◌, ⊤, ℕ, zero, suc, ◌+◌, ◌<◌, ◌^◌, ◌==◌, Bool, true, false, not, ◌&&◌, nat_le, if◌then◌else◌, List, [], ◌∷◌, length, drop, slice_index, sum_by, Option, Some, None, Result, Ok, Err}
-use Rattle.alpha_image.specs.Layout.{quadword, longword, quadword_at, longword_at}
+use Rattle.alpha_image.specs.Layout.{quadword, longword}
+use Rattle.alpha_image.specs.Reading.{quadword_at, longword_at}
 use Rattle.alpha_replay.specs.declared.item.Item.{Item}
 use Rattle.alpha_replay.specs.declared.item.Item.TheVariants.{Units, Trigger, Wait, Report}
 

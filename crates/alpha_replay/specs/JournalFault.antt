@@ -2,7 +2,7 @@
 use Rattle.std.specs.Prelude.{◌≡◌, ℕ, ◌-◌, ◌==◌, nat_eq, nat_le, nat_lt, List, [], ◌∷◌, length, Option, Some, None, Result, Ok, Err}
 use Rattle.std.specs.List.{starts_with}
 use Rattle.std.specs.Option.{option_map}
-use Rattle.alpha_image.specs.Rules.{unless, first_of}
+use Rattle.alpha_image.specs.FirstOf.{unless, first_of}
 use Rattle.alpha_replay.specs.declared.fault.JournalFault.{JournalFault}
 use Rattle.alpha_replay.specs.declared.fault.JournalFault.TheVariants.{Short, Magic, Field, Item, Units, Rest, NoMemory}
 use Rattle.alpha_replay.specs.Endings.{unused_are_zero}

@@ -2,7 +2,7 @@
 use Rattle.std.specs.Prelude.{ℕ, ◌+◌, ◌==◌, false, if◌then◌else◌, List, [], take, drop, slice_index, Result, Ok, Err}
 use Rattle.alpha_words.specs.declared.Completion.{Completion}
 use Rattle.alpha_words.specs.declared.Completion.TheVariants.{Wrap, Saturate, Stop}
-use Rattle.alpha_image.specs.Layout.{quadword_at, longword_at}
+use Rattle.alpha_image.specs.Reading.{quadword_at, longword_at}
 use Rattle.alpha_replay.specs.declared.item.Item.{Item}
 use Rattle.alpha_replay.specs.Endings.{ending_in}
 use Rattle.alpha_replay.specs.Items.{Parsed, parsed}

@@ -2,14 +2,15 @@
 use Rattle.std.specs.Prelude.{◌≡◌, ⊤, ℕ, ◌==◌, Bool, false, ◌&&◌, ◌||◌, List, [], ◌∷◌, length, sum_by, Option, Some, None, is_none, Result, Ok, Err}
 use Rattle.std.specs.Option.{option_map}
 use Rattle.alpha_image.specs.Parts.{Parts as Image}
-use Rattle.alpha_image.specs.Rules.{unless, first_of}
+use Rattle.alpha_image.specs.FirstOf.{unless, first_of}
 use Rattle.alpha_seq.specs.declared.end.End.{End}
 use Rattle.alpha_seq.specs.declared.end.End.TheVariants as ends
 use Rattle.alpha_seq.specs.State.{Program, Event, Went, Barriered, Overflowed, Ends}
 use Rattle.alpha_seq.specs.Start.{start}
 use Rattle.alpha_seq.specs.Run.{sequential}
 use Rattle.alpha_imprecise.specs.Moment.{Choice, Happening, Precisely, Triggered, Waited, Reported, Lost}
-use Rattle.alpha_imprecise.specs.Run.{WildRun, HasUsed, finished, started_wild, run_wild}
+use Rattle.alpha_imprecise.specs.Run.{WildRun, finished, started_wild, run_wild}
+use Rattle.alpha_imprecise.specs.Used.{HasUsed}
 use Rattle.alpha_replay.specs.declared.ending.Ending.{Ending}
 use Rattle.alpha_replay.specs.declared.ending.Ending.TheVariants as endings
 use Rattle.alpha_replay.specs.declared.item.Item.{Item}

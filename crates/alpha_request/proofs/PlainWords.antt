@@ -2,7 +2,7 @@
 use Rattle.std.proofs.Common.{◌≡◌, ◌≢◌, ◌==◌, ℕ, Bool, false, List, [], ◌∷◌, Some, codes, refl}
 use Rattle.std.proofs.lemmas.Bool.{ne_eqb}
 use Rattle.clap.proofs.OnLiterals.{clap_on_literals}
-use Rattle.alpha_request.specs.Options.{seed}
+use Rattle.alpha_request.specs.Origin.{seed}
 use Rattle.alpha_request.specs.Command.{check, run, imprecise}
 use Rattle.alpha_request.specs.Asked.{asked, asked_as}
 use Rattle.alpha_request.specs.Matched.{matches_on}

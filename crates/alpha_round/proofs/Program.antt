@@ -18,8 +18,9 @@ use Rattle.alpha_image.specs.declared.segment.Segment.{Segment}
 use Rattle.alpha_image.specs.declared.version.Version.{Version}
 use Rattle.alpha_image.specs.declared.version.Version.TheVariants.{One, Two}
 use Rattle.alpha_image.specs.Layout.{first_segment, filled_size}
-use Rattle.alpha_image.specs.Rules.{least_bad_field}
-use Rattle.alpha_image.specs.Parts.{Parts, Piece, pieces, pieces_of, numbers, numbered_level, SuitsVersion, IsWithin, IsCodeWord, IsByte, IsImage}
+use Rattle.alpha_image.specs.FieldTests.{least_bad_field}
+use Rattle.alpha_image.specs.Parts.{Parts, Piece, pieces, pieces_of, numbers, SuitsVersion, IsWithin, IsCodeWord, IsByte, IsImage}
+use Rattle.alpha_image.specs.Reading.{numbered_level}
 use Rattle.alpha_image.proofs.FieldRules.{least-FieldsFit}
 use Rattle.alpha_image.proofs.Pieces.{flat_map-pieces_of}
 use Rattle.alpha_asm.specs.Statement.{entry_at}

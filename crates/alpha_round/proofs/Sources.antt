@@ -22,8 +22,11 @@ use Rattle.alpha_text.specs.Statements.{Said}
 use Rattle.alpha_text.specs.Statements as says
 use Rattle.alpha_text.specs.Reading.{LineSaid, read}
 use Rattle.alpha_image.specs.Numbers.{Numbers}
-use Rattle.alpha_image.specs.Rules.{FieldsFit, least_bad_field}
-use Rattle.alpha_image.specs.Parts.{Parts, numbers, numbered_level, parts_with, SuitsVersion, IsCodeWord, IsByte, IsImage}
+use Rattle.alpha_image.specs.Rules.{FieldsFit}
+use Rattle.alpha_image.specs.FieldTests.{least_bad_field}
+use Rattle.alpha_image.specs.Parts.{Parts, numbers, SuitsVersion, IsCodeWord, IsByte, IsImage}
+use Rattle.alpha_image.specs.Reading.{numbered_level}
+use Rattle.alpha_image.specs.PartsOf.{parts_with}
 use Rattle.alpha_image.proofs.FieldRules.{FieldsFit-least, option_or-none}
 use Rattle.alpha_asm.specs.declared.fault.AsmFault.{AsmFault}
 use Rattle.alpha_asm.specs.declared.fault.AsmFault.TheVariants.{Undefined, ImageField, Reach, Section, Duplicate, LongLine}

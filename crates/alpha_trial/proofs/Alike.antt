@@ -8,7 +8,8 @@ use Rattle.alpha_seq.specs.State.{State, Event, Went, Barriered, Overflowed, End
 use Rattle.alpha_seq.specs.Start.{start}
 use Rattle.alpha_seq.specs.Run.{Run, end_of, after}
 use Rattle.alpha_imprecise.specs.Moment.{Happening, Precisely, Triggered, Waited, Reported, Lost}
-use Rattle.alpha_imprecise.specs.Run.{WildRun, HasUsed}
+use Rattle.alpha_imprecise.specs.Run.{WildRun}
+use Rattle.alpha_imprecise.specs.Used.{HasUsed}
 use Rattle.alpha_imprecise.specs.Pcg.{pcg_word, seeded}
 use Rattle.alpha_imprecise.specs.Made.{Making, begun, made, wild_end, first_words, most_words}
 use Rattle.alpha_imprecise.specs.Restart.{IsRestartable, Agrees}

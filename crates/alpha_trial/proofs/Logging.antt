@@ -11,7 +11,8 @@ use Rattle.alpha_seq.specs.State.{Program, State, Ends}
 use Rattle.alpha_seq.specs.Step.{next_class, step, unless, conditional, returned, lock_block, matches}
 use Rattle.alpha_trap.specs.Scan.{scan}
 use Rattle.alpha_imprecise.specs.Moment.{Trap, Choice, Precisely, Reported, Moment, moment}
-use Rattle.alpha_imprecise.specs.Step.{triggers, triggered, precisely, with_none, completed, landed, report_at, report, address_at, can_wait, spoilt, spoilt_conditional, waited, with_trap}
+use Rattle.alpha_imprecise.specs.Step.{triggers, triggered, precisely, completed, landed, report, address_at, can_wait, spoilt, spoilt_conditional, waited, wild_at}
+use Rattle.alpha_imprecise.proofs.Landed.{report_at}
 use Rattle.alpha_imprecise.specs.Run.{finished}
 use Rattle.alpha_imprecise.specs.Chosen.{most_waited, first_word, triggering, reporting, draw_at, draw, chosen}
 use Rattle.alpha_imprecise.specs.Made.{Making, begun, advance_making, is_settled, settled_within, made}
@@ -58,7 +59,7 @@ same_count g (Some (barrier (Some function))) s e = same_returned function _ s
 same_count g (Some idle) s e = refl
 
 free_total : (g : Program) (o : Option Class) (s : State) (n : ℕ) (words : List ℕ)
-    → total (with_none g o s (draw_at o s None n words).choice) ≤ s.count + (draw_at o s None n words).count
+    → total (wild_at g o s None (draw_at o s None n words).choice) ≤ s.count + (draw_at o s None n words).count
 free_total g o s n words = by (triggers o s) refl
   where
     by : (b : Bool) → triggers o s ≡ b
@@ -102,7 +103,7 @@ spoilt_count (Some (jump ra rb)) s c = refl
 spoilt_count (Some (barrier call)) s c = refl
 spoilt_count (Some idle) s c = refl
 
-trap_total : (g : Program) (o : Option Class) (s : State) (t : Trap) (c : Choice) → total (with_trap g o s t c) ≤ s.count + 1
+trap_total : (g : Program) (o : Option Class) (s : State) (t : Trap) (c : Choice) → total (wild_at g o s (Some t) c) ≤ s.count + 1
 trap_total g o s t c = by (c.report || not (can_wait o s))
   where
     by : (b : Bool) → total (cond b (report g s t) (waited o s t c)) ≤ s.count + 1

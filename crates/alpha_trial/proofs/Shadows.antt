@@ -15,7 +15,7 @@ use Rattle.alpha_table.specs.Words.{class_in}
 use Rattle.alpha_shadow.specs.declared.broken.Condition.{Condition}
 use Rattle.alpha_shadow.specs.declared.broken.Condition.TheVariants.{ZeroDestination, SourceLost, SameDestination, WildBase, LoadThenStore, Locked, Turn, Open, Long}
 use Rattle.alpha_shadow.specs.Code.{kind_at}
-use Rattle.alpha_shadow.specs.Broken.{Holds, IsAccepted, LosesSource}
+use Rattle.alpha_shadow.specs.Broken.{Holds, IsAccepted}
 use Rattle.alpha_trial.specs.Program.{seeded}
 use Rattle.alpha_trial.specs.Words.{block_words, blocks_words, ending_words, program_words}
 use Rattle.alpha_trial.proofs.Decoding.{class_first, class_second}
@@ -108,22 +108,22 @@ unused code q p r (at_five e c) (inr f) = ap (λ o. uses o r) c ∙ ap (λ n. us
 same_some : (a b : ℕ) → Some a ≡ Some b → b ≡ a
 same_some a b e = cc
 
-source_stays : (code : List ℕ) (q t at : ℕ) → Block code q → q + 2 ≤ t → t ≤ at → at ≤ q + 5 → In code q at → LosesSource code t at → ⊥
+source_stays : (code : List ℕ) (q t at : ℕ) → Block code q → q + 2 ≤ t → t ≤ at → at ≤ q + 5 → In code q at → Holds code t at SourceLost → ⊥
 source_stays code q t at b low order high (at_two e c) h =
-    let r : h.register ≡ 3 = same_some 3 h.register (ap sets (sym c) ∙ h.sets) in
-    let here : h.source.place ≡ at = (let above = h.source.above in let below = h.source.below in omega arith) in
-    let used : uses (class_at code h.source.place) h.register ≡ false =
-    ap (λ k. uses (class_at code k) h.register) here ∙ (ap (λ o. uses o h.register) c ∙ ap (λ n. uses (Some first_trigger) n) r) in
-    false_true (sym used ∙ h.source.uses)
+    let r : h.0 ≡ 3 = same_some 3 h.0 (ap sets (sym c) ∙ h.1) in
+    let here : h.2.place ≡ at = (let above = h.2.above in let below = h.2.below in omega arith) in
+    let used : uses (class_at code h.2.place) h.0 ≡ false =
+    ap (λ k. uses (class_at code k) h.0) here ∙ (ap (λ o. uses o h.0) c ∙ ap (λ n. uses (Some first_trigger) n) r) in
+    false_true (sym used ∙ h.2.uses)
 source_stays code q t at b low order high (at_three e c) h =
-    let above = h.source.above in
-    let below = h.source.below in
-    false_true (sym (unused code q h.source.place h.register (within code q h.source.place b (omega arith) (omega arith)) (inl (same_some 4 h.register (ap sets (sym c) ∙ h.sets)))) ∙ h.source.uses)
+    let above = h.2.above in
+    let below = h.2.below in
+    false_true (sym (unused code q h.2.place h.0 (within code q h.2.place b (omega arith) (omega arith)) (inl (same_some 4 h.0 (ap sets (sym c) ∙ h.1)))) ∙ h.2.uses)
 source_stays code q t at b low order high (at_four e c) h =
-    let above = h.source.above in
-    let below = h.source.below in
-    false_true (sym (unused code q h.source.place h.register (within code q h.source.place b (omega arith) (omega arith)) (inr (same_some 5 h.register (ap sets (sym c) ∙ h.sets)))) ∙ h.source.uses)
-source_stays code q t at b low order high (at_five e c) h = let none : None ≡ Some h.register = ap sets (sym c) ∙ h.sets in cc
+    let above = h.2.above in
+    let below = h.2.below in
+    false_true (sym (unused code q h.2.place h.0 (within code q h.2.place b (omega arith) (omega arith)) (inr (same_some 5 h.0 (ap sets (sym c) ∙ h.1)))) ∙ h.2.uses)
+source_stays code q t at b low order high (at_five e c) h = let none : None ≡ Some h.0 = ap sets (sym c) ∙ h.1 in cc
 
 -- ---- destinations
 
@@ -167,8 +167,8 @@ module _ (code : List ℕ) (q t at : ℕ) (b : Block code q) (low : q + 2 ≤ t)
   fails ZeroDestination h = not_zero code q t by h.1
   fails SourceLost h = source_stays code q t at b low order high here h
   fails SameDestination h = differ code q t at by (trigger_in code q at here h.1) h.0 h.2
-  fails WildBase h = let base = h.1 in let f : None ≡ Some base.access = sym plain.access ∙ base.accesses in cc
-  fails LoadThenStore h = plain.store h.store
+  fails WildBase h = let base = h.1 in let f : None ≡ Some base.0 = sym plain.access ∙ base.1 in cc
+  fails LoadThenStore h = plain.store h.3.1.1.2
   fails Locked h = plain.locked h
   fails Turn h = plain.turn h
   fails Open h = plain.there (ap (class_at code) h ∙ past code)

@@ -11,7 +11,7 @@ use Rattle.alpha_cmd.specs.declared.status.Status.TheVariants.{BadSource}
 use Rattle.alpha_cmd.specs.Status.{class_of, status_line, Says}
 use Rattle.alpha_cmd.specs.Outcome.{goes, stops}
 use Rattle.alpha_cmd.specs.Image.{Reads}
-use Rattle.alpha_cmd.specs.Answer.{World}
+use Rattle.alpha_cmd.specs.AnswerBy.{World}
 use Rattle.alpha_cmd.specs.Commands.Asm.{source_limit, NoProgram, IsMade, Assembles, Makes, form, there}
 use Rattle.alpha_cmd.proofs.Lawful.{Lawful, HasOutcome, Either-single, Says-one, Then-lawful}
 use Rattle.alpha_cmd.proofs.Stages.{Reads-lawful}

@@ -4,7 +4,8 @@ use Rattle.alpha_image.specs.Parts.{Parts}
 use Rattle.alpha_cmd.specs.declared.status.Status.{Status}
 use Rattle.alpha_cmd.specs.Outcome.{goes, stops, Then, Gives}
 use Rattle.alpha_cmd.specs.Image.{ImageOf, IsRefused, Judges}
-use Rattle.alpha_cmd.specs.Answer.{World, Answer, AnswerBy, said}
+use Rattle.alpha_cmd.specs.Answer.{Answer}
+use Rattle.alpha_cmd.specs.AnswerBy.{World, AnswerBy, said}
 use Rattle.alpha_cmd.specs.Commands.Check.{accepted, steps, form, there}
 use Rattle.alpha_cmd.proofs.Lawful.{Then-lawful, Gives-lawful}
 use Rattle.alpha_cmd.proofs.Stages.{ImageOf-lawful, Judges-lawful}

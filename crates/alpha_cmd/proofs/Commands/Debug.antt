@@ -9,7 +9,8 @@ use Rattle.alpha_debug.specs.Session.{Setting, IsVerdict}
 use Rattle.alpha_debug.proofs.Transcripts.{one_transcript, some_transcript}
 use Rattle.alpha_cmd.specs.Outcome.{goes}
 use Rattle.alpha_cmd.specs.Image.{ImageOf}
-use Rattle.alpha_cmd.specs.Answer.{World, Answer, AnswerBy}
+use Rattle.alpha_cmd.specs.Answer.{Answer}
+use Rattle.alpha_cmd.specs.AnswerBy.{World, AnswerBy}
 use Rattle.alpha_cmd.specs.Form.{MayTakeBy}
 use Rattle.alpha_cmd.specs.Commands.Debug.{MayTell, session_status, answer_told, Debugs, steps, IsEndStatus, kind, form, there}
 use Rattle.alpha_cmd.proofs.Lawful.{Lawful, Then-lawful, Goes-lawful}

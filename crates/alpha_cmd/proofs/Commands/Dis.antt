@@ -8,7 +8,8 @@ use Rattle.alpha_cmd.specs.declared.status.Status.TheVariants.{Done}
 use Rattle.alpha_cmd.specs.Outcome.{goes, Gives}
 use Rattle.alpha_cmd.specs.Status.{class_of}
 use Rattle.alpha_cmd.specs.Image.{ImageOf}
-use Rattle.alpha_cmd.specs.Answer.{World, Answer, AnswerBy, done_with}
+use Rattle.alpha_cmd.specs.Answer.{Answer}
+use Rattle.alpha_cmd.specs.AnswerBy.{World, AnswerBy, done_with}
 use Rattle.alpha_cmd.specs.Commands.Dis.{steps, form, there}
 use Rattle.alpha_cmd.proofs.Lawful.{Then-lawful, Gives-lawful}
 use Rattle.alpha_cmd.proofs.Stages.{ImageOf-lawful}

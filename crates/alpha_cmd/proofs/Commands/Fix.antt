@@ -21,7 +21,7 @@ use Rattle.alpha_cmd.specs.declared.status.Status.TheVariants.{BadSource, Unfixa
 use Rattle.alpha_cmd.specs.Status.{class_of, status_line, unfixable_line}
 use Rattle.alpha_cmd.specs.Outcome.{goes, stops}
 use Rattle.alpha_cmd.specs.Image.{Reads}
-use Rattle.alpha_cmd.specs.Answer.{World}
+use Rattle.alpha_cmd.specs.AnswerBy.{World}
 use Rattle.alpha_cmd.specs.Commands.Asm.{source_limit}
 use Rattle.alpha_cmd.specs.Commands.Fix.{IsUnfixable, Unfixed, Unfixes, Fixes, Makes, form, there}
 use Rattle.alpha_cmd.proofs.Commands.Asm.{same_refused}

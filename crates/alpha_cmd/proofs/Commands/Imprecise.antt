@@ -4,8 +4,8 @@ use Rattle.alpha_io.specs.Files.{Files, KeepsFiles}
 use Rattle.alpha_image.specs.Parts.{Parts}
 use Rattle.alpha_shadow.specs.Broken.{IsAccepted}
 use Rattle.alpha_request.specs.declared.options.RunOptions.{RunOptions}
-use Rattle.alpha_request.specs.Options.{Origin}
-use Rattle.alpha_request.specs.Options as choices_of
+use Rattle.alpha_request.specs.Origin.{Origin}
+use Rattle.alpha_request.specs.Origin as choices_of
 use Rattle.alpha_seq.specs.declared.end.End.{End}
 use Rattle.alpha_seq.specs.declared.end.End.TheVariants as ends
 use Rattle.alpha_seq.specs.Start.{start}
@@ -21,10 +21,12 @@ use Rattle.alpha_cmd.specs.declared.status.Status.TheVariants as statuses
 use Rattle.alpha_cmd.specs.Status.{status_line}
 use Rattle.alpha_cmd.specs.Outcome.{goes, stops, Then, Gives}
 use Rattle.alpha_cmd.specs.Image.{Reads, ImageOf, IsRefused, Judges}
-use Rattle.alpha_cmd.specs.Choosing.{choices_limit, listed_word, ChoicesOf}
-use Rattle.alpha_cmd.specs.Answer.{World, Answer, AnswerBy, HaveBytes, said}
+use Rattle.alpha_cmd.specs.Choosing.{listed_word, ChoicesOf}
+use Rattle.alpha_cmd.specs.ChoicesLimit.{choices_limit}
+use Rattle.alpha_cmd.specs.Answer.{Answer}
+use Rattle.alpha_cmd.specs.AnswerBy.{World, AnswerBy, HaveBytes, said}
 use Rattle.alpha_cmd.specs.Form.{IsThere, MayTakeBy}
-use Rattle.alpha_cmd.specs.Commands.Run.{drawn_status, program_by}
+use Rattle.alpha_cmd.specs.RunAnswer.{drawn_status, program_by}
 use Rattle.alpha_cmd.specs.Commands.Imprecise.{Plan, plan_by, PlanOf, Passes, with_drawn, run_by, MadeByReads, MayShowWild, wild_status, answer_wild, RunsWild, MayLose, IsEndStatus, HasChoices, steps, kind, form, there}
 use Rattle.alpha_cmd.proofs.Lawful.{Lawful, Then-lawful, Goes-lawful, Gives-lawful}
 use Rattle.alpha_cmd.proofs.Stages.{Reads-lawful, ImageOf-lawful, Judges-lawful, kept_same}

@@ -23,7 +23,7 @@ use Rattle.alpha_cmd.specs.declared.status.Status.TheVariants.{BadModule, BadLin
 use Rattle.alpha_cmd.specs.Status.{class_of, status_line, Says}
 use Rattle.alpha_cmd.specs.Outcome.{goes, stops, Then}
 use Rattle.alpha_cmd.specs.Image.{Reads}
-use Rattle.alpha_cmd.specs.Answer.{World, HaveBytes}
+use Rattle.alpha_cmd.specs.AnswerBy.{World, HaveBytes}
 use Rattle.alpha_cmd.specs.Form.{IsThere}
 use Rattle.alpha_cmd.specs.Commands.Link.{module_limit, FilesOf, NoModule, ModuleOf, ModulesOf, NoLink, IsLinked, Links, Makes, Spell, form, there}
 use Rattle.alpha_cmd.proofs.Lawful.{Lawful, HasOutcome, Either-single, Says-one, Then-lawful}

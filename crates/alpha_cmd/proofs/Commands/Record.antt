@@ -2,7 +2,7 @@
 use Rattle.std.proofs.Common.{◌≡◌, ◌⊎◌, ◌∙◌, ℕ, ◌%◌, ◌^◌, Bool, true, false, List, [], length, Option, None, Some, IsSome, refl, sym, ap, subst, inl, inr}
 use Rattle.alpha_words.specs.declared.Completion.TheVariants.{Wrap}
 use Rattle.alpha_request.specs.declared.options.RunOptions.{RunOptions}
-use Rattle.alpha_request.specs.Options.{Origin}
+use Rattle.alpha_request.specs.Origin.{Origin}
 use Rattle.alpha_seq.specs.State.{Program}
 use Rattle.alpha_seq.specs.Start.{start}
 use Rattle.alpha_imprecise.specs.Made.{Making, begun, first_words, most_words, ShownWild}
@@ -15,9 +15,10 @@ use Rattle.alpha_replay.proofs.Stopping.{some_place}
 use Rattle.alpha_cmd.specs.declared.status.Status.{Status}
 use Rattle.alpha_cmd.specs.Outcome.{goes, stops}
 use Rattle.alpha_cmd.specs.Image.{IsRefused}
-use Rattle.alpha_cmd.specs.Answer.{World, Answer, AnswerBy, said}
+use Rattle.alpha_cmd.specs.Answer.{Answer}
+use Rattle.alpha_cmd.specs.AnswerBy.{World, AnswerBy, said}
 use Rattle.alpha_cmd.specs.Keeping.{Untaken}
-use Rattle.alpha_cmd.specs.Commands.Run.{program_by}
+use Rattle.alpha_cmd.specs.RunAnswer.{program_by}
 use Rattle.alpha_cmd.specs.Commands.Imprecise.{Plan, PlanOf, Passes, MayShowWild, answer_wild}
 use Rattle.alpha_cmd.specs.Commands.Record.{unwatched, HasJournal, IsStopped, KeepsBehind, IsKeptRun, full_answer, IsFullRun, Records, Planned, IsEndStatus, form, there}
 use Rattle.alpha_cmd.proofs.Lawful.{Lawful, Then-lawful, Goes-lawful}

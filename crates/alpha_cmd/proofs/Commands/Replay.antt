@@ -16,7 +16,8 @@ use Rattle.alpha_cmd.specs.declared.status.Status.TheVariants.{BadJournal, NotAR
 use Rattle.alpha_cmd.specs.Status.{class_of, status_line, Says}
 use Rattle.alpha_cmd.specs.Outcome.{goes, stops, Then, Gives}
 use Rattle.alpha_cmd.specs.Image.{Reads, ImageOf}
-use Rattle.alpha_cmd.specs.Answer.{World, Answer, AnswerBy}
+use Rattle.alpha_cmd.specs.Answer.{Answer}
+use Rattle.alpha_cmd.specs.AnswerBy.{World, AnswerBy}
 use Rattle.alpha_cmd.specs.Commands.Replay.{journal_limit, NoJournal, SpellsJournal, JournalOf, NoRun, Plays, RunOf, shown, steps, form, there}
 use Rattle.alpha_cmd.specs.Tries.{CutBy}
 use Rattle.alpha_cmd.proofs.Lawful.{Lawful, HasOutcome, Either-single, Says-one, Then-lawful, Gives-lawful}

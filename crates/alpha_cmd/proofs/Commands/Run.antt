@@ -10,9 +10,11 @@ use Rattle.alpha_seq.proofs.Filling.{filled}
 use Rattle.alpha_cmd.specs.declared.status.Status.TheVariants.{ShelfFault}
 use Rattle.alpha_cmd.specs.Outcome.{goes}
 use Rattle.alpha_cmd.specs.Image.{ImageOf}
-use Rattle.alpha_cmd.specs.Answer.{World, Answer, AnswerBy}
+use Rattle.alpha_cmd.specs.Answer.{Answer}
+use Rattle.alpha_cmd.specs.AnswerBy.{World, AnswerBy}
 use Rattle.alpha_cmd.specs.Form.{MayTakeBy}
-use Rattle.alpha_cmd.specs.Commands.Run.{end_status, run_status, program_by, run_by_reads, MayShow, answer_shown, Runs, steps, kind, form, there}
+use Rattle.alpha_cmd.specs.Commands.Run.{run_by_reads, MayShow, Runs, steps, kind, form, there}
+use Rattle.alpha_cmd.specs.RunAnswer.{end_status, run_status, program_by, answer_shown}
 use Rattle.alpha_cmd.proofs.Lawful.{Lawful, Then-lawful, Goes-lawful}
 use Rattle.alpha_cmd.proofs.Stages.{ImageOf-lawful}
 use Rattle.alpha_cmd.proofs.Forms.{IsLawfulForm, is_fault}

@@ -1,7 +1,8 @@
 -- The laws of `trial`.
 use Rattle.std.proofs.Common.{ℕ, ap, inl}
 use Rattle.alpha_trial.specs.Report.{trial_text}
-use Rattle.alpha_cmd.specs.Answer.{World, Answer, done_with}
+use Rattle.alpha_cmd.specs.Answer.{Answer}
+use Rattle.alpha_cmd.specs.AnswerBy.{World, done_with}
 use Rattle.alpha_cmd.specs.Commands.Trial.{form}
 use Rattle.alpha_cmd.proofs.Lawful.{Gives-lawful}
 use Rattle.alpha_cmd.proofs.Forms.{IsLawfulForm, is_fault}

@@ -10,7 +10,7 @@ use Rattle.alpha_cmd.specs.declared.status.Status.TheVariants.{BadSource}
 use Rattle.alpha_cmd.specs.Outcome.{Outcome, Either, Then}
 use Rattle.alpha_cmd.specs.Status.{Says}
 use Rattle.alpha_cmd.specs.Image.{Reads}
-use Rattle.alpha_cmd.specs.Answer.{World}
+use Rattle.alpha_cmd.specs.AnswerBy.{World}
 use Rattle.alpha_cmd.specs.Form.{Form, Kind, keeps_last, making, making_there}
 
 -- the most bytes of a source

@@ -2,7 +2,8 @@
 use Rattle.std.specs.Prelude.{ℕ, List, [], ◌∷◌, ◌++◌, codes, Option}
 use Rattle.alpha_cmd.specs.Outcome.{Outcome, Then, Gives}
 use Rattle.alpha_cmd.specs.Image.{ImageOf, Judges}
-use Rattle.alpha_cmd.specs.Answer.{World, Answer, done_with}
+use Rattle.alpha_cmd.specs.Answer.{Answer}
+use Rattle.alpha_cmd.specs.AnswerBy.{World, done_with}
 use Rattle.alpha_cmd.specs.Form.{Form, Kind, IsThere, needs_files, reads}
 
 -- `accepted` and a line feed

@@ -3,7 +3,8 @@ use Rattle.std.specs.Prelude.{ℕ, List}
 use Rattle.alpha_dis.specs.Listing.{listing}
 use Rattle.alpha_cmd.specs.Outcome.{Outcome, Then, Gives}
 use Rattle.alpha_cmd.specs.Image.{ImageOf}
-use Rattle.alpha_cmd.specs.Answer.{World, Answer, done_with}
+use Rattle.alpha_cmd.specs.Answer.{Answer}
+use Rattle.alpha_cmd.specs.AnswerBy.{World, done_with}
 use Rattle.alpha_cmd.specs.Form.{Form, Kind, IsThere, needs_files, reads}
 
 abbrev pub steps : List ℕ → World → Outcome Answer → Type 0

@@ -11,7 +11,7 @@ use Rattle.alpha_cmd.specs.declared.status.Status.TheVariants.{Unfixable, FixedL
 use Rattle.alpha_cmd.specs.Outcome.{Outcome, Either, Then}
 use Rattle.alpha_cmd.specs.Status.{Says, unfixable_line}
 use Rattle.alpha_cmd.specs.Image.{Reads}
-use Rattle.alpha_cmd.specs.Answer.{World}
+use Rattle.alpha_cmd.specs.AnswerBy.{World}
 use Rattle.alpha_cmd.specs.Form.{Form, Kind, keeps_last, making, making_there}
 use Rattle.alpha_cmd.specs.Commands.Asm.{source_limit, NoProgram}
 

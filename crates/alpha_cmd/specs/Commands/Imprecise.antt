@@ -4,8 +4,8 @@ use Rattle.std.specs.Prelude.{◌≡◌, ◌≤◌, ℕ, ◌%◌, ◌^◌, Bool,
 use Rattle.alpha_io.specs.Files.{Files}
 use Rattle.alpha_image.specs.Parts.{Parts}
 use Rattle.alpha_request.specs.declared.options.RunOptions.{RunOptions}
-use Rattle.alpha_request.specs.Options.{Origin}
-use Rattle.alpha_request.specs.Options as choices_of
+use Rattle.alpha_request.specs.Origin.{Origin}
+use Rattle.alpha_request.specs.Origin as choices_of
 use Rattle.alpha_seq.specs.declared.end.End.{End}
 use Rattle.alpha_seq.specs.declared.end.RunEnd.{RunEnd}
 use Rattle.alpha_seq.specs.declared.end.RunEnd.TheVariants as runs
@@ -13,7 +13,7 @@ use Rattle.alpha_seq.specs.Notes.{end_line}
 use Rattle.alpha_seq.specs.State.{Program}
 use Rattle.alpha_seq.specs.Start.{start}
 use Rattle.alpha_seq.specs.Run.{Shown, sequential}
-use Rattle.alpha_imprecise.specs.Run.{HasUsed}
+use Rattle.alpha_imprecise.specs.Used.{HasUsed}
 use Rattle.alpha_imprecise.specs.Made.{Making, begun, first_words, LostTrap, ShownWild, shown_making, imprecise_by}
 use Rattle.alpha_imprecise.specs.Free.{run_making_over}
 use Rattle.alpha_cmd.specs.declared.status.Status.{Status}
@@ -23,9 +23,11 @@ use Rattle.alpha_cmd.specs.Outcome.{Outcome, Either, Never, Then, Gives}
 use Rattle.alpha_cmd.specs.Image.{ImageOf, Judges}
 use Rattle.alpha_cmd.specs.Choosing.{ChoicesOf}
 use Rattle.alpha_cmd.specs.Kept.{nothing}
-use Rattle.alpha_cmd.specs.Answer.{World, Answer}
+use Rattle.alpha_cmd.specs.Answer.{Answer}
+use Rattle.alpha_cmd.specs.AnswerBy.{World}
 use Rattle.alpha_cmd.specs.Form.{Form, Kind, IsThere, needs_files_and_input, streams}
-use Rattle.alpha_cmd.specs.Commands.Run.{drawn_status, program_by, MayShow}
+use Rattle.alpha_cmd.specs.Commands.Run.{MayShow}
+use Rattle.alpha_cmd.specs.RunAnswer.{drawn_status, program_by}
 
 -- ---- the stages
 

@@ -18,7 +18,7 @@ use Rattle.alpha_cmd.specs.declared.status.Status.TheVariants.{Done, BadModule, 
 use Rattle.alpha_cmd.specs.Outcome.{Outcome, Either, Then, Each}
 use Rattle.alpha_cmd.specs.Status.{Says}
 use Rattle.alpha_cmd.specs.Image.{Reads}
-use Rattle.alpha_cmd.specs.Answer.{World}
+use Rattle.alpha_cmd.specs.AnswerBy.{World}
 use Rattle.alpha_cmd.specs.Form.{Form, Kind, keeps_last, making, making_there}
 
 -- ---- the stages

@@ -6,7 +6,7 @@ use Rattle.alpha_io.specs.Shelved.{Shelved}
 use Rattle.alpha_io.specs.Sunk.{Sunk, Puts}
 use Rattle.alpha_request.specs.declared.options.RunOptions.{RunOptions}
 use Rattle.alpha_request.specs.Command.{Command, record_run}
-use Rattle.alpha_request.specs.Options.{Origin}
+use Rattle.alpha_request.specs.Origin.{Origin}
 use Rattle.alpha_seq.specs.declared.end.End.{End}
 use Rattle.alpha_seq.specs.Run.{notes_of}
 use Rattle.alpha_seq.specs.Start.{start}
@@ -19,10 +19,11 @@ use Rattle.alpha_cmd.specs.declared.record.Recorded.{Recorded}
 use Rattle.alpha_cmd.specs.declared.record.Recorded.TheVariants as ends
 use Rattle.alpha_cmd.specs.declared.status.Status.{Status}
 use Rattle.alpha_cmd.specs.declared.status.Status.TheVariants.{ShelfFault, InputFault, SinkFault, NoMemory, JournalFull}
-use Rattle.alpha_cmd.specs.Answer.{World, Answer, said}
+use Rattle.alpha_cmd.specs.Answer.{Answer}
+use Rattle.alpha_cmd.specs.AnswerBy.{World, said}
 use Rattle.alpha_cmd.specs.Commands.Imprecise.{Plan, PlanOf, Passes, MayShowWild, wild_status, wild_line, answer_wild, HasChoices}
 use Rattle.alpha_cmd.specs.Commands.Imprecise as wilds
-use Rattle.alpha_cmd.specs.Commands.Run.{program_by}
+use Rattle.alpha_cmd.specs.RunAnswer.{program_by}
 use Rattle.alpha_cmd.specs.Decision.{answer_in}
 use Rattle.alpha_cmd.specs.Form.{Form, Kind, IsThere, needs_files_and_input, records}
 use Rattle.alpha_cmd.specs.Keeping.{Untaken}

@@ -13,7 +13,8 @@ use Rattle.alpha_cmd.specs.declared.status.Status.TheVariants.{BadJournal, NotAR
 use Rattle.alpha_cmd.specs.Outcome.{Outcome, Either, Then, Gives}
 use Rattle.alpha_cmd.specs.Status.{Says}
 use Rattle.alpha_cmd.specs.Image.{Reads, ImageOf}
-use Rattle.alpha_cmd.specs.Answer.{World, Answer, done_with}
+use Rattle.alpha_cmd.specs.Answer.{Answer}
+use Rattle.alpha_cmd.specs.AnswerBy.{World, done_with}
 use Rattle.alpha_cmd.specs.Form.{Form, Kind, IsThere, needs_files, reads}
 
 -- ---- the stages

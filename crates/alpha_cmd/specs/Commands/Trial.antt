@@ -2,7 +2,8 @@
 use Rattle.std.specs.Prelude.{ℕ}
 use Rattle.alpha_trial.specs.Report.{trial_text}
 use Rattle.alpha_cmd.specs.Outcome.{Outcome, Gives}
-use Rattle.alpha_cmd.specs.Answer.{World, Answer, done_with}
+use Rattle.alpha_cmd.specs.Answer.{Answer}
+use Rattle.alpha_cmd.specs.AnswerBy.{World, done_with}
 use Rattle.alpha_cmd.specs.Form.{Form, Kind, needs_nothing, reads}
 
 abbrev pub steps : ℕ → World → Outcome Answer → Type 0

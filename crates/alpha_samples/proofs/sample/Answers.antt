@@ -1,6 +1,6 @@
 use Rattle.std.proofs.Common.{◌≡◌, ◌*◌, ℕ, List, length, ap, ◌∙◌, arith}
 use Rattle.std.proofs.lemmas.Result.{IfOk-weaker}
-use Rattle.alpha_image.specs.Layout.{words_of}
+use Rattle.alpha_image.specs.Reading.{words_of}
 use Rattle.alpha_image.specs.Parts.{Parts}
 use Rattle.alpha_image.proofs.CodeWords.{length-flat_map_longword}
 use Rattle.alpha_samples.specs.Sample.{sample}

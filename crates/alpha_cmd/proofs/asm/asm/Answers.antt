@@ -1,5 +1,5 @@
 use Rattle.alpha_io.specs.Faults.{Rose}
-use Rattle.alpha_cmd.specs.Answer.{World}
+use Rattle.alpha_cmd.specs.AnswerBy.{World}
 use Rattle.alpha_cmd.specs.Commands.Asm.{Makes, form, kind}
 use Rattle.alpha_cmd.specs.Decision.{answer_in}
 use Rattle.alpha_cmd.specs.Keeping.{KeepsAs}

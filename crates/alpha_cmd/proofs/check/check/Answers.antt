@@ -1,8 +1,9 @@
 use Rattle.std.proofs.Common.{refl, ap, subst, inl}
 use Rattle.alpha_io.specs.Faults.{Rose}
-use Rattle.alpha_shadow.specs.Broken.{IsAccepted, IsLeastBroken}
+use Rattle.alpha_shadow.specs.Broken.{IsAccepted}
+use Rattle.alpha_shadow.specs.Least.{IsLeastBroken}
 use Rattle.alpha_shadow.specs.Report.{broken_line}
-use Rattle.alpha_cmd.specs.Answer.{World}
+use Rattle.alpha_cmd.specs.AnswerBy.{World}
 use Rattle.alpha_cmd.specs.Outcome.{Then, Gives}
 use Rattle.alpha_cmd.specs.Status.{status_line}
 use Rattle.alpha_cmd.specs.Image.{ImageOf, Judges}

@@ -4,7 +4,8 @@ use Rattle.alpha_io.specs.Shelved.{shelved}
 use Rattle.alpha_io.specs.Sunk.{sunk}
 use Rattle.alpha_seq.specs.Devices.{drawn}
 use Rattle.alpha_debug.specs.declared.end.DebugEnd.TheVariants as ends
-use Rattle.alpha_cmd.specs.Answer.{Answer, world}
+use Rattle.alpha_cmd.specs.Answer.{Answer}
+use Rattle.alpha_cmd.specs.AnswerBy.{world}
 use Rattle.alpha_cmd.specs.Decision.{answer_in}
 use Rattle.alpha_cmd.specs.Ends.{Leaves, still}
 use Rattle.alpha_cmd.specs.Tries.{TriesBy}

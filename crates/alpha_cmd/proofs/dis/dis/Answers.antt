@@ -4,7 +4,8 @@ use Rattle.alpha_io.specs.Shelved.{shelved}
 use Rattle.alpha_io.specs.Sunk.{sunk}
 use Rattle.alpha_io.proofs.Sinks.{Puts-none, Partly-none}
 use Rattle.alpha_dis.specs.Listing.{listing}
-use Rattle.alpha_cmd.specs.Answer.{World, Answer, done_with}
+use Rattle.alpha_cmd.specs.Answer.{Answer}
+use Rattle.alpha_cmd.specs.AnswerBy.{World, done_with}
 use Rattle.alpha_cmd.specs.Decision.{answer_in}
 use Rattle.alpha_cmd.specs.Ends.{Leaves, still}
 use Rattle.alpha_cmd.specs.Tries.{TriesBy}

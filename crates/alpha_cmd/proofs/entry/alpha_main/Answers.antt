@@ -3,7 +3,7 @@ use Rattle.alpha_io.proofs.Shelved.{KeepsFiles-refl}
 use Rattle.alpha_cmd.specs.declared.status.Status.TheVariants.{Done, SinkFault, NoMemory}
 use Rattle.alpha_seq.specs.Devices.{drawn}
 use Rattle.alpha_cmd.specs.Alike.{Alike}
-use Rattle.alpha_cmd.specs.Answer.{world}
+use Rattle.alpha_cmd.specs.AnswerBy.{world}
 use Rattle.alpha_cmd.specs.Asks.{Asks}
 use Rattle.alpha_cmd.specs.Call.{called}
 use Rattle.alpha_cmd.specs.Checked.{Checked}
@@ -14,7 +14,8 @@ use Rattle.alpha_cmd.specs.Fixed.{Fixes}
 use Rattle.alpha_cmd.specs.Promises.{EndsWhole, EndsCut, GivesOne, GivesThe, SparesFiles, TakesInput, LeavesScript, EndsAsked, LosesNone}
 use Rattle.alpha_cmd.specs.ReadsNothing.{Unread, UnreadAlike}
 use Rattle.alpha_cmd.specs.Replayed.{ShowsRuns}
-use Rattle.alpha_cmd.specs.Restarts.{Restarts, Accepts}
+use Rattle.alpha_cmd.specs.Restarts.{Restarts}
+use Rattle.alpha_cmd.specs.Accepts.{Accepts}
 use Rattle.alpha_cmd.specs.Sequential.{Sequential}
 use Rattle.alpha_cmd.specs.ToldRun.{Ran}
 use Rattle.alpha_cmd.proofs.JournalStatus.{no_end}

@@ -6,7 +6,7 @@ use Rattle.alpha_request.specs.Options.{origin_of}
 use Rattle.alpha_cmd.specs.declared.status.Status.TheVariants.{NotRestartable}
 use Rattle.alpha_cmd.specs.Chooser.{ahead_in}
 use Rattle.alpha_cmd.specs.Commands.Imprecise.{plan_by, Passes, PlanOf, RunsWild, form}
-use Rattle.alpha_cmd.specs.Answer.{world}
+use Rattle.alpha_cmd.specs.AnswerBy.{world}
 use Rattle.alpha_cmd.specs.Decision.{answer_in}
 use Rattle.alpha_cmd.specs.Tries.{TriesBy}
 use Rattle.alpha_cmd.proofs.Endings.{Leaves-all}

@@ -11,9 +11,10 @@ use Rattle.alpha_seq.specs.Devices.{drawn}
 use Rattle.alpha_cmd.specs.declared.status.Status.TheVariants as statuses
 use Rattle.alpha_cmd.specs.Chooser.{ahead_in}
 use Rattle.alpha_cmd.specs.Commands.Imprecise.{plan_by, form, kind}
-use Rattle.alpha_cmd.specs.Commands.Run.{drawn_status}
+use Rattle.alpha_cmd.specs.RunAnswer.{drawn_status}
 use Rattle.alpha_cmd.specs.Form.{MayTakeBy}
-use Rattle.alpha_cmd.specs.Answer.{World, Answer}
+use Rattle.alpha_cmd.specs.Answer.{Answer}
+use Rattle.alpha_cmd.specs.AnswerBy.{World}
 use Rattle.alpha_cmd.specs.Ends.{Leaves}
 use Rattle.alpha_cmd.specs.Tries.{TriesBy}
 use Rattle.alpha_cmd.proofs.Commands.Imprecise.{passed, takes_wild, takes_none}

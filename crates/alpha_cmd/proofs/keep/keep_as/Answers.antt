@@ -3,7 +3,8 @@ use Rattle.alpha_io.specs.Faults.{Rose}
 use Rattle.alpha_io.specs.Files.{Refuses}
 use Rattle.alpha_io.specs.Shelved.{shelved}
 use Rattle.alpha_cmd.specs.declared.status.Status.TheVariants.{ShelfFault}
-use Rattle.alpha_cmd.specs.Answer.{World, Answer, kept_as}
+use Rattle.alpha_cmd.specs.Answer.{Answer}
+use Rattle.alpha_cmd.specs.AnswerBy.{World, kept_as}
 use Rattle.alpha_cmd.specs.Decision.{answer_in}
 use Rattle.alpha_cmd.specs.Ends.{Settles}
 use Rattle.alpha_cmd.specs.Form.{MayKeepBy, keeps_last}

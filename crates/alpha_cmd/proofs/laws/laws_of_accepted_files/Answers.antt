@@ -1,4 +1,4 @@
-use Rattle.alpha_request.specs.Options.{seed}
+use Rattle.alpha_request.specs.Origin.{seed}
 use Rattle.alpha_cmd.proofs.Accepted.{spelled, checked, seeds, listed}
 use Rattle.alpha_cmd.proofs.Alike.{alike}
 use Rattle.alpha_cmd.proofs.laws.laws_of_accepted_files.Goals as goal

@@ -1,6 +1,6 @@
 use Rattle.std.proofs.Common.{ap}
 use Rattle.alpha_io.specs.Faults.{Rose}
-use Rattle.alpha_cmd.specs.Answer.{World, said}
+use Rattle.alpha_cmd.specs.AnswerBy.{World, said}
 use Rattle.alpha_cmd.specs.Commands.Module.{Makes, form, kind}
 use Rattle.alpha_cmd.specs.Decision.{answer_in}
 use Rattle.alpha_cmd.specs.Keeping.{KeepsAs}

@@ -1,6 +1,6 @@
 use Rattle.std.proofs.Common.{◌∙◌, sym, ap}
 use Rattle.alpha_seq.specs.declared.end.RunEnd.{RunEnd}
-use Rattle.alpha_cmd.specs.Answer.{said}
+use Rattle.alpha_cmd.specs.AnswerBy.{said}
 use Rattle.alpha_cmd.specs.Commands.Imprecise.{answer_status, answer_line}
 use Rattle.alpha_cmd.proofs.record.decision_of.Goals as goal
 

@@ -9,7 +9,8 @@ use Rattle.alpha_shadow.specs.Report.{broken_line}
 use Rattle.alpha_request.specs.Options.{origin_of}
 use Rattle.alpha_replay.specs.Journal.{spelling}
 use Rattle.alpha_cmd.specs.declared.status.Status.TheVariants.{NotRestartable}
-use Rattle.alpha_cmd.specs.Answer.{Answer, world}
+use Rattle.alpha_cmd.specs.Answer.{Answer}
+use Rattle.alpha_cmd.specs.AnswerBy.{world}
 use Rattle.alpha_cmd.specs.Chooser.{ahead_in}
 use Rattle.alpha_cmd.specs.Commands.Imprecise.{plan_by, Passes, PlanOf}
 use Rattle.alpha_cmd.specs.Commands.Record.{Planned, Records, form, kind}

@@ -10,7 +10,8 @@ use Rattle.alpha_imprecise.proofs.Fresh.{run_told, run_sequential}
 use Rattle.alpha_cmd.specs.Chooser.{ahead_in}
 use Rattle.alpha_cmd.specs.Commands.Imprecise.{plan_by, answer_status}
 use Rattle.alpha_cmd.specs.Commands.Record.{unwatched, form}
-use Rattle.alpha_cmd.specs.Answer.{World, Answer}
+use Rattle.alpha_cmd.specs.Answer.{Answer}
+use Rattle.alpha_cmd.specs.AnswerBy.{World}
 use Rattle.alpha_cmd.specs.Decision.{answer_in}
 use Rattle.alpha_cmd.specs.Ends.{Leaves}
 use Rattle.alpha_cmd.specs.Tries.{TriesBy}

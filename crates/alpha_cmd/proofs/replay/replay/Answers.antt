@@ -1,6 +1,6 @@
 use Rattle.std.proofs.Common.{inl}
 use Rattle.alpha_io.specs.Faults.{Rose}
-use Rattle.alpha_cmd.specs.Answer.{World}
+use Rattle.alpha_cmd.specs.AnswerBy.{World}
 use Rattle.alpha_cmd.specs.Outcome.{Gives}
 use Rattle.alpha_cmd.specs.Status.{status_line}
 use Rattle.alpha_cmd.specs.Commands.Replay.{RunOf, shown, form}

@@ -4,7 +4,7 @@ use Rattle.alpha_io.specs.Shelved.{shelved}
 use Rattle.alpha_seq.specs.State.{Program}
 use Rattle.alpha_cmd.specs.Outcome.{goes}
 use Rattle.alpha_cmd.specs.Image.{ImageOf}
-use Rattle.alpha_cmd.specs.Answer.{world}
+use Rattle.alpha_cmd.specs.AnswerBy.{world}
 use Rattle.alpha_cmd.specs.Decision.{answer_in}
 use Rattle.alpha_cmd.specs.Commands.Run.{Runs, form}
 use Rattle.alpha_cmd.specs.Status.{status_line}

@@ -3,7 +3,8 @@ use Rattle.alpha_io.specs.Faults.{Rose}
 use Rattle.alpha_io.specs.Sunk.{sunk}
 use Rattle.alpha_seq.specs.Devices.{drawn}
 use Rattle.alpha_seq.proofs.Filling.{cut_front}
-use Rattle.alpha_cmd.specs.Answer.{World, Answer}
+use Rattle.alpha_cmd.specs.Answer.{Answer}
+use Rattle.alpha_cmd.specs.AnswerBy.{World}
 use Rattle.alpha_cmd.specs.Ends.{Leaves}
 use Rattle.alpha_cmd.specs.Commands.Run.{form, kind}
 use Rattle.alpha_cmd.specs.Form.{MayTakeBy}

@@ -5,7 +5,7 @@ use Rattle.alpha_io.specs.Shelved.{shelved}
 use Rattle.alpha_io.specs.Sunk.{sunk}
 use Rattle.alpha_cmd.specs.declared.status.Status.TheVariants.{SinkFault}
 use Rattle.alpha_request.specs.Command.{Command}
-use Rattle.alpha_cmd.specs.Answer.{world}
+use Rattle.alpha_cmd.specs.AnswerBy.{world}
 use Rattle.alpha_cmd.specs.Asks.{Asks}
 use Rattle.alpha_cmd.specs.Call.{called}
 use Rattle.alpha_cmd.specs.Commands.{kind_of, MayTake, Spares}

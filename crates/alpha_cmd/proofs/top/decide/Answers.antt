@@ -3,9 +3,10 @@ use Rattle.alpha_io.specs.Faults.{Rose}
 use Rattle.alpha_io.specs.Shelved.{shelved}
 use Rattle.alpha_io.specs.Sunk.{sunk}
 use Rattle.alpha_io.proofs.Shelved.{KeepsFiles-refl}
-use Rattle.alpha_request.specs.Command.{command_of, record_run}
+use Rattle.alpha_request.specs.Command.{record_run}
+use Rattle.alpha_request.specs.CommandOf.{command_of}
 use Rattle.alpha_request.proofs.Blocks.{asked_blocks}
-use Rattle.alpha_cmd.specs.Answer.{world}
+use Rattle.alpha_cmd.specs.AnswerBy.{world}
 use Rattle.alpha_cmd.specs.Decision.{answer_in}
 use Rattle.alpha_cmd.specs.Ends.{status_in}
 use Rattle.alpha_cmd.specs.Commands.{form_of, MayTake}

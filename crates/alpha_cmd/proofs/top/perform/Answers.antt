@@ -2,9 +2,9 @@ use Rattle.std.proofs.Common.{ap}
 use Rattle.alpha_io.specs.Faults.{Rose}
 use Rattle.alpha_io.specs.Shelved.{shelved}
 use Rattle.alpha_io.proofs.Shelved.{KeepsFiles-refl}
-use Rattle.alpha_request.specs.Command.{command_of, names_of}
+use Rattle.alpha_request.specs.CommandOf.{command_of, names_of}
 use Rattle.alpha_seq.specs.Devices.{drawn}
-use Rattle.alpha_cmd.specs.Answer.{world}
+use Rattle.alpha_cmd.specs.AnswerBy.{world}
 use Rattle.alpha_cmd.specs.Decision.{answer_in}
 use Rattle.alpha_cmd.specs.Commands.Asm as assemblies
 use Rattle.alpha_cmd.specs.Commands.Check as checks

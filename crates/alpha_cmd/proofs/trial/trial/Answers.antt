@@ -1,7 +1,8 @@
 use Rattle.std.proofs.Common.{Err, sym, ap, subst}
 use Rattle.alpha_io.specs.Faults.{Rose}
 use Rattle.alpha_io.specs.Sunk.{sunk}
-use Rattle.alpha_cmd.specs.Answer.{World, Answer}
+use Rattle.alpha_cmd.specs.Answer.{Answer}
+use Rattle.alpha_cmd.specs.AnswerBy.{World}
 use Rattle.alpha_cmd.specs.Ends.{Leaves, still}
 use Rattle.alpha_cmd.specs.Commands.Trial.{form}
 use Rattle.alpha_cmd.specs.Tries.{TriesBy}

@@ -1,7 +1,7 @@
 use Rattle.std.proofs.Common.{[], ◌∷◌, List, length, ap, ◌∙◌}
 use Rattle.alpha_table.specs.declared.form.Form.{Form}
 use Rattle.alpha_image.specs.declared.version.Version.TheVariants.{One}
-use Rattle.alpha_image.specs.Numbers.{level_numbers}
+use Rattle.alpha_image.specs.Fields.{level_numbers}
 use Rattle.alpha_asm.specs.Program.{program_of, program_with}
 use Rattle.alpha_asm.proofs.Making.{insns_of_words}
 use Rattle.alpha_link.proofs.linker.image_of.Goals as goal

@@ -1,6 +1,6 @@
 use Rattle.std.proofs.Common.{All}
 use Rattle.alpha_words.specs.declared.Level.TheVariants.{One}
-use Rattle.alpha_image.specs.Parts.{IsCodeInsn}
+use Rattle.alpha_image.specs.Insns.{IsCodeInsn}
 use Rattle.alpha_link.proofs.Joining.{Joined}
 use Rattle.alpha_link.proofs.linker.joined.Given as goal
 

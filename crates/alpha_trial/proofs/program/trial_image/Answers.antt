@@ -1,6 +1,6 @@
 use Rattle.std.proofs.Common.{◌≡◌, ◌*◌, ℕ, List, length, ap, ◌∙◌, arith}
 use Rattle.alpha_words.specs.declared.Level.TheVariants as levels
-use Rattle.alpha_image.specs.Layout.{words_of}
+use Rattle.alpha_image.specs.Reading.{words_of}
 use Rattle.alpha_image.proofs.CodeWords.{words_of-flat_map, length-flat_map_longword}
 use Rattle.alpha_trial.specs.Words.{program_words, trial_image}
 use Rattle.alpha_trial.proofs.Decoding.{program_fine}

@@ -1,9 +1,9 @@
 use Rattle.std.proofs.Common.{◌≡◌, List, Ok, length, ap, sym, ◌∙◌}
 use Rattle.std.specs.Option.{option_map}
 use Rattle.alpha_image.specs.declared.segment.Segment.{Segment}
-use Rattle.alpha_image.specs.Numbers.{level_numbers}
-use Rattle.alpha_image.specs.Parts.{parts_with}
-use Rattle.alpha_image.specs.Rules.{least_bad_field}
+use Rattle.alpha_image.specs.Fields.{level_numbers}
+use Rattle.alpha_image.specs.PartsOf.{parts_with}
+use Rattle.alpha_image.specs.FieldTests.{least_bad_field}
 use Rattle.alpha_asm.specs.declared.fault.AsmFault.TheVariants.{ImageField, Reach}
 use Rattle.alpha_asm.specs.Program.{program_of, program_with, version_of, own_segments}
 use Rattle.alpha_asm.specs.Finished.{finished_numbers, finished_program}

@@ -1,6 +1,6 @@
 use Rattle.std.proofs.Common.{◌≡◌, All, None, sym, subst, ◌∙◌}
 use Rattle.alpha_words.specs.declared.Level.TheVariants.{One}
-use Rattle.alpha_image.specs.Parts.{IsCodeInsn}
+use Rattle.alpha_image.specs.Insns.{IsCodeInsn}
 use Rattle.alpha_link.proofs.Joining.{joins_one}
 use Rattle.alpha_link.proofs.LinkedInsns.{level_one_with_all}
 use Rattle.alpha_link.proofs.output.Output.join.Goals as goal

@@ -1,0 +1,47 @@
+-- What the run of an image's program has as its answer.
+use Rattle.std.specs.Prelude.{ℕ, List, Option, Some, None, option_map}
+use Rattle.alpha_image.specs.Parts.{Parts}
+use Rattle.alpha_request.specs.declared.options.RunOptions.{RunOptions}
+use Rattle.alpha_seq.specs.declared.end.End.{End}
+use Rattle.alpha_seq.specs.declared.end.End.TheVariants as ends
+use Rattle.alpha_seq.specs.Notes.{end_line}
+use Rattle.alpha_seq.specs.State.{Program}
+use Rattle.alpha_seq.specs.Run.{Shown}
+use Rattle.alpha_cmd.specs.declared.status.Status.{Status}
+use Rattle.alpha_cmd.specs.declared.status.Status.TheVariants.{Done, Stopped, StepsSpent}
+use Rattle.alpha_cmd.specs.SpentLine.{spent_line}
+use Rattle.alpha_cmd.specs.Kept.{nothing}
+use Rattle.alpha_cmd.specs.Answer.{Answer}
+
+-- the status of an end: by the system call exit the program did what was asked, by so many words that were drawn
+abbrev pub drawn_status : ℕ → End → Status
+drawn_status n (ends.Exit v) = Done n
+drawn_status n end = Stopped end
+
+abbrev pub end_status : End → Status
+end_status end = drawn_status 0 end
+
+-- the status of a run by how the program ended, if it has
+abbrev pub run_status : Option End → Status
+run_status None = StepsSpent
+run_status (Some end) = end_status end
+
+-- its last line
+abbrev pub run_line : Option End → List ℕ
+run_line None = spent_line
+run_line (Some end) = end_line end
+
+-- an image with the options' way to complete an overflow
+abbrev pub program_by : RunOptions → Parts → Program
+program_by options image = record { image = image; how = options.complete }
+
+-- what a run shows
+abbrev pub answer_shown : Option (List ℕ) → Shown → Answer
+answer_shown input s = record {
+  status = run_status s.end;
+  output = s.output;
+  trace = s.notes;
+  line = run_line s.end;
+  left = option_map (λ bytes. s.left) input;
+  kept = nothing;
+}
