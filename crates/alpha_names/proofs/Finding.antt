@@ -9,7 +9,7 @@ use Rattle.std.specs.Ordering.{nat_cmp, is_eq}
 use Rattle.std.specs.Str.{bytes_eq}
 use Rattle.std.proofs.lemmas.Map.Text.{is_eq-slice_cmp}
 use Rattle.std.proofs.lemmas.Slice.Eq.{bytes_eq-Decides}
-use Rattle.alpha_names.specs.declared.crowd.Crowd.{Crowd}
+use Rattle.alpha_names.specs.declared.others.Others.{Others}
 use Rattle.alpha_names.specs.declared.tree.Slot.{Slot}
 use Rattle.alpha_names.specs.declared.tree.Look.{Look}
 use Rattle.alpha_names.specs.declared.tree.Look.TheVariants.{Free, Taken, Deep}
@@ -83,11 +83,11 @@ keeps_same old new hash elsewhere same = λ is_right name number e.
     ap (λ (f : ℕ → Slot). taken_or is_right (seek_in f (hash name)) (elsewhere is_right name)) (fun_ext same) ∙ e
 
 -- the number of a name has been put into the map
-abbrev pub Puts : Crowd → Crowd → List ℕ → ℕ → Type 0
-Puts old new added number = (q : Bor (List ℕ)) → get_by (λ n. slice_cmp nat_cmp q.now n.now) new.others
-    ≡ cond (is_eq (slice_cmp nat_cmp added q.now)) (Some number) (get_by (λ n. slice_cmp nat_cmp q.now n.now) old.others)
+abbrev pub Puts : Others → Others → List ℕ → ℕ → Type 0
+Puts old new added number = (q : Bor (List ℕ)) → get_by (λ n. slice_cmp nat_cmp q.now n.now) new.numbers
+    ≡ cond (is_eq (slice_cmp nat_cmp added q.now)) (Some number) (get_by (λ n. slice_cmp nat_cmp q.now n.now) old.numbers)
 
-pub grows_other : (old new : Crowd) (name : List ℕ) (number : ℕ) → Puts old new name number →
+pub grows_other : (old new : Others) (name : List ℕ) (number : ℕ) → Puts old new name number →
     Grows (other_number old) (other_number new) name number
 grows_other old new name number puts = (
   λ is_right other k differs e.
@@ -97,11 +97,11 @@ grows_other old new name number puts = (
       (λ held. absurd (differs (sym ((bytes_eq-Decides name other).0 held))))
       (λ fails. is_eq-slice_cmp name other ∙ fails) in
       ap (λ o. if_right is_right o)
-      (puts q ∙ ap (λ (b : Bool). cond b (Some number) (get_by (λ n. slice_cmp nat_cmp other n.now) old.others)) apart) ∙ e,
+      (puts q ∙ ap (λ (b : Bool). cond b (Some number) (get_by (λ n. slice_cmp nat_cmp other n.now) old.numbers)) apart) ∙ e,
   λ is_right only.
       let q : Bor (List ℕ) = record { ref_ptr = (0, 0); now = name } in
       let here : is_eq (slice_cmp nat_cmp name name) ≡ true = is_eq-slice_cmp name name ∙ (bytes_eq-Decides name name).1 refl in
-      ap (λ o. if_right is_right o) (puts q ∙ ap (λ (b : Bool). cond b (Some number) (get_by (λ n. slice_cmp nat_cmp name n.now) old.others)) here)
+      ap (λ o. if_right is_right o) (puts q ∙ ap (λ (b : Bool). cond b (Some number) (get_by (λ n. slice_cmp nat_cmp name n.now) old.numbers)) here)
       ∙ ap (λ (b : Bool). if b then Some number else None) only.0,
 )
 
@@ -128,3 +128,7 @@ passes is_right Deep elsewhere taken wrong = refl
 pub if_ok : {X E : Type 0} (r : Result X E) (P Q : X → Type 0) → ((x : X) → P x → Q x) → IfOk r P → IfOk r Q
 if_ok (Ok x) P Q f h = f x h
 if_ok (Err e) P Q f h = tt
+
+pub on_ok_two : {X E : Type 0} (r : Result X E) (P Q R : Type 0) → (P → Q → R) → OnOk r P → OnOk r Q → OnOk r R
+on_ok_two (Ok x) P Q R f h k = f h k
+on_ok_two (Err e) P Q R f h k = tt

@@ -48,11 +48,11 @@ right_other : (is_right : ℕ → Bool) (o : Option ℕ) (number : ℕ) → if_r
 right_other is_right None number e = absurd (none_is_some number e)
 right_other is_right (Some k) number e = right_pick is_right k number None (λ f. absurd (none_is_some number f)) e
 
-sound : (numbers : Numbers) (is_right : ℕ → Bool) (name : List ℕ) (number : ℕ) → number_in numbers is_right name ≡ Some number → is_right number ≡ true
+pub sound : (numbers : Numbers) (is_right : ℕ → Bool) (name : List ℕ) (number : ℕ) → number_in numbers is_right name ≡ Some number → is_right number ≡ true
 sound numbers is_right name number e =
     right_stage is_right (seek_in (slot_in numbers.tree) (quick_hash name)) number (number_in_crowd numbers.crowd is_right name)
-    (λ f. right_stage is_right (seek_in (slot_in numbers.crowd.tree) (slow_hash name)) number (other_number numbers.crowd is_right name)
-    (λ g. right_other is_right (get_by (λ n. slice_cmp nat_cmp name n.now) numbers.crowd.others) number g) f) e
+    (λ f. right_stage is_right (seek_in (slot_in numbers.crowd.tree) (slow_hash name)) number (other_number numbers.crowd.others is_right name)
+    (λ g. right_other is_right (get_by (λ n. slice_cmp nat_cmp name n.now) numbers.crowd.others.numbers) number g) f) e
 
 -- a name has a number among these, or stands there
 there : (o : Option (Bor (List ℕ))) (name : List ℕ) → reads o name ≡ true → option_map (λ n. n.now) o ≡ Some name

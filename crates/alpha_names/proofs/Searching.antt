@@ -1,10 +1,11 @@
 -- Searches in trees, and what a filled slot changes of them.
 use Rattle.std.proofs.lemmas.Bool.{eqb-true}
-use Rattle.std.proofs.Common.{◌≡◌, ℕ, zero, suc, ◌+◌, ◌/◌, ◌%◌, ◌^◌, ◌<◌, Bool, true, false, nat_eq, if◌then◌else◌, refl, ap, sym, ◌∙◌, arith}
+use Rattle.std.proofs.Common.{◌≡◌, ℕ, zero, suc, ◌+◌, ◌-◌, ◌*◌, ◌/◌, ◌%◌, ◌^◌, ◌<◌, Bool, true, false, nat_eq, if◌then◌else◌, refl, ap, sym, subst, ◌∙◌, arith}
 use Rattle.alpha_names.specs.declared.tree.Slot.{Slot}
 use Rattle.alpha_names.specs.declared.tree.Look.{Look}
 use Rattle.alpha_names.specs.declared.tree.Look.TheVariants.{Free, Taken, Deep}
-use Rattle.alpha_names.specs.Tree.{met, seek, seek_in, Fills}
+use Rattle.alpha_names.specs.Tree.{free, slot_of, met, seek, seek_in, HasNumber, Fills}
+use Rattle.alpha_names.specs.declared.tree.Entry.{Entry}
 
 pub by_bool : (b : Bool) (P : Type 0) → (b ≡ true → P) → (b ≡ false → P) → P
 by_bool true P held fails = held refl
@@ -138,3 +139,12 @@ met_else s mark place further below differs =
 pub seek_none : (slot : ℕ → Slot) (mark n path place : ℕ) → n ≡ 0 → seek slot mark n path place ≡ Deep
 unfolding seek
 seek_none slot mark n path place e = ap (λ (k : ℕ). seek slot mark k path place) e
+
+-- the slot of an entry that isn't free
+pub has_number : (entry : Entry) (hash number : ℕ) → entry.mark ≡ hash % 2 ^ 32 → entry.next ≡ number + 1 → HasNumber (slot_of entry) hash number
+has_number entry hash number mark next =
+    let full : Slot = record { mark = entry.mark; number = entry.next - 1; below = 4096 + 2 * (entry.next - 1) } in
+    let fails : nat_eq entry.next 0 ≡ false = grind arith in
+    let is : slot_of entry ≡ full = ap (λ (b : Bool). if b then free else full) fails in
+    let less : entry.next - 1 ≡ number = omega arith in
+    (ap (λ (s : Slot). s.mark) is ∙ mark, ap (λ (s : Slot). s.number) is ∙ less, subst (λ (s : Slot). 0 < s.below) (sym is) (omega arith))

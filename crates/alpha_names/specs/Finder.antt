@@ -9,6 +9,7 @@ use Rattle.alpha_names.specs.Hashes.{quick_hash, slow_hash}
 use Rattle.alpha_names.specs.Tree.{slot_in, seek_in}
 use Rattle.alpha_names.specs.declared.crowd.Crowd.{Crowd}
 use Rattle.alpha_names.specs.declared.numbers.Numbers.{Numbers}
+use Rattle.alpha_names.specs.declared.others.Others.{Others}
 use Rattle.alpha_names.specs.declared.tree.Slot.{Slot}
 use Rattle.alpha_names.specs.declared.tree.Look.{Look}
 use Rattle.alpha_names.specs.declared.tree.Look.TheVariants.{Free, Taken, Deep}
@@ -40,11 +41,11 @@ if_right is_right None = None
 if_right is_right (Some number) = if is_right number then Some number else None
 
 -- the number of a name in the map
-abbrev pub other_number : Crowd → Finder
-other_number crowd is_right name = if_right is_right (get_by (λ n. slice_cmp nat_cmp name n.now) crowd.others)
+abbrev pub other_number : Others → Finder
+other_number others is_right name = if_right is_right (get_by (λ n. slice_cmp nat_cmp name n.now) others.numbers)
 
 abbrev pub number_in_crowd : Crowd → Finder
-number_in_crowd crowd = found_by (slot_in crowd.tree) slow_hash (other_number crowd)
+number_in_crowd crowd = found_by (slot_in crowd.tree) slow_hash (other_number crowd.others)
 
 abbrev pub number_in : Numbers → Finder
 number_in numbers = found_by (slot_in numbers.tree) quick_hash (number_in_crowd numbers.crowd)

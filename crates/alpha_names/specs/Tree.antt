@@ -1,5 +1,6 @@
 -- What a search in a tree of slots finds. A tree is a slot at each place, most of which are free.
-use Rattle.std.specs.Prelude.{◌≡◌, ℕ, zero, suc, ◌+◌, ◌/◌, ◌%◌, ◌^◌, ◌<◌, List, slice_index_or, nat_eq, false, if◌then◌else◌}
+use Rattle.std.specs.Prelude.{◌≡◌, ℕ, zero, suc, ◌+◌, ◌-◌, ◌*◌, ◌/◌, ◌%◌, ◌^◌, ◌<◌, List, slice_index_or, nat_eq, false, if◌then◌else◌}
+use Rattle.alpha_names.specs.declared.tree.Entry.{Entry}
 use Rattle.alpha_names.specs.declared.tree.Slot.{Slot}
 use Rattle.alpha_names.specs.declared.tree.Tree.{Tree}
 use Rattle.alpha_names.specs.declared.tree.Look.{Look}
@@ -8,11 +9,21 @@ use Rattle.alpha_names.specs.declared.tree.Look.TheVariants.{Free, Taken, Deep}
 abbrev pub free : Slot
 free = record { mark = 0; number = 0; below = 0 }
 
-abbrev pub slot_at : List Slot → ℕ → Slot
-slot_at slots place = slice_index_or slots place free
+abbrev pub none : Entry
+none = record { mark = 0; next = 0 }
+
+-- The slot that an entry stands for, which holds one more than the number: the slots below it have their places by the
+-- number.
+abbrev pub slot_of : Entry → Slot
+slot_of entry =
+    if nat_eq entry.next 0 then free
+    else record { mark = entry.mark; number = entry.next - 1; below = 4096 + 2 * (entry.next - 1) }
+
+abbrev pub slot_at : List Entry → ℕ → Slot
+slot_at entries place = slot_of (slice_index_or entries place none)
 
 abbrev pub slot_in : Tree → ℕ → Slot
-slot_in tree place = slot_at tree.slots.items place
+slot_in tree place = slot_at tree.entries.items place
 
 -- what is found at a slot, or else further down
 abbrev pub met : Slot → ℕ → ℕ → Look → Look

@@ -84,7 +84,7 @@ impl<'a> Names<'a> {
             ≡ (if added then self.old ++ name.entry.now ∷ [] else self.old)) }
         ensures same { OnErr result (self.new ≡ self.old) }
     {
-        if !self.numbers.add(&self.names, name)? {
+        if !self.numbers.add(&self.names, name, self.names.len())? {
             return Ok(false);
         }
         self.names.push(name)?;

@@ -1,4 +1,4 @@
-use Rattle.std.proofs.Common.{◌≡◌, List, ℕ, subst, ap, sym, ◌∙◌, length}
+use Rattle.std.proofs.Common.{◌≡◌, List, ℕ, subst, ap, sym, ◌∙◌, length, arith}
 use Rattle.std.specs.Prelude.{position, is_none, None}
 use Rattle.std.specs.Borrow.{Bor}
 use Rattle.std.specs.Str.{bytes_eq}
@@ -17,8 +17,7 @@ pub returns-then-not-branch-clause-value : goal.returns-then-not-branch-clause-v
 returns-then-not-branch-clause-value c =
     let name : List ℕ = c.args.name.now in
     sym c.if-not-branch.true ∙ (c.in_ok-add.ensures.value
-    ∙ ap is_none (ap (λ (ns : List (Bor (List ℕ))). number_in c.self.inside.numbers (is_named ns name) name) c.deref.ensures.value
-    ∙ (is_position c.self.inside.names.items c.self.inside.numbers c.self.invariant name ∙ ap (position (bytes_eq name)) c.self.view_is)))
+    ∙ ap is_none (is_position c.self.inside.names.items c.self.inside.numbers c.self.invariant name ∙ ap (position (bytes_eq name)) c.self.view_is))
 
 pub invariant_of-self-in_err-push : goal.invariant_of-self-in_err-push
 invariant_of-self-in_err-push c =
@@ -27,12 +26,12 @@ invariant_of-self-in_err-push c =
     let old = number_in c.self.inside.numbers in
     let new = number_in c.add.new.self in
     let P : List (Bor (List ℕ)) → Type 0 = λ ns. AreFoundBy ns new in
-    let Q : List (Bor (List ℕ)) → Type 0 = λ ns. Grows old new name (length ns) in
+    let Q : ℕ → Type 0 = λ n. Grows old new name n in
+    let size : c.len.result ≡ length items = omega (arith, c.len.ensures, c.self.inside.names.ok.0) in
     let absent : old (is_named items name) name ≡ None =
-    none_found (old (is_named items name) name) (sym c.if-not-branch.false ∙ (c.in_ok-add.ensures.value
-    ∙ ap (λ (ns : List (Bor (List ℕ))). is_none (old (is_named ns name) name)) c.deref.ensures.value)) in
+    none_found (old (is_named items name) name) (sym c.if-not-branch.false ∙ c.in_ok-add.ensures.value) in
     subst P (sym c.in_err-push.ensures.items)
-    (found_still items name old new c.self.invariant absent (subst Q c.deref.ensures.value (c.in_ok-add.ensures.ok c.if-not-branch.false)))
+    (found_still items name old new c.self.invariant absent (subst Q size (c.in_ok-add.ensures.ok c.if-not-branch.false)))
 
 pub invariant_of-self-2 : goal.invariant_of-self-2
 invariant_of-self-2 c =
@@ -41,16 +40,15 @@ invariant_of-self-2 c =
     let old = number_in c.self.inside.numbers in
     let new = number_in c.add.new.self in
     let P : List (Bor (List ℕ)) → Type 0 = λ ns. AreFoundBy ns new in
-    let Q : List (Bor (List ℕ)) → Type 0 = λ ns. Grows old new name (length ns) in
+    let Q : ℕ → Type 0 = λ n. Grows old new name n in
+    let size : c.len.result ≡ length items = omega (arith, c.len.ensures, c.self.inside.names.ok.0) in
     let absent : old (is_named items name) name ≡ None =
-    none_found (old (is_named items name) name) (sym c.if-not-branch.false ∙ (c.in_ok-add.ensures.value
-    ∙ ap (λ (ns : List (Bor (List ℕ))). is_none (old (is_named ns name) name)) c.deref.ensures.value)) in
+    none_found (old (is_named items name) name) (sym c.if-not-branch.false ∙ c.in_ok-add.ensures.value) in
     subst P (sym c.in_ok-push.ensures.items)
-    (found_more items c.args.name old new c.self.invariant absent (subst Q c.deref.ensures.value (c.in_ok-add.ensures.ok c.if-not-branch.false)))
+    (found_more items c.args.name old new c.self.invariant absent (subst Q size (c.in_ok-add.ensures.ok c.if-not-branch.false)))
 
 pub returns-clause-value : goal.returns-clause-value
 returns-clause-value c =
     let name : List ℕ = c.args.name.now in
     sym c.if-not-branch.false ∙ (c.in_ok-add.ensures.value
-    ∙ ap is_none (ap (λ (ns : List (Bor (List ℕ))). number_in c.self.inside.numbers (is_named ns name) name) c.deref.ensures.value
-    ∙ (is_position c.self.inside.names.items c.self.inside.numbers c.self.invariant name ∙ ap (position (bytes_eq name)) c.self.view_is)))
+    ∙ ap is_none (is_position c.self.inside.names.items c.self.inside.numbers c.self.invariant name ∙ ap (position (bytes_eq name)) c.self.view_is))
