@@ -43,11 +43,11 @@ def many_names(size):
     return module(code, data, names, [])
 
 
-def short_names(size):
-    """A module of so many bytes, nearly all of them symbols of nine letters."""
+def short_names(size, number=0):
+    """A module of so many bytes, nearly all of them symbols of nine letters; the first of several has the entry."""
     count = (size - 64) // 16
-    names = [symbol(0, b"n%08d" % n) for n in range(count)] + [symbol(0, b"start")]
-    return module(struct.pack("<I", NOP), b"", names, [])
+    names = [symbol(0, b"n%02d%06x" % (number, n)) for n in range(count)]
+    return module(struct.pack("<I", NOP), b"", names + ([] if number else [symbol(0, b"start")]), [])
 
 
 def quadwords(size):
@@ -108,6 +108,14 @@ def many(folder, count):
         print(f"{name}: asm takes {line:.1f} instructions a line of them, link {each / line:.2f} times that a word")
 
 
+def many_short(folder, count, size):
+    """So many modules of so many MiB, all of them short names that differ."""
+    files = [folder.keep(f"s{number}", short_names(size * MEBIBYTE, number)) for number in range(count)]
+    folder.sized(f"{count} modules of {size} MiB, short names", files, sum(map(os.path.getsize, files)), "byte")
+    for file in files:
+        os.remove(file)
+
+
 def main():
     program = the_program()
     with tempfile.TemporaryDirectory() as name:
@@ -120,6 +128,8 @@ def main():
                     continue
                 file = folder.keep("module", make(size * MEBIBYTE))
                 folder.sized(f"a module of {size} MiB, {kind}", [file], os.path.getsize(file), "byte")
+        for count, size in ((16, 5), (64, 1)):
+            many_short(folder, count, size)
 
 
 if __name__ == "__main__":

@@ -28,3 +28,4 @@ pub mod MadeSymbols
 pub mod MadeRelocations
 pub mod MadeChains
 pub mod MadeNames
+pub mod Entered

@@ -13,6 +13,7 @@ pub mod NameKeys
 pub mod Digits
 pub mod Made
 pub mod Numbered
+pub mod Standings
 pub mod Names
 pub mod Output
 pub mod Unlinked

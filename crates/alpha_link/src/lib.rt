@@ -51,8 +51,9 @@
 //! puts in the order of their keys first where they stand in many runs; and `made_symbols.rt` makes their
 //! symbols, and the ranks that go into the relocations.
 //!
-//! `located.rt` says where each module stands among those that are linked, and `names.rt`
-//! holds the addresses of the names that they define in one table, in which each symbol's name is then
+//! `located.rt` says where each module stands among those that are linked. The symbols of all of them stand
+//! in one row, `row.rt`, which `standings.rt` reads; `table.rt` has the table of the numbers by which the names
+//! that they define are found, and `names.rt` enters these there, in which each symbol's name is then
 //! looked up. `linker.rt` has the refusals in their order, and `output.rt` copies the modules into one
 //! buffer of instructions and one of data bytes, and puts in there what each relocation asks for. The
 //! code of an image begins at [`alpha_asm::CODE_BASE`], as that of a source without a `.codebase`.
@@ -64,11 +65,10 @@
 //! of labels on the way, `specs/Rising.antt` names in order, `specs/NameKeys.antt` the keys that they are
 //! sorted by, and `specs/Digits.antt` the digits of these, counted;
 //! `specs/Bytes.antt` has numbers of two bytes, `specs/Unlinked.antt` what is known of a source that was
-//! read, and `specs/Alike.antt` says which words no condition of a trap shadow tells apart. `specs/Names.antt` and
-//! `specs/Output.antt` say what the linker holds on its way.
+//! read, and `specs/Alike.antt` says which words no condition of a trap shadow tells apart. `specs/Standings.antt`,
+//! `specs/Names.antt` and `specs/Output.antt` say what the linker holds on its way.
 #![tactic(auto)]
 
-mod addresses;
 mod fault;
 mod header;
 mod judged;
@@ -88,8 +88,11 @@ mod radix;
 mod read;
 mod relocation;
 mod relocations;
+mod row;
+mod standings;
 mod symbol;
 mod symbols;
+mod table;
 mod write;
 
 pub use fault::{LinkFault, ModuleFault};

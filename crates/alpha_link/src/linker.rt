@@ -16,8 +16,8 @@ ghost use Rattle.alpha_image.specs.declared.version.Version.TheVariants.{One};
 use crate::LinkFault;
 use crate::located::{Located, places};
 use crate::module::Module;
-use crate::names::Names;
 use crate::output::Output;
+use crate::table::Names;
 use alpha_asm::{CODE_BASE, DATA_BASE, STACK_BYTES};
 use alpha_image::{Image, LevelFields, Segment, Version};
 use std::alloc::Global;
@@ -56,7 +56,7 @@ impl Totals {
 }
 
 // The refusal of the least symbol whose name has no address.
-fn undefined<'m>(names: &Names<'m>, places: &[Located<'m>]) -> Option<LinkFault>
+fn undefined<'m>(names: &Names<'_, 'm>, places: &[Located<'m>]) -> Option<LinkFault>
     requires { (name : List ℕ) → found_in names.now name ≡ address_of places.now name }
     ensures { result ≡ option_map (λ p. faults.Undefined p.0 p.1) (missing places.now) }
 {
@@ -70,7 +70,7 @@ fn undefined<'m>(names: &Names<'m>, places: &[Located<'m>]) -> Option<LinkFault>
 
 // The address of an entry, which is that of a code word.
 fn entry_of<'m>(
-    names: &Names<'m>,
+    names: &Names<'_, 'm>,
     places: &[Located<'m>],
     words: u32,
     entry: &'m [u8],
@@ -90,7 +90,7 @@ fn entry_of<'m>(
 // The code and the data bytes of the image, with all addresses put in.
 fn joined<'m>(
     alloc: Global,
-    names: &Names<'m>,
+    names: &Names<'_, 'm>,
     places: &[Located<'m>],
     totals: Totals,
 ) -> Result<Output, LinkFault>
@@ -127,7 +127,7 @@ fn image_of(fields: &LevelFields, segment: Segment, output: Output) -> Image
 // The image with an entry.
 fn linked_at<'m>(
     alloc: Global,
-    names: &Names<'m>,
+    names: &Names<'_, 'm>,
     places: &[Located<'m>],
     totals: Totals,
     entry: u64,
@@ -160,8 +160,8 @@ fn linked_at<'m>(
 }
 
 /// The image that modules link to, 64 modules at most. Its entry is the address of a name. Memory taken
-/// is that of the image and of a table of the names that the modules define, with 24 bytes for each module
-/// and 16 for each symbol of the one that has the most.
+/// is that of the image and of a table of the names that the modules define, of 16 bytes for each symbol, with
+/// 24 bytes for each module and 16 for each symbol of the one that has the most.
 ///
 /// # Errors
 ///

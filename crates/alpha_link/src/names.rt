@@ -1,23 +1,21 @@
 //! The names that modules define, with their addresses.
 
-ghost use Rattle.std.specs.Prelude.{◌≡◌, ◌≢◌, ◌&&◌, ◌<◌, length, ℕ, List, [], None, Some, OnOk, IfOk, IfErr, IfSome, is_some, is_none, map, position, if◌then◌else◌};
+ghost use Rattle.std.specs.Prelude.{◌≡◌, ◌≢◌, ◌&&◌, ◌<◌, ◌+◌, take, drop, slice_get, length, ℕ, List, [], None, Some, OnOk, OnErr, IfOk, IfErr, IfSome, is_some, is_none, map, position, if◌then◌else◌};
 ghost use Rattle.std.specs.Option.{option_map, option_or};
 ghost use Rattle.std.specs.Str.{bytes_eq};
 ghost use Rattle.alpha_link.specs.declared.fault.LinkFault.TheVariants as faults;
 ghost use Rattle.alpha_link.specs.Linked.{address_in, address_of, is_defined, repeated};
 ghost use Rattle.alpha_link.specs.Names.{found_in};
+ghost use Rattle.alpha_names.specs.Finder.{number_in, Grows, Keeps};
+ghost use Rattle.alpha_link.specs.Standings.{standings, standings_in, front, is_of};
 
 use crate::LinkFault;
-use crate::addresses::Addresses;
 use crate::located::Located;
+use crate::row::Row;
 use crate::symbol::{Symbol, SymbolSection};
+use crate::table::Names;
+use alpha_names::Numbers;
 use std::alloc::{AllocError, Global};
-
-/// The addresses of names.
-#[derive(Drop)]
-pub(crate) struct Names<'m> {
-    addresses: Addresses<'m>,
-}
 
 impl SymbolSection {
     // Whether a symbol of it is defined.
@@ -28,22 +26,50 @@ impl SymbolSection {
     }
 }
 
-impl<'m> Names<'m> {
+// Gives a name the number behind those of a row, in which nothing defines it.
+fn give_number<'m>(
+    numbers: &mut Numbers<'m>,
+    row: &Row<'_, 'm>,
+    name: &'m [u8],
+) -> Result<(), AllocError>
+    ensures single { OnOk result
+        (number_in numbers.old (is_of (front row.now) name.entry.now) name.entry.now ≡ None) }
+    ensures ok { OnOk result
+        (Grows (number_in numbers.old) (number_in numbers.new) name.entry.now row.now.count) }
+    ensures same { OnErr result (Keeps (number_in numbers.old) (number_in numbers.new)) }
+{
+    if numbers.add(row, name, row.count)? {
+        Ok(())
+    } else {
+        Err(AllocError)
+    }
+}
+
+impl<'p, 'm> Names<'p, 'm> {
+    /// No names, of modules that may have some.
+    fn empty(alloc: Global, places: &'p [Located<'m>]) -> Names<'p, 'm>
+        ensures count { result.row.count ≡ 0 }
+        ensures places { result.row.places.now ≡ places.entry.now }
+    {
+        Names {
+            row: Row { places, count: 0 },
+            numbers: Numbers::empty(alloc),
+        }
+    }
+
     /// The addresses of the names that the modules define.
     ///
     /// # Errors
     ///
     /// `Duplicate`, with the least symbol that an earlier module defines too.
-    pub(crate) fn of(alloc: Global, places: &[Located<'m>]) -> Result<Names<'m>, LinkFault>
+    pub(crate) fn of(alloc: Global, places: &'p [Located<'m>]) -> Result<Names<'p, 'm>, LinkFault>
         ensures found { IfOk result (λ names. (name : List ℕ) →
             found_in names name ≡ address_of places.now name) }
         ensures single { OnOk result (repeated [] places.now ≡ None) }
         ensures refused { IfErr result (λ fault. fault ≢ faults.NoMemory →
             option_map (λ p. faults.Duplicate p.0 p.1) (repeated [] places.now) ≡ Some fault) }
     {
-        let mut names = Names {
-            addresses: Addresses::empty(alloc),
-        };
+        let mut names = Names::empty(alloc, places);
         for located in places {
             if let Some(number) = names.repeated(located) {
                 return Err(LinkFault::Duplicate(located.number, number));
@@ -54,23 +80,55 @@ impl<'m> Names<'m> {
     }
 
     /// The address of a name.
+    #[tactic(auto, unfolding(crate::specs::Names::found_in))]
     pub(crate) fn address(&self, name: &[u8]) -> Option<u64>
         ensures { result ≡ found_in self.now name.now }
     {
-        self.addresses.get(name)
+        let number = self.numbers.number(&self.row, name)?;
+        let standing = self.row.get(number)?;
+        standing.address
     }
 
-    // Gives the names that a module defines their addresses, unless they have one.
+    // Adds the next symbol of the row, which has this name and address. Names of a module differ: one that the module
+    // itself has defined before counts as want of memory.
+    fn enter(&mut self, name: &'m [u8], address: Option<u64>) -> Result<(), AllocError>
+        requires { slice_get (standings self.old.row.places.now) self.old.row.count
+            ≡ Some (record { name = name.now; address = address }) }
+        ensures found { OnOk result ((other : List ℕ) → found_in self.new other
+            ≡ option_or (found_in self.old other) (if bytes_eq name.entry.now other then address else None)) }
+        ensures count { OnOk result (self.new.row.count ≡ self.old.row.count + 1) }
+        ensures places { self.new.row.places.now ≡ self.old.row.places.now }
+    {
+        let Some(count) = self.row.count.checked_add(1) else {
+            return Err(AllocError);
+        };
+        match address {
+            Some(_) => {
+                give_number(&mut self.numbers, &self.row, name)?;
+                self.row.count = count;
+                Ok(())
+            }
+            None => {
+                self.row.count = count;
+                Ok(())
+            }
+        }
+    }
+
+    // Gives the names that the next module defines their addresses, unless they have one.
     fn define_all(&mut self, located: &Located<'m>) -> Result<(), AllocError>
-        ensures { OnOk result ((name : List ℕ) →
+        requires { take (length located.now.parts.symbols)
+            (drop self.old.row.count (standings self.old.row.places.now)) ≡ standings_in located.now }
+        ensures found { OnOk result ((name : List ℕ) →
             found_in self.new name
             ≡ option_or (found_in self.old name) (address_in name located.now)) }
+        ensures count { OnOk result (self.new.row.count
+            ≡ self.old.row.count + length located.now.parts.symbols) }
+        ensures places { self.new.row.places.now ≡ self.old.row.places.now }
     {
         let module = located.module;
-        for symbol in &module.symbols {
-            if let Some(address) = located.address(symbol) {
-                self.addresses.define(symbol.name, address)?;
-            }
+        for symbol in module.symbols() {
+            self.enter(symbol.name, located.address(symbol))?;
         }
         Ok(())
     }
@@ -130,7 +188,11 @@ impl<'m> Names<'m> {
         ensures { IfOk result (λ all. all.items
             ≡ map (λ s. found_in self.now s.name.now) symbols.entry.now) }
     {
-        symbols.iter().map(|s| self.address(s.name)).collect(alloc)
+        let mut all = Vec::with_capacity(alloc, symbols.len())?;
+        for symbol in symbols {
+            all.push(self.address(symbol.name))?;
+        }
+        Ok(all)
     }
 
     /// The addresses of a module's symbols.

@@ -13,9 +13,9 @@ ghost use Rattle.alpha_link.specs.Names.{found_in};
 ghost use Rattle.alpha_link.specs.Output.{code_with, bytes_with, code_with_all, bytes_with_all, JoinsOne};
 
 use crate::located::Located;
-use crate::names::Names;
 use crate::relocation::{Relocation, RelocationKind};
 use crate::relocations::is_taken_by;
+use crate::table::Names;
 use alpha_asm::{CODE_BASE, Displacement, Use, displaced, put_quad};
 use alpha_table::Insn;
 use std::alloc::{AllocError, Global};
@@ -211,7 +211,7 @@ impl Output {
     pub(crate) fn join<'m>(
         &mut self,
         alloc: Global,
-        names: &Names<'m>,
+        names: &Names<'_, 'm>,
         located: &Located<'m>,
     ) -> Result<Option<u32>, AllocError>
         requires words { located.now.words ≡ length self.old.code.items }

@@ -1,0 +1,343 @@
+-- The symbols that are found by their numbers in a row, as the row grows.
+use Rattle.std.proofs.Common.{◌≡◌, ℕ, zero, suc, ◌+◌, ◌-◌, ◌<◌, ◌≤◌, Bool, true, false, ◌⊎◌, inl, inr, List, [], ◌∷◌, ◌++◌, length, map, take, drop, get_or, Option, None, Some, is_some, if◌then◌else◌, refl, sym, subst, ap, ◌∙◌, append_assoc, arith}
+use Rattle.std.specs.Prelude.{◌&&◌, slice_get, unwrap_or}
+use Rattle.std.specs.List.{flat_map}
+use Rattle.std.specs.Option.{option_map, option_map_or, option_and_then, option_or}
+use Rattle.std.specs.Str.{bytes_eq}
+use Rattle.std.proofs.lemmas.List.{take_more, length-map, length-append}
+use Rattle.std.proofs.lemmas.Option.{slice_get_within, slice_get-map, slice_get-get_or, get_or_from_slice_get}
+use Rattle.std.proofs.lemmas.Slice.Eq.{bytes_eq-Decides}
+use Rattle.alpha_names.specs.Finder.{Finder, IsOnly, Keeps, Grows, number_in}
+use Rattle.alpha_names.specs.declared.numbers.Numbers.{Numbers}
+use Rattle.alpha_names.proofs.Searching.{not_both}
+use Rattle.alpha_names.proofs.Naming.{sound, by_option}
+use Rattle.alpha_asm.specs.Layout.{first}
+use Rattle.alpha_link.specs.Symbols.{Named, named}
+use Rattle.alpha_link.specs.declared.symbol.Symbol as own
+use Rattle.alpha_link.specs.Linked.{Located, named_address, address_in}
+use Rattle.alpha_link.specs.Standings.{Standing, standing_of, standings_in, standings, defines, is_of, address_at, AreEntered}
+use Rattle.alpha_link.proofs.Naming.{first_append, or_assoc}
+use Rattle.alpha_link.proofs.Lists.{next, none_left}
+
+none_some : {X : Type 0} (x : X) → None ≡ Some x → ⊥
+none_some x e = absurd cc
+
+same_some : {X : Type 0} (x y : X) → Some x ≡ Some y → x ≡ y
+same_some {X} x y e = ap (λ (o : Option X). unwrap_or o x) e
+
+-- elements of two lists one behind the other
+pub get_front : {X : Type 0} (xs ys : List X) (k : ℕ) → k < length xs → slice_get (xs ++ ys) k ≡ slice_get xs k
+get_front [] ys k h = absurd (omega arith)
+get_front (x ∷ xs) ys zero h = refl
+get_front (x ∷ xs) ys (suc k) h = get_front xs ys k (omega arith)
+
+pub get_behind : {X : Type 0} (xs ys : List X) (k : ℕ) → length xs ≤ k → slice_get (xs ++ ys) k ≡ slice_get ys (k - length xs)
+get_behind [] ys k h = let e : k ≡ k - 0 = omega arith in ap (slice_get ys) e
+get_behind (x ∷ xs) ys zero h = absurd (omega arith)
+get_behind (x ∷ xs) ys (suc k) h =
+    let e : k - length xs ≡ suc k - suc (length xs) = omega arith in
+    get_behind xs ys k (omega arith) ∙ ap (slice_get ys) e
+
+get_dropped : {X : Type 0} (c : ℕ) (xs : List X) (i : ℕ) → slice_get (drop c xs) i ≡ slice_get xs (c + i)
+get_dropped zero xs i = let e : i ≡ 0 + i = omega arith in ap (slice_get xs) e
+get_dropped (suc c) [] i = refl
+get_dropped (suc c) (x ∷ xs) i = let e : suc (c + i) ≡ suc c + i = omega arith in get_dropped c xs i ∙ ap (slice_get (x ∷ xs)) e
+
+get_taken : {X : Type 0} (m : ℕ) (xs : List X) (i : ℕ) → i < length (take m xs) → slice_get (take m xs) i ≡ slice_get xs i
+get_taken zero xs i h = absurd (omega arith)
+get_taken (suc m) [] i h = refl
+get_taken (suc m) (x ∷ xs) zero h = refl
+get_taken (suc m) (x ∷ xs) (suc i) h = get_taken m xs i (omega arith)
+
+-- an element of a part of a list
+pub at_place : {X : Type 0} (xs part : List X) (c m i : ℕ) → take m (drop c xs) ≡ part → i < length part → slice_get xs (c + i) ≡ slice_get part i
+at_place {X} xs part c m i e h =
+    let inside : i < length (take m (drop c xs)) = subst (λ (l : List X). i < length l) (sym e) h in
+    sym (get_dropped c xs i) ∙ (sym (get_taken m (drop c xs) i inside) ∙ ap (λ (l : List X). slice_get l i) e)
+
+pub get_push : {X : Type 0} (xs : List X) (y : X) (k : ℕ) (x : X) → slice_get (xs ++ y ∷ []) k ≡ Some x → (slice_get xs k ≡ Some x) ⊎ ((k ≡ length xs) × (x ≡ y))
+get_push [] y zero x h = inr (refl, same_some x y (sym h))
+get_push [] y (suc k) x h = absurd (none_some x h)
+get_push (z ∷ xs) y zero x h = inl h
+get_push (z ∷ xs) y (suc k) x h = elim (get_push xs y k x h) [ inl e ↦ inl e | inr e ↦ inr (ap suc e.0, e.1) ]
+
+pub take_next : {X : Type 0} (xs : List X) (n : ℕ) (x : X) → slice_get xs n ≡ Some x → take (n + 1) xs ≡ take n xs ++ x ∷ []
+take_next xs n x e = take_more xs n x (slice_get_within xs n x e) ∙ ap (λ y. take n xs ++ y ∷ []) (get_or_from_slice_get xs n x x e)
+
+pub length_front : {X : Type 0} (xs : List X) (n : ℕ) → n < length xs → length (take n xs) ≡ n
+length_front [] n h = absurd (omega arith)
+length_front (x ∷ xs) zero h = refl
+length_front (x ∷ xs) (suc n) h = ap suc (length_front xs n (omega arith))
+
+-- the address that a symbol gives a name
+abbrev pub address_by : List ℕ → Standing → Option ℕ
+address_by name s = if bytes_eq s.name name then s.address else None
+
+record There (row : List Standing) (name : List ℕ) (a : ℕ) : Type 0 where
+  pub at : ℕ
+  pub symbol : Standing
+  pub here : slice_get row at ≡ Some symbol
+  pub gives : address_by name symbol ≡ Some a
+
+first_there : (row : List Standing) (name : List ℕ) (a : ℕ) → first (address_by name) row ≡ Some a → There row name a
+first_there [] name a e = absurd (none_some a e)
+first_there (s ∷ row) name a e = by (address_by name s) refl e (first_there row name a)
+  where
+    by : (o : Option ℕ) → address_by name s ≡ o → option_or o (first (address_by name) row) ≡ Some a → (first (address_by name) row ≡ Some a → There row name a) → There (s ∷ row) name a
+    by (Some b) so f more = record { at = 0; symbol = s; here = refl; gives = so ∙ f }
+    by None so f more =
+        let t = more f in
+        record { at = suc t.at; symbol = t.symbol; here = t.here; gives = t.gives }
+
+abbrev Nothing : List Standing → List ℕ → Type 0
+Nothing row name = (k : ℕ) (s : Standing) → slice_get row k ≡ Some s → address_by name s ≡ None
+
+first_none : (row : List Standing) (name : List ℕ) → first (address_by name) row ≡ None → Nothing row name
+first_none [] name e = λ k s here. absurd (none_some s here)
+first_none (t ∷ row) name e = by (address_by name t) refl e (first_none row name)
+  where
+    by : (o : Option ℕ) → address_by name t ≡ o → option_or o (first (address_by name) row) ≡ None → (first (address_by name) row ≡ None → Nothing row name) → Nothing (t ∷ row) name
+    by (Some b) so f more = absurd (none_some b (sym f))
+    by None so f more = λ k s here. at k s here
+      where
+        at : (k : ℕ) (s : Standing) → slice_get (t ∷ row) k ≡ Some s → address_by name s ≡ None
+        at zero s here = ap (address_by name) (sym (same_some t s here)) ∙ so
+        at (suc k) s here = more f k s here
+
+-- a symbol that defines a name
+record Defines (row : List Standing) (name : List ℕ) (k : ℕ) : Type 0 where
+  pub symbol : Standing
+  pub here : slice_get row k ≡ Some symbol
+  pub defined : is_some symbol.address ≡ true
+  pub named : symbol.name ≡ name
+
+both : (a b : Bool) → (a && b) ≡ true → (a ≡ true) × (b ≡ true)
+both true b e = (refl, e)
+both false b e = absurd (not_both false e refl)
+
+defines_so : (row : List Standing) (name : List ℕ) (k : ℕ) → is_of row name k ≡ true → Defines row name k
+defines_so row name k e = by (slice_get row k) refl e
+  where
+    by : (o : Option Standing) → slice_get row k ≡ o → option_map_or (defines name) o false ≡ true → Defines row name k
+    by None so f = absurd (not_both false f refl)
+    by (Some s) so f =
+        let parts = both (is_some s.address) (bytes_eq s.name name) f in
+        record { symbol = s; here = so; defined = parts.0; named = (bytes_eq-Decides s.name name).0 parts.1 }
+
+is_defined_by : (row : List Standing) (k : ℕ) (s : Standing) → slice_get row k ≡ Some s → is_some s.address ≡ true → is_of row s.name k ≡ true
+is_defined_by row k s here defined =
+    ap (λ (o : Option Standing). option_map_or (defines s.name) o false) here
+    ∙ (ap (λ (b : Bool). b && bytes_eq s.name s.name) defined ∙ (bytes_eq-Decides s.name s.name).1 refl)
+
+only : (row : List Standing) (find : Finder) → AreEntered row find → (k : ℕ) (s : Standing) → slice_get row k ≡ Some s → is_some s.address ≡ true → IsOnly k (is_of row s.name)
+only row find entered k s here defined = (
+  is_defined_by row k s here defined,
+  λ other e. let d = defines_so row s.name other e in entered.single other k d.symbol s d.here here d.defined defined d.named,
+)
+
+number_of : (row : List Standing) (find : Finder) → AreEntered row find → (k : ℕ) (s : Standing) → slice_get row k ≡ Some s → is_some s.address ≡ true → find (is_of row s.name) s.name ≡ Some k
+number_of row find entered k s here defined = entered.found k s here defined (is_of row s.name) (only row find entered k s here defined)
+
+given : (b : Bool) (o : Option ℕ) (a : ℕ) → (if b then o else None) ≡ Some a → (b ≡ true) × (o ≡ Some a)
+given true o a e = (refl, e)
+given false o a e = absurd (none_some a e)
+
+some_so : (o : Option ℕ) (a : ℕ) → o ≡ Some a → is_some o ≡ true
+some_so o a e = ap is_some e
+
+none_so : (o : Option ℕ) → is_some o ≡ true → o ≡ None → ⊥
+none_so o h e = not_both (is_some o) h (ap is_some e)
+
+-- the address of a symbol that is defined is found by its name
+pub own_found : (row : List Standing) (numbers : Numbers) → AreEntered row (number_in numbers) → (k : ℕ) (s : Standing) → slice_get row k ≡ Some s → is_some s.address ≡ true → address_at row (number_in numbers (is_of row s.name) s.name) ≡ s.address
+own_found row numbers entered k s here defined =
+    ap (address_at row) (number_of row (number_in numbers) entered k s here defined)
+    ∙ ap (λ (o : Option Standing). option_and_then (λ t. t.address) o) here
+
+-- what is found is the address that the first symbol gives
+pub found_is : (row : List Standing) (numbers : Numbers) → AreEntered row (number_in numbers) → (name : List ℕ) → address_at row (number_in numbers (is_of row name) name) ≡ first (address_by name) row
+found_is row numbers entered name =
+    let find = number_in numbers in
+    let o = find (is_of row name) name in
+    by_option (first (address_by name) row) (address_at row o ≡ first (address_by name) row)
+    (λ none. by_option o (address_at row o ≡ first (address_by name) row)
+    (λ e. ap (address_at row) e ∙ sym none)
+    (λ k e.
+    let d = defines_so row name k (sound numbers (is_of row name) name k e) in
+    let nothing = first_none row name none k d.symbol d.here in
+    let gives : address_by name d.symbol ≡ d.symbol.address =
+    ap (λ (b : Bool). if b then d.symbol.address else None) ((bytes_eq-Decides d.symbol.name name).1 d.named) in
+    absurd (none_so d.symbol.address d.defined (sym gives ∙ nothing))))
+    (λ a e.
+    let t = first_there row name a e in
+    let g = given (bytes_eq t.symbol.name name) t.symbol.address a t.gives in
+    let named : t.symbol.name ≡ name = (bytes_eq-Decides t.symbol.name name).0 g.0 in
+    let own = own_found row numbers entered t.at t.symbol t.here (some_so t.symbol.address a g.1) in
+    ap (λ (n : List ℕ). address_at row (find (is_of row n) n)) (sym named) ∙ (own ∙ (g.1 ∙ sym e)))
+
+-- a symbol that isn't defined stands behind the others
+pub enters_free : (row : List Standing) (find : Finder) (e : Standing) → is_some e.address ≡ false → AreEntered row find → AreEntered (row ++ e ∷ []) find
+enters_free row find e none entered = record {
+  single = λ j k s t at_j at_k some_s some_t same.
+      elim (get_push row e j s at_j) [
+        | inl here ↦ elim (get_push row e k t at_k) [
+          | inl there ↦ entered.single j k s t here there some_s some_t same
+          | inr last ↦ absurd (not_both (is_some t.address) some_t (ap (λ (x : Standing). is_some x.address) last.1 ∙ none))
+        ]
+        | inr last ↦ absurd (not_both (is_some s.address) some_s (ap (λ (x : Standing). is_some x.address) last.1 ∙ none))
+      ];
+  found = λ k s at_k some_s.
+      elim (get_push row e k s at_k) [
+        | inl here ↦ entered.found k s here some_s
+        | inr last ↦ absurd (not_both (is_some s.address) some_s (ap (λ (x : Standing). is_some x.address) last.1 ∙ none))
+      ];
+}
+
+absent : (row : List Standing) (find : Finder) (name : List ℕ) → AreEntered row find → find (is_of row name) name ≡ None → (k : ℕ) (s : Standing) → slice_get row k ≡ Some s → is_some s.address ≡ true → s.name ≡ name → ⊥
+absent row find name entered none k s here defined same =
+    none_some k (sym none ∙ (ap (λ (n : List ℕ). find (is_of row n) n) (sym same) ∙ number_of row find entered k s here defined))
+
+-- one that is defined and has got a number stands behind the others
+pub enters_named : (row : List Standing) (old new : Finder) (e : Standing) (number : ℕ) → number ≡ length row → old (is_of row e.name) e.name ≡ None → Grows old new e.name number → AreEntered row old → AreEntered (row ++ e ∷ []) new
+enters_named row old new e number size none grows entered = record {
+  single = λ j k s t at_j at_k some_s some_t same.
+      elim (get_push row e j s at_j) [
+        | inl here ↦ elim (get_push row e k t at_k) [
+          | inl there ↦ entered.single j k s t here there some_s some_t same
+          | inr last ↦ absurd (absent row old e.name entered none j s here some_s (same ∙ ap (λ (x : Standing). x.name) last.1))
+        ]
+        | inr last ↦ elim (get_push row e k t at_k) [
+          | inl there ↦ absurd (absent row old e.name entered none k t there some_t (sym same ∙ ap (λ (x : Standing). x.name) last.1))
+          | inr also ↦ last.0 ∙ sym also.0
+        ]
+      ];
+  found = λ k s at_k some_s is_right only.
+      elim (get_push row e k s at_k) [
+        | inl here ↦ grows.0 is_right s.name k (λ same. absent row old e.name entered none k s here some_s same) (entered.found k s here some_s is_right only)
+        | inr last ↦
+            let at : k ≡ number = last.0 ∙ sym size in
+            let name : e.name ≡ s.name = ap (λ (x : Standing). x.name) (sym last.1) in
+            ap (new is_right) (sym name) ∙ (grows.1 is_right (subst (λ (n : ℕ). IsOnly n is_right) at only) ∙ ap Some (sym at))
+      ];
+}
+
+pub enters_still : (row : List Standing) (old new : Finder) → Keeps old new → AreEntered row old → AreEntered row new
+enters_still row old new keeps entered = record {
+  single = entered.single;
+  found = λ k s here defined is_right only. keeps is_right s.name k (entered.found k s here defined is_right only);
+}
+
+pub enters_none : (find : Finder) → AreEntered [] find
+enters_none find = record {
+  single = λ j k s t here. absurd (none_some s here);
+  found = λ k s here. absurd (none_some s here);
+}
+
+pub nothing_found : (o : Option ℕ) → address_at [] o ≡ None
+nothing_found None = refl
+nothing_found (Some k) = refl
+
+-- one symbol more
+pub found_behind : (row : List Standing) (e : Standing) (old new : Numbers) → AreEntered row (number_in old) → AreEntered (row ++ e ∷ []) (number_in new) → (name : List ℕ) →
+    address_at (row ++ e ∷ []) (number_in new (is_of (row ++ e ∷ []) name) name) ≡ option_or (address_at row (number_in old (is_of row name) name)) (address_by name e)
+found_behind row e old new before behind name =
+    found_is (row ++ e ∷ []) new behind name
+    ∙ (first_append (address_by name) row e ∙ ap (λ (o : Option ℕ). option_or o (address_by name e)) (sym (found_is row old before name)))
+
+-- the symbols of a module that stands behind others
+pub standings_behind : (ls : List Located) (n : ℕ) → standings ls ≡ standings (take n ls) ++ standings (drop n ls)
+standings_behind ls zero = refl
+standings_behind [] (suc n) = refl
+standings_behind (l ∷ ls) (suc n) = ap (λ (r : List Standing). standings_in l ++ r) (standings_behind ls n) ∙ sym (append_assoc (standings_in l) (standings (take n ls)) (standings (drop n ls)))
+
+drop_front : {X : Type 0} (xs ys : List X) → drop (length xs) (xs ++ ys) ≡ ys
+drop_front [] ys = refl
+drop_front (x ∷ xs) ys = drop_front xs ys
+
+take_front : {X : Type 0} (xs ys : List X) → take (length xs) (xs ++ ys) ≡ xs
+take_front [] ys = refl
+take_front (x ∷ xs) ys = ap (λ r. x ∷ r) (take_front xs ys)
+
+pub next_standings : (ls : List Located) (n count : ℕ) (l : Located) → drop n ls ≡ l ∷ drop (n + 1) ls → count ≡ length (standings (take n ls)) → take (length l.parts.symbols) (drop count (standings ls)) ≡ standings_in l
+next_standings ls n count l e size =
+    let front = standings (take n ls) in
+    let rest = standings (drop (n + 1) ls) in
+    let behind : standings (drop n ls) ≡ standings_in l ++ rest = ap standings e in
+    let after : drop count (standings ls) ≡ standings_in l ++ rest =
+    ap (λ (k : ℕ). drop k (standings ls)) size ∙ (ap (drop (length front)) (standings_behind ls n) ∙ (drop_front front (standings (drop n ls)) ∙ behind)) in
+    ap (take (length l.parts.symbols)) after
+    ∙ (ap (λ (k : ℕ). take k (standings_in l ++ rest)) (sym (length-map l.parts.symbols (standing_of l))) ∙ take_front (standings_in l) rest)
+
+pub count_next : (ls : List Located) (n : ℕ) (l : Located) → take (n + 1) ls ≡ take n ls ++ l ∷ [] → length (standings (take (n + 1) ls)) ≡ length (standings (take n ls)) + length l.parts.symbols
+count_next ls n l e = ap (λ (x : List Located). length (standings x)) e ∙ by (take n ls)
+  where
+    by : (xs : List Located) → length (standings (xs ++ l ∷ [])) ≡ length (standings xs) + length l.parts.symbols
+    by [] = omega (arith, length-append (standings_in l) [], length-map l.parts.symbols (standing_of l))
+    by (x ∷ xs) = omega (arith, by xs, length-append (standings_in x) (standings (xs ++ l ∷ [])), length-append (standings_in x) (standings xs))
+
+-- the first symbol of a module that gives a name an address
+pub first_in : (l : Located) (name : List ℕ) (ss : List Named) → first (address_by name) (map (standing_of l) ss) ≡ first (named_address l name) ss
+first_in l name [] = refl
+first_in l name (s ∷ ss) = ap (option_or (named_address l name s)) (first_in l name ss)
+
+-- the next symbol of a row has been entered
+pub entered_named : (es : List Standing) (n count : ℕ) (e : Standing) (old new : Numbers) → count ≡ n + 1 → slice_get es n ≡ Some e →
+    number_in old (is_of (take n es) e.name) e.name ≡ None → Grows (number_in old) (number_in new) e.name n → AreEntered (take n es) (number_in old) → AreEntered (take count es) (number_in new)
+entered_named es n count e old new more here none grows entered =
+    let size : n ≡ length (take n es) = sym (length_front es n (slice_get_within es n e here)) in
+    let longer : take count es ≡ take n es ++ e ∷ [] = ap (λ (k : ℕ). take k es) more ∙ take_next es n e here in
+    subst (λ (row : List Standing). AreEntered row (number_in new)) (sym longer) (enters_named (take n es) (number_in old) (number_in new) e n size none grows entered)
+
+pub entered_free : (es : List Standing) (n count : ℕ) (e : Standing) (numbers : Numbers) → count ≡ n + 1 → slice_get es n ≡ Some e →
+    is_some e.address ≡ false → AreEntered (take n es) (number_in numbers) → AreEntered (take count es) (number_in numbers)
+entered_free es n count e numbers more here none entered =
+    let longer : take count es ≡ take n es ++ e ∷ [] = ap (λ (k : ℕ). take k es) more ∙ take_next es n e here in
+    subst (λ (row : List Standing). AreEntered row (number_in numbers)) (sym longer) (enters_free (take n es) (number_in numbers) e none entered)
+
+pub found_next : (es : List Standing) (n count : ℕ) (e : Standing) (old new : Numbers) → count ≡ n + 1 → slice_get es n ≡ Some e →
+    AreEntered (take n es) (number_in old) → AreEntered (take count es) (number_in new) → (name : List ℕ) →
+    address_at (take count es) (number_in new (is_of (take count es) name) name) ≡ option_or (address_at (take n es) (number_in old (is_of (take n es) name) name)) (address_by name e)
+found_next es n count e old new more here before after name =
+    let longer : take count es ≡ take n es ++ e ∷ [] = ap (λ (k : ℕ). take k es) more ∙ take_next es n e here in
+    ap (λ (row : List Standing). address_at row (number_in new (is_of row name) name)) longer
+    ∙ found_behind (take n es) e old new before (subst (λ (row : List Standing). AreEntered row (number_in new)) longer after) name
+
+-- the symbol with a number, as a loop goes along the modules
+rest_from : (ls : List Located) (i : ℕ) (l : Located) → i < length ls → l ≡ get_or ls i l → standings (drop i ls) ≡ standings_in l ++ standings (drop (i + 1) ls)
+rest_from ls i l within here = ap standings (next ls i l within) ∙ ap (λ (x : Located). standings (x ∷ drop (i + 1) ls)) (sym here)
+
+pub here_get : (ls : List Located) (i : ℕ) (l : Located) (rest count : ℕ) (whole : Option Standing) → i < length ls → l ≡ get_or ls i l → count ≡ length (standings_in l) → rest < count →
+    slice_get (standings (drop i ls)) rest ≡ whole → slice_get (standings_in l) rest ≡ whole
+here_get ls i l rest count whole within here size inside e =
+    sym (get_front (standings_in l) (standings (drop (i + 1) ls)) rest (omega arith))
+    ∙ (ap (λ (row : List Standing). slice_get row rest) (sym (rest_from ls i l within here)) ∙ e)
+
+pub past_get : (ls : List Located) (i : ℕ) (l : Located) (rest count : ℕ) (whole : Option Standing) → i < length ls → l ≡ get_or ls i l → count ≡ length (standings_in l) → count ≤ rest →
+    slice_get (standings (drop i ls)) rest ≡ whole → slice_get (standings (drop (i + 1) ls)) (rest - count) ≡ whole
+past_get ls i l rest count whole within here size past e =
+    ap (λ (k : ℕ). slice_get (standings (drop (i + 1) ls)) (rest - k)) size
+    ∙ (sym (get_behind (standings_in l) (standings (drop (i + 1) ls)) rest (omega arith))
+    ∙ (ap (λ (row : List Standing). slice_get row rest) (sym (rest_from ls i l within here)) ∙ e))
+
+pub end_get : (ls : List Located) (i rest : ℕ) (whole : Option Standing) → length ls ≤ i → slice_get (standings (drop i ls)) rest ≡ whole → whole ≡ None
+end_get ls i rest whole past e = sym e ∙ ap (λ (x : List Located). slice_get (standings x) rest) (none_left ls i past)
+
+-- the symbol of a module that a loop has come to
+pub standing_at : (l : Located) (ss : List own.Symbol) (i : ℕ) (d : own.Symbol) → map named ss ≡ l.parts.symbols → i < length ss →
+    slice_get (standings_in l) i ≡ Some (standing_of l (named (get_or ss i d)))
+standing_at l ss i d same within =
+    ap (λ (x : List Named). slice_get (map (standing_of l) x) i) (sym same)
+    ∙ (slice_get-map (standing_of l) (map named ss) i ∙ ap (option_map (standing_of l)) (slice_get-map named ss i ∙ ap (option_map named) (slice_get-get_or ss i d within)))
+
+pub symbol_there : (es : List Standing) (l : Located) (ss : List own.Symbol) (c i : ℕ) (d : own.Symbol) → take (length l.parts.symbols) (drop c es) ≡ standings_in l → map named ss ≡ l.parts.symbols →
+    i < length ss → slice_get es (c + i) ≡ Some (standing_of l (named (get_or ss i d)))
+symbol_there es l ss c i d part same within =
+    let size : length (standings_in l) ≡ length ss = length-map l.parts.symbols (standing_of l) ∙ (ap length (sym same) ∙ length-map ss named) in
+    at_place es (standings_in l) c (length l.parts.symbols) i part (subst (λ (n : ℕ). i < n) (sym size) within) ∙ standing_at l ss i d same within
+
+-- a symbol gives its name its address
+pub gives : (l : Located) (name : List ℕ) (s : Named) (old new : Option ℕ) (rest : List Named) (whole : Option ℕ) → new ≡ option_or old (named_address l name s)
+    → option_or old (first (named_address l name) (s ∷ rest)) ≡ whole → option_or new (first (named_address l name) rest) ≡ whole
+gives l name s old new rest whole e all =
+    ap (λ (o : Option ℕ). option_or o (first (named_address l name) rest)) e
+    ∙ (or_assoc old (named_address l name s) (first (named_address l name) rest) ∙ all)

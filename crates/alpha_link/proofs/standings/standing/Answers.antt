@@ -1,0 +1,19 @@
+use Rattle.std.proofs.Common.{ap, sym, ◌∙◌}
+use Rattle.std.specs.Option.{option_map}
+use Rattle.alpha_link.specs.Standings.{standing}
+use Rattle.alpha_link.proofs.Entered.{here_get, past_get, end_get}
+use Rattle.alpha_link.proofs.standings.standing.Goals as goal
+
+pub returns-then-rest-count : goal.returns-then-rest-count
+returns-then-rest-count c =
+    c.standing_in.ensures
+    ∙ here_get c.args.places.now c.loop-located.located-index c.located-item.result c.loop-located.rest c.count_of-count.result _ c.loop-located-test.true c.located-item.is c.count_of-count.ensures
+    c.if-rest-count.true c.loop-located.invariant
+
+pub loop-located-preserved : goal.loop-located-preserved
+loop-located-preserved c =
+    past_get c.args.places.now c.loop-located.located-index c.located-item.result c.loop-located.rest c.count_of-count.result _ c.loop-located-test.true c.located-item.is c.count_of-count.ensures
+    c.if-rest-count.false c.loop-located.invariant
+
+pub returns : goal.returns
+returns c = sym (end_get c.args.places.now c.loop-located.located-index c.loop-located.rest _ c.loop-located-test.false c.loop-located.invariant)

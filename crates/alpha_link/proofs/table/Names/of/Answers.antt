@@ -1,0 +1,53 @@
+use Rattle.std.proofs.Common.{ℕ, [], refl, ◌+◌, List, ◌∷◌, length, take, drop, Some, ap, sym, ◌∙◌}
+use Rattle.std.specs.Option.{option_map}
+use Rattle.alpha_link.specs.declared.fault.LinkFault.TheVariants as faults
+use Rattle.alpha_link.specs.Names.{found_in}
+use Rattle.alpha_link.specs.Linked.{Located}
+use Rattle.alpha_link.proofs.Naming.{behind, found_more, none_again, some_again}
+use Rattle.alpha_link.specs.Standings.{standings, is_of, address_at}
+use Rattle.alpha_names.specs.Finder.{number_in}
+use Rattle.alpha_link.proofs.Lists.{next}
+use Rattle.alpha_link.proofs.Entered.{count_next, next_standings, nothing_found}
+use Rattle.alpha_link.proofs.table.Names.of.Goals as goal
+
+pub returns-in-Some-clause-refused : goal.returns-in-Some-clause-refused
+returns-in-Some-clause-refused c = λ other.
+    let number = ap (λ (l : Located). l.number) c.located.view_is in
+    ap (option_map (λ (p : ℕ × ℕ). faults.Duplicate p.0 p.1))
+    (some_again (found_in c.loop-located.names) c.args.places.now c.loop-located.located-index c.located-item.result c.in-Some.number _ c.loop-located-test.true c.located-item.is
+    c.loop-located.invariant.found (sym c.in-Some.ensures) c.loop-located.invariant.single)
+    ∙ ap (λ (k : ℕ). Some (faults.Duplicate k c.in-Some.number)) (sym number)
+
+pub loop-located-preserved : goal.loop-located-preserved
+loop-located-preserved c = record {
+  found = found_more (found_in c.loop-located.names) (found_in c.define_all.new.self) c.args.places.now c.loop-located.located-index c.located-item.result c.loop-located-test.true c.located-item.is
+      c.loop-located.invariant.found c.in_ok-define_all.ensures.found;
+  single = none_again (found_in c.loop-located.names) c.args.places.now c.loop-located.located-index c.located-item.result _ c.loop-located-test.true c.located-item.is
+      c.loop-located.invariant.found (sym c.in_default.ensures) c.loop-located.invariant.single;
+  places = c.define_all.ensures.places ∙ c.loop-located.invariant.places;
+  count = c.in_ok-define_all.ensures.count ∙ (ap (λ (k : ℕ). k + length c.located-item.result.parts.symbols) c.loop-located.invariant.count
+      ∙ sym (count_next c.args.places.now c.loop-located.located-index c.located-item.result (behind c.args.places.now c.loop-located.located-index c.located-item.result c.loop-located-test.true c.located-item.is)));
+}
+
+pub define_all-requires : goal.define_all-requires
+define_all-requires c =
+    let ls = c.args.places.now in
+    let i = c.loop-located.located-index in
+    let l = c.located-item.result in
+    ap (λ (x : List Located). take (length l.parts.symbols) (drop c.loop-located.names.row.count (standings x))) c.loop-located.invariant.places
+    ∙ next_standings ls i c.loop-located.names.row.count l
+    (next ls i l c.loop-located-test.true ∙ ap (λ (x : Located). x ∷ drop (i + 1) ls) (sym c.located-item.is)) c.loop-located.invariant.count
+
+pub loop-located-init : goal.loop-located-init
+unfolding found_in
+loop-located-init c =
+    let row = c.empty-names.result.row in
+    let find = number_in c.empty-names.result.numbers in
+    record {
+      found = λ name.
+          ap (λ (k : ℕ). address_at (take k (standings row.places.now)) (find (is_of (take k (standings row.places.now)) name) name)) c.empty-names.ensures.count
+          ∙ nothing_found (find (is_of [] name) name);
+      single = refl;
+      places = c.empty-names.ensures.places;
+      count = c.empty-names.ensures.count;
+    }
