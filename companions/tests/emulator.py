@@ -127,6 +127,27 @@ WRONG = [
      "follow", "refused/item-wait"),
     ("a trap waits as long as it likes", "machine.py", "if self.waited >= MOST_WAITED", "if self.waited > 2 * MOST_WAITED", "follow",
      "refused/item-wait-long"),
+    ("a load gives what is there while a trap is pending", "machine.py", "        if word.insn.sets:\n", "        if word.kind == table.LOAD:\n"
+     "            self.access(word)\n        elif word.insn.sets:\n", "follow", "/shadow-drawn"),
+    ("a further /V word keeps its result", "machine.py", "bit_length() - 1, value)",
+     "bit_length() - 1, self.result(word)[0] if word.kind == table.TRIGGER else value)", "follow", "/shadow-drawn"),
+    ("a conditional store tells whether it has stored", "machine.py", "bit_length() - 1, value)",
+     'bit_length() - 1, 0 if word.name.endswith("_c") else value)', "follow", "/shadow-drawn"),
+    ("a jump leaves the next address while a trap is pending", "machine.py", "self.turn(word, value)", "self.turn(word, self.pc + 4)",
+     "follow", "/shadow-drawn"),
+    ("no /V word joins the mask", "machine.py", "self.mask |= word.insn.sets if adds else 0", "pass", "follow", "/shadow-c3-mask"),
+    ("a report leaves the lock flag", "machine.py", '        self.complete(place)\n        return "overflow"',
+     '        kept = self.lock\n        self.complete(place)\n        self.lock = kept\n        return "overflow"', "follow", "/late-orders"),
+    ("a conditional store leaves the lock flag while a trap is pending", "machine.py", "self.lock = None if word.name.endswith",
+     "self.lock = self.lock if word.name.endswith", "follow", "/shadow-c6-flag"),
+    ("a trap is reported at mb", "machine.py", "if word.kind == table.BARRIER:\n            return \"",
+     "if word.kind == table.BARRIER or word.name == \"mb\":\n            return \"", "follow", "/late-orders"),
+    ("the handler looks behind a barrier", "machine.py", "(table.BARRIER, table.TURN):\n                return None",
+     "(table.TURN,):\n                return None", "follow", "/shadow-c7-barrier"),
+    ("the handler doesn't look behind an order", "machine.py", "if insn.kind in (table.BARRIER, table.TURN):",
+     'if insn.kind in (table.BARRIER, table.TURN) or insn.name == "wmb":', "follow", "/late-orders"),
+    ("a load into R31 makes its access while a trap is pending", "machine.py", "        if self.fault(word) is not None:",
+     '        if self.fault(word) is not None or word.name == "ldq" and word.ra == 31:', "follow", "/late-orders"),
     ("a journal's output isn't compared", "playing.py", "if put != wanted:", "if False:", "follow", "refused/output"),
     ("a word without /V joins the mask", "emulate", 'int(word.kind == "trigger" and word.rc != 31 and chosen.randrange(2))',
      "chosen.randrange(2)", "record", "/late-loop"),
@@ -142,6 +163,34 @@ def test_each_of_these_wrong_emulators_is_caught(folder):
         want((status, "ended at the first difference" in said), (1, True), f"{what}: {said}")
         # It is told by what the suite wants, and not by a fault of Python.
         want(re.search("Error|Exception", said), None, f"{what}: {said}")
+
+
+# What a recorded run has wrong, the right text of `emulate` and the wrong one, the files, and what is told. Each of the journals
+# is one of a run.
+OTHER_RUNS = [
+    ("it ends early", "(steps or m.waited is not None)", "(steps > 99_990 or m.waited is not None)", "/late-orders.wrap",
+     "late-orders by wrap with seed 1: the journal has no end, and 10 of 100000 units"),
+    ("it is by another completion", "machine.Machine(whole, options.complete,", 'machine.Machine(whole, "wrap",', "/late-orders.stop",
+     "late-orders by stop with seed 1: the journal is of a run by wrap"),
+    ("it is over another input", "sys.stdin.buffer.read())", "sys.stdin.buffer.read()[8:])", "/late-loop.stop",
+     "late-loop by stop with seed 1: the journal has 0 bytes of another output than the run without late traps"),
+    ("it has another end", "m.end or (", "(\"fetch\", m.end[1], 0) if m.end[0] == \"signal\" else m.end or (", "/end-bpt",
+     "end-bpt by wrap with seed 1: the journal is refused: norun kind 3 at 0"),
+]
+
+
+def test_a_recorded_run_goes_to_its_end(folder):
+    for number, (what, right, wrong, only, wanted) in enumerate(OTHER_RUNS):
+        made = emulator(changed(os.path.join(folder, str(number)), what, "emulate", right, wrong))
+        status, said = against("--record", made + RECORD, "--judge", emulator() + FOLLOW, "--seeds", "1", "--only", only)
+        want((status, said.splitlines()[0]), (1, wanted), what)
+
+
+def test_a_run_that_is_refused_says_what_its_image_is_for(folder):
+    what, file, right, wrong, _, only = next(row for row in WRONG if row[0] == "a report leaves the lock flag")
+    made = emulator(changed(folder, what, file, right, wrong))
+    _, said = against("--follow", made + FOLLOW, "--only", only + ".wrap.late", "--first")
+    want("a run is refused: norun kind 3 at 0. late-orders: A trap waits at orders" in said, True, said)
 
 
 def changed(folder, what, file, right, wrong):
