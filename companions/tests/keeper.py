@@ -7,7 +7,7 @@ import struct
 import subprocess
 import sys
 
-from parts import elf, image, program, table
+from parts import elf, functions, image, linked, program, table
 from .helpers import ASKED, HERE, TOP, Failed, Lacking, blocks, companion, data, needs_program, read, rows, runs_as_shown, want, write
 
 RAW = os.path.join(TOP, "examples", "raw_image.py")
@@ -83,16 +83,45 @@ def test_a_function_without_a_verdict_says_why(folder):
     struct.pack_into("<I", content, at + 0x150, 0x9D)
     write(path, content)
     told, _ = judged(path)
-    want(told["0000000000012000 00000144 main"], "no verdict: 0000000000012008 is 5fff041f: floating point, opcode 17, and 1 more", "main")
-    want(told["0000000000012150 00000020 _start"], "no verdict: 0000000000012150 is 0000009d: PALcode call 0x9d; no /V word", "_start")
+    want(told["0000000000012000 00000144 main"],
+         "broken trigger 000000000001205c at 0000000000012060 condition C7; 2 words outside the table", "main")
+    want(told["0000000000012150 00000020 _start"],
+         "accepted but for words in no shadow: 0000000000012150 is 0000009d: PALcode call 0x9d; no /V word", "_start")
+    companion("elf2image", "--function", "main", path, os.path.join(folder, "a.img"), status=1)
     for table in range(len(content) - 9 * 64, len(content), 64):
         if struct.unpack_from("<I", content, table + 4)[0] == elf.SYMTAB:
             struct.pack_into("<I", content, table + 4, 0)
     struct.pack_into("<II", content, at + 8, 0x47FF041F, 0x47FF041F)
     struct.pack_into("<I", content, at + 0x150, 0x47FF041F)
     write(path, content)
-    want(judged(path), ({"0000000000012000 00000230 .text": "broken trigger 000000000001205c at 0000000000012060 condition C7"},
-                        "1 symbols: 0 accepted, 1 broken, 0 without a verdict; no /V word in 0"), "a stripped file")
+    told, last = judged(path)
+    want(told["0000000000012000 00000144 .text"], "broken trigger 000000000001205c at 0000000000012060 condition C7", "a stripped file")
+    want(last.startswith(f"{len(told)} rows of words in no symbol: "), True, last)
+    companion("elf2image", "--function", ".text", path, os.path.join(folder, "a.img"))
+
+
+# Four functions, of which two have names: `addq/v $1,$2,$3`, a word of floating point, `trapb`, `ret`; then `addq/v $1,$2,$1`,
+# `ret`, a filler; then `addq/v $1,$2,$3`, `trapb`, a word of floating point, `ret`; then `ret`.
+MIXED = struct.pack("<12I", 0x40220C03, 0x5FFF040B, 0x63FF0000, 0x6BFA8001, 0x40220C01, 0x6BFA8001, 0x47FF041F, 0x40220C03, 0x63FF0000,
+                    0x5FFF040B, 0x6BFA8001, 0x6BFA8001)
+
+
+@needs_program
+def test_code_in_no_symbol_and_words_of_floating_point_have_verdicts(_):
+    whole = linked.Linked("a file", b"")
+    text = linked.Section(".text", linked.PROGBITS, linked.EXEC, AWAY, MIXED, len(MIXED))
+    whole.sections = [text]
+    whole.symbols = [linked.Symbol(AWAY, 16, "func", "first"), linked.Symbol(AWAY + 44, 4, "func", "last")]
+    wanted = {"first": f"no verdict: {AWAY + 4:016x} is 5fff040b: floating point, opcode 17, in the shadow of {AWAY:016x}",
+              ".text+0x10": f"broken trigger {AWAY + 16:016x} at {AWAY + 16:016x} condition C2",
+              ".text+0x1c": f"accepted but for words in no shadow: {AWAY + 36:016x} is 5fff040b: floating point, opcode 17",
+              "last": "accepted; no /V word"}
+    for symbols, names in [(whole.symbols, list(wanted)), ([], [".text", ".text+0x10", ".text+0x1c", ".text+0x2c"])]:
+        whole.symbols = symbols
+        found = functions.functions_of(whole)
+        told = functions.verdicts(program.Program(ASKED), found, 2)
+        want([(one.symbol.name, said) for one, said in zip(found, told)], list(zip(names, wanted.values())), names)
+    want([one.size for one in found], [16, 8, 16, 4], "sizes")
 
 
 @needs_program
