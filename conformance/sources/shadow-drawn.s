@@ -1,5 +1,5 @@
 # C2: words of several kinds overwrite a source of the trigger, by a value that the machine draws. What is completed then shows
-# that value: a quadword of output for each shadow.
+# that value: a quadword of output for each shadow, from byte 16 on.
         .data
 cells:  .quad 3,4
 sums:   .zero 72
