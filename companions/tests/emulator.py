@@ -350,6 +350,30 @@ def test_the_first_wrong_step_is_named(_):
     want("journal kind 2 at 0" in notes, True, notes)
 
 
+STEPS = """1 trigger 0xffffffffffffffff: 0000000000010018 addq/v $1,$2,$3; $3 ffffffffffffffff, mask 8
+2 wait 0 0xffffffffffffffff: 000000000001001c ldq $2,0($9); $2 ffffffffffffffff, mask 8
+3 report: 0000000000010020 trapb; $3 7ffffffffffffffe
+4 units: 000000000001001c ldq $2,0($9); $2 0000000000000003
+4 units: 0000000000010020 trapb
+4 units: 0000000000010024 stq $3,16($9); 0000000010000010 fe ff ff ff ff ff ff 7f
+"""
+
+
+@needs_program
+def test_the_steps_of_a_journal_are_written(_):
+    image_path, path = in_suite("images/shadow-drawn.img"), in_suite("journals/shadow-drawn.wrap.late.journal")
+    out, _ = companion("journal", "steps", image_path, path)
+    kept = journal.read_journal(path)
+    steps = sum(item[1] if item[0] == journal.UNITS else 1 for item in kept.items)
+    want((STEPS in out, len(out.splitlines()), out.splitlines()[-3:-2]), (True, steps + 2, [f"{len(kept.items) - 1} units: "
+         "00000000000100f8 callsys; exit 0"]), "a run")
+    bad = in_suite("refused/item-wait-barrier.journal")
+    first, _ = companion("journal", "first", in_suite("images/late-two.img"), bad, status=1)
+    out, _ = companion("journal", "steps", in_suite("images/late-two.img"), bad, status=1)
+    want((out.endswith(first), out.count("\n") - first.count("\n")), (True, 5), "what is no run, up to its first wrong step")
+    companion("journal", "steps", image_path, status=2)
+
+
 # ---- the vectors for others
 
 
