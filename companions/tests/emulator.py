@@ -165,34 +165,6 @@ def test_each_of_these_wrong_emulators_is_caught(folder):
         want(re.search("Error|Exception", said), None, f"{what}: {said}")
 
 
-# What a recorded run has wrong, the right text of `emulate` and the wrong one, the files, and what is told. Each of the journals
-# is one of a run.
-OTHER_RUNS = [
-    ("it ends early", "(steps or m.waited is not None)", "(steps > 99_990 or m.waited is not None)", "/late-orders.wrap",
-     "late-orders by wrap with seed 1: the journal has no end, and 10 of 100000 units"),
-    ("it is by another completion", "machine.Machine(whole, options.complete,", 'machine.Machine(whole, "wrap",', "/late-orders.stop",
-     "late-orders by stop with seed 1: the journal is of a run by wrap"),
-    ("it is over another input", "sys.stdin.buffer.read())", "sys.stdin.buffer.read()[8:])", "/late-loop.stop",
-     "late-loop by stop with seed 1: the journal has 0 bytes of another output than the run without late traps"),
-    ("it has another end", "m.end or (", "(\"fetch\", m.end[1], 0) if m.end[0] == \"signal\" else m.end or (", "/end-bpt",
-     "end-bpt by wrap with seed 1: the journal is refused: norun kind 3 at 0"),
-]
-
-
-def test_a_recorded_run_goes_to_its_end(folder):
-    for number, (what, right, wrong, only, wanted) in enumerate(OTHER_RUNS):
-        made = emulator(changed(os.path.join(folder, str(number)), what, "emulate", right, wrong))
-        status, said = against("--record", made + RECORD, "--judge", emulator() + FOLLOW, "--seeds", "1", "--only", only)
-        want((status, said.splitlines()[0]), (1, wanted), what)
-
-
-def test_a_run_that_is_refused_says_what_its_image_is_for(folder):
-    what, file, right, wrong, _, only = next(row for row in WRONG if row[0] == "a report leaves the lock flag")
-    made = emulator(changed(folder, what, file, right, wrong))
-    _, said = against("--follow", made + FOLLOW, "--only", only + ".wrap.late", "--first")
-    want("a run is refused: norun kind 3 at 0. late-orders: A trap waits at orders" in said, True, said)
-
-
 def changed(folder, what, file, right, wrong):
     """A copy of the emulator, with another text in a file of it."""
     copies = {name: os.path.join("companions/parts", name) for name in os.listdir(os.path.join(HERE, "parts")) if name.endswith(".py")}
