@@ -50,14 +50,15 @@ class Elf(Linked):
         kinds = [header[1] for header in headers]
         for name, kind, flags, address, offset, length, link, *_ in headers:
             if kind == SYMTAB or kind == DYNSYM and SYMTAB not in kinds:
-                self.read_symbols(offset, length, headers[link][4])
+                self.read_symbols(offset, length, headers[link][4], [header[2] & ALLOC for header in headers])
             if flags & ALLOC and length and not (kind == NOBITS and flags & TLS):
                 content = b"" if kind == NOBITS else self.part(offset, length)
                 self.sections.append(Section(self.text(text + name), kind, flags, address, content, length))
         self.order()
 
-    def read_symbols(self, offset, length, strings):
+    def read_symbols(self, offset, length, strings, is_loaded):
+        """The symbols of a table, but for those of sections that aren't in memory, as a debugger's are."""
         for at in range(offset, offset + length, 24):
             name, info, _, index, address, size = struct.unpack_from("<IBBHQQ", self.content, at)
-            if name and info & 15 in KINDS and 0 < index < 0xFF00:
+            if name and info & 15 in KINDS and 0 < index < 0xFF00 and is_loaded[index]:
                 self.symbols.append(Symbol(address, size, KINDS[info & 15], self.text(strings + name)))

@@ -6,6 +6,10 @@ import tempfile
 
 TOP = os.path.dirname(os.path.dirname(os.path.dirname(os.path.abspath(__file__))))
 
+# What files are, by their first bytes, that are often given where a text is wanted.
+NO_TEXT = {b"\x7fELF": "no text: an ELF file, which companions/elf2image reads where it is linked", b"ALPHAIM": "no text: an image",
+           b"ALPHAOB": "no text: a module", b"ALPHAJR": "no text: a journal"}
+
 
 class Refused(Exception):
     """Input that a companion can't take. It has one line or several."""
@@ -20,8 +24,11 @@ def read_bytes(path):
 
 
 def read_text(path):
-    """The text of a file. Bytes that are no UTF-8 stay as they are when it is written again."""
-    return read_bytes(path).decode("utf-8", "surrogateescape")
+    """The text of a file. Bytes that are no UTF-8 stay as they are when it is written again; one with a byte of 0 is no text."""
+    content = read_bytes(path)
+    if b"\0" in content:
+        raise Refused(f"{path}: {next((kind for front, kind in NO_TEXT.items() if content.startswith(front)), 'no text')}")
+    return content.decode("utf-8", "surrogateescape")
 
 
 def keep(path, content):

@@ -22,6 +22,9 @@ OPERATE = {name for rows in table.OPERATE.values() for name in rows.values()} - 
 MEMORY, BRANCHES = set(table.MEMORY.values()), set(table.BRANCH.values())
 PAIRS = {"negl": "subl", "negq": "subq", "negl/v": "subl/v", "negq/v": "subq/v", "not": "ornot", "sextl": "addl"}
 ALONE = {"nop", "unop", "trapb", "excb", "mb", "wmb"} | set(table.PAL.values())
+# The names of the source language, those of pseudo-operations too.
+NAMES = OPERATE | table.UNARY | MEMORY | BRANCHES | ALONE | set(table.JUMP) | set(PAIRS) | set(table.FETCHES.values()) | {
+    "mov", "clr", "call_pal"}
 DIVISIONS = {f"{what}{size}{sign}" for what in ("div", "rem") for size in "lq" for sign in ("", "u")}
 TRIGGER = re.compile(r"(addl|addq|subl|subq|mull|mulq|negl|negq)(?:v|/v)\Z")
 BARRIERS = {"trapb", "excb", "draint", "call_pal", "rduniq", "wruniq"} | set(table.PAL.values())
@@ -29,6 +32,11 @@ FLOATING = ("ldt", "lds", "ldf", "ldg", "stt", "sts", "stf", "stg", "cpys", "cvt
             "muls", "divt", "divs", "cmpt", "fcmov", "fb", "itof", "ftoi", "sqrt", "mf_fpcr", "mt_fpcr", "fnop")
 LITERAL_USES = {None, "lituse_base", "lituse_bytoff", "lituse_addr"}
 JUMP_USES = {None, "lituse_jsr", "lituse_jsrdirect"}
+
+
+def is_of_alpha(name):
+    """Whether an instruction of GNU as has the name, at least of those that compilers write."""
+    return name in NAMES or name in ALIASES or name in DIVISIONS or name == "ldgp" or name.startswith(FLOATING)
 
 
 def register(text):

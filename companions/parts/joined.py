@@ -10,6 +10,8 @@ MARKED = re.compile(f"{MARK}([^{MARK}]*){MARK}([+-][0-9]+)")
 LABEL = re.compile(r"[A-Za-z_][\w.]*", re.ASCII)
 # Functions that gcc calls also where it is told that there is no C library.
 OF_LIBRARY = {"memcpy", "memmove", "memset", "memcmp"}
+# Arithmetic that gcc calls its own library for, as -ftrapv does for numbers of 128 bits.
+OF_LIBGCC = re.compile(r"__[a-z]+[sdt]i[234]")
 # The base of a module's data is a multiple of this, and so is each address where the upper half of an address changes.
 PAGE = 8_192
 
@@ -93,8 +95,7 @@ class Joined:
     def lines(self, entry):
         """The lines of the source. That of a module has no entry."""
         if self.prefix is None and entry not in self.owners:
-            self.faults.add(self.units[0].path, 1, f"no file defines the entry {entry} with .globl: give companions/start.s as a "
-                            "further file, or say --entry NAME")
+            self.faults.add(self.units[0].path, 1, f"no file defines the entry {entry} with .globl" + self.entries(entry))
             return []
         lines = ["\t.code"] if self.prefix is not None else [f"\t.entry {self.resolved(self.owners[entry], entry)}", "\t.code"]
         for unit, section in self.of_kind(units.CODE):
@@ -104,6 +105,14 @@ class Joined:
         zeroed += self.shared_lines()
         # A byte is loaded by the quadword that it lies in, so the last one is made whole.
         return lines + (["\t.data", *data, *zeroed, f"\t.align {WHOLE}"] if data or zeroed else [])
+
+    def entries(self, entry):
+        """What to do where the entry isn't there."""
+        if entry == "_start":
+            return ": give companions/start.s as a further file, or say --entry NAME"
+        names = sorted(self.owners)
+        return f"; defined so {'are' if len(names) != 1 else 'is'} {', '.join(names[:10]) or 'none'}" + (
+            f" and {len(names) - 10} more" if len(names) > 10 else "")
 
     def look_at_halves(self, lines):
         """Two words that make an address by its halves may name one symbol with two numbers added: then the upper halves
@@ -215,6 +224,8 @@ def remedy(name):
         return ": give companions/divide.s as a further file"
     if name in OF_LIBRARY:
         return ": gcc calls it by itself, so a further file must have it, compiled with -fno-tree-loop-distribute-patterns"
+    if OF_LIBGCC.fullmatch(name):
+        return ": gcc has it in its own library, libgcc, so a further file must have it"
     return ""
 
 

@@ -3,10 +3,14 @@ import bisect
 import os
 import re
 
-from . import files, fitting, gas
+from . import files, fitting, gas, image, instructions
 
 CODE_BASE, DATA_BASE, PAGE = 0x10000, 0x10000000, 8_192
+# The linker's name for the end of a program's memory.
+END = "_end"
 FIELDS = (".codebase", ".database", ".segment")
+# The directives beside those of data, of which each is laid out below.
+OTHERS = {".entry", ".stack", ".level", *FIELDS[:2]}
 SIZES = {".byte": 1, ".word": 2, ".long": 4, ".quad": 8}
 MAP_LINE = re.compile(r"([0-9a-f]{16}) ([0-9a-f]{8,16}) (func|object|label) (\S.*)")
 FUNCTION = re.compile(r"#\s*\S+:[0-9]+( \S+:[0-9]+)? function\s*\Z")
@@ -16,10 +20,10 @@ ORIGIN = re.compile(r"#\s*(\S+:[0-9]+.*?)\s*\Z")
 
 
 class Names:
-    """Labels and symbols by address."""
+    """Labels and symbols by address, and those of a map that are functions, with their addresses."""
 
     def __init__(self):
-        self.rows = []
+        self.rows, self.functions = [], {}
 
     def add(self, address, name, size=0):
         self.rows.append((address, name, size))
@@ -29,6 +33,8 @@ class Names:
         rows = self.sorted()
         at = bisect.bisect_right(rows, (address, "\U0010ffff", 0))
         for start, name, size in reversed(rows[max(0, at - 16):at]):
+            if name == END and address > start:
+                return None
             if size == 0 or address < start + size:
                 return name if address == start else f"{name}+{address - start:#x}"
         return None
@@ -59,7 +65,7 @@ class Source:
             self.ends[self.code_base], self.ends[self.begin] = at["code"], at["data"]
 
     def refuse(self, statement, why):
-        raise files.Refused(f"{self.path}:{statement.line}: {why}: is it a source that `asm` takes?")
+        raise files.Refused(f"{self.path}:{statement.line}: {why}: is it a source that `asm` takes, as gas2source makes one?")
 
     def number(self, statement):
         try:
@@ -80,6 +86,8 @@ class Source:
             at["data"] = self.begin = self.number(statement)
             return "data"
         if name and not name.startswith("."):
+            if name not in instructions.NAMES:
+                self.refuse(statement, f"`{name}` isn't of the source language")
             if section != "code":
                 self.refuse(statement, "an instruction in data")
             self.lines[at["code"]] = statement.line
@@ -93,21 +101,30 @@ class Source:
         elif name == ".align":
             step = 1 << self.number(statement)
             at["data"] += -(at["data"] - self.begin) % step
+        elif name and name not in OTHERS:
+            self.refuse(statement, f"`{name}` isn't of the source language")
         return section
 
     def has(self, address, with_end=True):
         """Whether the code or a segment of the data has the address. That of its end counts, where a label may stand."""
         return any(start <= address < end or with_end and address == end for start, end in self.ends.items())
 
+    def is_trigger(self, address):
+        """Whether the line of an address is that of a /V word."""
+        line = self.lines.get(address)
+        return line is not None and instructions.TRIGGER.match(self.code_of(line).split()[0]) is not None
+
+    def code_of(self, line):
+        """What a line says without its label and its comment."""
+        return next(piece for _, _, _, piece in gas.pieces(self.text[line - 1])).split(":")[-1].strip()
+
     def tell(self, address, with_text):
         """The line of an address, what its comment says of where it was made from, and its text where it is wanted."""
         line = self.lines.get(address)
         if line is None:
             return None
-        text = self.text[line - 1]
-        code = next(piece for _, _, _, piece in gas.pieces(text)).split(":")[-1].strip()
-        origin = ORIGIN.search(text)
-        return f"{os.path.basename(self.path)}:{line}" + (f" ({origin[1]})" if origin else "") + (f": {code}" if with_text else "")
+        origin = ORIGIN.search(self.text[line - 1])
+        return f"{os.path.basename(self.path)}:{line}" + (f" ({origin[1]})" if origin else "") + (f": {self.code_of(line)}" if with_text else "")
 
 
 def laid_out(paths):
@@ -130,9 +147,19 @@ class Places:
         self.names = read_map(symbols) if symbols is not None else None
 
     def hold(self, asked, path):
-        """Refuses sources of which the image of the path wasn't made."""
+        """Refuses sources of which the image of the path wasn't made, and a map with functions where it has no code."""
         if self.sources:
             fitting.hold(asked, path, self.sources)
+        if self.names is not None:
+            given = image.read_image(path)
+            for name, address in self.names.functions.items():
+                if given.place(address) is None:
+                    raise files.Refused(f"{path} has no code at {address:016x}, where the map has {name}: is it the map of "
+                                        "that image?")
+
+    def is_trigger(self, address):
+        """Whether a source has a /V word at an address; where no source is given, None."""
+        return any(source.is_trigger(address) for source in self.sources) if self.sources else None
 
     def source_of(self, address):
         """The source that has an address: one where it isn't the end before another's, or None."""
@@ -179,6 +206,8 @@ def read_map(path):
         if match is None:
             raise files.Refused(f"{path}:{number}: no line `ADDRESS SIZE KIND NAME` of a map")
         names.add(int(match[1], 16), match[4], int(match[2], 16))
+        if match[3] == "func":
+            names.functions[match[4]] = int(match[1], 16)
     return names
 
 

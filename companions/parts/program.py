@@ -8,6 +8,7 @@ import tempfile
 from . import files
 
 BUILT = "crates/alpha_tool/out/alpha_tool"
+NO_IMAGE, CANT_READ = 4, 8
 BROKEN = re.compile(r"broken trigger ([0-9a-f]{16}) at ([0-9a-f]{16}) condition C([1-9])\n\Z")
 
 
@@ -38,13 +39,13 @@ class Program:
         match = BROKEN.search(notes)
         if status == 1 and match:
             return int(match[1], 16), int(match[2], 16), int(match[3])
-        raise files.Refused(f"{path}: the program answers status {status}: {notes.strip() or 'no line'}")
+        raise unexpected(path, status, notes)
 
     def listing(self, path):
         """The lines of the listing."""
         status, out, notes = self.call("dis", path)
         if status != 0:
-            raise files.Refused(f"{path}: the program answers status {status}: {notes.strip() or 'no line'}")
+            raise unexpected(path, status, notes)
         return out.decode("ascii").splitlines()
 
     def code_lines(self, path):
@@ -53,6 +54,14 @@ class Program:
         start = lines.index(".code") + 1
         end = next((n for n in range(start, len(lines)) if lines[n].startswith((".data", ".segment"))), len(lines))
         return lines[start:end]
+
+
+def unexpected(path, status, notes):
+    """The refusal of a file of which the program answers something else than is asked for."""
+    if status == CANT_READ:
+        files.read_bytes(path)
+    cause = "no image: " if status == NO_IMAGE else ""
+    return files.Refused(f"{path}: {cause}the program answers status {status}: {notes.strip() or 'no line'}")
 
 
 class Scratch:

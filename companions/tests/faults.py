@@ -35,6 +35,15 @@ def told(folder, content, *words):
 
 
 @needs_program
+def test_of_a_module_the_option_is_named(folder):
+    content = b"\t.code\nf:\tbr other\n"
+    found, out, notes = told(folder, content)
+    want((found, out.splitlines()[-1]), ([(0, 0, 6, 0), (2, 0, 3, 0)], "2 faults"), "as a source of an image")
+    want(notes, f"allfaults: {folder}/a.s: if it is the source of a module, say --module\n", "what to do")
+    want(told(folder, content, "--module"), ([], "0 faults\n", ""), "as one of a module")
+
+
+@needs_program
 def test_each_faulty_line_is_told_once(folder):
     found, out, notes = told(folder, BAD.encode())
     want(found, WANTED, "faults")
