@@ -225,7 +225,10 @@ class Known:
 
     def told(self, said, letter):
         if letter in "AB" and re.fullmatch(HEX, said.values[letter]):
-            return self.address(int(said.values[letter], 16))
+            told = self.address(int(said.values[letter], 16))
+            if self.places is not None and (why := self.places.strange(said.text)):
+                raise files.Refused(why)
+            return told
         if letter == "n":
             return None
         number = said.number(letter)

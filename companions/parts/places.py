@@ -16,6 +16,8 @@ MAP_LINE = re.compile(r"([0-9a-f]{16}) ([0-9a-f]{8,16}) (func|object|label) (\S.
 FUNCTION = re.compile(r"#\s*\S+:[0-9]+( \S+:[0-9]+)? function\s*\Z")
 # A byte of a string of the source language: `\xHH` has just two digits.
 STRING_BYTE = re.compile(r"\\x[0-9a-fA-F]{2}|\\.|[^\\]")
+# A line of the program that tells the address of a /V word.
+OF_TRIGGER = re.compile(r"(?:overflow|stop at|broken trigger|unfixable trigger) ([0-9a-f]{16})\b")
 ORIGIN = re.compile(r"#\s*(\S+:[0-9]+.*?)\s*\Z")
 
 
@@ -124,7 +126,8 @@ class Source:
         if line is None:
             return None
         origin = ORIGIN.search(self.text[line - 1])
-        return f"{os.path.basename(self.path)}:{line}" + (f" ({origin[1]})" if origin else "") + (f": {self.code_of(line)}" if with_text else "")
+        return f"{os.path.basename(self.path)}:{line}" + (f" ({origin[1]})" if origin else "") + (
+            f": {self.code_of(line)}" if with_text else "")
 
 
 def laid_out(paths):
@@ -157,9 +160,13 @@ class Places:
                     raise files.Refused(f"{path} has no code at {address:016x}, where the map has {name}: is it the map of "
                                         "that image?")
 
-    def is_trigger(self, address):
-        """Whether a source has a /V word at an address; where no source is given, None."""
-        return any(source.is_trigger(address) for source in self.sources) if self.sources else None
+    def strange(self, text):
+        """Why the sources can't be those of the image of which a line of the program tells, or None."""
+        match = OF_TRIGGER.match(text)
+        if match is None or not self.sources or any(source.is_trigger(int(match[1], 16)) for source in self.sources):
+            return None
+        return f"by --source no /V word is at {match[1]}: are these the sources of the image, in the order of the link? " \
+            "--image IMAGE tells where they differ"
 
     def source_of(self, address):
         """The source that has an address: one where it isn't the end before another's, or None."""

@@ -112,10 +112,12 @@ def test_sources_of_another_image_are_found_by_its_notes(folder):
     made = linked(asked, folder, sources)
     notes = asked.call("run", made, given=b"12 3000000 70000000000 9\n")[2]
     address = notes.split()[1]
-    why = f"where: by --source no /V word is at {address}: are these the sources of the image, in the order of the link? " \
+    why = f"by --source no /V word is at {address}: are these the sources of the image, in the order of the link? " \
         "--image IMAGE tells where they differ\n"
     for order, status in ((sources, 0), ([sources[0], *sources[:0:-1]], 1), (sources[:1], 1)):
         given = [word for source in order for word in ("--source", source)]
         out, said = companion("where", *given, given=notes.encode(), status=status)
         told = out.startswith(f"overflow {address}\n"), "mulq/v" in out, out.endswith("exit 4\n")
-        want((told, said), ((True, status == 0, True), why if status else ""), f"status {status}")
+        want((told, said), ((True, status == 0, True), f"where: {why}" if status else ""), f"status {status}")
+        out, said = companion("explain", "overflow", address, *given, status=status)
+        want(("mulq/v" in out, said), (status == 0, f"explain: {why}" if status else ""), "explain")
