@@ -87,10 +87,14 @@ class Joined:
             name = self.resolved(unit, match[1])
             if name is None:
                 line = int(re.match(r".*?:([0-9]+)", note)[1])
-                self.faults.add(unit.path, line, f"nothing defines {match[1]}{remedy(match[1])}")
+                self.faults.add(unit.path, line, f"nothing defines {match[1]}{self.hidden(match[1]) or remedy(match[1])}")
                 return match[1]
             return name if int(match[2]) == 0 else name + match[2]
         return MARKED.sub(named, text)
+
+    def hidden(self, name):
+        """Says of a name that a file keeps to itself how others may know it."""
+        return next((f": it is a label of {unit.path}, without .globl" for unit in self.units if name in unit.labels), "")
 
     def lines(self, entry):
         """The lines of the source. That of a module has no entry."""

@@ -3,7 +3,7 @@ import os
 import struct
 
 from parts import program
-from .helpers import ASKED, companion, data, needs_program, read, want, write
+from .helpers import ASKED, HERE, companion, data, needs_program, read, want, write
 from .modules import linked, modules
 
 OF_X86 = b"\t.text\nmain:\n\tpushq %rbp\n\tmovq %rsp, %rbp\n\tmovl $0, %eax\n\tret\n"
@@ -48,6 +48,14 @@ def test_shadowfix_takes_texts_for_the_alpha_alone(folder):
     for content in (b"", b"\t.data\n\t.quad 1\n", b"\taddqv $1,$2,$3\n\tmymacro $1\n\tldt $f1,0($2)\n\tldgp $29,0($27)\n\tdraint\n"):
         write(path, content)
         companion("shadowfix", path, "-o", out)
+
+
+def test_a_label_without_globl_is_named(folder):
+    path = os.path.join(folder, "a.s")
+    write(path, b"\t.ent main\nmain:\tret\n\t.end main\n")
+    start = os.path.join(HERE, "start.s")
+    want(refused("gas2source", start, path), f"gas2source: {start}:8: nothing defines main: it is a label of {path}, without .globl\n",
+         "what is missing")
 
 
 @needs_program
