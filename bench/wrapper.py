@@ -279,6 +279,8 @@ def try_first(room, real):
 
 
 def main(parts):
+    # Where this was started in the background interruptions are ignored, and all that it starts would ignore them too.
+    signal.signal(signal.SIGINT, signal.default_int_handler)
     for part in parts or ("alpha", "look", "first"):
         with tempfile.TemporaryDirectory() as room:
             room = os.path.realpath(room)
