@@ -5,8 +5,8 @@ was made of other sources.
     tools/build.py
 
 Crates that don't stand on one another are proved side by side, by as many processors as memory allows (RT_JOBS=N: by N),
-those with the longest chain of others behind them first; processors that are left over share a crate's functions. What is
-proved is kept: after an interruption the next build goes on from there, and so do `rt check` and `rt lib`. The new program
+those with the longest chain of others behind them first; processors that are left over share a crate's functions, and so
+do all of them in the crates of the longest chain, for which everything waits. What is proved is kept: after an interruption the next build goes on from there, and so do `rt check` and `rt lib`. The new program
 replaces the old one once it is whole. The log is .alpha-build.log, which holds all of a build, its interruptions too.
 
 Where the program can't be built the status is 70, and the program that was there before stays.
@@ -29,6 +29,8 @@ PROGRAM = os.path.join(kit.TOP, "crates/alpha_tool/out/alpha_tool")
 ROUNDS = 4
 # How the last line of a whole build begins.
 BUILT = "built"
+# What each further job of a check takes, as a part of the memory of the first one, as the kit counts it.
+MEMORY_A_JOB = 0.6
 # As measured of all crates from nothing. A program's check loads all libraries, which is as much work as a part of their lines.
 SECONDS_A_LINE, MEGABYTES_A_LINE, PART_OF_A_LIBRARY = 0.025, 0.09, 1 / 20
 
@@ -99,11 +101,13 @@ class Build:
         left = [it for it in self.crates if it not in done]
         tell_beforehand(self.rt, self.crates, left, self.log)
         self.count = len(done)
+        first = kit.longest_chain(self.crates, lambda it: kit.lines_of(it) if it in left else 0)
         tasks = {}
         for crate in left:
             waits = [(it.name, "proof") for it in crate.below() if it not in done]
-            work = functools.partial(self.prove, crate)
-            tasks[crate.name, "proof"] = waits, kit.lines_of(crate), self.rt.need(crate), work
+            most = self.jobs_within(crate) if crate in first else 1
+            needs = self.rt.need(crate) * (1 + MEMORY_A_JOB * (most - 1))
+            tasks[crate.name, "proof"] = waits, kit.lines_of(crate), needs, functools.partial(self.prove, crate, most)
         self.rt.in_lanes(tasks)
         self.replace(stamp)
         chain = kit.longest_chain(self.crates, lambda it: self.seconds.get(it, 0))
@@ -112,12 +116,19 @@ class Build:
             f" {sum(map(self.seconds.get, chain)):.0f} seconds of {sum(self.seconds.values()):.0f} in all", self.log)
         say(f"{BUILT} in {time.time() - start:.0f} seconds", self.log)
 
-    def prove(self, crate, _given, jobs):
+    def jobs_within(self, crate):
+        """How many jobs may share a crate's functions: one a processor, as many as half of the free memory holds."""
+        if os.environ.get("RT_JOBS"):
+            return 1
+        held = 1 + int((self.rt.free() / 2 / self.rt.need(crate) - 1) / MEMORY_A_JOB)
+        return max(1, min(self.rt.processors(), held))
+
+    def prove(self, crate, most, _given, jobs):
         start = time.time()
         crate.out = Named(self.log, crate.name)
         try:
             os.makedirs(f"{crate.folder}/out", exist_ok=True)
-            flags = ["--jobs", str(jobs)]
+            flags = ["--jobs", str(max(jobs, most))]
             status = self.link(flags) if crate is self.tool else crate.build_rlib(flags, anew=False)
         except (SystemExit, OSError) as error:
             crate.out.write(f"{error}\n")
