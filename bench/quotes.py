@@ -5,7 +5,7 @@
 - Of docs/theorems.md and docs/promises.md: each clause that is named with its function and its crate is there; each
   fact or type that a quoted clause names stands where the first lines of its file say; and each row of a table of
   clauses says how much its clause reaches: of definitions, of clap, and of types of the code (bench/reading.py).
-- Each clause of `alpha_top` is named on one of the two.
+- Each clause of `alpha_top` is named on one of the two. Each law that a page names is a function of some crate.
 - Of docs/theorems.md: the reading order has just the files of definitions that its clauses reach, each with its lines
   and with those of the clauses that reach it, and each name of a quoted clause is in one of them; each promise of the
   table from claim to clause begins with words of README.md, and its clauses are there; each must-fail edit is there.
@@ -165,6 +165,13 @@ def check_cited(page, text, wrong):
                      if name not in there)
 
 
+@functools.cache
+def functions():
+    """The names of all functions of the repository."""
+    sources = (file.read_text() for file in TOP.glob("crates/*/src/**/*.rt"))
+    return {name for source in sources for name in re.findall(r"\bfn (\w+)", source)}
+
+
 def check_claims(text, readme, wrong):
     """Holds the table from claim to clause: a function without a crate is of alpha_cmd, a clause without one of alpha_top."""
     section = text.split("\n## From claim to clause\n", 1)[1].split("\n## ", 1)[0]
@@ -185,6 +192,7 @@ def main():
     for page in [TOP / "README.md", *sorted(TOP.glob("docs/*.md"))]:
         text, name = page.read_text(), page.relative_to(TOP)
         new = check_blocks(name, text, write, wrong)
+        wrong.extend(f"{name}: there is no law {law}" for law in sorted(set(LAW.findall(text)) - functions()))
         if page in (THEOREMS, PROMISES):
             new = check_reached(new, write, wrong)
             new = check_order(new, write, wrong) if page == THEOREMS else new
