@@ -6,6 +6,7 @@ pub mod Alike
 pub mod Bytes
 pub mod Accesses
 pub mod Advancing
+pub mod Columns
 pub mod Shadows
 pub mod Spoiling
 pub mod Places

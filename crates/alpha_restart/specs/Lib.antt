@@ -5,3 +5,4 @@ pub mod Shadow
 pub mod Invariant
 pub mod Table
 pub mod Needed
+pub mod Columns

@@ -1,16 +1,20 @@
 //! What holds of images that the checker accepts. The functions do nothing.
 
-ghost use Rattle.std.specs.Prelude.{◌≡◌, ◌≤◌, Option};
+ghost use Rattle.std.specs.Prelude.{◌≡◌, ◌≤◌, ◌⊎◌, ℕ, List, Option};
+ghost use Rattle.alpha_words.specs.Regs.{reg};
+ghost use Rattle.alpha_table.specs.Class.{Class};
 ghost use Rattle.alpha_image.specs.Parts.{Parts, IsImage};
 ghost use Rattle.alpha_shadow.specs.declared.broken.Condition.{Condition};
 ghost use Rattle.alpha_shadow.specs.Broken.{IsAccepted};
 ghost use Rattle.alpha_shadow.specs.Least.{condition_number};
 ghost use Rattle.alpha_seq.specs.State.{Program, State};
+ghost use Rattle.alpha_seq.specs.Step.{step};
 ghost use Rattle.alpha_imprecise.specs.Moment.{Trap, Choice, Moment};
 ghost use Rattle.alpha_imprecise.specs.Step.{wild};
 ghost use Rattle.alpha_imprecise.specs.Restart.{IsRestartable};
 ghost use Rattle.alpha_imprecise.specs.Free.{NeverLoses, FreeAlike};
 ghost use Rattle.alpha_restart.specs.Safe.{IsSafe};
+ghost use Rattle.alpha_restart.specs.Columns.{MayWrite, AgreeFor, GoAlike};
 ghost use Rattle.alpha_restart.specs.Table.{IsChoice, Row, WalksAgree};
 ghost use Rattle.alpha_imprecise.specs.Shown.{ChoicesAlike, RunsAlike};
 ghost use Rattle.alpha_restart.specs.Needed.{Needs, StopsApart};
@@ -63,6 +67,19 @@ pub fn laws_of_imprecise_steps()
         → Row g s pending m → (c : Choice) × IsChoice c × (wild g s pending c ≡ m) }
     ensures choice { (g : Program) (s : State) (pending : Option Trap) (c : Choice) → IsChoice c
         → Row g s pending (wild g s pending c) }
+{}
+
+/// The laws of columns: what the checker reads of a word is what the machine does. A step changes no
+/// register but the one that its word sets, and of a PALcode call R0 and R19. It depends on no
+/// register but those that its word uses, and of a PALcode call R0 and R16 to R18: where these have
+/// the same, and R31 too, it goes in the same way and leaves the same state, but for the registers
+/// that it leaves alone.
+pub fn laws_of_columns()
+    ensures written { (g : Program) (class : Option Class) (s : State) (r : ℕ)
+        → (reg (step g class s).state.regs r ≡ reg s.regs r) ⊎ MayWrite class r }
+    ensures read { (g : Program) (class : Option Class) (s : State) (other : List ℕ)
+        → AgreeFor class s.regs other
+        → GoAlike s.regs other (step g class s) (step g class (record s { regs = other })) }
 {}
 
 /// The law of restarts says as much as it can. None of the conditions C1 to C7 could be left out: for

@@ -7,6 +7,8 @@
 //!   such inputs too.
 //! - [`laws_of_restarted_runs`] says what a run of such an image shows, whatever is chosen.
 //! - [`laws_of_imprecise_steps`] says that the choices of the imprecise step are the rows of its table.
+//! - [`laws_of_columns`] says that the columns by which the checker judges a word are what the machine
+//!   does to registers.
 //! - [`limits_of_restarts`] says that no condition from C1 to C7 could be left out, and that no more
 //!   could be said of a stop.
 //!
@@ -14,25 +16,28 @@
 //! (`specs/Shown.antt`, and `specs/Free.antt` where each step finds an input of its own); what is
 //! accepted in `alpha_shadow` (`specs/Broken.antt`). `docs/restart.md` explains why the law holds.
 //!
-//! `specs/Table.antt` has the table, `specs/Needed.antt` what it means that a condition is needed. The
-//! others have the invariant of the proof: `Safe.antt` what acceptance gives, `Match.antt` where
-//! registers and bytes of the two machines may differ, `Trigger.antt` and `Shadow.antt` the registers
-//! while a trap is pending, `Invariant.antt` how two runs stand to each other after each step.
+//! `specs/Table.antt` has the table, `specs/Columns.antt` what the columns say of a step,
+//! `specs/Needed.antt` what it means that a condition is needed. The others have the invariant of
+//! the proof: `Safe.antt` what acceptance gives, `Match.antt` where registers and bytes of the two
+//! machines may differ, `Trigger.antt` and `Shadow.antt` the registers while a trap is pending,
+//! `Invariant.antt` how two runs stand to each other after each step.
 //!
-//! The proofs, lowest first: `Safety.antt` (accepted code is safe), `Words.antt`, `Registers.antt` and
-//! `Places.antt` (the code, its registers and its addresses), `Reading.antt`, `Alike.antt`,
+//! The proofs, lowest first: `Safety.antt` (accepted code is safe), `Words.antt`, `Registers.antt`
+//! and `Places.antt` (the code, its registers and its addresses), `Reading.antt`, `Alike.antt`,
 //! `Bytes.antt`, `Accesses.antt` and `Advancing.antt` (one precise step in both machines),
 //! `Shadows.antt`, `Spoiling.antt` and `Trails.antt` (registers, bytes and the mask while a trap is
-//! pending), `Precise.antt`, `Together.antt`, `Syncing.antt`, `Waiting.antt` and `Reporting.antt` (each
-//! kind of step has the invariant hold), `Following.antt` (it holds after every run), `Starting.antt`
-//! (the start) and `Agreeing.antt` (the law). `Losing.antt` has that no trap is lost, and
-//! `FreeTogether.antt` the runs over inputs of their own. `Rows.antt` and `Walks.antt` have the table,
-//! `Fine.antt` a test for broken places and `Needed.antt` an image for each condition. What follows for
-//! runs is proved in `alpha_imprecise` (`proofs/Showing.antt`).
+//! pending), `Precise.antt`, `Together.antt`, `Syncing.antt`, `Waiting.antt` and `Reporting.antt`
+//! (each kind of step has the invariant hold), `Following.antt` (it holds after every run),
+//! `Starting.antt` (the start) and `Agreeing.antt` (the law). `Losing.antt` has that no trap is
+//! lost, and `FreeTogether.antt` the runs over inputs of their own. `Columns.antt` has the laws of
+//! columns, `Rows.antt` and `Walks.antt` the table, `Fine.antt` a test for broken places and
+//! `Needed.antt` an image for each condition. What follows for runs is proved in `alpha_imprecise`
+//! (`proofs/Showing.antt`).
 #![tactic(auto)]
 
 mod laws;
 
 pub use laws::{
-    laws_of_imprecise_steps, laws_of_restarted_runs, laws_of_restarts, limits_of_restarts,
+    laws_of_columns, laws_of_imprecise_steps, laws_of_restarted_runs, laws_of_restarts,
+    limits_of_restarts,
 };
