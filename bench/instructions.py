@@ -17,8 +17,8 @@ import sys
 import tempfile
 
 from measure import TOP, the_program
-from worked import (BRANCHES, COUNTING, FEATURES, JUMPS, MEMORY, MISC, OPERATES, OPERATE_WORDS, PAL, PLACE, SECTIONS,
-                    number_text)
+from worked import (BRANCHES, CELLS, COUNTING, DATA, FEATURES, JUMPS, LETTERS, MEMORY, MISC, OPERATES, OPERATE_WORDS,
+                    PAL, PLACE, SECTIONS, number_text)
 
 PAGE = os.path.join(TOP, "docs/instructions.md")
 LEVELS = {"One": 1, "Two": 2}
@@ -44,13 +44,12 @@ def other_rows(macro):
 
 
 def table():
-    """Name to format, opcode with function, and level, of all instructions."""
-    rows = {name: ("operate", code, level) for name, (code, level) in operate_rows().items()}
-    for macro, kind, spelling in (
-            ("memory_rows", "memory", "{:02X}"), ("branch_rows", "branch", "{:02X}"), ("jump_rows", "jump", "1A.{:X}"),
-            ("misc_rows", "misc", "18.{:04X}"), ("fetch_rows", "misc", "18.{:04X}"), ("pal_rows", "PALcode", "00.{:02X}")):
+    """Name to opcode with function, and level, of all instructions."""
+    rows = operate_rows()
+    for macro, spelling in (("memory_rows", "{:02X}"), ("branch_rows", "{:02X}"), ("jump_rows", "1A.{:X}"),
+                            ("misc_rows", "18.{:04X}"), ("fetch_rows", "18.{:04X}"), ("pal_rows", "00.{:02X}")):
         for name, number in other_rows(macro).items():
-            rows[name] = (kind, spelling.format(number), 1)
+            rows[name] = (spelling.format(number), 1)
     return rows
 
 
@@ -76,7 +75,7 @@ def operate_worked(name, level):
 
 
 def all_worked(rows):
-    worked = {name: operate_worked(name, rows[name][2]) for name in OPERATES}
+    worked = {name: operate_worked(name, rows[name][1]) for name in OPERATES}
     for others in (MEMORY, BRANCHES, JUMPS, MISC, PAL):
         for name, (_, line, before, after, more) in others.items():
             worked[name] = Worked(line, before, after, **more)
@@ -88,17 +87,36 @@ def registers_text(name, values):
     return ", ".join(f"${n} = {number_text(value, counts)}" for n, value in values.items())
 
 
+def operate_text(name, w):
+    """The operands of an operate line, and behind a colon the result."""
+    counts = COUNTING.match(name) is not None
+    before = ", ".join(number_text(value, counts) for value in w.before.values())
+    after = number_text(w.after[3], counts)
+    if w.saturated is not None:
+        after += f" by `wrap`, {number_text(w.saturated, False)} by `saturate`"
+    return f"{before}: {after}" if before else after
+
+
+def changed_text(at, digits):
+    """The bytes that a store has changed, and where they begin; nothing where it stored none."""
+    pairs = list(zip(bytes.fromhex(digits), CELLS, strict=True))
+    changed = [n for n, (now, before) in enumerate(pairs) if now != before]
+    if changed:
+        stored = " ".join(f"{now:02x}" for now, _ in pairs[changed[0]:changed[-1] + 1])
+        yield f"{stored} from {at + changed[0]:#x} on"
+
+
 def worked_text(name, w):
-    before = registers_text(name, w.before)
+    if name in OPERATES:
+        return operate_text(name, w)
+    shown = {n: value for n, value in w.before.items() if name not in MEMORY or value not in (DATA, LETTERS)}
+    before = registers_text(name, shown)
     first = "".join(f"`{line}`, then " for line in w.first)
     after = []
     if w.after:
         after.append(registers_text(name, w.after))
-    if w.saturated is not None:
-        after[-1] += f" by `wrap`, {number_text(w.saturated, False)} by `saturate`"
     if w.memory:
-        at, digits = w.memory
-        after.append(f"bytes from {at:#x} on: " + " ".join(digits[n:n + 2] for n in range(0, len(digits), 2)))
+        after += changed_text(*w.memory)
     if w.end:
         after.append(f"`{w.end}`")
     elif name in BRANCHES or name in JUMPS or not after:
@@ -121,11 +139,9 @@ def page():
     listed = []
     for title, note, names in SECTIONS:
         parts.append(("\n" if listed else "") + f"## {title}\n\n" + (note + "\n\n" if note else "")
-                     + "| Name | Format | Opcode | Gives | Worked value | `/V` | Level |\n|---|---|---|---|---|---|---|\n")
+                     + "| Name | Opcode | Gives | Worked value |\n|---|---|---|---|\n")
         for name in names:
-            kind, code, level = rows[name]
-            trap = "yes" if name.endswith("/v") else "no"
-            parts.append(f"| `{name}` | {kind} | {code} | {said[name]} | {worked_text(name, worked[name])} | {trap} | {level} |\n")
+            parts.append(f"| `{name}` | {rows[name][0]} | {said[name]} | {worked_text(name, worked[name])} |\n")
             listed.append(name)
     if sorted(listed) != sorted(rows):
         sys.exit(f"listed twice or not at all: {sorted(set(rows) ^ set(listed))}")
@@ -171,14 +187,14 @@ def faults_of(program, folder, w, row):
     """What of a row isn't as the program has it."""
     text, image = os.path.join(folder, "row.s"), os.path.join(folder, "row.img")
     with open(text, "w") as file:
-        file.write(source(w, row[2]))
+        file.write(source(w, row[1]))
     _, notes = run_program(program, "asm", text, image)
     if notes:
         return [notes.strip()]
     with open(image, "rb") as file:
         contents = file.read()
-    word = struct.unpack_from("<I", contents, 48 if row[2] == 1 else 56)[0]
-    faults = [f"opcode {field_of(word)}"] if field_of(word) != row[1] else []
+    word = struct.unpack_from("<I", contents, 48 if row[1] == 1 else 56)[0]
+    faults = [f"opcode {field_of(word)}"] if field_of(word) != row[0] else []
     script = f"break {PLACE}\ngo\nstep\nregs\n" + (f"mem {w.memory[0]} {len(w.memory[1]) // 2}\n" if w.memory else "")
     answers = run_program(program, "debug", image, script=script)[0].split("\n")
     if answers[2] != (w.end or f"pc {w.pc:016x}"):
@@ -189,7 +205,7 @@ def faults_of(program, folder, w, row):
         faults.append(answers[11])
     if w.saturated is not None:
         with open(text, "w") as file:
-            file.write(source(w, row[2]).replace("here: " + w.line + "\n" + "nop\n" * 5,
+            file.write(source(w, row[1]).replace("here: " + w.line + "\n" + "nop\n" * 5,
                                                  "here: " + w.line + "\ntrapb\nmov $3,$16\nlda $0,1\ncallsys\nnop\n"))
         run_program(program, "asm", text, image)
         notes = run_program(program, "run", "--complete", "saturate", image)[1].split("\n")
@@ -232,7 +248,7 @@ def main():
         for name, w in worked.items():
             faults += [f"{name}: {fault}" for fault in faults_of(program, folder, w, rows[name])]
         for name in "amask", "implver":
-            at_two = rows[name][:2] + (2,)
+            at_two = rows[name][:1] + (2,)
             faults += [f"{name} at level 2: {fault}" for fault in faults_of(program, folder, operate_worked(name, 2), at_two)]
     print("\n".join(faults) if faults else f"{len(rows)} instructions are as the page says")
     sys.exit(1 if faults else 0)

@@ -220,13 +220,13 @@ def byte_words(name):
 
 OPERATE_WORDS = {
     "addl": "*a* + *b*, wrapped to 32 bits",
-    "addl/v": "as `addl`; it overflows where the sum of the signed 32 bits isn't in -2^31..2^31 - 1",
+    "addl/v": "as `addl`",
     "addq": "*a* + *b* modulo 2^64",
-    "addq/v": "as `addq`; it overflows where the sum of the signed 64 bits isn't in -2^63..2^63 - 1",
+    "addq/v": "as `addq`",
     "subl": "*a* - *b*, wrapped to 32 bits",
-    "subl/v": "as `subl`; it overflows where the difference of the signed 32 bits isn't in -2^31..2^31 - 1",
+    "subl/v": "as `subl`",
     "subq": "*a* - *b* modulo 2^64",
-    "subq/v": "as `subq`; it overflows where the difference of the signed 64 bits isn't in -2^63..2^63 - 1",
+    "subq/v": "as `subq`",
     "s4addl": "4 *a* + *b*, wrapped to 32 bits",
     "s4addq": "4 *a* + *b* modulo 2^64",
     "s4subl": "4 *a* - *b*, wrapped to 32 bits",
@@ -236,9 +236,9 @@ OPERATE_WORDS = {
     "s8subl": "8 *a* - *b*, wrapped to 32 bits",
     "s8subq": "8 *a* - *b* modulo 2^64",
     "mull": "*a* times *b*, wrapped to 32 bits",
-    "mull/v": "as `mull`; it overflows where the product of the signed 32 bits isn't in -2^31..2^31 - 1",
+    "mull/v": "as `mull`",
     "mulq": "*a* times *b* modulo 2^64",
-    "mulq/v": "as `mulq`; it overflows where the product of the signed 64 bits isn't in -2^63..2^63 - 1",
+    "mulq/v": "as `mulq`",
     "umulh": "the high 64 bits of the unsigned product of *a* and *b*",
     "cmpeq": "1 where *a* equals *b*, else 0",
     "cmplt": "1 where *a* is below *b*, signed, else 0",
@@ -318,7 +318,7 @@ TAKEN, PASSED = {"pc": PLACE + 12}, {"pc": PLACE + 4}
 
 
 def branch(condition, value, how):
-    return (f"on at the target where {CONDITIONS[condition]}, else at the next word", f"b{condition} $1,.+12",
+    return (f"on at the target where {CONDITIONS[condition]}", f"b{condition} $1,.+12",
             {1: value}, {}, how)
 
 
@@ -330,13 +330,13 @@ BRANCHES = {
     "blbs": branch("lbs", 3, TAKEN), "blbc": branch("lbc", 3, PASSED),
 }
 
-TO_RB = "on at *b* with its two low bits cleared, and PC + 4 into Ra"
 JUMPS = {
-    "jmp": (TO_RB, "jmp $31,($27),0", {27: PLACE + 19}, {}, {"pc": PLACE + 16}),
-    "jsr": (TO_RB, "jsr $26,($27),0", {27: PLACE + 16}, {26: PLACE + 4}, {"pc": PLACE + 16}),
-    "ret": (TO_RB, "ret $31,($26),1", {26: PLACE + 16}, {}, {"pc": PLACE + 16}),
-    "jsr_coroutine": (TO_RB + ", also where both are one register", "jsr_coroutine $27,($27),0", {27: PLACE + 16},
-                      {27: PLACE + 4}, {"pc": PLACE + 16}),
+    "jmp": ("on at *b* with its two low bits cleared, and PC + 4 into Ra", "jmp $31,($27),0", {27: PLACE + 19}, {},
+            {"pc": PLACE + 16}),
+    "jsr": ("as `jmp`", "jsr $26,($27),0", {27: PLACE + 16}, {26: PLACE + 4}, {"pc": PLACE + 16}),
+    "ret": ("as `jmp`", "ret $31,($26),1", {26: PLACE + 16}, {}, {"pc": PLACE + 16}),
+    "jsr_coroutine": ("as `jmp`, also where both are one register", "jsr_coroutine $27,($27),0", {27: PLACE + 16}, {27: PLACE + 4},
+                      {"pc": PLACE + 16}),
 }
 
 MISC = {
@@ -362,7 +362,9 @@ PAL = {
 
 SECTIONS = [
     ("Arithmetic", "\"Wrapped to 32 bits\": the low 32 bits of the exact result, extended by their sign. These forms use "
-     "the low 32 bits of their operands alone.",
+     "the low 32 bits of their operands alone. With `/V` an instruction gives what it gives without, and overflows where the "
+     "exact sum, difference or product of its operands, signed and of 32 or 64 bits, isn't in -2^31..2^31 - 1 or "
+     "-2^63..2^63 - 1.",
      ["addl", "addl/v", "addq", "addq/v", "subl", "subl/v", "subq", "subq/v", "mull", "mull/v", "mulq", "mulq/v", "umulh",
       "s4addl", "s4addq", "s4subl", "s4subq", "s8addl", "s8addq", "s8subl", "s8subq"]),
     ("Comparisons", "", ["cmpeq", "cmplt", "cmple", "cmpult", "cmpule", "cmpbge"]),
@@ -371,12 +373,14 @@ SECTIONS = [
     ("Bytes", "*n* is *b* mod 8. Byte 0 is the lowest.",
      ["extbl", "extwl", "extll", "extql", "extwh", "extlh", "extqh", "insbl", "inswl", "insll", "insql", "inswh", "inslh",
       "insqh", "mskbl", "mskwl", "mskll", "mskql", "mskwh", "msklh", "mskqh", "zap", "zapnot", "sextb", "sextw"]),
-    ("Counts, and what a level has", "", ["ctpop", "ctlz", "cttz", "amask", "implver"]),
-    ("Memory", "In the worked values of loads and stores the 16 bytes from 0x10000000 on are 80 81 82 and so on to 8f "
-     "before the line.",
+    ("Counts, and what a level has", "`ctpop`, `ctlz` and `cttz` are of level 2, all other instructions of both levels.",
+     ["ctpop", "ctlz", "cttz", "amask", "implver"]),
+    ("Memory", "Before the line of a load or a store the 16 bytes from 0x10000000 on are 80 81 82 and so on to 8f, $2 is "
+     "0x10000000, and $1 of a store 0x123456789abcdef.",
      ["lda", "ldah", "ldbu", "ldwu", "ldl", "ldq", "ldq_u", "ldl_l", "ldq_l", "stb", "stw", "stl", "stq", "stq_u", "stl_c",
       "stq_c"]),
-    ("Branches", "", ["br", "bsr", "beq", "bne", "blt", "ble", "bgt", "bge", "blbs", "blbc"]),
+    ("Branches", "Where a condition isn't met, the program goes on at the next word.",
+     ["br", "bsr", "beq", "bne", "blt", "ble", "bgt", "bge", "blbs", "blbc"]),
     ("Jumps", "", ["jmp", "jsr", "ret", "jsr_coroutine"]),
     ("Barriers and hints", "", ["trapb", "excb", "mb", "wmb", "fetch", "fetch_m"]),
     ("PALcode calls", "", ["bpt", "bugchk", "gentrap", "callsys", "imb", "rdunique", "wrunique"]),
