@@ -1,16 +1,15 @@
-"""Calls of the program that are held to their whole answers, and told with their time and the most memory that they had. The
-system tells that for the child of a small process of Python, whose own 10 MB or so are the least that can be told.
+"""Calls of the program that are held to their whole answers, and told with their processor time and the most memory that
+they had. The system tells both for the child of a small process of Python, whose own 10 MB or so are the least that it tells.
 """
 import os
 import subprocess
 import sys
 
 MEASURE = """
-import os, sys, time
-start = time.perf_counter()
+import os, sys
 _, status, used = os.wait4(os.posix_spawn(sys.argv[2], sys.argv[2:], os.environ), 0)
 with open(sys.argv[1], "w") as file:
-    print(os.waitstatus_to_exitcode(status), time.perf_counter() - start, used.ru_maxrss, file=file)
+    print(os.waitstatus_to_exitcode(status), used.ru_utime + used.ru_stime, used.ru_maxrss, file=file)
 """
 
 

@@ -2,7 +2,7 @@
 """Makes the largest things that the program's limits let through (docs/ARCHITECTURE.md has the table), and holds each call
 to its whole answer, and one more of each to its refusal. By every contract memory may run out in place of any answer, so a
 program that gave up early would be proved all the same: this shows that it doesn't. Each answer is worked here by the
-rules in docs/. Prints the time of each call, and the most memory that it had.
+rules in docs/. Prints the processor time of each call, and the most memory that it had.
 
     bench/limits.py [PROGRAM]    two runs and a replay have a thousand million steps each
 """
