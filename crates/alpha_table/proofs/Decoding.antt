@@ -22,7 +22,7 @@ use Rattle.alpha_table.specs.Op.{op_row}
 use Rattle.alpha_table.specs.Rows.{mem_row, branch_row, jump_kind, misc_row, fetch_function, pal_function}
 use Rattle.alpha_table.specs.Row.{Row, SourceField, IsSource, IsRegister, OperandsFit, IsInsn}
 use Rattle.alpha_table.specs.Decoded.{every_op, every_mem, every_branch, every_jump, every_misc, every_pal, operate_at, memory_at, branch_at, jump_at, fetch_at, pal_at, source_of, source_is, is_register, operands_fit, memory_form, branch_form, jump_form, operate_form, misc_form, fetch_form, pal_form, decoded}
-use Rattle.alpha_table.specs.Insn.{source_in, Stands, is_at, takes_any, suits, is_free, is_operate}
+use Rattle.alpha_table.specs.Insn.{source_in, form_in, form_row, Stands, is_at, takes_any, suits, is_free, is_operate}
 use Rattle.alpha_table.specs.declared.rows.JumpKind.TheVariants as jumps
 use Rattle.alpha_table.specs.declared.insn.InsnRow.{InsnRow}
 use Rattle.alpha_table.specs.declared.insn.InsnRow.TheVariants as rows
@@ -458,6 +458,10 @@ plain_stands w (rows.Pal call) h told = cc
 plain_stands w (rows.Operate op) h told = cc
 plain_stands w (rows.Ruled op) h told = cc
 plain_stands w rows.Other h told = cc
+
+-- no word has the row of those that have none
+pub other_stands : (w : ℕ) (row : InsnRow) → Stands row w → row ≡ rows.Other → (i : Form) → Row w i → ⊥
+other_stands w row h e i has = let same : form_row (form_in rows.Other w) ≡ rows.Other = (subst (λ k. Stands k w) e h).0 in cc
 
 not_both : (b : Bool) → not b ≡ true → b ≡ true → ⊥
 not_both true h e = cc

@@ -94,11 +94,8 @@ fn other(w: Word) -> Option<InsnRow>
     }
 }
 
-// The row of a word that its opcode and its function alone don't tell. Few words are such, so that
-// a loop over words has it apart; and what it answers fits a register.
-#[cold]
-#[inline(never)]
-fn rare(row: InsnRow, w: Word) -> Option<InsnRow>
+// The row of a word, of which its opcode and its function may not tell all.
+fn row_by_rest(row: InsnRow, w: Word) -> Option<InsnRow>
     requires { IsTrue (suits (field 31 26 w.0) (field 11 5 w.0) row) }
     ensures found { IfSome result (λ row. Stands row w.0) }
     ensures none { IfNone result ((i : _) → Row w.0 i → ⊥) }
@@ -113,6 +110,22 @@ fn rare(row: InsnRow, w: Word) -> Option<InsnRow>
         | InsnRow::Misc(_)
         | InsnRow::Fetch { .. }
         | InsnRow::Pal(_) => Some(row),
+    }
+}
+
+// The same, with `Other` where the word has no row. Few words ask for it, so that a loop over words
+// has it apart; and what it answers fits registers, so that the loop clears no place for it at each
+// word.
+#[cold]
+#[inline(never)]
+fn rare(row: InsnRow, w: Word) -> InsnRow
+    requires { IsTrue (suits (field 31 26 w.0) (field 11 5 w.0) row) }
+    ensures found { (result ≡ Other → ⊥) → Stands result w.0 }
+    ensures none { result ≡ Other → (i : _) → Row w.0 i → ⊥ }
+{
+    match row_by_rest(row, w) {
+        Some(told) => told,
+        None => InsnRow::Other,
     }
 }
 
@@ -137,7 +150,10 @@ fn insn_by(row: InsnRow, w: Word) -> Option<Insn>
         | InsnRow::Misc(_)
         | InsnRow::Fetch { .. }
         | InsnRow::Pal(_) => Some(Insn::at(row, w)),
-        InsnRow::Ruled(_) | InsnRow::Other => Some(Insn::at(rare(row, w)?, w)),
+        InsnRow::Ruled(_) | InsnRow::Other => match rare(row, w) {
+            InsnRow::Other => None,
+            told => Some(Insn::at(told, w)),
+        },
     }
 }
 

@@ -1,8 +1,5 @@
-use Rattle.std.proofs.Common.{ap, ⊎_elim}
-use Rattle.alpha_table.proofs.Decoding.{is_told, plain_stands}
+use Rattle.alpha_table.proofs.Decoding.{other_stands}
 use Rattle.alpha_table.proofs.decoder.rare.Goals as goal
 
-pub returns-in-Mem-clause-found : goal.returns-in-Mem-clause-found
-returns-in-Mem-clause-found c =
-    plain_stands c.args.w.0 c.args.row c.requires
-    (⊎_elim (λ (op, e). ap is_told e) (⊎_elim (λ (op, e). ap is_told e) (⊎_elim (λ e. ap is_told e) (⊎_elim (λ (op, e). ap is_told e) (⊎_elim (λ (modify, e). ap is_told e) (λ (call, e). ap is_told e))))) c.in-Mem.is)
+pub returns-in-Some-clause-none : goal.returns-in-Some-clause-none
+returns-in-Some-clause-none c = other_stands c.args.w.0 c.in-Some.told c.in-Some.ensures.found
