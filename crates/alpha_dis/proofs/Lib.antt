@@ -1,3 +1,5 @@
 pub mod Blocks
 pub mod Hexadecimal
+pub mod NameSizes
+pub mod PutPieces
 pub mod Texts

@@ -2,9 +2,13 @@
 
 ghost use Rattle.std.specs.Prelude.{◌≡◌, ◌+◌, ◌≤◌, [], ◌∷◌, ◌++◌, length, decimal, OnOk, OnErr};
 ghost use Rattle.alpha_io.specs.Sunk.{sunk, Puts};
+ghost use Rattle.alpha_text.specs.Canon.{canon};
+ghost use Rattle.alpha_dis.specs.Listing.{ended};
 ghost use Rattle.alpha_dis.specs.Taken.{Takes, Stops};
 
+use crate::code::put_code;
 use alpha_io::{Failed, Sink, write_whole};
+use alpha_table::Insn;
 use itoa::Buffer;
 use std::marker::Model;
 
@@ -86,6 +90,16 @@ impl Block {
     {
         let mut buffer = Buffer::new();
         self.push(buffer.format(number).as_bytes());
+    }
+
+    /// Appends the canonical line of an instruction and its line feed.
+    #[inline(always)]
+    #[tactic(auto, unfolding(crate::specs::Written::before))]
+    pub fn push_code(&mut self, i: &Insn)
+        requires { length self.old + ROOM ≤ BLOCK_ROOM }
+        ensures { self.new ≡ self.old ++ ended (canon i.now) }
+    {
+        self.len = put_code(&mut self.bytes, self.len, i);
     }
 
     /// Appends the line feed that ends a line.

@@ -9,7 +9,6 @@ use crate::block::Block;
 use crate::lines::{push_bytes, push_count, push_heading, push_segment_start};
 use alpha_image::{Image, Segment};
 use alpha_io::{Failed, Sink};
-use alpha_text::{LineBuf, write_line};
 use thiserror::Error;
 
 // How many data bytes a line has at most.
@@ -77,23 +76,10 @@ fn push_code<K: Sink>(block: &mut Block, image: &Image, out: &mut K) -> Result<(
     ensures refused { OnErr result (Stops (sunk K.Sink out.old out.new)
         (block.old ++ text (map code_line image.now.words))) }
 {
-    let mut line = LineBuf::new();
     for place in 0..image.words() {
-        write_line(&image.insn_at(place), &mut line);
-        push_line(block, &line, out)?;
+        block.make_room(out)?;
+        block.push_code(&image.insn_at(place));
     }
-    Ok(())
-}
-
-// Appends a line and its line feed.
-fn push_line<K: Sink>(block: &mut Block, line: &LineBuf, out: &mut K) -> Result<(), Failed>
-    ensures ok { OnOk result (Takes (sunk K.Sink out.old out.new)
-        block.old block.new (ended line.now)) }
-    ensures refused { OnErr result (Stops (sunk K.Sink out.old out.new) block.old) }
-{
-    block.make_room(out)?;
-    block.push(line.bytes());
-    block.end();
     Ok(())
 }
 
