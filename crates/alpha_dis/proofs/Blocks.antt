@@ -1,9 +1,9 @@
 -- What a block takes in a row, and what is written where the sink fails. `written` is what the sink tells and `faults` its
 -- count; o, p, q and r are the sink at one moment after another.
-use Rattle.std.proofs.Common.{◌≡◌, ℕ, ◌≤◌, List, [], ◌++◌, Option, Result, Ok, Err, OnOk, OnErr, refl, sym, ap, subst, ◌∙◌, append_assoc, append-nil, arith}
-use Rattle.alpha_io.specs.Sunk.{Sunk, sunk_by, Puts, Partly, HasFailed}
+use Rattle.std.proofs.Common.{◌≡◌, ℕ, List, [], ◌++◌, Option, Result, Ok, Err, OnOk, OnErr, sym, ap, subst, ◌∙◌, append_assoc, append-nil, arith}
+use Rattle.alpha_io.specs.Sunk.{Sunk, sunk_by, Puts, Partly}
 use Rattle.alpha_io.proofs.Counts.{Rose-earlier}
-use Rattle.alpha_io.proofs.Sinks.{Puts-none, Puts-then, Partly-whole, Partly-then, Partly-more}
+use Rattle.alpha_io.proofs.Sinks.{Puts-then, Partly-whole, Partly-then, Partly-more}
 use Rattle.alpha_dis.specs.Taken.{Takes, Stops}
 
 -- what holds anyhow holds where a call failed

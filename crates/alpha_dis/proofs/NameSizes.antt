@@ -1,5 +1,5 @@
 -- Each name has 2 bytes at least.
-use Rattle.std.proofs.Common.{◌≡◌, ℕ, ◌≤◌, List, true, length, nat_le, refl, arith}
+use Rattle.std.proofs.Common.{◌≡◌, ◌≤◌, true, length, nat_le, refl, arith}
 use Rattle.std.specs.List.{list_all}
 use Rattle.std.specs.Str.{bytes_eq}
 use Rattle.std.proofs.lemmas.Bool.Decides.{nat_tests}

@@ -1,6 +1,6 @@
 -- What stands before a place of an array after a piece was written at another, and the digits of a number in pairs.
-use Rattle.std.proofs.Common.{◌≡◌, ℕ, zero, suc, ◌+◌, ◌-◌, ◌*◌, ◌/◌, ◌%◌, ◌^◌, ◌<◌, ◌≤◌, List, [], ◌∷◌, ◌++◌, ◌&&◌, Bool, true, eqb, decimal, length, get_or, take, drop, refl, sym, ap, ◌∙◌, ⊎_elim, append_assoc, take-add, arith}
-use Rattle.std.proofs.lemmas.List.{take-append-drop, take-append-le, take_at, drop_at, take-take, length-take-le}
+use Rattle.std.proofs.Common.{◌≡◌, ℕ, zero, suc, ◌+◌, ◌*◌, ◌/◌, ◌%◌, ◌^◌, ◌<◌, ◌≤◌, List, [], ◌∷◌, ◌++◌, ◌&&◌, Bool, true, eqb, decimal, length, get_or, take, refl, ap, ◌∙◌, ⊎_elim, append_assoc, take-add, arith}
+use Rattle.std.proofs.lemmas.List.{take-append-le, take_at, drop_at, length-take-le}
 use Rattle.std.proofs.lemmas.Bool.{and_parts, cases_lt, eqb-true}
 use Rattle.std.proofs.lemmas.Fmt.{decimal_digit, decimal_step}
 use borrow.Rule.Slice.PartMut.{put_mid, post_of}
@@ -36,8 +36,8 @@ below (suc most) n h within =
     ⊎_elim
     (λ (less : n < most). below most n rest less)
     (λ (last : most ≤ n).
-      let e : n ≡ most = omega arith in
-      rw e (eqb-true _ _ tens, eqb-true _ _ ones))
+    let e : n ≡ most = omega arith in
+    rw e (eqb-true _ _ tens, eqb-true _ _ ones))
     (cases_lt n most)
 
 pub PAIRS_at : (n : ℕ) → n < 100 → (get_or PAIRS (2 * n) 0 ≡ 48 + n / 10) × (get_or PAIRS (2 * n + 1) 0 ≡ 48 + n % 10)

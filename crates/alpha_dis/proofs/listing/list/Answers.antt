@@ -1,4 +1,4 @@
-use Rattle.std.proofs.Common.{[], ◌++◌, List, ℕ, subst, append-nil}
+use Rattle.std.proofs.Common.{[], List, ℕ, subst, append-nil}
 use Rattle.alpha_io.specs.Sunk.{sunk_by, Partly}
 use Rattle.alpha_dis.specs.Taken.{Takes}
 use Rattle.alpha_dis.specs.Listing.{listing}

@@ -1,4 +1,4 @@
-use Rattle.std.proofs.Common.{◌≡◌, ◌++◌, ◌/◌, ◌%◌, List, ℕ, decimal, append_assoc, sym, ap, ◌∙◌, arith}
+use Rattle.std.proofs.Common.{◌++◌, ◌/◌, ◌%◌, List, ℕ, decimal, append_assoc, sym, ap, ◌∙◌, arith}
 use Rattle.alpha_dis.specs.Written.{before}
 use Rattle.alpha_dis.proofs.PutPieces.{pair, decimal_pair}
 use Rattle.alpha_dis.proofs.pieces.put_hundreds.Goals as goal

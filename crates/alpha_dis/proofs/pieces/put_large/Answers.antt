@@ -12,10 +12,10 @@ returns-after-front-lt100-clause-value c =
     let tens = pair (n / 100 % 100) in
     let ones = pair (n % 100) in
     let first : before c.if-front-lt100.next c.if-front-lt100.bytes ≡ front ++ decimal (n / 10000) =
-        elim c.if-front-lt100.branch [
-          | then-front-lt100 w ↦ (λ i. before (w.next-is i) (w.bytes-is i)) ∙ w.put_small-next.ensures.value
-          | else-front-lt100 w ↦ (λ i. before (w.next-is i) (w.bytes-is i)) ∙ w.put_hundreds-next.ensures.value
-        ] in
+    elim c.if-front-lt100.branch [
+      | then-front-lt100 w ↦ (λ i. before (w.next-is i) (w.bytes-is i)) ∙ w.put_small-next.ensures.value
+      | else-front-lt100 w ↦ (λ i. before (w.next-is i) (w.bytes-is i)) ∙ w.put_hundreds-next.ensures.value
+    ] in
     c.put_pair.ensures.value
     ∙ (ap (λ (l : List ℕ). l ++ ones) (c.put_pair-next.ensures.value ∙ (ap (λ (l : List ℕ). l ++ tens) first ∙ append_assoc front (decimal (n / 10000)) tens))
     ∙ (append_assoc front (decimal (n / 10000) ++ tens) ones

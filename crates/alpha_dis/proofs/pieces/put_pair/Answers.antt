@@ -1,4 +1,4 @@
-use Rattle.std.proofs.Common.{◌≡◌, ◌*◌, ◌/◌, ◌%◌, ◌+◌, ◌∷◌, ◌++◌, [], List, ℕ, ap, ◌∙◌}
+use Rattle.std.proofs.Common.{◌∷◌, ◌++◌, [], ◌∙◌}
 use Rattle.alpha_dis.specs.Written.{before}
 use Rattle.alpha_dis.proofs.PutPieces.{PAIRS_at}
 use Rattle.alpha_dis.proofs.pieces.put_pair.Goals as goal

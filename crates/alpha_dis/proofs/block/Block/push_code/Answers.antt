@@ -1,4 +1,4 @@
-use Rattle.std.proofs.Common.{◌≡◌, ◌+◌, ◌≤◌, List, ℕ, length, length-take, ap, arith}
+use Rattle.std.proofs.Common.{List, ℕ, length, length-take, ap, arith}
 use Rattle.alpha_dis.proofs.block.Block.push_code.Goals as goal
 
 pub invariant_of-self : goal.invariant_of-self
