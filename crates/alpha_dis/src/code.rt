@@ -1,8 +1,9 @@
 //! The canonical lines of instructions, put into the room behind a block's bytes.
 
 ghost use Rattle.std.specs.Prelude.{◌≡◌, ◌+◌, ◌≤◌, ◌++◌, length};
+ghost use Rattle.alpha_table.specs.Names.{name_of};
 ghost use Rattle.alpha_table.specs.Row.{IsInsn, IsSigned};
-ghost use Rattle.alpha_text.specs.Canon.{spell, spelled, signed_words, distance_words, source_word, first_words, base_words, source_words, words_of, behind_name, canon};
+ghost use Rattle.alpha_text.specs.Canon.{spell, spelled, signed_words, distance_words, source_word, first_words, base_words, source_words, canon};
 ghost use Rattle.alpha_text.specs.Canon as words;
 ghost use Rattle.alpha_dis.specs.declared.block.TheConstants.{BLOCK_ROOM};
 ghost use Rattle.alpha_dis.specs.Listing.{ended};
@@ -10,7 +11,7 @@ ghost use Rattle.alpha_dis.specs.Written.{before};
 
 use crate::block::BLOCK_ROOM;
 use crate::pieces::{put, put_name, put_number, put_small};
-use alpha_table::{Form, Insn, OperandRule, Src};
+use alpha_table::{Form, Insn, Mnemonic, OperandRule, Src};
 use alpha_words::Reg;
 
 // Puts a register.
@@ -48,7 +49,8 @@ fn put_distance(bytes: &mut [u8; BLOCK_ROOM], at: usize, disp: i32) -> usize
     ensures place { result ≤ at + 10 }
 {
     let distance = 4 + 4 * disp;
-    let next = put(bytes, at, if distance < 0 { b".-" } else { b".+" });
+    let sign = if distance < 0 { b'-' } else { b'+' };
+    let next = put(bytes, at, &[b'.', sign]);
     put_number(bytes, next, distance.unsigned_abs())
 }
 
@@ -116,51 +118,66 @@ fn put_sources(
     }
 }
 
-// Puts a blank and the words of an instruction, if there are any.
+// Puts the name of an instruction.
 #[inline(always)]
-fn put_words(bytes: &mut [u8; BLOCK_ROOM], at: usize, form: &Form) -> usize
-    requires room { at + 40 ≤ BLOCK_ROOM }
+fn put_mnemonic(bytes: &mut [u8; BLOCK_ROOM], at: usize, m: Mnemonic) -> usize
+    requires { at + 13 ≤ BLOCK_ROOM }
+    ensures value { before result bytes.new ≡ before at bytes.old ++ name_of m }
+    ensures place { result ≤ at + 13 }
+{
+    put_name(bytes, at, m.name())
+}
+
+// Puts the canonical line of an instruction.
+#[inline(always)]
+#[tactic(auto, unfolding(alpha_text::specs::Canon::canon))]
+fn put_form(bytes: &mut [u8; BLOCK_ROOM], at: usize, form: &Form) -> usize
+    requires room { at + 55 ≤ BLOCK_ROOM }
     requires insn { IsInsn form.now }
-    ensures value { before result bytes.new
-        ≡ before at bytes.old ++ behind_name (words_of form.now) }
-    ensures place { result ≤ at + 40 }
+    ensures value { before result bytes.new ≡ before at bytes.old ++ canon form.now }
+    ensures place { result ≤ at + 55 }
 {
     match *form {
-        Form::Mem { ra, rb, disp, .. } => {
-            let next = put(bytes, at, b" ");
+        Form::Mem { op, ra, rb, disp } => {
+            let next = put_mnemonic(bytes, at, Mnemonic::Mem(op));
+            let next = put(bytes, next, b" ");
             let next = put_first(bytes, next, ra);
             let next = put_signed(bytes, next, disp);
             put_base(bytes, next, rb)
         }
-        Form::Branch { ra, disp, .. } => {
-            let next = put(bytes, at, b" ");
+        Form::Branch { op, ra, disp } => {
+            let next = put_mnemonic(bytes, at, Mnemonic::Branch(op));
+            let next = put(bytes, next, b" ");
             let next = put_first(bytes, next, ra);
             put_distance(bytes, next, disp)
         }
-        Form::Jump { ra, rb, hint, .. } => {
-            let next = put(bytes, at, b" ");
+        Form::Jump { kind, ra, rb, hint } => {
+            let next = put_mnemonic(bytes, at, Mnemonic::Jump(kind));
+            let next = put(bytes, next, b" ");
             let next = put_first(bytes, next, ra);
             let next = put_base(bytes, next, rb);
             let next = put(bytes, next, b",");
             put_number(bytes, next, u32::from(hint))
         }
         Form::Operate { op, ra, src, rc } => {
-            let next = put(bytes, at, b" ");
+            let next = put_mnemonic(bytes, at, Mnemonic::Operate(op));
+            let next = put(bytes, next, b" ");
             let next = put_sources(bytes, next, op.row().operands, ra, &src);
             put_reg(bytes, next, rc)
         }
-        Form::Fetch { rb, .. } => {
-            let next = put(bytes, at, b" ");
+        Form::Fetch { modify, rb } => {
+            let next = put_mnemonic(bytes, at, Mnemonic::Fetch { modify });
+            let next = put(bytes, next, b" ");
             let next = put_small(bytes, next, 0);
             put_base(bytes, next, rb)
         }
-        Form::Misc(_) | Form::Pal(_) => at,
+        Form::Misc(op) => put_mnemonic(bytes, at, Mnemonic::Misc(op)),
+        Form::Pal(call) => put_mnemonic(bytes, at, Mnemonic::Pal(call)),
     }
 }
 
 /// Puts the canonical line of an instruction and its line feed.
 #[inline(always)]
-#[tactic(auto, unfolding(alpha_text::specs::Canon::canon))]
 pub(crate) fn put_code(bytes: &mut [u8; BLOCK_ROOM], at: usize, i: &Insn) -> usize
     requires { at + 60 ≤ BLOCK_ROOM }
     ensures value { before result bytes.new ≡ before at bytes.old ++ ended (canon i.now) }
@@ -168,7 +185,6 @@ pub(crate) fn put_code(bytes: &mut [u8; BLOCK_ROOM], at: usize, i: &Insn) -> usi
     ensures room { length bytes.new ≡ BLOCK_ROOM }
 {
     let form = i.form();
-    let next = put_name(bytes, at, form.mnemonic().name());
-    let next = put_words(bytes, next, &form);
+    let next = put_form(bytes, at, &form);
     put(bytes, next, b"\n")
 }
