@@ -11,16 +11,18 @@
 //!   devices. [`alpha_sure`] is the same call over devices that never fail.
 //! - [`image_of`] makes the image of a file's bytes.
 //! - [`laws_of_answers`] says that words have one answer where what their command reads is told, and
-//!   some where files are told and are of bytes. [`laws_of_listed_files`] says that what `dis` writes is a source of
-//!   the image of its file.
+//!   some where files are told and are of bytes. [`laws_of_listed_files`] says that what a `dis` writes that is
+//!   done is a source of the image of its file.
 //! - [`laws_of_restarts`] says that accepted images can be restarted, and so that a run of the
 //!   imprecise machine of a file that `check` accepts has the answer of the sequential run, but for
-//!   the number of words that it draws (`specs/Alike.antt`). [`laws_of_told_runs`] says that this is the
-//!   answer of the sequential run of the image which the file spells (`specs/ToldRun.antt`). [`laws_of_records`] says that a journal
-//!   that `record` has kept is never refused by `replay`. [`laws_of_accepted_files`] says that a
-//!   file which spells an accepted image meets what those laws ask.
-//! - [`laws_of_unread_inputs`] says that a program which reads nothing has one answer over every source,
-//!   told or not (`specs/ReadsNothing.antt`).
+//!   the number of words that it draws, where files are told and its choices have words
+//!   (`specs/Alike.antt`). [`laws_of_told_runs`] says that this is, over a told input, the answer of the
+//!   sequential run of the image which the file spells (`specs/ToldRun.antt`). [`laws_of_records`] says
+//!   that a journal that `record` has kept of a run over a told input is never refused by `replay`, as
+//!   long as the image's file spells that image. [`laws_of_accepted_files`] says that a file which spells
+//!   an accepted image meets what those laws ask.
+//! - [`laws_of_unread_inputs`] says that a program which reads nothing in the steps that are asked for has
+//!   one answer over every source, told or not, where its file is told (`specs/ReadsNothing.antt`).
 //! - [`laws_of_kept_modules`] says that a file which `module` keeps is one of those that make a link
 //!   accepted.
 //!

@@ -53,14 +53,16 @@
 //! code word has an instruction. `src/header.rt` reads what stands before the code, `src/rules.rt` tests
 //! the fields, `src/words.rt` makes words instructions, `src/number.rt` reads and writes numbers;
 //! `src/read.rt`, `src/build.rt` and `src/write.rt` are the ways in and out, and `src/image.rt` is what
-//! there is between.
+//! there is between. `src/version.rt`, `src/segment.rt`, `src/fields.rt` and `src/fault.rt` have the types
+//! beside, `src/region.rt` tests whether two regions share an address, and `src/laws.rt` has the laws.
 //!
 //! Of a good image, `specs/Parts.antt` has what it is and its spelling, `specs/Layout.antt` the layout of
 //! its bytes, and `specs/Rules.antt` the rules of its fields over the `specs/Numbers.antt` of either
 //! version. Of other bytes, `specs/Reading.antt` has what they are read as, `specs/FieldTests.antt` the
-//! rules as tests, and `specs/ImageFault.antt` the first fault; `specs/PartsOf.antt` has the parts that
-//! bytes give. `specs/Image.antt` and `specs/Header.antt` have what an [`Image`] holds, `specs/Fields.antt`
-//! what one is made of.
+//! rules as tests, which decide them by `specs/TestsDecide.antt`, and `specs/ImageFault.antt` the first
+//! fault, by `specs/FirstOf.antt`; `specs/Tells.antt` has what a refusal tells of it, `specs/PartsOf.antt`
+//! the parts that bytes give. `specs/Image.antt`, `specs/Header.antt` and `specs/Insns.antt` have what an
+//! [`Image`] holds, `specs/Fields.antt` what one is made of.
 #![tactic(auto)]
 
 mod build;

@@ -19,7 +19,8 @@
 //! at the start is, `specs/Step.antt` what each class of words does, `specs/Run.antt` what a run is and what one sees
 //! of it, `specs/Notes.antt` what its lines are, and `specs/Next.antt` what a word would do. `specs/Machine.antt` says
 //! how the code's machine stands to programs and states, `specs/StepEffect.antt` and `specs/RunEffect.antt` what its
-//! step and its run did, and `specs/Devices.antt` what they did to devices that tell their bytes and to others.
+//! step and its run did, `specs/Devices.antt` what they did to devices that tell their bytes and to others, and
+//! `specs/Draws.antt` what they took of a source.
 //! `specs/Inputs.antt` says what a run does over a source that tells nothing: each step finds some input of its own.
 //! `specs/StartMemory.antt`, `specs/Executed.antt` and `specs/Turn.antt` say what the helpers of the start, of the step
 //! and of the run do.

@@ -43,7 +43,7 @@ moved c a b old = if is_taken c a then b else old
 abbrev pub extracted_low : ℕ → ℕ → ℕ → ℕ
 extracted_low size a b = a / 2 ^ (8 * (b % 8)) % 2 ^ (8 * size)
 
--- EXTxH: Ra shifted left by as many bytes as are left from Rb's to the next quadword
+-- EXTxH: Ra shifted left by as many bytes as there are from Rb up to the next multiple of 8, by none where it is one
 abbrev pub extracted_high : ℕ → ℕ → ℕ → ℕ
 extracted_high size a b = a * 2 ^ (8 * ((8 - b % 8) % 8)) % 2 ^ 64 % 2 ^ (8 * size)
 
