@@ -3,17 +3,17 @@ use Rattle.std.specs.Prelude.{◌≡◌, ◌≢◌, ◌<◌, ◌≤◌, ◌+◌,
 use Rattle.alpha_table.specs.declared.columns.InsnKind.TheVariants as kinds
 use Rattle.alpha_table.specs.declared.columns.MemAccess.{MemAccess}
 use Rattle.alpha_table.specs.Code.{Straight}
-use Rattle.alpha_table.specs.Uses.{bytes_spanned, SpansMeet}
+use Rattle.alpha_table.specs.Uses.{AccessesMeet}
 use Rattle.alpha_shadow.specs.declared.broken.Condition.{Condition}
 use Rattle.alpha_shadow.specs.declared.broken.Condition.TheVariants.{ZeroDestination, SourceLost, SameDestination, WildBase, LoadThenStore, Locked, Turn, Open, Long}
 use Rattle.alpha_shadow.specs.Code.{kind_at, destination_at, access_at, Sets, SetIn, ExposedIn}
 
--- a load at a place between, and a store here, which go by different bases, or by one base with spans that meet
+-- a load at a place between, and a store here, which go by different bases, or by one base and may touch a common byte
 abbrev pub Meets : List ℕ → ℕ → ℕ → MemAccess → MemAccess → Type 0
 Meets code place at load store =
     (kind_at code place ≡ Some kinds.Load) × (access_at code place ≡ Some load)
     × (kind_at code at ≡ Some kinds.Store) × (access_at code at ≡ Some store)
-    × ((load.base ≢ store.base) ⊎ SpansMeet (bytes_spanned load) (bytes_spanned store))
+    × ((load.base ≢ store.base) ⊎ AccessesMeet load store)
 
 -- What each condition says of a trigger and a place of its shadow. C2: the word there sets a register that some word from the
 -- trigger up to it uses before any word between sets it. C4: its access goes by a register that was set. C5: it is a store that

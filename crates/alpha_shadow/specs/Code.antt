@@ -15,12 +15,9 @@ destination_at code i = trap_rc (class_at code i)
 abbrev pub access_at : List ℕ → ℕ → Option MemAccess
 access_at code i = access (class_at code i)
 
--- the register that the word at a place sets, which never is 31
-abbrev pub sets_at : List ℕ → ℕ → Option ℕ
-sets_at code i = sets (class_at code i)
-
+-- the word at i sets a register, which never is 31
 abbrev pub Sets : List ℕ → ℕ → ℕ → Type 0
-Sets code i r = sets_at code i ≡ Some r
+Sets code i r = sets (class_at code i) ≡ Some r
 
 -- the word at i uses a register, which never is 31
 abbrev pub Uses : List ℕ → ℕ → ℕ → Type 0
@@ -40,3 +37,7 @@ pub record ExposedIn (code : List ℕ) (from to r : ℕ) : Type 0 where
   pub below : place < to
   pub uses : Uses code place r
   pub unset : SetIn code from place r → ⊥
+
+-- that register, where there is one
+abbrev pub sets_at : List ℕ → ℕ → Option ℕ
+sets_at code i = sets (class_at code i)

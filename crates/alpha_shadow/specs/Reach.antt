@@ -1,7 +1,7 @@
 -- The bytes that an access may touch, counted from its base.
 use Rattle.std.specs.Prelude.{◌≢◌, ◌⊎◌}
 use Rattle.alpha_table.specs.declared.columns.MemAccess.{MemAccess}
-use Rattle.alpha_table.specs.Uses.{bytes_spanned, SpansMeet}
+use Rattle.alpha_table.specs.Spans.{bytes_spanned, SpansMeet}
 use Rattle.alpha_shadow.specs.declared.loads.Reach.{Reach}
 
 abbrev pub reach_of : MemAccess → Reach

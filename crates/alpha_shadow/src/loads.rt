@@ -1,6 +1,6 @@
 ghost use Rattle.std.specs.Prelude.{◌≡◌, ◌<◌, ◌↔◌, ◌++◌, ◌∷◌, [], IsTrue, IfSome, length};
 ghost use Rattle.std.specs.List.{Any};
-ghost use Rattle.alpha_table.specs.Uses.{SpansMeet};
+ghost use Rattle.alpha_table.specs.Spans.{SpansMeet};
 ghost use Rattle.alpha_shadow.specs.Held.{IsAround, IsCover};
 ghost use Rattle.alpha_shadow.specs.Reach.{reach_of, MayTouch};
 

@@ -13,7 +13,8 @@ use Rattle.alpha_table.specs.Op.{op_row}
 use Rattle.alpha_table.specs.Class.{Class, trigger}
 use Rattle.alpha_table.specs.ClassOf.{class_of}
 use Rattle.alpha_table.specs.Code.{class_kind}
-use Rattle.alpha_table.specs.Uses.{sources, written, counts, but_zero, class_access, bytes_spanned}
+use Rattle.alpha_table.specs.Uses.{sources, written, counts, but_zero, class_access}
+use Rattle.alpha_table.specs.Spans.{bytes_spanned}
 
 -- whether an instruction uses a register
 abbrev pub uses_of : Form → ℕ → Bool

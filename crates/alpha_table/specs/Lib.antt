@@ -9,6 +9,7 @@ pub mod Class
 pub mod ClassOf
 pub mod Words
 pub mod Code
+pub mod Spans
 pub mod Uses
 pub mod Columns
 pub mod Names

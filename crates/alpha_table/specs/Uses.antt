@@ -1,11 +1,10 @@
 -- The registers that a word reads and writes by its class, and its access to memory. Register 31 is never counted.
-use Rattle.std.specs.Prelude.{ℕ, pos, ◌+ℤ◌, ◌-ℤ◌, ◌<ℤ◌, Bool, true, false, Option, Some, None, List, [], ◌∷◌, ◌==◌, ◌&&◌, nat_lt, if◌then◌else◌}
+use Rattle.std.specs.Prelude.{ℕ, ℤ, pos, ◌+ℤ◌, ◌-ℤ◌, ◌<ℤ◌, Bool, true, false, Option, Some, None, List, [], ◌∷◌, ◌==◌, ◌&&◌, nat_lt, if◌then◌else◌}
 use Rattle.std.specs.List.{list_any}
 use Rattle.std.specs.Option.{option_and_then, option_map_or}
 use Rattle.alpha_table.specs.declared.op.Op.{Op}
 use Rattle.alpha_table.specs.declared.op.Op.TheVariants.{Cmovlbs, Cmovlbc, Cmoveq, Cmovne, Cmovlt, Cmovle, Cmovge, Cmovgt}
 use Rattle.alpha_table.specs.declared.columns.MemAccess.{MemAccess}
-use Rattle.alpha_table.specs.declared.columns.ByteSpan.{ByteSpan}
 use Rattle.alpha_table.specs.declared.form.Src.{Src}
 use Rattle.alpha_table.specs.declared.form.Src.TheVariants.{Reg, Lit}
 use Rattle.alpha_table.specs.Class.{Class, operate, trigger, address, load, store, load_locked, store_conditional, branch, jump}
@@ -79,12 +78,11 @@ class_access class = None
 abbrev pub access : Option Class → Option MemAccess
 access c = option_and_then class_access c
 
--- The bytes that an access may touch, counted from its base register: from low on, up to high.
--- Where the three low bits of the address are cleared, it may begin up to 7 bytes before the displacement.
-abbrev pub bytes_spanned : MemAccess → ByteSpan
-bytes_spanned a =
-    record { low = (if a.clears then a.disp -ℤ pos 7 else a.disp); high = a.disp +ℤ pos a.bytes }
+-- The first byte that an access may touch, counted from its base register. Where the three low bits of the address are
+-- cleared, that may be up to 7 bytes before the displacement.
+abbrev pub first_byte : MemAccess → ℤ
+first_byte a = if a.clears then a.disp -ℤ pos 7 else a.disp
 
--- two spans, neither of them empty, share a byte
-abbrev pub SpansMeet : ByteSpan → ByteSpan → Type 0
-SpansMeet a b = (a.low <ℤ b.high) × (b.low <ℤ a.high)
+-- two accesses by one base register may touch a common byte
+abbrev pub AccessesMeet : MemAccess → MemAccess → Type 0
+AccessesMeet a b = (first_byte a <ℤ (b.disp +ℤ pos b.bytes)) × (first_byte b <ℤ (a.disp +ℤ pos a.bytes))

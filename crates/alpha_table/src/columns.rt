@@ -50,7 +50,7 @@ pub struct ByteSpan {
 }
 
 impl MemAccess {
-    ghost use Rattle.alpha_table.specs.Uses.{bytes_spanned};
+    ghost use Rattle.alpha_table.specs.Spans.{bytes_spanned};
 
     /// The bytes that the access may touch.
     pub fn span(&self) -> ByteSpan
@@ -65,7 +65,7 @@ impl MemAccess {
 }
 
 impl ByteSpan {
-    ghost use Rattle.alpha_table.specs.Uses.{SpansMeet};
+    ghost use Rattle.alpha_table.specs.Spans.{SpansMeet};
 
     /// Whether two spans, counted from one base register, share a byte.
     pub fn meets(&self, other: &ByteSpan) -> bool

@@ -17,16 +17,17 @@
 //!   most, [`laws_of_classes`] that the tables by which machines and checker sort words agree with
 //!   it, and [`laws_of_names`] that no two rows have one name.
 //!
-//! Each row stands once: in `operate.rt` for the operate instructions, in `formats.rt` for all
-//! others. `op.rt` and `rows.rt` have the types of the rows; `encoder.rt`, `names.rt` and
-//! `columns.rt` read them. `table.rt` has them again by opcode and function, for `decoder.rt`, each
-//! proved to be the row of its place (`specs/Insn.antt`). `specs/Row.antt` says which word stands
-//! for which instruction, from the rows of `specs/Op.antt` and `specs/Rows.antt`;
-//! `specs/Decoded.antt` is the look-up from a word; `specs/Names.antt` has the names. What machines
-//! and checker know of a word is shorter, and needs none of these: `specs/Class.antt` has the
-//! classes, `specs/Words.antt` the class of a word, `specs/Code.antt` the class at a place and what
-//! it is to a trap shadow, `specs/Uses.antt` its registers and its access. `specs/ClassOf.antt` and
-//! `specs/Columns.antt` have the class and the columns of an instruction.
+//! The rows stand in `operate.rt` for the operate instructions, in `formats.rt` for all others.
+//! `op.rt` and `rows.rt` have their types; `encoder.rt`, `names.rt` and `columns.rt` read them. For
+//! `decoder.rt`, `table.rt` names them once more, by opcode and function, each proved to be the row
+//! of its place (`specs/Insn.antt`). `insn.rt` has [`Insn`], `laws.rt` the laws. `specs/Row.antt`
+//! says which word stands for which instruction, from the rows of `specs/Op.antt` and
+//! `specs/Rows.antt`; `specs/Decoded.antt` is the look-up from a word; `specs/Names.antt` has the
+//! names. What machines and checker know of a word is shorter, and needs none of these:
+//! `specs/Class.antt` has the classes, `specs/Words.antt` the class of a word, `specs/Code.antt` the
+//! class at a place and what it is to a trap shadow, `specs/Uses.antt` its registers and its access.
+//! `specs/ClassOf.antt` and `specs/Columns.antt` have the class and the columns of an instruction,
+//! `specs/Spans.antt` the bytes that accesses may touch as the code compares them.
 #![tactic(auto)]
 
 mod columns;

@@ -4,7 +4,7 @@ use Rattle.std.specs.Int.{w16}
 use Rattle.std.proofs.lemmas.Int.{ints}
 use Rattle.std.proofs.lemmas.Bool.{cond_both}
 use Rattle.alpha_table.specs.declared.columns.MemAccess.{MemAccess}
-use Rattle.alpha_table.specs.Uses.{bytes_spanned}
+use Rattle.alpha_table.specs.Spans.{bytes_spanned}
 use Rattle.alpha_values.specs.Address.{address_of, access_address, Covers, AccessesMeet}
 use Rattle.alpha_values.proofs.Words.{register_is, register_bound}
 

@@ -1,7 +1,7 @@
 -- The addresses that LDA, LDAH and the accesses to memory compute, and the bytes that an access touches.
 use Rattle.std.specs.Prelude.{ℕ, ℤ, ◌+◌, ◌*◌, ◌/◌, ◌<◌, ◌≤◌, ◌+ℤ◌, ◌*ℤ◌, pos, if◌then◌else◌}
 use Rattle.alpha_table.specs.declared.columns.MemAccess.{MemAccess}
-use Rattle.alpha_table.specs.Uses.{bytes_spanned, SpansMeet}
+pub use Rattle.alpha_table.specs.Uses.{AccessesMeet}
 use Rattle.alpha_values.specs.Numbers.{register_of}
 
 -- a base register and a displacement of 16 bits, in bytes or, for the high half of an address, in units of 65,536
@@ -19,7 +19,3 @@ access_address c base = if c.clears then address_of base c.disp / 8 * 8 else add
 pub record Covers (c : MemAccess) (base y : ℕ) : Type 0 where
   pub from : access_address c base ≤ y
   pub below : y < access_address c base + c.bytes
-
--- the spans of two accesses have a byte in common
-abbrev pub AccessesMeet : MemAccess → MemAccess → Type 0
-AccessesMeet a b = SpansMeet (bytes_spanned a) (bytes_spanned b)
