@@ -13,8 +13,8 @@ use Rattle.std.proofs.lemmas.List.{length-map, take_all}
 use Rattle.std.proofs.lemmas.List.Folds.{list_all-map, list_all_at}
 use Rattle.alpha_image.specs.declared.region.Region.{Region}
 use Rattle.alpha_image.specs.declared.segment.Segment.{Segment}
-use Rattle.alpha_image.specs.Rules.{segment_region, size_of_segment}
-use Rattle.alpha_image.specs.FieldTests.{are_apart, all_apart, rise}
+use Rattle.alpha_image.specs.Rules.{size_of_segment}
+use Rattle.alpha_image.specs.FieldTests.{are_apart, all_apart, rise, segment_region}
 use Rattle.alpha_image.proofs.FieldRules.{rise-increasing, falls-rise}
 
 -- what the code reads where there is no segment

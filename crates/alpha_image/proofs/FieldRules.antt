@@ -1,11 +1,12 @@
 -- The tests of the fields decide their rules.
-use Rattle.std.proofs.Common.{◌≡◌, ℕ, zero, suc, ◌+◌, ◌^◌, ◌<◌, ◌≤◌, ◌↔◌, ◌⊎◌, Bool, true, false, IsTrue, List, [], ◌∷◌, length, map, get_or, Option, Some, None, refl, inl, inr, ⊎_elim, arith}
+use Rattle.std.proofs.Common.{◌≡◌, ℕ, zero, suc, ◌+◌, ◌-◌, ◌*◌, ◌^◌, ◌<◌, ◌≤◌, ◌↔◌, ◌⊎◌, Bool, true, false, IsTrue, List, [], ◌∷◌, length, map, get_or, Option, Some, None, refl, sym, ap, subst, ◌∙◌, inl, inr, ⊎_elim, arith}
 use Rattle.std.specs.Prelude.{nat_le, sum_by}
 use Rattle.std.specs.List.{All, AllPairs, list_all}
 use Rattle.std.specs.List.Sorted.{IsStrictlyIncreasing}
 use Rattle.std.specs.Option.{option_or}
 use Rattle.std.proofs.lemmas.Bool.{cases_eq, cases_lt, lt-ltb}
 use Rattle.std.proofs.lemmas.Bool.Decides.{nat_tests, Decides-and}
+use Rattle.std.proofs.lemmas.List.{get_or-map, length-map}
 use Rattle.std.proofs.lemmas.List.Sums.{AllPass-from_list_all, list_all-from_AllPass}
 use Rattle.std.proofs.lemmas.List.Kept.{AllPairs-cons}
 use Rattle.alpha_image.specs.declared.region.Region.{Region}
@@ -13,7 +14,7 @@ use Rattle.alpha_image.specs.declared.segment.Segment.{Segment}
 use Rattle.alpha_image.specs.Numbers.{Numbers}
 use Rattle.alpha_image.specs.Rules.{AreApart, regions, size_of_segment, IsBase, FieldsFit}
 use Rattle.alpha_image.specs.TestsDecide.{DataBasesFit, CodeWordsFit, DataBytesFit, ZeroedBytesFit, StackBytesFit, EntryFits, RegionsFit, LevelFits, SegmentsFit, TestsDecide}
-use Rattle.alpha_image.specs.FieldTests.{is_base, rise, data_bases_fit, code_words_fit, data_bytes_fit, zeroed_bytes_fit, stack_bytes_fit, entry_fits, are_apart, all_apart, regions_fit, level_fits, segments_fit, least_bad_field}
+use Rattle.alpha_image.specs.FieldTests.{is_base, rise, data_bases_fit, code_words_fit, data_bytes_fit, zeroed_bytes_fit, stack_bytes_fit, entry_fits, are_apart, all_apart, compared_regions, segment_region, stack_region, regions_fit, level_fits, segments_fit, least_bad_field}
 use Rattle.alpha_image.specs.FirstOf.{unless}
 
 is_base_decides : (base : ℕ) → IsTrue (is_base base) ↔ IsBase base
@@ -118,7 +119,12 @@ follows_decides : (r s : Region) → IsTrue (are_apart r s) ↔ Follows r s
 unfolding are_apart Follows
 follows_decides r s = (λ t. grind (arith, nat_tests), λ f. grind (arith, nat_tests))
 
-apart_decides : (r s : Region) → IsTrue (are_apart r s) ↔ AreApart r s
+-- no address is in both regions
+abbrev RegionsApart : Region → Region → Type 0
+RegionsApart r s =
+    (address : ℕ) → (r.base ≤ address) × (address < r.base + r.size) → (s.base ≤ address) × (address < s.base + s.size) → ⊥
+
+apart_decides : (r s : Region) → IsTrue (are_apart r s) ↔ RegionsApart r s
 unfolding Follows
 apart_decides r s = (
   λ t address a b.
@@ -143,18 +149,45 @@ apart_decides r s = (
       ]),
 )
 
-all_apart_decides : (rs : List Region) → IsTrue (all_apart rs) ↔ AllPairs AreApart rs
+all_apart_decides : (rs : List Region) → IsTrue (all_apart rs) ↔ AllPairs RegionsApart rs
 all_apart_decides [] = (λ t i j d h l. absurd (omega arith), λ pairs. refl)
 all_apart_decides (r ∷ rs) =
-    let first = list_all_decides (are_apart r) (AreApart r) (apart_decides r) rs in
+    let first = list_all_decides (are_apart r) (RegionsApart r) (apart_decides r) rs in
     let both = Decides-and (list_all (are_apart r) rs) (all_apart rs) first (all_apart_decides rs) in (
-      λ t. let f = both.0 t in AllPairs-cons AreApart r rs f.0 f.1,
+      λ t. let f = both.0 t in AllPairs-cons RegionsApart r rs f.0 f.1,
       λ pairs. both.1 (λ k d h. pairs 0 (suc k) d (omega arith) (omega arith), λ i j d h l. pairs (suc i) (suc j) d (omega arith) (omega arith)),
     )
 
+-- the regions that the tests compare are those of the rule's segments
+abbrev region : ℕ → ℕ → Region
+region base size = record { base = base; size = size }
+
+same_regions : (n : Numbers) → compared_regions n ≡ map segment_region (regions n)
+same_regions n =
+    let code : 4 * n.words ≡ 4 * n.words + 0 = omega arith in
+    let stack : n.stack ≡ 0 + n.stack = omega arith in
+    ap (λ (size : ℕ). region n.code_base size ∷ stack_region n ∷ map segment_region n.segments) code
+    ∙ ap (λ (size : ℕ). region n.code_base (4 * n.words + 0) ∷ region (2 ^ 30 - n.stack) size ∷ map segment_region n.segments) stack
+
+segments_apart : (segments : List Segment) → AllPairs RegionsApart (map segment_region segments) ↔ AllPairs AreApart segments
+segments_apart segments = (
+  λ pairs i j d order below.
+      let both = pairs i j (segment_region d) order (omega (arith, length-map segments segment_region)) in
+      rw (get_or-map segment_region segments i d (segment_region d) (omega arith), get_or-map segment_region segments j d (segment_region d) below) at both,
+  λ pairs i j d order below.
+      let inside : j < length segments = omega (arith, length-map segments segment_region) in
+      let nowhere : Segment = record { base = 0; filled = 0; zeroed = 0 } in
+      rw (get_or-map segment_region segments i nowhere d (omega arith), get_or-map segment_region segments j nowhere d inside) (pairs i j nowhere order inside),
+)
+
 regions_decide : (n : Numbers) → IsTrue (regions_fit n) ↔ RegionsFit n
 unfolding regions_fit
-regions_decide n = all_apart_decides (regions n)
+regions_decide n =
+    let tests = all_apart_decides (compared_regions n) in
+    let rules = segments_apart (regions n) in (
+      λ t. rules.0 (subst (AllPairs RegionsApart) (same_regions n) (tests.0 t)),
+      λ apart. tests.1 (subst (AllPairs RegionsApart) (sym (same_regions n)) (rules.1 apart)),
+    )
 
 pub tests_decide : (n : Numbers) → TestsDecide n
 tests_decide n = record {

@@ -1,10 +1,10 @@
 -- The rules of an image's numbered fields as tests, and the least field that breaks its rule.
-use Rattle.std.specs.Prelude.{ℕ, ◌+◌, ◌*◌, ◌%◌, ◌^◌, Bool, true, ◌==◌, ◌&&◌, ◌||◌, nat_le, nat_lt, List, [], ◌∷◌, length, map, sum_by, Option}
+use Rattle.std.specs.Prelude.{ℕ, ◌+◌, ◌*◌, ◌-◌, ◌%◌, ◌^◌, Bool, true, ◌==◌, ◌&&◌, ◌||◌, nat_le, nat_lt, List, [], ◌∷◌, length, map, sum_by, Option}
 use Rattle.std.specs.List.{list_all}
 use Rattle.alpha_image.specs.declared.region.Region.{Region}
 use Rattle.alpha_image.specs.declared.segment.Segment.{Segment}
 use Rattle.alpha_image.specs.Numbers.{Numbers}
-use Rattle.alpha_image.specs.Rules.{size_of_segment, regions}
+use Rattle.alpha_image.specs.Rules.{size_of_segment}
 use Rattle.alpha_image.specs.FirstOf.{unless, first_of}
 
 unfoldable pub is_base : ℕ → Bool
@@ -35,6 +35,19 @@ stack_bytes_fit stack = nat_le 16 stack && (nat_le stack 1048576 && stack % 16 =
 unfoldable pub entry_fits : ℕ → ℕ → ℕ → Bool
 entry_fits base words entry = entry % 4 == 0 && (nat_le base entry && nat_lt entry (base + 4 * words))
 
+-- the regions as the tests compare them, each by its base and its size
+abbrev pub code_region : Numbers → Region
+code_region n = record { base = n.code_base; size = 4 * n.words }
+
+abbrev pub stack_region : Numbers → Region
+stack_region n = record { base = 2 ^ 30 - n.stack; size = n.stack }
+
+abbrev pub segment_region : Segment → Region
+segment_region s = record { base = s.base; size = size_of_segment s }
+
+abbrev pub compared_regions : Numbers → List Region
+compared_regions n = code_region n ∷ stack_region n ∷ map segment_region n.segments
+
 -- one of the two is empty, or ends where the other begins or before it
 unfoldable pub are_apart : Region → Region → Bool
 are_apart r s = (r.size == 0 || s.size == 0) || (nat_le (r.base + r.size) s.base || nat_le (s.base + s.size) r.base)
@@ -44,7 +57,7 @@ all_apart [] = true
 all_apart (r ∷ rest) = list_all (are_apart r) rest && all_apart rest
 
 unfoldable pub regions_fit : Numbers → Bool
-regions_fit n = all_apart (regions n)
+regions_fit n = all_apart (compared_regions n)
 
 unfoldable pub level_fits : ℕ → Bool
 level_fits level = level == 1 || level == 2

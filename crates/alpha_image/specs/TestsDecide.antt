@@ -2,7 +2,7 @@
 use Rattle.std.specs.Prelude.{◌≡◌, ◌+◌, ◌*◌, ◌%◌, ◌^◌, ◌<◌, ◌≤◌, ◌↔◌, ◌⊎◌, IsTrue, length, map, sum_by, All, AllPairs}
 use Rattle.std.specs.List.Sorted.{IsStrictlyIncreasing}
 use Rattle.alpha_image.specs.Numbers.{Numbers}
-use Rattle.alpha_image.specs.Rules.{Holds, AreApart, code_region, size_of_segment, regions, IsBase}
+use Rattle.alpha_image.specs.Rules.{Holds, AreApart, code_segment, size_of_segment, regions, IsBase}
 use Rattle.alpha_image.specs.FieldTests.{is_base, data_bases_fit, code_words_fit, data_bytes_fit, zeroed_bytes_fit, stack_bytes_fit, entry_fits, regions_fit, level_fits, segments_fit}
 
 -- field 1
@@ -32,7 +32,7 @@ StackBytesFit n = (16 ≤ n.stack) × (n.stack ≤ 1048576) × (n.stack % 16 ≡
 
 -- field 7
 abbrev pub EntryFits : Numbers → Type 0
-EntryFits n = (n.entry % 4 ≡ 0) × Holds (code_region n) n.entry
+EntryFits n = (n.entry % 4 ≡ 0) × Holds (code_segment n) n.entry
 
 -- field 8
 abbrev pub RegionsFit : Numbers → Type 0

@@ -3,7 +3,8 @@
 ghost use Rattle.std.specs.Prelude.{◌≡◌, ◌*◌, ◌^◌, ◌<◌, ◌≤◌, length};
 ghost use Rattle.alpha_image.specs.Layout.{filled_size};
 ghost use Rattle.alpha_image.specs.Reading.{segment_in, segments_in};
-ghost use Rattle.alpha_image.specs.Rules.{segment_region, size_of_segment};
+ghost use Rattle.alpha_image.specs.Rules.{size_of_segment};
+ghost use Rattle.alpha_image.specs.FieldTests.{segment_region};
 
 use crate::number::{longword_at, quadword_at};
 use crate::region::Region;

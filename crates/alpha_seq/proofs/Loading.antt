@@ -1,10 +1,10 @@
 -- The memory at the start: each region is free when it is added.
-use Rattle.std.proofs.Common.{◌≡◌, ℕ, zero, suc, ◌+◌, ◌-◌, ◌*◌, ◌%◌, ◌^◌, ◌<◌, ◌≤◌, Bool, true, false, ◌&&◌, List, [], ◌∷◌, ◌++◌, length, map, take, drop, replicate, get_or, Some, None, Result, Ok, Err, refl, sym, ap, subst, ◌∙◌, zero-add, arith, append-nil, length-append, length-take, length-drop}
+use Rattle.std.proofs.Common.{◌≡◌, ℕ, zero, suc, ◌+◌, ◌-◌, ◌*◌, ◌%◌, ◌^◌, ◌<◌, ◌≤◌, Bool, true, false, ◌&&◌, List, [], ◌∷◌, ◌++◌, length, map, take, drop, replicate, get_or, Some, None, Result, Ok, Err, refl, sym, ap, subst, ◌∙◌, arith, append-nil, length-append, length-take, length-drop}
 use Rattle.std.specs.Prelude.{nat_le, slice_get, OnOk}
 use Rattle.std.specs.List.{list_any, flat_map}
 use Rattle.std.specs.Option.{option_map}
 use Rattle.std.proofs.lemmas.Bool.Decides.{nat_tests}
-use Rattle.std.proofs.lemmas.List.{drop-drop, get_or-map, take_more, take_all, map-append, length-map, length-replicate}
+use Rattle.std.proofs.lemmas.List.{drop-drop, take_more, take_all, map-append, length-replicate}
 use Rattle.std.proofs.lemmas.List.Sums.{sum_by-cons}
 use Rattle.std.proofs.lemmas.Option.{get_or_from_slice_get}
 use Rattle.alpha_words.specs.declared.Completion.{Completion}
@@ -14,7 +14,7 @@ use Rattle.alpha_mem.specs.Memory.{IsFree}
 use Rattle.alpha_pal.specs.Call.{outside}
 use Rattle.alpha_image.specs.declared.segment.Segment.{Segment}
 use Rattle.alpha_image.specs.Layout.{longword, filled_size}
-use Rattle.alpha_image.specs.Rules.{Holds, AreApart, code_region, stack_region, segment_region, size_of_segment, regions}
+use Rattle.alpha_image.specs.Rules.{Holds, AreApart, code_segment, stack_segment, size_of_segment}
 use Rattle.alpha_image.specs.Parts.{Parts, Piece, IsImage, numbers, pieces, pieces_of}
 use Rattle.alpha_image.proofs.CodeWords.{length-flat_map_longword}
 use Rattle.alpha_image.proofs.Pieces.{length-pieces_of, piece_within}
@@ -54,14 +54,14 @@ code-size p = ap length (append-nil (flat_map longword p.words)) ∙ length-flat
 piece-size : (s : Segment) (bytes : List ℕ) → s.filled ≤ length bytes → length (take s.filled bytes ++ replicate s.zeroed 0) ≡ size_of_segment s
 piece-size s bytes there = omega (arith, length-append (take s.filled bytes) (replicate s.zeroed 0), length-take s.filled bytes, length-replicate {A = ℕ} s.zeroed 0)
 
-code_clear : (p : Parts) (x : ℕ) → (Holds (code_region (numbers p)) x → ⊥) → holds (shape_of (code_block p)) x 1 ≡ false
-code_clear p x out = rw (code-size p) (not_held p.code_base (4 * length p.words) x out)
+code_clear : (p : Parts) (x : ℕ) → (Holds (code_segment (numbers p)) x → ⊥) → holds (shape_of (code_block p)) x 1 ≡ false
+code_clear p x out = rw (code-size p) (not_held p.code_base (4 * length p.words) x (λ inside. out (inside.0, omega arith)))
 
 filled_size-cons : (s : Segment) (rest : List Segment) → filled_size (s ∷ rest) ≡ s.filled + filled_size rest
 filled_size-cons s rest = sum_by-cons (λ (t : Segment). t.filled) s rest
 
 segments_clear : (segments : List Segment) (bytes : List ℕ) (n x : ℕ) → length bytes ≡ filled_size segments
-    → ((k : ℕ) (d : Segment) → k < n → k < length segments → Holds (segment_region (get_or segments k d)) x → ⊥)
+    → ((k : ℕ) (d : Segment) → k < n → k < length segments → Holds (get_or segments k d) x → ⊥)
     → list_any (λ s. holds s x 1) (shapes (map segment_block (take n (pieces_of segments bytes)))) ≡ false
 segments_clear segments bytes zero x sized apart = refl
 segments_clear [] bytes (suc n) x sized apart = refl
@@ -75,8 +75,8 @@ segments_clear (s ∷ rest) bytes (suc n) x sized apart =
 -- ---- which addresses the regions of an image have
 
 memory_free : (p : Parts) (n base size : ℕ) → IsImage p
-    → ((x : ℕ) → base ≤ x → x < base + size → Holds (code_region (numbers p)) x → ⊥)
-    → ((k : ℕ) (d : Segment) (x : ℕ) → k < n → k < length p.segments → base ≤ x → x < base + size → Holds (segment_region (get_or p.segments k d)) x → ⊥)
+    → ((x : ℕ) → base ≤ x → x < base + size → Holds (code_segment (numbers p)) x → ⊥)
+    → ((k : ℕ) (d : Segment) (x : ℕ) → k < n → k < length p.segments → base ≤ x → x < base + size → Holds (get_or p.segments k d) x → ⊥)
     → IsFree (shapes (memory_before p n)) base size
 unfolding memory_before
 memory_free p n base size image code segments x low high =
@@ -84,35 +84,27 @@ memory_free p n base size image code segments x low high =
     let in_segments = segments_clear p.segments p.bytes n x image.filled (λ k d below within. segments k d x below within low high) in
     rw (in_code, in_segments) refl
 
-regions-size : (p : Parts) → length (regions (numbers p)) ≡ suc (suc (length p.segments))
-regions-size p = ap (λ n. suc (suc n)) (length-map p.segments segment_region)
+code_from_segment : (p : Parts) (k : ℕ) (d : Segment) → IsImage p → k < length p.segments → AreApart (code_segment (numbers p)) (get_or p.segments k d)
+code_from_segment p k d image within = image.fields.regions 0 (suc (suc k)) d (omega arith) (omega arith)
 
-code_from_segment : (p : Parts) (k : ℕ) (d : Segment) → IsImage p → k < length p.segments → AreApart (code_region (numbers p)) (segment_region (get_or p.segments k d))
-code_from_segment p k d image within =
-    let all = image.fields.regions 0 (suc (suc k)) (segment_region d) (omega arith) (omega (arith, regions-size p)) in
-    rw (get_or-map segment_region p.segments k d (segment_region d) within) at all
+stack_from_segment : (p : Parts) (k : ℕ) (d : Segment) → IsImage p → k < length p.segments → AreApart (stack_segment (numbers p)) (get_or p.segments k d)
+stack_from_segment p k d image within = image.fields.regions 1 (suc (suc k)) d (omega arith) (omega arith)
 
-stack_from_segment : (p : Parts) (k : ℕ) (d : Segment) → IsImage p → k < length p.segments → AreApart (stack_region (numbers p)) (segment_region (get_or p.segments k d))
-stack_from_segment p k d image within =
-    let all = image.fields.regions 1 (suc (suc k)) (segment_region d) (omega arith) (omega (arith, regions-size p)) in
-    rw (get_or-map segment_region p.segments k d (segment_region d) within) at all
-
-segment_from_segment : (p : Parts) (j k : ℕ) (d : Segment) → IsImage p → j < k → k < length p.segments → AreApart (segment_region (get_or p.segments j d)) (segment_region (get_or p.segments k d))
+segment_from_segment : (p : Parts) (j k : ℕ) (d : Segment) → IsImage p → j < k → k < length p.segments → AreApart (get_or p.segments j d) (get_or p.segments k d)
 segment_from_segment p j k d image below within =
-    let all = image.fields.regions (suc (suc j)) (suc (suc k)) (segment_region d) (omega arith) (omega (arith, regions-size p)) in
-    rw (get_or-map segment_region p.segments j d (segment_region d) (omega arith), get_or-map segment_region p.segments k d (segment_region d) within) at all
+    image.fields.regions (suc (suc j)) (suc (suc k)) d (omega arith) (omega arith)
 
-segment_from_segment_at : (p : Parts) (j k : ℕ) (s d : Segment) → IsImage p → j < k → k < length p.segments → get_or p.segments k s ≡ s → AreApart (segment_region (get_or p.segments j d)) (segment_region s)
+segment_from_segment_at : (p : Parts) (j k : ℕ) (s d : Segment) → IsImage p → j < k → k < length p.segments → get_or p.segments k s ≡ s → AreApart (get_or p.segments j d) s
 segment_from_segment_at p j k s d image below within here =
     let pair = segment_from_segment p j k s image below within in
     let one = get_or_default p.segments j s d (omega arith) in
     rw (here, one) at pair
 
-code_from_segment_at : (p : Parts) (k : ℕ) (s : Segment) → IsImage p → k < length p.segments → get_or p.segments k s ≡ s → AreApart (code_region (numbers p)) (segment_region s)
+code_from_segment_at : (p : Parts) (k : ℕ) (s : Segment) → IsImage p → k < length p.segments → get_or p.segments k s ≡ s → AreApart (code_segment (numbers p)) s
 code_from_segment_at p k s image within here = rw here at (code_from_segment p k s image within)
 
-code_from_stack : (p : Parts) → IsImage p → AreApart (code_region (numbers p)) (stack_region (numbers p))
-code_from_stack p image = image.fields.regions 0 1 (stack_region (numbers p)) (omega arith) (omega (arith, regions-size p))
+code_from_stack : (p : Parts) → IsImage p → AreApart (code_segment (numbers p)) (stack_segment (numbers p))
+code_from_stack p image = image.fields.regions 0 1 (stack_segment (numbers p)) (omega arith) (omega arith)
 
 -- ---- one region more
 
@@ -203,10 +195,9 @@ stack_below p image = omega (arith, image.fields.stack.1)
 
 pub stack_free : (p : Parts) → IsImage p → IsFree (shapes (memory_before p (length p.segments))) (2 ^ 30 - p.stack) (0 + p.stack)
 stack_free p image =
-    subst (λ n. IsFree (shapes (memory_before p (length p.segments))) (2 ^ 30 - p.stack) n) (sym (zero-add p.stack))
-    (memory_free p (length p.segments) (2 ^ 30 - p.stack) p.stack image
+    memory_free p (length p.segments) (2 ^ 30 - p.stack) (0 + p.stack) image
     (λ x low high in_code. code_from_stack p image x in_code (low, high))
-    (λ k d x before within low high in_k. stack_from_segment p k d image within x (low, high) in_k))
+    (λ k d x before within low high in_k. stack_from_segment p k d image within x (low, high) in_k)
 
 pub stack_last : (p : Parts) → memory_before p (length p.segments) ++ stack_block p ∷ [] ≡ start_memory p
 unfolding memory_before start_memory

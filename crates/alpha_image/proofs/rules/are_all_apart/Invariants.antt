@@ -1,7 +1,6 @@
 use Rattle.std.proofs.Common.{◌≡◌, true, take}
 use Rattle.std.specs.List.{list_all}
-use Rattle.alpha_image.specs.Rules.{segment_region}
-use Rattle.alpha_image.specs.FieldTests.{are_apart}
+use Rattle.alpha_image.specs.FieldTests.{are_apart, segment_region}
 use Rattle.alpha_image.proofs.rules.are_all_apart.Given as goal
 
 abbrev pub invariant-loop-s : goal.invariant-loop-s

@@ -1,6 +1,5 @@
 use Rattle.std.proofs.Common.{◌≡◌, ◌≤◌, ◌^◌, map, drop}
-use Rattle.alpha_image.specs.Rules.{segment_region}
-use Rattle.alpha_image.specs.FieldTests.{all_apart}
+use Rattle.alpha_image.specs.FieldTests.{all_apart, segment_region}
 use Rattle.alpha_image.proofs.Apart.{follow}
 use Rattle.alpha_image.proofs.rules.segments_apart.Given as goal
 
