@@ -25,6 +25,7 @@
 mod access;
 mod laws;
 mod memory;
+mod near;
 mod number;
 mod region;
 

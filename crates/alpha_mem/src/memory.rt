@@ -20,7 +20,7 @@ use std::marker::Model;
 /// no address.
 #[derive(Debug, Drop)]
 pub struct Memory {
-    regions: Vec<Region>,
+    pub(crate) regions: Vec<Region>,
 }
 
 impl Model for Memory {
@@ -179,7 +179,7 @@ fn index_of(regions: &[Region], addr: u64, len: u64) -> Option<usize>
 // The place in the list of the region that the range lies within. Regions share no address, so it is one. The last
 // are asked first: the stack is the last one, and the code the first.
 #[inline(always)]
-fn place_of(regions: &[Region], addr: u64, len: u64) -> Option<usize>
+pub(crate) fn place_of(regions: &[Region], addr: u64, len: u64) -> Option<usize>
     requires layout { IsLayout (shapes regions.now) }
     requires some { 0 < len }
     ensures { result ≡ position (λ b. holds (shape_of b) addr len) regions.now }

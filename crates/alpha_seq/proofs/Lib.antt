@@ -15,3 +15,5 @@ pub mod Inputs
 pub mod OverRuns
 pub mod Unread
 pub mod Filling
+pub mod Rushing
+pub mod RushRuns

@@ -13,3 +13,4 @@ pub mod Turn
 pub mod RunEffect
 pub mod Executed
 pub mod Inputs
+pub mod Rushed

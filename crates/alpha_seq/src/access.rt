@@ -217,7 +217,7 @@ pub(crate) fn fault_end(fault: MemFault, pc: u64, addr: u64) -> End
 
 // A number as a load fills its register with it. Longwords alone are extended with the sign.
 #[inline(always)]
-fn extended(extension: Extension, number: u64) -> u64
+pub(crate) fn extended(extension: Extension, number: u64) -> u64
     ensures { result ≡ filled extension number }
 {
     match extension {

@@ -43,6 +43,7 @@ mod look;
 mod machine;
 mod parts;
 mod runs;
+mod rush;
 mod start;
 mod step;
 mod words;

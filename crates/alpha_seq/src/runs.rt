@@ -56,16 +56,19 @@ pub fn run<S: Source, K: Sink, N: Sink>(
     ensures shapes { shapes machine.new.memory ≡ shapes machine.old.memory }
     ensures same { Stays machine.old machine.new }
 {
-    for _ in 0..units {
+    let mut left = units - machine.rush(units);
+    'steps: while left != 0 {
         let step = turn(machine, input, out, notes, watch);
         if let Some(end) = run_ended_by(step) {
             return end;
         }
+        left -= 1;
+        left -= machine.rush(left);
     }
     RunEnd::Spent
 }
 
-// Makes one step and, where it is a barrier that is watched, writes its lines.
+// Makes one step and, where it is a barrier that is watched, writes its lines. Steps that only go on were made before.
 #[inline(always)]
 fn turn<S: Source, K: Sink, N: Sink>(
     machine: &mut Machine,
@@ -84,7 +87,7 @@ fn turn<S: Source, K: Sink, N: Sink>(
     ensures shapes { shapes machine.new.memory ≡ shapes machine.old.memory }
     ensures same { Stays machine.old machine.new }
 {
-    match machine.step(input, out, notes) {
+    match machine.step_rarely(input, out, notes) {
         StepEnd::Barrier if watch => match write_barrier(machine.pc, &machine.regs, notes) {
             Ok(()) => StepEnd::Barrier,
             Err(_) => StepEnd::SinkFault,

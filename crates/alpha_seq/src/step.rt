@@ -42,10 +42,10 @@ impl Machine {
         self.step_rarely(input, out, notes)
     }
 
-    // Makes one step of any kind. `step` calls this where a step does more than go on, which is rare; it is never
-    // inlined there, so that the loops of the runs are short.
+    // Makes one step of any kind. `step` and the loop of a run call this where a step does more than go on, which is
+    // rare; it is never inlined there, so that the loops are short.
     #[inline(never)]
-    fn step_rarely<S: Source, K: Sink, N: Sink>(
+    pub(crate) fn step_rarely<S: Source, K: Sink, N: Sink>(
         &mut self,
         input: &mut S,
         out: &mut K,

@@ -126,7 +126,7 @@ impl Machine {
 
 // What LDA and LDAH compute.
 #[inline(always)]
-fn computed(op: MemOp, base: u64, disp: i16) -> u64
+pub(crate) fn computed(op: MemOp, base: u64, disp: i16) -> u64
     ensures { result ≡ computed op base disp }
 {
     match op {

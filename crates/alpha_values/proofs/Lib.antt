@@ -8,3 +8,4 @@ pub mod CountLemmas
 pub mod Bounds
 pub mod LawLemmas
 pub mod AddressLemmas
+pub mod OutcomeLemmas

@@ -6,3 +6,4 @@ pub mod Address
 pub mod Op
 pub mod Source
 pub mod Lists
+pub mod Outcome
