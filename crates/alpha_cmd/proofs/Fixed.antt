@@ -2,6 +2,7 @@
 use Rattle.std.proofs.Common.{◌≡◌, ℕ, List, ap, subst}
 use Rattle.alpha_io.specs.Files.{HasFile}
 use Rattle.alpha_io.specs.Shelved.{Shelved}
+use Rattle.alpha_request.specs.declared.request.SourceCommand.TheVariants.{Fix}
 use Rattle.alpha_request.specs.Command.{fix}
 use Rattle.alpha_restart.proofs.Agreeing.{accepted_restarts}
 use Rattle.alpha_fix.specs.Fix.{IsFixedSource}
@@ -11,12 +12,12 @@ use Rattle.alpha_cmd.specs.Status.{class_of}
 use Rattle.alpha_cmd.specs.Asks.{Asks}
 use Rattle.alpha_cmd.specs.Answer.{Answer}
 use Rattle.alpha_cmd.specs.AnswerBy.{World}
-use Rattle.alpha_cmd.specs.Commands.Fix.{form, there}
+use Rattle.alpha_cmd.specs.Makings.{form, there}
 use Rattle.alpha_cmd.specs.Fixed.{IsFixed}
 use Rattle.alpha_cmd.specs.Kept.{HasKept}
 use Rattle.alpha_cmd.specs.Tried.{TriedBy}
 use Rattle.alpha_cmd.proofs.Forms.{done_goes}
-use Rattle.alpha_cmd.proofs.Commands.Fix.{lawful}
+use Rattle.alpha_cmd.proofs.Makings.{lawful}
 use Rattle.alpha_cmd.proofs.Tried.{done_tried}
 
 fixed_by : (source text : List ℕ) → IsFixedSource source text → IsFixed source text
@@ -33,7 +34,7 @@ pub tried_fixed : (shelf input : Type 0) (words : List (List ℕ)) (file out : L
     → (source text : List ℕ) × HasFile w.files file source × HasFile s.new out text × IsFixed source text
 tried_fixed shelf input words file out w t s asks tried e kept =
     let is = done_tried shelf input words (fix file out) w t asks tried e in
-    let (text, made, keeps) = done_goes (form file out) (there file out) w (lawful file out w) t is (ap class_of e) in
+    let (text, made, keeps) = done_goes (form Fix file out) (there Fix file out) w (lawful Fix file out w) t is (ap class_of e) in
     let (source, read, fixed) = made in
     let has = subst (λ (a : Answer). HasKept a.kept s) keeps.1 kept in
     (source, text, read.0, has.0, fixed_by source text fixed)

@@ -2,24 +2,26 @@
 use Rattle.std.proofs.Common.{◌≡◌, ℕ, List, ap, subst}
 use Rattle.alpha_io.specs.Files.{HasFile}
 use Rattle.alpha_io.specs.Shelved.{Shelved}
+use Rattle.alpha_request.specs.declared.request.SourceCommand.TheVariants.{Module}
 use Rattle.alpha_request.specs.Command.{make_module}
 use Rattle.alpha_cmd.specs.declared.status.Status.TheVariants.{Done}
 use Rattle.alpha_cmd.specs.Answer.{Answer}
 use Rattle.alpha_cmd.specs.AnswerBy.{World}
 use Rattle.alpha_cmd.specs.Asks.{Asks}
-use Rattle.alpha_cmd.specs.Commands.Module.{form, there, KeepsModule}
+use Rattle.alpha_cmd.specs.Commands.Module.{KeepsModule}
+use Rattle.alpha_cmd.specs.Makings.{form, there}
 use Rattle.alpha_cmd.specs.Kept.{Kept, HasKept}
 use Rattle.alpha_cmd.specs.Status.{class_of}
 use Rattle.alpha_cmd.specs.Tried.{TriedBy}
 use Rattle.alpha_cmd.proofs.Forms.{done_goes}
-use Rattle.alpha_cmd.proofs.Commands.Module.{lawful}
+use Rattle.alpha_cmd.proofs.Makings.{lawful}
 use Rattle.alpha_cmd.proofs.Tried.{done_tried}
 
 pub kept_module : (shelf input : Type 0) (words : List (List ℕ)) (file out : List ℕ) (w : World) (t : Answer) (s : Shelved) → Asks words (make_module file out)
     → TriedBy shelf input words w t → t.status ≡ Done 0 → HasKept t.kept s → KeepsModule file out w.files s.new
 kept_module shelf input words file out w t s asks tried e has =
     let a = done_tried shelf input words (make_module file out) w t asks tried e in
-    let (bytes, (source, read, (m, made, (accepted, is))), (taken, kept)) = done_goes (form file out) (there file out) w (lawful file out w) t a (ap class_of e) in
+    let (bytes, (source, read, (m, made, (accepted, is))), (taken, kept)) = done_goes (form Module file out) (there Module file out) w (lawful Module file out w) t a (ap class_of e) in
     record {
       source = source;
       parts = m;

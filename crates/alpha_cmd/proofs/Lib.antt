@@ -13,6 +13,7 @@ pub mod KeptModules
 pub mod KeptReplay
 pub mod Lawful
 pub mod Listed
+pub mod Makings
 pub mod ModuleWords
 pub mod Promised
 pub mod Ran

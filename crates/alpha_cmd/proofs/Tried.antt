@@ -2,7 +2,8 @@
 use Rattle.std.proofs.Common.{◌≡◌, ◌≢◌, ◌⊎◌, ◌∙◌, ℕ, Bool, false, List, Option, None, Some, IsSome, refl, sym, ap, subst, inl, inr, arith}
 use Rattle.alpha_io.specs.Faults.{Rose, Calm}
 use Rattle.alpha_trap.specs.declared.handler.Lost.{Lost}
-use Rattle.alpha_request.specs.Command.{Command, check, dis, asm, fix, make_module, link, replay, record_run, run, imprecise, debug, trial}
+use Rattle.alpha_request.specs.declared.request.ImageCommand.TheVariants as images
+use Rattle.alpha_request.specs.Command.{Command, of_image, make, link, replay, record_run, run, imprecise, trial}
 use Rattle.alpha_request.specs.Origin.{Origin}
 use Rattle.alpha_request.specs.declared.options.RunOptions.{RunOptions}
 use Rattle.alpha_request.specs.Asked.{asked}
@@ -123,17 +124,15 @@ fails_failed shelf input f w t (inr (inr h)) = cut_failed shelf t.status h.cause
 
 -- the end of a command by its form is one by its kind
 ends_by : (command : Command) (s : Status) → (form_of command).kind.ends s → EndsBy command s
-ends_by (check file) s h = h
-ends_by (dis file) s h = h
-ends_by (asm file out) s h = h
-ends_by (fix file out) s h = h
-ends_by (make_module file out) s h = h
+ends_by (of_image images.Check file) s h = h
+ends_by (of_image images.Dis file) s h = h
+ends_by (make what file out) s h = h
 ends_by (link entry out files) s h = h
 ends_by (replay file journal) s h = h
 ends_by (record_run options choices force file out) s h = h
 ends_by (run options file) s h = h
 ends_by (imprecise options choices force file) s h = h
-ends_by (debug file) s h = h
+ends_by (of_image images.Debug file) s h = h
 ends_by (trial blocks) s h = h
 
 -- the status of a program's end is one of the end of the words' command

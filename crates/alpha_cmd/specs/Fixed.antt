@@ -5,7 +5,8 @@ use Rattle.alpha_shadow.specs.Broken.{IsAccepted}
 use Rattle.alpha_imprecise.specs.Restart.{IsRestartable}
 use Rattle.alpha_fix.specs.Cuts.{HasBroken, without}
 use Rattle.alpha_fix.specs.Fix.{IsFixedSource}
-use Rattle.alpha_request.specs.Commands.Fix as fix_words
+use Rattle.alpha_request.specs.declared.request.SourceCommand.TheVariants.{Fix}
+use Rattle.alpha_request.specs.Commands.Make as source_words
 use Rattle.alpha_cmd.specs.declared.status.Status.{Status}
 use Rattle.alpha_cmd.specs.declared.status.Status.TheVariants.{Done}
 
@@ -21,5 +22,5 @@ pub record IsFixed (source text : List ℕ) : Type 0 where
 
 -- Where it is done, the file kept is the source with its barriers.
 abbrev pub Fixes : List (List ℕ) → Status → Files → Files → Type 0
-Fixes words status old new = (file out : List ℕ) → fix_words.Asks words file out → status ≡ Done 0
+Fixes words status old new = (file out : List ℕ) → source_words.Asks Fix words file out → status ≡ Done 0
     → (source text : List ℕ) × HasFile old file source × HasFile new out text × IsFixed source text

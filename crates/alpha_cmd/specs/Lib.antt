@@ -19,6 +19,7 @@ pub mod Gave
 pub mod Image
 pub mod Keeping
 pub mod Kept
+pub mod Makings
 pub mod Outcome
 pub mod Promises
 pub mod ReadsNothing

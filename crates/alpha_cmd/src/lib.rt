@@ -30,9 +30,10 @@
 //! for a command that writes while it works, as `dis.rt`, `run.rt` and `debug.rt`. `alpha_request`
 //! reads the words, `image.rt` has the stages that lead to an image and `choosing.rt` the one that
 //! leads to the words of an imprecise run, each command has a module, as `check.rt`, and `top.rt`
-//! matches what is asked. `line.rt` and `specs/Status.antt` have the line, the number and the class of
-//! each status, `specs/Kept.antt` says what becomes of files. What a further command or status
-//! touches is listed in docs/ARCHITECTURE.md.
+//! matches what is asked. What is made of a source and kept is one command, `making.rt`, by a value
+//! that says what, and `of_image.rt` has a row for each that is asked of an image. `line.rt` and
+//! `specs/Status.antt` have the line, the number and the class of each status, `specs/Kept.antt` says
+//! what becomes of files. What a further command or status touches is listed in docs/ARCHITECTURE.md.
 #![tactic(auto)]
 
 mod asm;
@@ -49,7 +50,9 @@ mod keep;
 mod laws;
 mod line;
 mod link;
+mod making;
 mod module;
+mod of_image;
 mod record;
 mod replay;
 mod run;
@@ -60,7 +63,6 @@ mod trial;
 
 pub use alpha_request::Words;
 pub use alpha_trial::trial_image;
-pub use asm::SOURCE_LIMIT;
 pub use entry::alpha_main;
 pub use image::{IMAGE_LIMIT, image_of};
 pub use laws::{
@@ -68,6 +70,7 @@ pub use laws::{
     laws_of_records, laws_of_restarts, laws_of_told_runs, laws_of_unread_inputs,
 };
 pub use link::MODULE_LIMIT;
+pub use making::SOURCE_LIMIT;
 pub use status::Status;
 pub use sure::alpha_sure;
 pub use top::alpha_top;

@@ -31,15 +31,11 @@ ghost use Rattle.alpha_cmd.specs.Tried.{TriedBy};
 ghost use Rattle.alpha_cmd.specs.Tries.{CountStays, TriesBy};
 
 use crate::Status;
-use crate::asm::asm;
-use crate::check::check;
-use crate::debug::debug;
 use crate::decision::Decision;
-use crate::dis::dis;
-use crate::fix::fix;
 use crate::imprecise::{Asked, imprecise};
 use crate::link::link;
-use crate::module::module;
+use crate::making::make;
+use crate::of_image::of_image;
 use crate::record::record;
 use crate::replay::replay;
 use crate::run::run;
@@ -248,11 +244,8 @@ fn perform<H: Shelf, S: Source, K: Sink, N: Sink>(
         (world H.Shelf S.Source shelf.old input.old) (H.files shelf.new) }
 {
     match request {
-        Request::Check { file } => Ok(check(alloc, file, shelf)),
-        Request::Dis { file } => dis(alloc, file, shelf, out),
-        Request::Asm { file, out } => Ok(asm(alloc, file, out, shelf)),
-        Request::Fix { file, out } => Ok(fix(alloc, file, out, shelf)),
-        Request::Module { file, out } => Ok(module(alloc, file, out, shelf)),
+        Request::OfImage { what, file } => of_image(alloc, what, file, shelf, input, out),
+        Request::Make { what, file, out } => Ok(make(alloc, what, file, out, shelf)),
         Request::Link { entry, out, files } => Ok(link(alloc, entry, out, files.as_slice(), shelf)),
         Request::Replay { file, journal } => Ok(replay(alloc, file, journal, shelf)),
         Request::RunImprecise {
@@ -285,7 +278,6 @@ fn perform<H: Shelf, S: Source, K: Sink, N: Sink>(
             record(alloc, asked, name, shelf, input, out, notes)
         }
         Request::Run { options, file } => run(alloc, options, file, shelf, input, out, notes),
-        Request::Debug { file } => debug(alloc, file, shelf, input, out),
         Request::Trial { blocks } => trial(alloc, blocks, out),
     }
 }

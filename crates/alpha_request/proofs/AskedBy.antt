@@ -1,17 +1,18 @@
 -- Words ask for a command exactly where the rows of this command alone say so.
-use Rattle.std.proofs.Common.{◌≡◌, ◌↔◌, ◌∙◌, ℕ, Bool, true, false, cond, if◌then◌else◌, List, [], ◌∷◌, Option, Some, None, codes, refl, sym, ap, subst}
+use Rattle.std.proofs.Common.{◌≡◌, ◌↔◌, ◌∙◌, Bool, true, false, cond, if◌then◌else◌, List, [], ◌∷◌, Option, Some, None, codes, refl, sym, ap, subst}
 use Rattle.std.specs.Option.{option_and_then, option_map}
 use Rattle.std.specs.Str.{bytes_eq}
 use Rattle.std.proofs.lemmas.Slice.Eq.{bytes_eq-Decides}
 use Rattle.clap.specs.Walk.{Row, Text}
 use Rattle.clap.specs.Words.{first_of}
+use Rattle.alpha_request.specs.declared.request.ImageCommand.TheVariants as images
+use Rattle.alpha_request.specs.declared.request.SourceCommand.TheVariants as sources
 use Rattle.alpha_request.specs.declared.name.Name.{Name}
 use Rattle.alpha_request.specs.declared.name.Name.TheVariants as names
-use Rattle.alpha_request.specs.Command.{Command, check, dis, asm, fix, make_module, link, replay, record_run, run, imprecise, debug, trial}
+use Rattle.alpha_request.specs.Command.{Command, of_image, make, link, replay, record_run, run, imprecise, trial}
 use Rattle.alpha_request.specs.Options.{options_in, choices_in, force_in, bounds_in}
 use Rattle.alpha_request.specs.Commands.{spoken}
 use Rattle.alpha_request.specs.Commands.Link.{entry_in, files_in}
-use Rattle.alpha_request.specs.Commands.Record.{record_in}
 use Rattle.alpha_request.specs.Commands.Run.{has_choices, imprecise_in, is_imprecise, plain_in}
 use Rattle.alpha_request.specs.Commands.Trial.{blocks_in}
 use Rattle.alpha_request.specs.Asked.{app_of_name, asked, asked_as, command_in, name_of}
@@ -50,11 +51,9 @@ run_of false false rows =
     (λ options. map_of (run options) names.Run (λ file. refl) (first_of (codes "file") rows)) (options_in rows)
 
 made_of : (n : Name) (rows : List Row) → IsOf n (command_in n rows)
-made_of names.Check rows = map_of check names.Check (λ file. refl) (first_of (codes "file") rows)
-made_of names.Dis rows = map_of dis names.Dis (λ file. refl) (first_of (codes "file") rows)
-made_of names.Asm rows = then_of _ names.Asm (λ file. map_of (asm file) names.Asm (λ out. refl) (first_of (codes "out") rows)) (first_of (codes "file") rows)
-made_of names.Fix rows = then_of _ names.Fix (λ file. map_of (fix file) names.Fix (λ out. refl) (first_of (codes "out") rows)) (first_of (codes "file") rows)
-made_of names.Module rows = then_of _ names.Module (λ file. map_of (make_module file) names.Module (λ out. refl) (first_of (codes "out") rows)) (first_of (codes "file") rows)
+made_of (names.OfImage what) rows = map_of (of_image what) (names.OfImage what) (λ file. refl) (first_of (codes "file") rows)
+made_of (names.Make what) rows =
+    then_of _ (names.Make what) (λ file. map_of (make what file) (names.Make what) (λ out. refl) (first_of (codes "out") rows)) (first_of (codes "file") rows)
 made_of names.Link rows = then_of _ names.Link (λ out. map_of (link (entry_in rows) out) names.Link (λ files. refl) (files_in rows)) (first_of (codes "out") rows)
 made_of names.Replay rows = then_of _ names.Replay (λ file. map_of (replay file) names.Replay (λ journal. refl) (first_of (codes "journal") rows)) (first_of (codes "file") rows)
 made_of names.Record rows =
@@ -64,7 +63,6 @@ made_of names.Record rows =
     (choices_in rows))
     (bounds_in false rows)
 made_of names.Run rows = run_of (is_imprecise rows) (has_choices rows) rows
-made_of names.Debug rows = map_of debug names.Debug (λ file. refl) (first_of (codes "file") rows)
 made_of names.Trial rows = map_of trial names.Trial (λ n. refl) (blocks_in rows)
 
 -- ---- the name that a word is
@@ -76,30 +74,30 @@ step word m n rest false is k e = k e
 
 named_text : (word : Text) (n : Name) → name_of word ≡ Some n → word ≡ word_of n
 named_text word n =
-    step word names.Check n _ (bytes_eq word (codes "check")) refl
-    (step word names.Dis n _ (bytes_eq word (codes "dis")) refl
-    (step word names.Asm n _ (bytes_eq word (codes "asm")) refl
-    (step word names.Fix n _ (bytes_eq word (codes "fix")) refl
-    (step word names.Module n _ (bytes_eq word (codes "module")) refl
+    step word (names.OfImage images.Check) n _ (bytes_eq word (codes "check")) refl
+    (step word (names.OfImage images.Dis) n _ (bytes_eq word (codes "dis")) refl
+    (step word (names.Make sources.Asm) n _ (bytes_eq word (codes "asm")) refl
+    (step word (names.Make sources.Fix) n _ (bytes_eq word (codes "fix")) refl
+    (step word (names.Make sources.Module) n _ (bytes_eq word (codes "module")) refl
     (step word names.Link n _ (bytes_eq word (codes "link")) refl
     (step word names.Replay n _ (bytes_eq word (codes "replay")) refl
     (step word names.Record n _ (bytes_eq word (codes "record")) refl
     (step word names.Run n _ (bytes_eq word (codes "run")) refl
-    (step word names.Debug n _ (bytes_eq word (codes "debug")) refl
+    (step word (names.OfImage images.Debug) n _ (bytes_eq word (codes "debug")) refl
     (step word names.Trial n _ (bytes_eq word (codes "trial")) refl
     (λ e. cc)))))))))))
 
 text_named : (n : Name) → name_of (word_of n) ≡ Some n
-text_named names.Check = refl
-text_named names.Dis = refl
-text_named names.Asm = refl
-text_named names.Fix = refl
-text_named names.Module = refl
+text_named (names.OfImage images.Check) = refl
+text_named (names.OfImage images.Dis) = refl
+text_named (names.Make sources.Asm) = refl
+text_named (names.Make sources.Fix) = refl
+text_named (names.Make sources.Module) = refl
 text_named names.Link = refl
 text_named names.Replay = refl
 text_named names.Record = refl
 text_named names.Run = refl
-text_named names.Debug = refl
+text_named (names.OfImage images.Debug) = refl
 text_named names.Trial = refl
 
 -- ---- both ways

@@ -24,16 +24,12 @@ use Rattle.alpha_request.specs.Reading.{Matches, Reads}
 -- each command is simple, and no argument has a rule on another
 pub simple_and_free : (name : Name) → is_simple_and_free (app_of_name name) ≡ true
 unfolding clap_on_literals
-simple_and_free names.Check = refl
-simple_and_free names.Dis = refl
-simple_and_free names.Asm = refl
-simple_and_free names.Fix = refl
-simple_and_free names.Module = refl
+simple_and_free (names.OfImage what) = refl
+simple_and_free (names.Make what) = refl
 simple_and_free names.Link = refl
 simple_and_free names.Replay = refl
 simple_and_free names.Record = refl
 simple_and_free names.Run = refl
-simple_and_free names.Debug = refl
 simple_and_free names.Trial = refl
 
 and_left : (a b : Bool) → (a && b) ≡ true → a ≡ true

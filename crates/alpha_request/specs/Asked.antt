@@ -5,6 +5,8 @@ use Rattle.std.specs.Option.{option_and_then}
 use Rattle.std.specs.Str.{bytes_eq}
 use Rattle.clap.specs.Walk.{Row, Text}
 use Rattle.clap.specs.Simple.{App}
+use Rattle.alpha_request.specs.declared.request.ImageCommand.TheVariants as images
+use Rattle.alpha_request.specs.declared.request.SourceCommand.TheVariants as sources
 use Rattle.alpha_request.specs.declared.name.Name.{Name}
 use Rattle.alpha_request.specs.declared.name.Name.TheVariants as names
 use Rattle.alpha_request.specs.Command.{Command}
@@ -14,16 +16,16 @@ use Rattle.alpha_request.specs.Matched.{matches_on}
 -- the command that a word names
 abbrev pub name_of : Text → Option Name
 name_of word =
-    if bytes_eq word (codes "check") then Some names.Check
-    else if bytes_eq word (codes "dis") then Some names.Dis
-    else if bytes_eq word (codes "asm") then Some names.Asm
-    else if bytes_eq word (codes "fix") then Some names.Fix
-    else if bytes_eq word (codes "module") then Some names.Module
+    if bytes_eq word (codes "check") then Some (names.OfImage images.Check)
+    else if bytes_eq word (codes "dis") then Some (names.OfImage images.Dis)
+    else if bytes_eq word (codes "asm") then Some (names.Make sources.Asm)
+    else if bytes_eq word (codes "fix") then Some (names.Make sources.Fix)
+    else if bytes_eq word (codes "module") then Some (names.Make sources.Module)
     else if bytes_eq word (codes "link") then Some names.Link
     else if bytes_eq word (codes "replay") then Some names.Replay
     else if bytes_eq word (codes "record") then Some names.Record
     else if bytes_eq word (codes "run") then Some names.Run
-    else if bytes_eq word (codes "debug") then Some names.Debug
+    else if bytes_eq word (codes "debug") then Some (names.OfImage images.Debug)
     else if bytes_eq word (codes "trial") then Some names.Trial else None
 
 -- what clap is told of a named command, and the command that its matches make

@@ -13,11 +13,12 @@
 //!   ask for.
 //!
 //! `words.rt` has the words, `name.rt` the names of the commands, `matches.rt` what is read of the
-//! matches of `clap`, and `request.rt` the requests. The words of a command are one module of
-//! `commands.rt` and its namesake of `specs/Commands.antt`: what `clap` is told (`args.rt`,
-//! `specs/Rules.antt`), and the request that the matches make. `options.rt` and `specs/Options.antt`
-//! have the options of a run, and `files.rt` has the files of a link. What a further command touches is
-//! listed in docs/ARCHITECTURE.md.
+//! matches of `clap`, and `request.rt` the requests. Words of one shape are one module of `commands.rt`
+//! and its namesake of `specs/Commands.antt`: what `clap` is told (`args.rt`, `specs/Rules.antt`), and
+//! the request that the matches make. So the commands of an image ([`ImageCommand`]) have one, and so
+//! have those of a source ([`SourceCommand`]). `options.rt` and `specs/Options.antt` have the options
+//! of a run, and `files.rt` has the files of a link. What a further command touches is listed in
+//! docs/ARCHITECTURE.md.
 #![tactic(auto)]
 
 mod args;
@@ -33,5 +34,5 @@ mod words;
 pub use files::FileNames;
 pub use laws::{laws_of_trial_words, laws_of_words};
 pub use options::{Choices, RunOptions};
-pub use request::{Refusal, Request, request_of};
+pub use request::{ImageCommand, Refusal, Request, SourceCommand, request_of};
 pub use words::Words;

@@ -3,21 +3,37 @@ mod records;
 
 use crate::common::words_of;
 use Completion::{Saturate, Stop, Wrap};
-use alpha_request::{Choices, Refusal, Request, RunOptions, request_of};
+use alpha_request::{
+    Choices, ImageCommand, Refusal, Request, RunOptions, SourceCommand, request_of,
+};
 use alpha_words::Completion;
 use std::alloc::Global;
 use std::test::Fail;
+
+// The word that asks it of an image.
+fn image_word(what: ImageCommand) -> &'static str {
+    match what {
+        ImageCommand::Check => "check",
+        ImageCommand::Dis => "dis",
+        ImageCommand::Debug => "debug",
+    }
+}
+
+// The word that asks to make it of a source.
+fn source_word(what: SourceCommand) -> &'static str {
+    match what {
+        SourceCommand::Asm => "asm",
+        SourceCommand::Fix => "fix",
+        SourceCommand::Module => "module",
+    }
+}
 
 // Whether the words ask for this command of this file, or for nothing.
 fn asks(alloc: Global, words: &[&str], wanted: Option<(&str, &str)>) -> Result<bool, Fail> {
     let given = words_of(alloc, words)?;
     let found = match request_of(alloc, &given) {
-        Ok(Request::Check { file }) => Some(("check", file)),
-        Ok(Request::Dis { file }) => Some(("dis", file)),
-        Ok(Request::Debug { file }) => Some(("debug", file)),
-        Ok(Request::Asm { file, .. }) => Some(("asm", file)),
-        Ok(Request::Fix { file, .. }) => Some(("fix", file)),
-        Ok(Request::Module { file, .. }) => Some(("module", file)),
+        Ok(Request::OfImage { what, file }) => Some((image_word(what), file)),
+        Ok(Request::Make { what, file, .. }) => Some((source_word(what), file)),
         Ok(Request::Link { out, .. }) => Some(("link", out)),
         Ok(Request::Replay { file, .. }) => Some(("replay", file)),
         Ok(Request::Record { file, .. }) => Some(("record", file)),
@@ -89,9 +105,7 @@ fn a_listing_and_a_debugger_have_one_file(rt: HostRuntime) -> Result<(), Fail> {
 fn makes(alloc: Global, words: &[&str], wanted: Option<(&str, &str)>) -> Result<bool, Fail> {
     let given = words_of(alloc, words)?;
     match request_of(alloc, &given) {
-        Ok(
-            Request::Asm { file, out } | Request::Fix { file, out } | Request::Module { file, out },
-        ) => Ok(wanted == Some((file, out))),
+        Ok(Request::Make { file, out, .. }) => Ok(wanted == Some((file, out))),
         Ok(_) | Err(Refusal::BadWords) => Ok(wanted.is_none()),
         Err(Refusal::NoMemory) => Err(Fail::from("no memory")),
     }

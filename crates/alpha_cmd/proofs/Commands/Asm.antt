@@ -10,12 +10,8 @@ use Rattle.alpha_cmd.specs.declared.status.Status.{Status}
 use Rattle.alpha_cmd.specs.declared.status.Status.TheVariants.{BadSource}
 use Rattle.alpha_cmd.specs.Status.{class_of, status_line, Says}
 use Rattle.alpha_cmd.specs.Outcome.{goes, stops}
-use Rattle.alpha_cmd.specs.Image.{Reads}
-use Rattle.alpha_cmd.specs.AnswerBy.{World}
-use Rattle.alpha_cmd.specs.Commands.Asm.{source_limit, NoProgram, IsMade, Assembles, Makes, form, there}
-use Rattle.alpha_cmd.proofs.Lawful.{Lawful, HasOutcome, Either-single, Says-one, Then-lawful}
-use Rattle.alpha_cmd.proofs.Stages.{Reads-lawful}
-use Rattle.alpha_cmd.proofs.Forms.{IsLawfulForm, making_lawful}
+use Rattle.alpha_cmd.specs.Commands.Asm.{NoProgram, IsMade, Assembles}
+use Rattle.alpha_cmd.proofs.Lawful.{Lawful, HasOutcome, Either-single, Says-one}
 
 pub same_refused : (source : List ℕ) (s t : Status) → NoProgram source s → NoProgram source t → s ≡ t
 same_refused source s t (f, is, first) (g, also, second) = let same : f ≡ g = cc in is ∙ (ap BadSource same ∙ sym also)
@@ -30,7 +26,7 @@ assembles_some : (source : List ℕ) (r : Result Program AsmFault) → assembled
 assembles_some source (Ok p) e = let (image, is) = some-image source p e in (goes (spelling image), (image, is, refl))
 assembles_some source (Err fault) e = (stops (BadSource fault) (status_line (BadSource fault)), ((fault, refl, e), refl))
 
-Assembles-lawful : (told whole there : Type 0) (source : List ℕ) → Lawful told whole there (Assembles source)
+pub Assembles-lawful : (told whole there : Type 0) (source : List ℕ) → Lawful told whole there (Assembles source)
 Assembles-lawful told whole there source = record {
   single = λ h. Either-single (IsMade source) (Says (NoProgram source)) (record {
     good = same_made source;
@@ -40,9 +36,3 @@ Assembles-lawful told whole there source = record {
   some = λ h. assembles_some source (assembled source) refl;
   plain = λ s line h. inl (ap class_of h.0.1);
 }
-
-pub lawful : (file out : List ℕ) (w : World) → IsLawfulForm (form file out) (there file out) w
-lawful file out w =
-    making_lawful (file ∷ []) (λ w. Makes w.files file) out w
-    (Then-lawful {R = Reads w.files file source_limit} {S = Assembles} (Reads-lawful _ _ _ w.files file source_limit (λ h. h) (λ h. h.0) (λ h. h.0.0))
-    (λ source read. Assembles-lawful _ _ _ source))

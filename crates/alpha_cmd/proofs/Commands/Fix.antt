@@ -20,14 +20,9 @@ use Rattle.alpha_cmd.specs.declared.status.Status.{Status}
 use Rattle.alpha_cmd.specs.declared.status.Status.TheVariants.{BadSource, Unfixable, FixedLine, Far}
 use Rattle.alpha_cmd.specs.Status.{class_of, status_line, unfixable_line}
 use Rattle.alpha_cmd.specs.Outcome.{goes, stops}
-use Rattle.alpha_cmd.specs.Image.{Reads}
-use Rattle.alpha_cmd.specs.AnswerBy.{World}
-use Rattle.alpha_cmd.specs.Commands.Asm.{source_limit}
-use Rattle.alpha_cmd.specs.Commands.Fix.{IsUnfixable, Unfixed, Unfixes, Fixes, Makes, form, there}
+use Rattle.alpha_cmd.specs.Commands.Fix.{IsUnfixable, Unfixed, Unfixes, Fixes}
 use Rattle.alpha_cmd.proofs.Commands.Asm.{same_refused}
-use Rattle.alpha_cmd.proofs.Lawful.{Lawful, HasOutcome, IsRefusal, Either-single, Then-lawful}
-use Rattle.alpha_cmd.proofs.Stages.{Reads-lawful}
-use Rattle.alpha_cmd.proofs.Forms.{IsLawfulForm, making_lawful}
+use Rattle.alpha_cmd.proofs.Lawful.{Lawful, HasOutcome, IsRefusal, Either-single}
 
 -- ---- a source has one image, and that one list of cuts
 
@@ -149,15 +144,9 @@ unfixes_plain there source s l (inr (inl h, line)) = inl (ap class_of h.1)
 unfixes_plain there source s l (inr (inr (inl h), line)) = inl (ap class_of h.1)
 unfixes_plain there source s l (inr (inr (inr h), line)) = inl (ap class_of h.1)
 
-Fixes-lawful : (told whole there : Type 0) (source : List ℕ) → Lawful told whole there (Fixes source)
+pub Fixes-lawful : (told whole there : Type 0) (source : List ℕ) → Lawful told whole there (Fixes source)
 Fixes-lawful told whole there source = record {
   single = λ h. Either-single (IsFixedSource source) (Unfixes source) (record { good = is_one source; why = same_reason source; apart = fixed_apart source });
   some = λ h. fixes_some source (assembled source) refl;
   plain = unfixes_plain there source;
 }
-
-pub lawful : (file out : List ℕ) (w : World) → IsLawfulForm (form file out) (there file out) w
-lawful file out w =
-    making_lawful (file ∷ []) (λ w. Makes w.files file) out w
-    (Then-lawful {R = Reads w.files file source_limit} {S = Fixes} (Reads-lawful _ _ _ w.files file source_limit (λ h. h) (λ h. h.0) (λ h. h.0.0))
-    (λ source read. Fixes-lawful _ _ _ source))

@@ -13,13 +13,9 @@ use Rattle.alpha_cmd.specs.declared.status.Status.{Status}
 use Rattle.alpha_cmd.specs.declared.status.Status.TheVariants.{NotRestartable, BadSource}
 use Rattle.alpha_cmd.specs.Status.{class_of, status_line, Says}
 use Rattle.alpha_cmd.specs.Outcome.{goes, stops}
-use Rattle.alpha_cmd.specs.Image.{Reads}
-use Rattle.alpha_cmd.specs.AnswerBy.{World}
-use Rattle.alpha_cmd.specs.Commands.Asm.{source_limit}
-use Rattle.alpha_cmd.specs.Commands.Module.{NoModule, ModuleOf, IsBroken, Spells, Modules, Makes, form, there}
+use Rattle.alpha_cmd.specs.Commands.Module.{NoModule, ModuleOf, IsBroken, Spells, Modules}
 use Rattle.alpha_cmd.proofs.Lawful.{Lawful, HasOutcome, Either-single, Says-one, Then-lawful}
-use Rattle.alpha_cmd.proofs.Stages.{Reads-lawful, same_least}
-use Rattle.alpha_cmd.proofs.Forms.{IsLawfulForm, making_lawful}
+use Rattle.alpha_cmd.proofs.Stages.{same_least}
 
 same_refused : (source : List ℕ) (s t : Status) → NoModule source s → NoModule source t → s ≡ t
 same_refused source s t (f, is, first) (g, also, second) = let same : f ≡ g = cc in is ∙ (ap BadSource same ∙ sym also)
@@ -68,8 +64,6 @@ Spells-lawful told whole there m = record {
   plain = λ s line h. inl (ap class_of h.1);
 }
 
-pub lawful : (file out : List ℕ) (w : World) → IsLawfulForm (form file out) (there file out) w
-lawful file out w =
-    making_lawful (file ∷ []) (λ w. Makes w.files file) out w
-    (Then-lawful {R = Reads w.files file source_limit} {S = Modules} (Reads-lawful _ _ _ w.files file source_limit (λ h. h) (λ h. h.0) (λ h. h.0.0))
-    (λ source read. Then-lawful {R = ModuleOf source} {S = Spells} (ModuleOf-lawful _ _ _ source) (λ m made. Spells-lawful _ _ _ m)))
+pub Modules-lawful : (told whole there : Type 0) (source : List ℕ) → Lawful told whole there (Modules source)
+Modules-lawful told whole there source =
+    Then-lawful {R = ModuleOf source} {S = Spells} (ModuleOf-lawful told whole there source) (λ m made. Spells-lawful told whole there m)

@@ -1,6 +1,5 @@
--- `fix FILE OUT`: a source with a barrier wherever its code needs one, kept as a file.
-use Rattle.std.specs.Prelude.{◌≡◌, ◌⊎◌, ℕ, List, [], ◌∷◌}
-use Rattle.alpha_io.specs.Files.{Files}
+-- `fix`: a source with a barrier wherever its code needs one.
+use Rattle.std.specs.Prelude.{◌≡◌, ◌⊎◌, ℕ, List}
 use Rattle.alpha_image.specs.Parts.{Parts}
 use Rattle.alpha_shadow.specs.declared.broken.Broken.{Broken}
 use Rattle.alpha_asm.specs.declared.fault.AsmFault.{AsmFault}
@@ -8,12 +7,9 @@ use Rattle.alpha_fix.specs.declared.fault.FixFault.TheVariants as faults
 use Rattle.alpha_fix.specs.Fix.{HasImage, IsFixedSource, IsLeastAlone, Refuses}
 use Rattle.alpha_cmd.specs.declared.status.Status.{Status}
 use Rattle.alpha_cmd.specs.declared.status.Status.TheVariants.{Unfixable, FixedLine, Far}
-use Rattle.alpha_cmd.specs.Outcome.{Outcome, Either, Then}
+use Rattle.alpha_cmd.specs.Outcome.{Outcome, Either}
 use Rattle.alpha_cmd.specs.Status.{Says, unfixable_line}
-use Rattle.alpha_cmd.specs.Image.{Reads}
-use Rattle.alpha_cmd.specs.AnswerBy.{World}
-use Rattle.alpha_cmd.specs.Form.{Form, Kind, keeps_last, making, making_there}
-use Rattle.alpha_cmd.specs.Commands.Asm.{source_limit, NoProgram}
+use Rattle.alpha_cmd.specs.Commands.Asm.{NoProgram}
 
 -- Why no barrier helps the code of a source, with the line that says it: the first trigger that is broken at its own place, by
 -- its first condition.
@@ -35,16 +31,3 @@ Unfixes source status line = IsUnfixable source status line ⊎ Says (Unfixed so
 -- the source with its barriers
 abbrev pub Fixes : List ℕ → Outcome (List ℕ) → Type 0
 Fixes source = Either (IsFixedSource source) (Unfixes source)
-
--- that of a named source
-abbrev pub Makes : Files → List ℕ → Outcome (List ℕ) → Type 0
-Makes files name = Then (Reads files name source_limit) Fixes
-
-abbrev pub kind : List ℕ → Kind
-kind out = keeps_last out
-
-abbrev pub form : List ℕ → List ℕ → Form
-form file out = making (λ w. Makes w.files file) out
-
-abbrev pub there : List ℕ → List ℕ → World → Type 0
-there file out = making_there (file ∷ []) (λ w. Makes w.files file) out

@@ -1,5 +1,5 @@
--- `module FILE OUT`: the module of a source, kept as a file.
-use Rattle.std.specs.Prelude.{◌≡◌, ℕ, List, [], ◌∷◌, Ok, Err}
+-- `module`: the module of a source, and what is left of it where it is kept.
+use Rattle.std.specs.Prelude.{◌≡◌, ℕ, List, Ok, Err}
 use Rattle.alpha_io.specs.Files.{Files, HasFile}
 use Rattle.alpha_asm.specs.declared.fault.AsmFault.{AsmFault}
 use Rattle.alpha_shadow.specs.declared.broken.Broken.{Broken}
@@ -10,15 +10,12 @@ use Rattle.alpha_link.specs.Parts.{ModuleParts}
 use Rattle.alpha_link.specs.Spelled.{spelling}
 use Rattle.alpha_link.specs.Made.{made_module}
 use Rattle.alpha_asm.specs.Program.{code_base}
-use Rattle.alpha_request.specs.Commands.Module as module_words
+use Rattle.alpha_request.specs.declared.request.SourceCommand.TheVariants.{Module}
+use Rattle.alpha_request.specs.Commands.Make as source_words
 use Rattle.alpha_cmd.specs.declared.status.Status.{Status}
 use Rattle.alpha_cmd.specs.declared.status.Status.TheVariants.{Done, NotRestartable, BadSource}
 use Rattle.alpha_cmd.specs.Outcome.{Outcome, Either, Then}
 use Rattle.alpha_cmd.specs.Status.{Says}
-use Rattle.alpha_cmd.specs.Image.{Reads}
-use Rattle.alpha_cmd.specs.AnswerBy.{World}
-use Rattle.alpha_cmd.specs.Form.{Form, Kind, keeps_last, making, making_there}
-use Rattle.alpha_cmd.specs.Commands.Asm.{source_limit}
 
 -- why a source makes no module: its first refusal
 abbrev pub NoModule : List ℕ → Status → Type 0
@@ -41,19 +38,6 @@ Spells m = Either (λ bytes. IsAccepted m.words × (bytes ≡ spelling m)) (IsBr
 abbrev pub Modules : List ℕ → Outcome (List ℕ) → Type 0
 Modules source = Then (ModuleOf source) Spells
 
--- those that a named source makes
-abbrev pub Makes : Files → List ℕ → Outcome (List ℕ) → Type 0
-Makes files name = Then (Reads files name source_limit) Modules
-
-abbrev pub kind : List ℕ → Kind
-kind out = keeps_last out
-
-abbrev pub form : List ℕ → List ℕ → Form
-form file out = making (λ w. Makes w.files file) out
-
-abbrev pub there : List ℕ → List ℕ → World → Type 0
-there file out = making_there (file ∷ []) (λ w. Makes w.files file) out
-
 -- where the old files are told, the source of one makes a module whose code has no broken place, and where the new ones
 -- are, another has its spelling
 pub record KeepsModule (file out : List ℕ) (old new : Files) : Type 0 where
@@ -66,5 +50,5 @@ pub record KeepsModule (file out : List ℕ) (old new : Files) : Type 0 where
 
 -- it is kept where the command is done
 abbrev pub KeepsModules : List (List ℕ) → Status → Files → Files → Type 0
-KeepsModules words status old new = (file out : List ℕ) → module_words.Asks words file out → status ≡ Done 0
+KeepsModules words status old new = (file out : List ℕ) → source_words.Asks Module words file out → status ≡ Done 0
     → KeepsModule file out old new
