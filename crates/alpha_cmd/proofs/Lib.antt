@@ -18,6 +18,7 @@ pub mod ModuleWords
 pub mod Promised
 pub mod Ran
 pub mod ReadsNothing
+pub mod RecordedRuns
 pub mod ReplayedRuns
 pub mod Stages
 pub mod Tested

@@ -23,6 +23,7 @@ pub mod Makings
 pub mod Outcome
 pub mod Promises
 pub mod ReadsNothing
+pub mod RecordedRun
 pub mod Replayed
 pub mod Restarts
 pub mod RunAnswer

@@ -18,10 +18,12 @@ ghost use Rattle.alpha_cmd.specs.Commands.Dis as listings;
 ghost use Rattle.alpha_cmd.specs.Commands.Imprecise as wilds;
 ghost use Rattle.alpha_cmd.specs.Commands.Link.{HasAccepted};
 ghost use Rattle.alpha_cmd.specs.Commands.Module.{KeepsModule};
+ghost use Rattle.alpha_cmd.specs.Commands.Record as records;
 ghost use Rattle.alpha_cmd.specs.Commands.Record.{KeepsRun};
 ghost use Rattle.alpha_cmd.specs.Commands.Replay as replays;
 ghost use Rattle.alpha_cmd.specs.Commands.Run as runs;
 ghost use Rattle.alpha_cmd.specs.ReadsNothing.{ReadsNothing, answer_unread};
+ghost use Rattle.alpha_cmd.specs.RecordedRun.{KeepsItsJournal};
 ghost use Rattle.alpha_cmd.specs.Sequential.{HaveWords};
 ghost use Rattle.alpha_cmd.specs.ToldRun.{answer_told};
 ghost use Rattle.alpha_cmd.specs.Tried.{AreTold, IsAnswer};
@@ -138,4 +140,14 @@ pub fn laws_of_records()
         → KeepsRun options choices force file out w v.files
         → ((image : Parts) → ImageOf w.files file (goes image) → ImageOf v.files file (goes image))
         → AnswerBy (replays.steps file out) v a → a.status ≡ Done 0 }
+{}
+
+/// The law of recorded runs: over a told input, the journal that `record` keeps is that of the run whose status,
+/// output and notes are given. Its ending is said by the status and by the last line, its output is what is put,
+/// its input is what is taken, and its items list that run. Where nothing is kept there is no journal.
+pub fn laws_of_recorded_runs()
+    ensures { (options : RunOptions) (choices : Origin) (force : Bool) (file out bytes : List ℕ)
+        (w : World) (a : Answer) → w.input ≡ Some bytes
+        → AnswerBy (records.steps options choices force file out) w a
+        → KeepsItsJournal options file out bytes w.files a }
 {}

@@ -19,8 +19,9 @@
 //!   (`specs/Alike.antt`). [`laws_of_told_runs`] says that this is, over a told input, the answer of the
 //!   sequential run of the image which the file spells (`specs/ToldRun.antt`). [`laws_of_records`] says
 //!   that a journal that `record` has kept of a run over a told input is never refused by `replay`, as
-//!   long as the image's file spells that image. [`laws_of_accepted_files`] says that a file which spells
-//!   an accepted image meets what those laws ask.
+//!   long as the image's file spells that image, and [`laws_of_recorded_runs`] that it is the journal of
+//!   the run whose answer was given (`specs/RecordedRun.antt`). [`laws_of_accepted_files`] says that a
+//!   file which spells an accepted image meets what those laws ask.
 //! - [`laws_of_unread_inputs`] says that a program which reads nothing in the steps that are asked for has
 //!   one answer over every source, told or not, where its file is told (`specs/ReadsNothing.antt`).
 //! - [`laws_of_kept_modules`] says that a file which `module` keeps is one of those that make a link
@@ -67,7 +68,8 @@ pub use entry::alpha_main;
 pub use image::{IMAGE_LIMIT, image_of};
 pub use laws::{
     laws_of_accepted_files, laws_of_answers, laws_of_kept_modules, laws_of_listed_files,
-    laws_of_records, laws_of_restarts, laws_of_told_runs, laws_of_unread_inputs,
+    laws_of_recorded_runs, laws_of_records, laws_of_restarts, laws_of_told_runs,
+    laws_of_unread_inputs,
 };
 pub use link::MODULE_LIMIT;
 pub use making::SOURCE_LIMIT;

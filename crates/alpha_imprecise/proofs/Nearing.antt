@@ -10,11 +10,11 @@ use Rattle.alpha_imprecise.proofs.Settling.{stepped_making, advance-going, stays
 
 module _ (g : Program) where
   -- a step before so many is one behind them
-  steps-first : (k : Making) (n : ℕ) → steps_making g (advance_making g k) n ≡ advance_making g (steps_making g k n)
+  pub steps-first : (k : Making) (n : ℕ) → steps_making g (advance_making g k) n ≡ advance_making g (steps_making g k n)
   steps-first k zero = refl
   steps-first k (suc n) = ap (advance_making g) (steps-first k n)
 
-  steps-then : (k : Making) (n m : ℕ) → steps_making g (steps_making g k n) m ≡ steps_making g k (m + n)
+  pub steps-then : (k : Making) (n m : ℕ) → steps_making g (steps_making g k n) m ≡ steps_making g k (m + n)
   steps-then k n zero = let same : n ≡ 0 + n = omega arith in ap (steps_making g k) same
   steps-then k n (suc m) =
       let same : suc (m + n) ≡ suc m + n = omega arith in

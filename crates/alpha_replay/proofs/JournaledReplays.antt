@@ -24,7 +24,7 @@ use Rattle.alpha_replay.proofs.Feeding.{list_feeds}
 use Rattle.alpha_replay.proofs.Recorded.{taken_is}
 
 -- the input that there was at the beginning stays
-input_stays : (n : ℕ) (g : Program) (from : Journaled) (m : ℕ) → (steps_journaled n g from m).input ≡ from.input
+pub input_stays : (n : ℕ) (g : Program) (from : Journaled) (m : ℕ) → (steps_journaled n g from m).input ≡ from.input
 input_stays n g from zero = refl
 input_stays n g from (suc m) = by (has_stopped n g.how (steps_journaled n g from m)) ∙ input_stays n g from m
   where

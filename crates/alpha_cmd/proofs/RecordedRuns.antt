@@ -1,0 +1,242 @@
+-- The journal that is kept with an answer over a told input is that of the run that has this answer.
+use Rattle.std.proofs.Common.{◌≡◌, ◌⊎◌, ◌∙◌, ◌<◌, ◌≤◌, ◌+◌, ◌-◌, ◌==◌, ◌&&◌, ◌||◌, ◌++◌, ◌^◌, ◌%◌, not, ℕ, zero, suc, Bool, true, false, List, [], Option, None, Some, is_none, Ok, refl, sym, ap, subst, inl, inr, ⊎_elim, arith}
+use Rattle.std.proofs.lemmas.Bool.{eqb-true, cases_lt}
+use Rattle.alpha_io.specs.Files.{Files}
+use Rattle.alpha_image.specs.Parts.{Parts as Image}
+use Rattle.alpha_shadow.specs.Broken.{IsAccepted}
+use Rattle.alpha_request.specs.declared.options.RunOptions.{RunOptions}
+use Rattle.alpha_request.specs.Origin.{Origin}
+use Rattle.alpha_restart.proofs.Agreeing.{accepted_restarts}
+use Rattle.alpha_seq.specs.declared.end.End.{End}
+use Rattle.alpha_seq.specs.State.{Program, State, Event, Went, Barriered, Overflowed, Ends}
+use Rattle.alpha_seq.specs.Start.{start}
+use Rattle.alpha_seq.specs.Run.{Shown, sequential}
+use Rattle.alpha_imprecise.specs.Moment.{Trap, Happening, Precisely, Triggered, Waited, Reported, Lost}
+use Rattle.alpha_imprecise.specs.Restart.{IsRestartable}
+use Rattle.alpha_imprecise.specs.Run.{finished, unit_of}
+use Rattle.alpha_imprecise.specs.Shown.{ShowsSame}
+use Rattle.alpha_imprecise.specs.Used.{HasUsed}
+use Rattle.alpha_imprecise.specs.Made.{Making, begun, advance_making, steps_making, made, first_words, most_words, wild_end, LostTrap, lost_trap, ShownWild, shown_making, imprecise_by}
+use Rattle.alpha_imprecise.proofs.Nearing.{steps-first, steps-then, calm_takes}
+use Rattle.alpha_imprecise.proofs.Settling.{advance-going, advance-over, none_of, made_is}
+use Rattle.alpha_imprecise.proofs.Showing.{runs_alike}
+use Rattle.alpha_replay.specs.Gathered.{closed}
+use Rattle.alpha_replay.specs.Journal.{Parts, spelling}
+use Rattle.alpha_replay.specs.Journaled.{Journaled, unjournaled, taken_by, journal_at, is_within, IsJournaled}
+use Rattle.alpha_replay.specs.JournalEnd.{IsRecorded}
+use Rattle.alpha_replay.specs.Listed.{played_over, unplayed}
+use Rattle.alpha_replay.specs.Replay.{ending_of, reports_of}
+use Rattle.alpha_replay.proofs.Feeding.{list_feeds}
+use Rattle.alpha_replay.proofs.JournaledReplays.{input_stays, journaled_lists, listed_taken, journaled_replays}
+use Rattle.alpha_replay.proofs.JournaledRuns.{played_in, steps_run}
+use Rattle.alpha_replay.proofs.Recorded.{taken_is}
+use Rattle.alpha_replay.proofs.Stopping.{few_words}
+use Rattle.alpha_cmd.specs.Outcome.{Outcome, goes, stops}
+use Rattle.alpha_cmd.specs.Image.{ImageOf}
+use Rattle.alpha_cmd.specs.Answer.{Answer}
+use Rattle.alpha_cmd.specs.AnswerBy.{World, AnswerBy}
+use Rattle.alpha_cmd.specs.Kept.{Kept, nothing}
+use Rattle.alpha_cmd.specs.Kept as kinds
+use Rattle.alpha_cmd.specs.Commands.Imprecise.{Plan, PlanOf, Passes, with_drawn, MayShowWild, answer_wild}
+use Rattle.alpha_cmd.specs.Commands.Record.{unwatched, HasJournal, KeepsBehind, IsKeptRun, Planned, steps}
+use Rattle.alpha_cmd.specs.RecordedRun.{ending_shown, IsJournalOf, KeepsItsJournal}
+use Rattle.alpha_cmd.specs.RunAnswer.{program_by}
+
+-- ---- of the moments of a run one alone has used so many units
+
+module _ (g : Program) where
+  units_rise : (k : Making) → k.run.units ≤ (advance_making g k).run.units
+  units_rise k = by (finished k.run.last) refl
+    where
+      by : (b : Bool) → finished k.run.last ≡ b → k.run.units ≤ (advance_making g k).run.units
+      by true e = subst (λ (l : Making). k.run.units ≤ l.run.units) (sym (advance-over g k e)) (omega arith)
+      by false e = subst (λ (l : Making). k.run.units ≤ l.run.units) (sym (advance-going g k e)) (omega arith)
+
+  steps_rise : (k : Making) (m : ℕ) → k.run.units ≤ (steps_making g k m).run.units
+  steps_rise k zero = omega arith
+  steps_rise k (suc m) =
+      let before = steps_rise k m in
+      let more = units_rise (steps_making g k m) in
+      omega (arith, before, more)
+
+  steps_over : (k : Making) (m : ℕ) → finished k.run.last ≡ true → steps_making g k m ≡ k
+  steps_over k zero e = refl
+  steps_over k (suc m) e = ap (advance_making g) (steps_over k m e) ∙ advance-over g k e
+
+  unit_more : (k : Making) → finished k.run.last ≡ false → k.run.pending ≡ None → (advance_making g k).run.units ≡ k.run.units + 1
+  unit_more k e calm =
+      ap (λ (l : Making). l.run.units) (advance-going g k e) ∙ ap (λ (p : Option Trap). k.run.units + unit_of p) calm
+
+  used_stays : (n : ℕ) (k : Making) (m : ℕ) → HasUsed n k.run → HasUsed n (steps_making g k m).run → steps_making g k m ≡ k
+  used_stays n k zero h i = refl
+  used_stays n k (suc m) h i = by (finished k.run.last) refl
+    where
+      by : (b : Bool) → finished k.run.last ≡ b → steps_making g k (suc m) ≡ k
+      by true e = steps_over k (suc m) e
+      by false e =
+          let calm : k.run.pending ≡ None = none_of k.run.pending (subst (λ b. (b || is_none k.run.pending) ≡ true) e h.settled) in
+          let one = unit_more k e calm in
+          let rise = steps_rise (advance_making g k) m in
+          let same = ap (λ (l : Making). l.run.units) (steps-first g k m) in
+          let full = h.full e in
+          let most = i.most in
+          absurd (omega (arith, one, rise, same, full, most))
+
+  used_once : (n : ℕ) (k : Making) (a b : ℕ) → HasUsed n (steps_making g k a).run → HasUsed n (steps_making g k b).run → a ≤ b
+      → steps_making g k b ≡ steps_making g k a
+  used_once n k a b h i low =
+      let whole : (b - a) + a ≡ b = omega (arith, low) in
+      let split : steps_making g (steps_making g k a) (b - a) ≡ steps_making g k b = steps-then g k a (b - a) ∙ ap (steps_making g k) whole in
+      sym split ∙ used_stays n (steps_making g k a) (b - a) h (subst (λ (l : Making). HasUsed n l.run) (sym split) i)
+
+-- ---- where a run with its journal stops within the limits it is the run of all units
+
+used_there : (w f c e : Bool) → w ≡ true → (not w || (f || (c && e))) ≡ true → ((f || c) ≡ true) × (f ≡ false → e ≡ true)
+used_there false f c e h k = cc
+used_there true true c e h k = (refl, λ no. cc)
+used_there true false true e h k = (refl, λ no. k)
+used_there true false false e h k = cc
+
+module _ (n : ℕ) (g : Program) (s : State) (words : List ℕ) (k : Journaled) (is : IsJournaled n g (unjournaled (begun s None 0 words)) k)
+    (within : is_within (journal_at g.how k) ≡ true) where
+  place_used : HasUsed n k.making.run
+  place_used =
+      let there = used_there _ _ _ _ within is.stopped in
+      record { settled = there.0; most = (few_words n g s words k is).0; full = λ going. eqb-true k.making.run.units n (there.1 going) }
+
+  place_made : k.making ≡ made g (begun s None 0 words) n
+  place_made =
+      let from = begun s None 0 words in
+      let run = steps_run n g (unjournaled from) is.steps in
+      let here : k.making ≡ steps_making g from run.0 = ap (λ (j : Journaled). j.making) (sym is.reached) ∙ run.1 in
+      let whole = calm_takes g from n refl in
+      let one = subst (λ (l : Making). HasUsed n l.run) here place_used in
+      let other = subst (λ (l : Making). HasUsed n l.run) (sym whole.reached) (made_is g from n refl refl) in
+      here
+      ∙ (⊎_elim
+      (λ (low : run.0 < whole.steps). sym (used_once g n from run.0 whole.steps one other (omega (arith, low))))
+      (λ (low : whole.steps ≤ run.0). used_once g n from whole.steps run.0 other one low)
+      (cases_lt run.0 whole.steps)
+      ∙ whole.reached)
+
+-- ---- its journal
+
+ending_is : (h : Happening) → ending_of h ≡ ending_shown (wild_end h) (lost_trap h)
+ending_is (Precisely Went) = refl
+ending_is (Precisely Barriered) = refl
+ending_is (Precisely (Overflowed at)) = refl
+ending_is (Precisely (Ends end)) = refl
+ending_is Triggered = refl
+ending_is Waited = refl
+ending_is (Reported at) = refl
+ending_is (Lost pc mask) = refl
+
+module _ (options : RunOptions) (image : Image) (bytes : List ℕ) (ahead : ℕ → ℕ) where
+  abbrev g : Program
+  g = program_by options image
+
+  abbrev coming : List ℕ
+  coming = first_words (most_words options.steps) ahead
+
+  all_taken : (k : Journaled) → IsJournaled options.steps g (unjournaled (begun (start g bytes) None 0 coming)) k
+      → bytes ≡ taken_by k ++ k.making.run.state.outside.input
+  all_taken k is =
+      let left = k.making.run.state.outside.input in
+      let fed = list_feeds g 0 (closed k.gathered) (unplayed (start g bytes)) (played_in k.making) [] left (journaled_lists options.steps g bytes coming k is) refl in
+      let input : k.input ≡ bytes = ap (λ (j : Journaled). j.input) (sym is.reached) ∙ input_stays options.steps g (unjournaled (begun (start g bytes) None 0 coming)) is.steps in
+      let taken : taken_by k ≡ fed.0 = ap (λ (l : List ℕ). taken_by (record k { input = l })) (input ∙ fed.1) ∙ taken_is fed.0 left in
+      fed.1 ∙ ap (λ (l : List ℕ). l ++ left) (sym taken)
+
+  place_journal : (k : Journaled) → IsJournaled options.steps g (unjournaled (begun (start g bytes) None 0 coming)) k → is_within (journal_at options.complete k) ≡ true
+      → (kept : Kept) → IsJournalOf options image bytes (journal_at options.complete k) (record (answer_wild (Some bytes) (shown_making false k.making)) { kept = kept })
+  place_journal k is within kept =
+      let lists = journaled_lists options.steps g bytes coming k is in
+      record {
+        end = wild_end k.making.run.last;
+        lost = lost_trap k.making.run.last;
+        drawn = k.making.count % 2 ^ 64;
+        left = k.making.run.state.outside.input;
+        played = played_over [] (played_in k.making);
+        reports = reports_of (closed k.gathered);
+        ending = ending_is k.making.run.last;
+        status = refl;
+        line = refl;
+        output = refl;
+        taken = all_taken k is;
+        rest = refl;
+        completion = refl;
+        listed = listed_taken options.steps image options.complete bytes coming k is lists;
+        notes = refl;
+        replayed = journaled_replays options.steps image options.complete bytes coming k is within lists;
+      }
+
+  -- ---- what the run shows
+
+  same_wild : (s : Shown) (w : ShownWild) → ShowsSame s w → with_drawn s w.drawn ≡ w
+  same_wild s w h =
+      ap (λ end. record { end = end; lost = None; units = s.steps; output = s.output; left = s.left; notes = s.notes; drawn = w.drawn }) (sym h.end)
+      ∙ (ap (λ lost. record { end = w.end; lost = lost; units = s.steps; output = s.output; left = s.left; notes = s.notes; drawn = w.drawn }) (sym h.lost)
+      ∙ (ap (λ units. record { end = w.end; lost = w.lost; units = units; output = s.output; left = s.left; notes = s.notes; drawn = w.drawn }) (sym h.steps)
+      ∙ (ap (λ output. record { end = w.end; lost = w.lost; units = w.units; output = output; left = s.left; notes = s.notes; drawn = w.drawn }) (sym h.output)
+      ∙ (ap (λ left. record { end = w.end; lost = w.lost; units = w.units; output = w.output; left = left; notes = s.notes; drawn = w.drawn }) (sym h.left)
+      ∙ ap (λ notes. record { end = w.end; lost = w.lost; units = w.units; output = w.output; left = w.left; notes = notes; drawn = w.drawn }) (sym h.notes)))))
+
+  shows_made : (force : Bool) (s : ShownWild) → (force ≡ false → IsRestartable image)
+      → MayShowWild (unwatched options) force (Some bytes) (record { image = image; ahead = ahead }) s
+      → s ≡ imprecise_by g bytes ahead options.steps false
+  shows_made true s restarts may = may
+  shows_made false s restarts may =
+      may ∙ same_wild (sequential g bytes options.steps false) (imprecise_by g bytes ahead options.steps false) (runs_alike image (restarts refl) options.complete bytes coming options.steps false)
+
+  pub run_journal : (force : Bool) (s : ShownWild) (p : Parts) → (force ≡ false → IsRestartable image)
+      → MayShowWild (unwatched options) force (Some bytes) (record { image = image; ahead = ahead }) s
+      → IsRecorded options.steps g bytes ahead p → (kept : Kept)
+      → IsJournalOf options image bytes p (record (answer_wild (Some bytes) s) { kept = kept })
+  run_journal force s p restarts may has kept =
+      let made_there = place_made options.steps g (start g bytes) coming has.place has.stops has.within in
+      let shown : shown_making false has.place.making ≡ s = ap (shown_making false) made_there ∙ sym (shows_made force s restarts may) in
+      subst (λ (q : Parts). IsJournalOf options image bytes q (record (answer_wild (Some bytes) s) { kept = kept })) (sym has.is)
+      (subst (λ (t : ShownWild). IsJournalOf options image bytes (journal_at options.complete has.place) (record (answer_wild (Some bytes) t) { kept = kept })) shown
+      (place_journal has.place has.stops has.within kept))
+
+-- ---- an answer
+
+-- the image of a plan is the file's, and it can be restarted where the verdict isn't passed over
+record IsPlanned (force : Bool) (files : Files) (file : List ℕ) (plan : Plan) : Type 0 where
+  found : ImageOf files file (goes plan.image)
+  restarts : force ≡ false → IsRestartable plan.image
+
+is_planned : (force : Bool) (choices : Origin) (file : List ℕ) (files : Files) (plan : Plan) → Planned choices force file files (goes plan) → IsPlanned force files file plan
+is_planned true choices file files plan (q, (image, found, (ahead, chosen, is)), passes) =
+    let same : plan.image ≡ image = ap (λ (x : Plan). x.image) (passes ∙ is) in
+    record { found = subst (λ (i : Image). ImageOf files file (goes i)) (sym same) found; restarts = λ no. cc }
+is_planned false choices file files plan (q, (image, found, (ahead, chosen, is)), (x, (accepted, e), passes)) =
+    let same : plan.image ≡ image = ap (λ (x : Plan). x.image) (passes ∙ is) in
+    let safe : IsRestartable image = accepted_restarts image found.2.0 (subst (λ (x : Plan). IsAccepted x.image.words) is accepted) in
+    record { found = subst (λ (i : Image). ImageOf files file (goes i)) (sym same) found; restarts = λ no. subst IsRestartable (sym same) safe }
+
+module _ (options : RunOptions) (choices : Origin) (force : Bool) (file out bytes : List ℕ) (w : World) (told : w.input ≡ Some bytes) where
+  kept_run : (plan : Plan) (b : Answer) → Planned choices force file w.files (goes plan) → IsKeptRun options force out w plan b → KeepsItsJournal options file out bytes w.files b
+  kept_run plan b planned k = by k.keeps
+    where
+      by : KeepsBehind w out (spelling k.journal) (answer_wild w.input k.shown) b → KeepsItsJournal options file out bytes w.files b
+      by (inr h) = inl (ap (λ (a : Answer). a.kept) h.1)
+      by (inl h) =
+          let plans = is_planned force choices file w.files plan planned in
+          let may = subst (λ (o : Option (List ℕ)). MayShowWild (unwatched options) force o plan k.shown) told k.may in
+          let has = subst (λ (o : Option (List ℕ)). HasJournal options o plan k.journal) told k.has in
+          let kept = kinds.file out (spelling k.journal) in
+          let is : b ≡ record (answer_wild (Some bytes) k.shown) { kept = kept } =
+          h.1 ∙ ap (λ (o : Option (List ℕ)). record (answer_wild o k.shown) { kept = kept }) told in
+          inr (
+            plan.image,
+            k.journal,
+            plans.found,
+            ap (λ (a : Answer). a.kept) is,
+            subst (IsJournalOf options plan.image bytes k.journal) (sym is) (run_journal options plan.image bytes plan.ahead force k.shown k.journal plans.restarts may has kept),
+          )
+
+  pub kept_with : (a : Answer) → AnswerBy (steps options choices force file out) w a → KeepsItsJournal options file out bytes w.files a
+  kept_with a (stops status line, h, is) = inl (ap (λ (b : Answer). b.kept) is)
+  kept_with a (goes b, (plan, planned, inl k), is) = subst (KeepsItsJournal options file out bytes w.files) (sym is) (kept_run plan b planned k)
+  kept_with a (goes b, (plan, planned, inr k), is) = inl (ap (λ (b : Answer). b.kept) (is ∙ k.is))
