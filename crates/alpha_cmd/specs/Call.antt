@@ -5,7 +5,7 @@ use Rattle.alpha_io.specs.declared.source.Source as sources
 use Rattle.alpha_io.specs.declared.sink.Sink as sinks
 use Rattle.alpha_io.specs.Faults.{Calm}
 use Rattle.alpha_io.specs.Shelved.{Shelved, shelved}
-use Rattle.alpha_io.specs.Sunk.{Sunk, sunk, IsCalm}
+use Rattle.alpha_io.specs.Sunk.{Sunk, sunk}
 use Rattle.alpha_seq.specs.Devices.{Drawn, drawn}
 
 -- what each device tells and its count of faults, before the call and after it
@@ -29,5 +29,5 @@ called h s k n shelf shelf_now input input_now out out_now notes notes_now = rec
 pub record Quiet (c : Call) : Type 0 where
   pub shelf : Calm c.shelf.before c.shelf.now
   pub input : Calm c.input.before c.input.now
-  pub out : IsCalm c.out
-  pub notes : IsCalm c.notes
+  pub out : Calm c.out.before c.out.now
+  pub notes : Calm c.notes.before c.notes.now

@@ -13,18 +13,11 @@ use Rattle.alpha_cmd.specs.SpentLine.{spent_line}
 use Rattle.alpha_cmd.specs.Kept.{nothing}
 use Rattle.alpha_cmd.specs.Answer.{Answer}
 
--- the status of an end: by the system call exit the program did what was asked, by so many words that were drawn
-abbrev pub drawn_status : ℕ → End → Status
-drawn_status n (ends.Exit v) = Done n
-drawn_status n end = Stopped end
-
-abbrev pub end_status : End → Status
-end_status end = drawn_status 0 end
-
--- the status of a run by how the program ended, if it has
+-- the status of a run by how the program ended, if it has: by the system call exit it did what was asked
 abbrev pub run_status : Option End → Status
 run_status None = StepsSpent
-run_status (Some end) = end_status end
+run_status (Some (ends.Exit v)) = Done 0
+run_status (Some end) = Stopped end
 
 -- its last line
 abbrev pub run_line : Option End → List ℕ

@@ -1,10 +1,11 @@
 -- What a run of an accepted image over a told input answers, by either machine.
-use Rattle.std.specs.Prelude.{◌≡◌, ◌⊎◌, ℕ, List, [], ◌∷◌, Some, IsSome, codes}
+use Rattle.std.specs.Prelude.{◌≡◌, ◌⊎◌, ℕ, false, List, [], ◌∷◌, Some, IsSome, codes}
+use Rattle.alpha_words.specs.declared.Completion.TheVariants.{Wrap}
 use Rattle.alpha_io.specs.Files.{HasFile}
 use Rattle.alpha_image.specs.Parts.{Parts, IsImage, spelling}
 use Rattle.alpha_shadow.specs.Broken.{IsAccepted}
 use Rattle.alpha_request.specs.declared.options.RunOptions.{RunOptions}
-use Rattle.alpha_request.specs.Plain.{IsPlain, defaults}
+use Rattle.alpha_request.specs.Plain.{IsPlain}
 use Rattle.alpha_seq.specs.Run.{sequential}
 use Rattle.alpha_cmd.specs.declared.status.Status.{Status}
 use Rattle.alpha_cmd.specs.Answer.{Answer}
@@ -29,8 +30,12 @@ pub record TellsAccepted (image : Parts) (file bytes : List ℕ) (c : Call) : Ty
 abbrev pub AskRun : List (List ℕ) → List ℕ → Type 0
 AskRun words file = (words ≡ codes "run" ∷ file ∷ []) ⊎ (words ≡ codes "run" ∷ codes "--imprecise" ∷ file ∷ [])
 
+-- the same without options: an overflow wraps, 100,000,000 steps are made at most, and no barrier is noted
+abbrev pub answer_plain : Parts → List ℕ → Answer
+answer_plain image input = answer_shown (Some input) (sequential (record { image = image; how = Wrap }) input 100000000 false)
+
 -- Where no device fails, such words give the answer of the sequential run, whichever machine they ask for. Only the number of
 -- words that the imprecise machine draws, which its status carries where the program has exited, is its own.
 abbrev pub Ran : List (List ℕ) → Status → Call → Type 0
 Ran words status c = (file bytes : List ℕ) (image : Parts) → AskRun words file → IsPlain file
-    → TellsAccepted image file bytes c → Quiet c → Gave (answer_told defaults image bytes) (but_drawn status) c
+    → TellsAccepted image file bytes c → Quiet c → Gave (answer_plain image bytes) (but_drawn status) c

@@ -6,7 +6,8 @@ ghost use Rattle.alpha_cmd.specs.Status.{status_line, unfixable_line};
 ghost use Rattle.alpha_cmd.specs.AnswerBy.{said};
 ghost use Rattle.alpha_cmd.specs.Commands.Check.{accepted};
 ghost use Rattle.alpha_cmd.specs.Commands.Replay.{shown};
-ghost use Rattle.alpha_cmd.specs.RunAnswer.{drawn_status, end_status};
+ghost use Rattle.alpha_cmd.specs.Commands.Imprecise.{drawn_status};
+ghost use Rattle.alpha_cmd.specs.RunAnswer.{run_status};
 ghost use Rattle.alpha_cmd.specs.Decision.{answer_in};
 
 use crate::Status;
@@ -94,8 +95,8 @@ impl Decision {
     /// An end of a program that was run.
     pub(crate) fn ended(end: &End) -> Decision
         ensures answer { (left : Option (List ℕ)) → answer_in left result
-            ≡ said left (end_status end.now) (end_line end.now) }
-        ensures status { result.status ≡ end_status end.now }
+            ≡ said left (run_status (Some end.now)) (end_line end.now) }
+        ensures status { result.status ≡ run_status (Some end.now) }
     {
         Decision::ended_by(end, 0)
     }

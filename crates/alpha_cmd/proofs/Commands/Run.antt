@@ -14,7 +14,8 @@ use Rattle.alpha_cmd.specs.Answer.{Answer}
 use Rattle.alpha_cmd.specs.AnswerBy.{World, AnswerBy}
 use Rattle.alpha_cmd.specs.Form.{MayTakeBy}
 use Rattle.alpha_cmd.specs.Commands.Run.{run_by_reads, MayShow, Runs, steps, kind, form, there}
-use Rattle.alpha_cmd.specs.RunAnswer.{end_status, run_status, program_by, answer_shown}
+use Rattle.alpha_cmd.specs.Commands.Imprecise.{drawn_status}
+use Rattle.alpha_cmd.specs.RunAnswer.{run_status, program_by, answer_shown}
 use Rattle.alpha_cmd.proofs.Lawful.{Lawful, Then-lawful, Goes-lawful}
 use Rattle.alpha_cmd.proofs.Stages.{ImageOf-lawful}
 use Rattle.alpha_cmd.proofs.Forms.{IsLawfulForm, is_fault}
@@ -60,8 +61,17 @@ shown_answer w options file image s found may = (goes (answer_shown w.input s), 
 
 -- ---- the statuses of an end
 
-pub end_not_shelf : (end : End) → end_status end ≢ ShelfFault
+pub end_not_shelf : (end : End) → run_status (Some end) ≢ ShelfFault
 end_not_shelf end e = let x = sym (run_plain (Some end)) ∙ ap is_fault e in cc
+
+-- an end that no words were drawn for
+pub none_drawn : (end : End) → drawn_status 0 end ≡ run_status (Some end)
+none_drawn (ends.Exit v) = refl
+none_drawn (ends.Signal code pc) = refl
+none_drawn (ends.Fetch pc) = refl
+none_drawn (ends.Access pc addr) = refl
+none_drawn (ends.Align pc addr) = refl
+none_drawn (ends.Overflow pc) = refl
 
 pub takes_end : (end : Option End) → MayTakeBy kind (run_status end)
 takes_end end = (refl, inl (end, refl))

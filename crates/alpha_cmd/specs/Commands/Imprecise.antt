@@ -7,6 +7,7 @@ use Rattle.alpha_request.specs.declared.options.RunOptions.{RunOptions}
 use Rattle.alpha_request.specs.Origin.{Origin}
 use Rattle.alpha_request.specs.Origin as choices_of
 use Rattle.alpha_seq.specs.declared.end.End.{End}
+use Rattle.alpha_seq.specs.declared.end.End.TheVariants as ends
 use Rattle.alpha_seq.specs.declared.end.RunEnd.{RunEnd}
 use Rattle.alpha_seq.specs.declared.end.RunEnd.TheVariants as runs
 use Rattle.alpha_seq.specs.Notes.{end_line}
@@ -17,7 +18,7 @@ use Rattle.alpha_imprecise.specs.Used.{HasUsed}
 use Rattle.alpha_imprecise.specs.Made.{Making, begun, first_words, LostTrap, ShownWild, shown_making, imprecise_by}
 use Rattle.alpha_imprecise.specs.Free.{run_making_over}
 use Rattle.alpha_cmd.specs.declared.status.Status.{Status}
-use Rattle.alpha_cmd.specs.declared.status.Status.TheVariants.{StepsSpent, Lost, InputFault, SinkFault}
+use Rattle.alpha_cmd.specs.declared.status.Status.TheVariants.{Done, Stopped, StepsSpent, Lost, InputFault, SinkFault}
 use Rattle.alpha_cmd.specs.Status.{status_line}
 use Rattle.alpha_cmd.specs.Outcome.{Outcome, Either, Never, Then, Gives}
 use Rattle.alpha_cmd.specs.Image.{ImageOf, Judges}
@@ -27,7 +28,7 @@ use Rattle.alpha_cmd.specs.Answer.{Answer}
 use Rattle.alpha_cmd.specs.AnswerBy.{World}
 use Rattle.alpha_cmd.specs.Form.{Form, Kind, IsThere, needs_files_and_input, streams}
 use Rattle.alpha_cmd.specs.Commands.Run.{MayShow}
-use Rattle.alpha_cmd.specs.RunAnswer.{drawn_status, program_by}
+use Rattle.alpha_cmd.specs.RunAnswer.{program_by}
 
 -- ---- the stages
 
@@ -88,6 +89,11 @@ MayShowWild options force (Some input) plan s =
     s ≡ run_by force (program_by options plan.image) input plan.ahead options.steps options.watch
 
 -- ---- its end
+
+-- the status of an end, by so many words that were drawn
+abbrev pub drawn_status : ℕ → End → Status
+drawn_status n (ends.Exit v) = Done n
+drawn_status n end = Stopped end
 
 -- the status of a run by how the program ended, if it has, by the trap that was lost, if one was, and by the number of words
 abbrev pub wild_status : Option End → Option LostTrap → ℕ → Status

@@ -10,8 +10,7 @@ use Rattle.alpha_seq.specs.declared.end.RunEnd.TheVariants as runs
 use Rattle.alpha_seq.specs.Devices.{drawn}
 use Rattle.alpha_cmd.specs.declared.status.Status.TheVariants as statuses
 use Rattle.alpha_cmd.specs.Chooser.{ahead_in}
-use Rattle.alpha_cmd.specs.Commands.Imprecise.{plan_by, form, kind}
-use Rattle.alpha_cmd.specs.RunAnswer.{drawn_status}
+use Rattle.alpha_cmd.specs.Commands.Imprecise.{plan_by, drawn_status, form, kind}
 use Rattle.alpha_cmd.specs.Form.{MayTakeBy}
 use Rattle.alpha_cmd.specs.Answer.{Answer}
 use Rattle.alpha_cmd.specs.AnswerBy.{World}
