@@ -280,6 +280,9 @@ class_there p insns place i good held below there =
     let at : place_of p ((p.code_base + 4 * place) % 2 ^ 64) ≡ Some place = (place_of-code p good ((p.code_base + 4 * place) % 2 ^ 64) place).1 (omega arith, address) in
     ap (option_and_then (class_at p.words)) at ∙ class_here p.words place i (decoded_there p.words insns place i held there)
 
+pub Rushes-none : (image : Parts) (regs : List ℕ) (mem : List Block) (place : ℕ) → Rushes 0 image regs mem place regs mem place
+Rushes-none image regs mem place = record { made = λ m same. refl }
+
 pub Rushes-more : (n : ℕ) (image : Parts) (insns : List Form) (i : Form) (first regs last : List ℕ) (begun mem left : List Block) (start place to : ℕ)
     → IsImage image → map decoded image.words ≡ map Some insns → place < length insns → slice_get insns place ≡ Some i
     → Rushes n image first begun start regs mem place → Passes image (class_of i) regs mem place last left to

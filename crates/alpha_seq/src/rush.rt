@@ -1,6 +1,6 @@
 //! Steps that only go on, many behind one another.
 
-ghost use Rattle.std.specs.Prelude.{◌≡◌, ◌==◌, ◌+◌, ◌*◌, ◌%◌, ◌^◌, ◌≤◌, ◌+ℤ◌, pos, false, IsTrue, List, if◌then◌else◌};
+ghost use Rattle.std.specs.Prelude.{◌≡◌, ◌==◌, ◌+◌, ◌-◌, ◌*◌, ◌%◌, ◌^◌, ◌≤◌, ◌+ℤ◌, pos, false, IsTrue, List, if◌then◌else◌};
 ghost use Rattle.alpha_words.specs.Regs.{put};
 ghost use Rattle.alpha_table.specs.Class.{address, load, store, jump, idle};
 ghost use Rattle.alpha_table.specs.ClassOf.{class_of};
@@ -33,7 +33,7 @@ impl Machine {
             return 0;
         };
         let mut place = u64::from(first);
-        let made = rush_from(
+        let left = rush_from(
             &self.image,
             &mut self.memory,
             &mut self.regs,
@@ -41,11 +41,12 @@ impl Machine {
             units,
         );
         self.pc = address_of(&self.image, place);
-        made
+        units - left
     }
 }
 
-// The words from a place on. The place stands for the PC, so that no step asks at which word it is.
+// The words from a place on. The place stands for the PC, so that no step asks at which word it is. It answers how many
+// of the units are left.
 #[inline(always)]
 fn rush_from(
     image: &Image,
@@ -55,22 +56,24 @@ fn rush_from(
     units: u64,
 ) -> u64
     ensures most { result ≤ units }
-    ensures went { Rushes result image.now regs.old memory.old place.old
+    ensures went { Rushes (units - result) image.now regs.old memory.old place.old
         regs.new memory.new place.new }
 {
     let insns = image.insns();
     let level = image.level();
     let mut near = 0;
-    for made in 0..units {
+    let mut left = units;
+    'words: while left != 0 {
         if *place >= insns.len() as u64 {
-            return made;
+            return left;
         }
         let insn = &insns[*place as usize];
         if !pass(image, level, insn, memory, &mut near, regs, place) {
-            return made;
+            return left;
         }
+        left -= 1;
     }
-    units
+    left
 }
 
 // Executes an instruction, if it only goes on. One that accesses memory by the lock flag is left for `Machine::step`.

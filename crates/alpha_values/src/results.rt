@@ -1,6 +1,8 @@
-ghost use Rattle.std.specs.Prelude.{◌≡◌, if◌then◌else◌};
+ghost use Rattle.std.specs.Prelude.{◌≡◌, if◌then◌else◌, Some, None};
 ghost use Rattle.alpha_values.specs.Cond.{is_taken};
-ghost use Rattle.alpha_values.specs.TrapOp.{completed_of};
+ghost use Rattle.alpha_table.specs.Op.{trap_of};
+ghost use Rattle.alpha_values.specs.Outcome.{outcome_of};
+ghost use Rattle.alpha_values.specs.TrapOp.{overflow_of, completed_of};
 ghost use Rattle.alpha_words.specs.declared.Level.TheVariants.{One};
 ghost use Rattle.alpha_values.specs.Op.{features, implementation, result_of};
 
@@ -15,7 +17,7 @@ use crate::sums::{
     extended_byte, extended_word, high_product, scaled_difference, scaled_long_difference,
     scaled_long_sum, scaled_sum,
 };
-use crate::{completed, taken};
+use crate::{completed, overflows, taken};
 use alpha_table::{Cond, Op, TrapOp};
 use alpha_words::{Completion, Level};
 
@@ -29,80 +31,119 @@ pub fn operate(op: Op, a: u64, b: u64, old: u64) -> u64
 /// The result of an operate instruction (Architecture Handbook, sections 4.4 to 4.6 and 4.11): `a`
 /// is Ra, `b` is Rb or the literal, and `old` is what the destination had, which a conditional move
 /// may leave there. A `/V` row gives the wrapped result. AMASK and IMPLVER alone depend on the level.
-#[tactic(auto, unfolding(crate::specs::Op::result_of, crate::specs::TrapOp::completed_of))]
 #[inline(always)]
 pub fn operate_at(level: Level, op: Op, a: u64, b: u64, old: u64) -> u64
     ensures { result ≡ result_of level op a b old }
 {
+    match outcome(level, op, a, b, old) {
+        Some(value) => value,
+        None => completed_by(op, a, b),
+    }
+}
+
+/// What [`operate_at`] gives, `None` where the row has `/V` and overflows.
+#[tactic(auto, unfolding(crate::specs::Op::result_of, crate::specs::TrapOp::completed_of))]
+#[inline(always)]
+pub fn outcome(level: Level, op: Op, a: u64, b: u64, old: u64) -> Option<u64>
+    ensures { result ≡ outcome_of level op a b old }
+{
     match op {
-        Op::Addl | Op::AddlV => wrapped(TrapOp::AddlV, a, b),
-        Op::Subl | Op::SublV => wrapped(TrapOp::SublV, a, b),
-        Op::Mull | Op::MullV => wrapped(TrapOp::MullV, a, b),
-        Op::Addq | Op::AddqV => wrapped(TrapOp::AddqV, a, b),
-        Op::Subq | Op::SubqV => wrapped(TrapOp::SubqV, a, b),
-        Op::Mulq | Op::MulqV => wrapped(TrapOp::MulqV, a, b),
-        Op::S4addl => scaled_long_sum(4, a, b),
-        Op::S8addl => scaled_long_sum(8, a, b),
-        Op::S4subl => scaled_long_difference(4, a, b),
-        Op::S8subl => scaled_long_difference(8, a, b),
-        Op::S4addq => scaled_sum(4, a, b),
-        Op::S8addq => scaled_sum(8, a, b),
-        Op::S4subq => scaled_difference(4, a, b),
-        Op::S8subq => scaled_difference(8, a, b),
-        Op::Umulh => high_product(a, b),
-        Op::Sextb => extended_byte(b),
-        Op::Sextw => extended_word(b),
-        Op::Cmpeq => u64::from(a == b),
-        Op::Cmplt => u64::from(quadword(a) < quadword(b)),
-        Op::Cmple => u64::from(quadword(a) <= quadword(b)),
-        Op::Cmpult => u64::from(a < b),
-        Op::Cmpule => u64::from(a <= b),
-        Op::Cmpbge => compare_bytes(a, b),
-        Op::And => a & b,
-        Op::Bis => a | b,
-        Op::Xor => a ^ b,
-        Op::Bic => a & !b,
-        Op::Ornot => a | !b,
-        Op::Eqv => a ^ !b,
-        Op::Amask => b & !features(level),
-        Op::Implver => implementation(level),
-        Op::Ctpop => ones(b),
-        Op::Ctlz => zeros_above(b),
-        Op::Cttz => zeros_below(b),
-        Op::Cmovlbs => moved(Cond::Lbs, a, b, old),
-        Op::Cmovlbc => moved(Cond::Lbc, a, b, old),
-        Op::Cmoveq => moved(Cond::Eq, a, b, old),
-        Op::Cmovne => moved(Cond::Ne, a, b, old),
-        Op::Cmovlt => moved(Cond::Lt, a, b, old),
-        Op::Cmovle => moved(Cond::Le, a, b, old),
-        Op::Cmovge => moved(Cond::Ge, a, b, old),
-        Op::Cmovgt => moved(Cond::Gt, a, b, old),
-        Op::Sll => shifted_left(a, b),
-        Op::Srl => shifted_right(a, b),
-        Op::Sra => shifted_signed(a, b),
-        Op::Extbl => extract_low(1, a, b),
-        Op::Extwl => extract_low(2, a, b),
-        Op::Extll => extract_low(4, a, b),
-        Op::Extql => extract_low(8, a, b),
-        Op::Extwh => extract_high(2, a, b),
-        Op::Extlh => extract_high(4, a, b),
-        Op::Extqh => extract_high(8, a, b),
-        Op::Insbl => insert_low(1, a, b),
-        Op::Inswl => insert_low(2, a, b),
-        Op::Insll => insert_low(4, a, b),
-        Op::Insql => insert_low(8, a, b),
-        Op::Inswh => insert_high(2, a, b),
-        Op::Inslh => insert_high(4, a, b),
-        Op::Insqh => insert_high(8, a, b),
-        Op::Mskbl => mask_low(1, a, b),
-        Op::Mskwl => mask_low(2, a, b),
-        Op::Mskll => mask_low(4, a, b),
-        Op::Mskql => mask_low(8, a, b),
-        Op::Mskwh => mask_high(2, a, b),
-        Op::Msklh => mask_high(4, a, b),
-        Op::Mskqh => mask_high(8, a, b),
-        Op::Zap => zap(a, b),
-        Op::Zapnot => zap_not(a, b),
+        Op::AddlV => fitting(TrapOp::AddlV, a, b),
+        Op::SublV => fitting(TrapOp::SublV, a, b),
+        Op::MullV => fitting(TrapOp::MullV, a, b),
+        Op::AddqV => fitting(TrapOp::AddqV, a, b),
+        Op::SubqV => fitting(TrapOp::SubqV, a, b),
+        Op::MulqV => fitting(TrapOp::MulqV, a, b),
+        Op::Addl => Some(wrapped(TrapOp::AddlV, a, b)),
+        Op::Subl => Some(wrapped(TrapOp::SublV, a, b)),
+        Op::Mull => Some(wrapped(TrapOp::MullV, a, b)),
+        Op::Addq => Some(wrapped(TrapOp::AddqV, a, b)),
+        Op::Subq => Some(wrapped(TrapOp::SubqV, a, b)),
+        Op::Mulq => Some(wrapped(TrapOp::MulqV, a, b)),
+        Op::S4addl => Some(scaled_long_sum(4, a, b)),
+        Op::S8addl => Some(scaled_long_sum(8, a, b)),
+        Op::S4subl => Some(scaled_long_difference(4, a, b)),
+        Op::S8subl => Some(scaled_long_difference(8, a, b)),
+        Op::S4addq => Some(scaled_sum(4, a, b)),
+        Op::S8addq => Some(scaled_sum(8, a, b)),
+        Op::S4subq => Some(scaled_difference(4, a, b)),
+        Op::S8subq => Some(scaled_difference(8, a, b)),
+        Op::Umulh => Some(high_product(a, b)),
+        Op::Sextb => Some(extended_byte(b)),
+        Op::Sextw => Some(extended_word(b)),
+        Op::Cmpeq => Some(u64::from(a == b)),
+        Op::Cmplt => Some(u64::from(quadword(a) < quadword(b))),
+        Op::Cmple => Some(u64::from(quadword(a) <= quadword(b))),
+        Op::Cmpult => Some(u64::from(a < b)),
+        Op::Cmpule => Some(u64::from(a <= b)),
+        Op::Cmpbge => Some(compare_bytes(a, b)),
+        Op::And => Some(a & b),
+        Op::Bis => Some(a | b),
+        Op::Xor => Some(a ^ b),
+        Op::Bic => Some(a & !b),
+        Op::Ornot => Some(a | !b),
+        Op::Eqv => Some(a ^ !b),
+        Op::Amask => Some(b & !features(level)),
+        Op::Implver => Some(implementation(level)),
+        Op::Ctpop => Some(ones(b)),
+        Op::Ctlz => Some(zeros_above(b)),
+        Op::Cttz => Some(zeros_below(b)),
+        Op::Cmovlbs => Some(moved(Cond::Lbs, a, b, old)),
+        Op::Cmovlbc => Some(moved(Cond::Lbc, a, b, old)),
+        Op::Cmoveq => Some(moved(Cond::Eq, a, b, old)),
+        Op::Cmovne => Some(moved(Cond::Ne, a, b, old)),
+        Op::Cmovlt => Some(moved(Cond::Lt, a, b, old)),
+        Op::Cmovle => Some(moved(Cond::Le, a, b, old)),
+        Op::Cmovge => Some(moved(Cond::Ge, a, b, old)),
+        Op::Cmovgt => Some(moved(Cond::Gt, a, b, old)),
+        Op::Sll => Some(shifted_left(a, b)),
+        Op::Srl => Some(shifted_right(a, b)),
+        Op::Sra => Some(shifted_signed(a, b)),
+        Op::Extbl => Some(extract_low(1, a, b)),
+        Op::Extwl => Some(extract_low(2, a, b)),
+        Op::Extll => Some(extract_low(4, a, b)),
+        Op::Extql => Some(extract_low(8, a, b)),
+        Op::Extwh => Some(extract_high(2, a, b)),
+        Op::Extlh => Some(extract_high(4, a, b)),
+        Op::Extqh => Some(extract_high(8, a, b)),
+        Op::Insbl => Some(insert_low(1, a, b)),
+        Op::Inswl => Some(insert_low(2, a, b)),
+        Op::Insll => Some(insert_low(4, a, b)),
+        Op::Insql => Some(insert_low(8, a, b)),
+        Op::Inswh => Some(insert_high(2, a, b)),
+        Op::Inslh => Some(insert_high(4, a, b)),
+        Op::Insqh => Some(insert_high(8, a, b)),
+        Op::Mskbl => Some(mask_low(1, a, b)),
+        Op::Mskwl => Some(mask_low(2, a, b)),
+        Op::Mskll => Some(mask_low(4, a, b)),
+        Op::Mskql => Some(mask_low(8, a, b)),
+        Op::Mskwh => Some(mask_high(2, a, b)),
+        Op::Msklh => Some(mask_high(4, a, b)),
+        Op::Mskqh => Some(mask_high(8, a, b)),
+        Op::Zap => Some(zap(a, b)),
+        Op::Zapnot => Some(zap_not(a, b)),
+    }
+}
+
+// The exact result of a `/V` row, if it fits.
+#[inline(always)]
+fn fitting(op: TrapOp, a: u64, b: u64) -> Option<u64>
+    ensures { result ≡ (if overflow_of op a b then None else Some (completed_of op a b Completion.Wrap)) }
+{
+    if overflows(op, a, b) {
+        return None;
+    }
+    Some(wrapped(op, a, b))
+}
+
+// The wrapped result of a `/V` row.
+#[inline(never)]
+fn completed_by(op: Op, a: u64, b: u64) -> u64
+    ensures { (trap : _) → trap_of op ≡ Some trap → result ≡ completed_of trap a b Completion.Wrap }
+{
+    match op.trap() {
+        Some(trap) => wrapped(trap, a, b),
+        None => 0,
     }
 }
 
@@ -121,7 +162,8 @@ fn moved(c: Cond, a: u64, b: u64, old: u64) -> u64
 }
 
 // The features of an implementation, which AMASK clears: bit 0 for the byte and word instructions,
-// bit 2 for the counts.
+// bit 2 for the counts. It is rare, and never inlined where it would crowd the loop of a run.
+#[inline(never)]
 fn features(level: Level) -> u64
     ensures { result ≡ features level }
 {
@@ -132,6 +174,7 @@ fn features(level: Level) -> u64
 }
 
 // What IMPLVER answers: 1 for a 21164, 2 for a 21264.
+#[inline(never)]
 fn implementation(level: Level) -> u64
     ensures { result ≡ implementation level }
 {

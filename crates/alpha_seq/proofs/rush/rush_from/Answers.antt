@@ -1,17 +1,29 @@
-use Rattle.std.proofs.Common.{◌≡◌, slice_get, Some, refl, sym, ap, ◌∙◌, arith}
+use Rattle.std.proofs.Common.{◌≡◌, ◌+◌, ◌-◌, ℕ, slice_get, Some, sym, ap, subst, ◌∙◌, arith}
 use Rattle.std.proofs.lemmas.Option.{slice_get-get_or}
-use Rattle.alpha_seq.proofs.Rushing.{Rushes-more}
+use Rattle.alpha_seq.specs.Rushed.{Rushes}
+use Rattle.alpha_seq.proofs.Rushing.{Rushes-none, Rushes-more}
 use Rattle.alpha_seq.proofs.rush.rush_from.Goals as goal
 
-pub loop-made-init : goal.loop-made-init
-loop-made-init c = record { made = λ m same. refl }
+pub words-init : goal.words-init
+words-init c =
+    let a = c.args in
+    let none : 0 ≡ a.units - a.units = omega arith in
+    record {
+      most = omega arith;
+      rushes = subst (λ (k : ℕ). Rushes k a.image.now a.regs.now a.memory.now a.place.now a.regs.now a.memory.now a.place.now) none (Rushes-none a.image.now a.regs.now a.memory.now a.place.now);
+    }
 
-pub loop-made-preserved : goal.loop-made-preserved
-loop-made-preserved c =
+pub words-preserved : goal.words-preserved
+words-preserved c =
     let a = c.args in
     let insns = c.insns-insns.result.now in
-    let there : slice_get insns c.loop-made.place ≡ Some c.index-insns-place.result =
-    slice_get-get_or insns c.loop-made.place c.index-insns-place.result (omega arith) ∙ ap Some (sym c.index-insns-place.is) in
-    Rushes-more c.loop-made.made a.image.now insns c.index-insns-place.result
-    a.regs.now c.loop-made.regs c.pass.new.regs a.memory.now c.loop-made.memory c.pass.new.memory a.place.now c.loop-made.place c.pass.new.place
-    c.insns-insns.ensures.good c.insns-insns.ensures.value (omega arith) there c.loop-made.invariant (c.pass.ensures.went c.if-not-pass.false)
+    let insn = c.index-insns-place.result in
+    let there : slice_get insns c.words.place ≡ Some insn = slice_get-get_or insns c.words.place insn (omega arith) ∙ ap Some (sym c.index-insns-place.is) in
+    let more : a.units - c.words.left + 1 ≡ a.units - (c.words.left - 1) = omega (arith, c.words.invariant.most) in
+    record {
+      most = omega (arith, c.words.invariant.most);
+      rushes =
+          subst (λ (k : ℕ). Rushes k a.image.now a.regs.now a.memory.now a.place.now c.pass.new.regs c.pass.new.memory c.pass.new.place) more
+          (Rushes-more (a.units - c.words.left) a.image.now insns insn a.regs.now c.words.regs c.pass.new.regs a.memory.now c.words.memory c.pass.new.memory a.place.now c.words.place c.pass.new.place
+          c.insns-insns.ensures.good c.insns-insns.ensures.value (omega arith) there c.words.invariant.rushes (c.pass.ensures.went c.if-not-pass.false));
+    }

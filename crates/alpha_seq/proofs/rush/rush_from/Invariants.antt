@@ -1,5 +1,12 @@
+use Rattle.std.proofs.Common.{◌-◌, ◌≤◌}
 use Rattle.alpha_seq.specs.Rushed.{Rushes}
 use Rattle.alpha_seq.proofs.rush.rush_from.Given as goal
 
-abbrev pub invariant-loop-made : goal.invariant-loop-made
-invariant-loop-made l = Rushes l.made l.image l.initial.regs l.initial.memory l.initial.place l.regs l.memory l.place
+abbrev pub invariant-words : goal.invariant-words
+invariant-words l = record {
+  most : l.left ≤ l.units;
+  rushes : Rushes (l.units - l.left) l.image l.initial.regs l.initial.memory l.initial.place l.regs l.memory l.place;
+}
+
+abbrev pub decreases-words : goal.decreases-words
+decreases-words l = l.left
