@@ -1,7 +1,6 @@
 -- The symbols that are found by their numbers in a row, as the row grows.
 use Rattle.std.proofs.Common.{◌≡◌, ℕ, zero, suc, ◌+◌, ◌-◌, ◌<◌, ◌≤◌, Bool, true, false, ◌⊎◌, inl, inr, List, [], ◌∷◌, ◌++◌, length, map, take, drop, get_or, Option, None, Some, is_some, if◌then◌else◌, refl, sym, subst, ap, ◌∙◌, append_assoc, arith}
 use Rattle.std.specs.Prelude.{◌&&◌, slice_get, unwrap_or}
-use Rattle.std.specs.List.{flat_map}
 use Rattle.std.specs.Option.{option_map, option_map_or, option_and_then, option_or}
 use Rattle.std.specs.Str.{bytes_eq}
 use Rattle.std.proofs.lemmas.List.{take_more, length-map, length-append}
@@ -14,7 +13,7 @@ use Rattle.alpha_names.proofs.Naming.{sound, by_option}
 use Rattle.alpha_asm.specs.Layout.{first}
 use Rattle.alpha_link.specs.Symbols.{Named, named}
 use Rattle.alpha_link.specs.declared.symbol.Symbol as own
-use Rattle.alpha_link.specs.Linked.{Located, named_address, address_in}
+use Rattle.alpha_link.specs.Linked.{Located, named_address}
 use Rattle.alpha_link.specs.Standings.{Standing, standing_of, standings_in, standings, defines, is_of, address_at, AreEntered}
 use Rattle.alpha_link.proofs.Naming.{first_append, or_assoc}
 use Rattle.alpha_link.proofs.Lists.{next, none_left}

@@ -29,3 +29,4 @@ pub mod MadeRelocations
 pub mod MadeChains
 pub mod MadeNames
 pub mod Entered
+pub mod Owned

@@ -15,5 +15,6 @@ pub mod Made
 pub mod Numbered
 pub mod Standings
 pub mod Names
+pub mod Addresses
 pub mod Output
 pub mod Unlinked

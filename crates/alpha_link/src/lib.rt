@@ -53,10 +53,10 @@
 //!
 //! `located.rt` says where each module stands among those that are linked. The symbols of all of them stand
 //! in one row, `row.rt`, which `standings.rt` reads; `table.rt` has the table of the numbers by which the names
-//! that they define are found, and `names.rt` enters these there, in which each symbol's name is then
-//! looked up. `linker.rt` has the refusals in their order, and `output.rt` copies the modules into one
-//! buffer of instructions and one of data bytes, and puts in there what each relocation asks for. The
-//! code of an image begins at [`alpha_asm::CODE_BASE`], as that of a source without a `.codebase`.
+//! that they define are found, and `names.rt` enters these there, in which the names of undefined symbols are
+//! then looked up. `addresses.rt` has the addresses of a module's symbols. `linker.rt` has the refusals in
+//! their order, and `output.rt` copies the modules into one buffer of instructions and one of data bytes, and
+//! puts in there what each relocation asks for. The code of an image begins at [`alpha_asm::CODE_BASE`], as that of a source without a `.codebase`.
 //!
 //! `specs/Reading.antt` says how bytes are read from the front, `specs/Header.antt`, `specs/Symbols.antt`
 //! and `specs/Relocations.antt` which items there are and which are good, `specs/Parts.antt` what a module
@@ -66,9 +66,10 @@
 //! sorted by, and `specs/Digits.antt` the digits of these, counted;
 //! `specs/Bytes.antt` has numbers of two bytes, `specs/Unlinked.antt` what is known of a source that was
 //! read, and `specs/Alike.antt` says which words no condition of a trap shadow tells apart. `specs/Standings.antt`,
-//! `specs/Names.antt` and `specs/Output.antt` say what the linker holds on its way.
+//! `specs/Names.antt`, `specs/Addresses.antt` and `specs/Output.antt` say what the linker holds on its way.
 #![tactic(auto)]
 
+mod addresses;
 mod fault;
 mod header;
 mod judged;

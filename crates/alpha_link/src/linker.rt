@@ -6,6 +6,7 @@ ghost use Rattle.alpha_image.specs.Fields.{level_numbers};
 ghost use Rattle.alpha_asm.specs.Program.{program_of, program_with};
 ghost use Rattle.alpha_link.specs.declared.fault.LinkFault.TheVariants as faults;
 ghost use Rattle.alpha_link.specs.Linked.{places, address_of, missing, unmet, entry_of, words_in, filled_in, zeroed_in, linked_at, linked};
+ghost use Rattle.alpha_link.specs.Addresses.{AllKnow};
 ghost use Rattle.alpha_link.specs.Names.{found_in};
 ghost use Rattle.alpha_link.specs.Output.{StandBehind, JoinsAll};
 ghost use Rattle.alpha_image.specs.Rules.{FieldsFit};
@@ -57,7 +58,8 @@ impl Totals {
 
 // The refusal of the least symbol whose name has no address.
 fn undefined<'m>(names: &Names<'_, 'm>, places: &[Located<'m>]) -> Option<LinkFault>
-    requires { (name : List ℕ) → found_in names.now name ≡ address_of places.now name }
+    requires names { (name : List ℕ) → found_in names.now name ≡ address_of places.now name }
+    requires own { AllKnow (found_in names.now) places.now }
     ensures { result ≡ option_map (λ p. faults.Undefined p.0 p.1) (missing places.now) }
 {
     for located in places {
@@ -95,6 +97,7 @@ fn joined<'m>(
     totals: Totals,
 ) -> Result<Output, LinkFault>
     requires names { (name : List ℕ) → found_in names.now name ≡ address_of places.now name }
+    requires own { AllKnow (found_in names.now) places.now }
     requires stand { StandBehind 0 0 places.now }
     ensures ok { IfOk result (JoinsAll places.now) }
     ensures insns { IfOk result (λ output. All (IsCodeInsn levels.One) output.code.items) }
@@ -133,6 +136,7 @@ fn linked_at<'m>(
     entry: u64,
 ) -> Result<Image, LinkFault>
     requires names { (name : List ℕ) → found_in names.now name ≡ address_of places.now name }
+    requires own { AllKnow (found_in names.now) places.now }
     requires stand { StandBehind 0 0 places.now }
     requires words { totals.words ≡ words_in places.now }
     requires filled { totals.filled ≡ filled_in places.now }
@@ -161,7 +165,7 @@ fn linked_at<'m>(
 
 /// The image that modules link to, 64 modules at most. Its entry is the address of a name. Memory taken
 /// is that of the image and of a table of the names that the modules define, of 16 bytes for each symbol, with
-/// 24 bytes for each module and 16 for each symbol of the one that has the most.
+/// 24 bytes for each module and 16 for each symbol of the module being joined, unless it defines all of them.
 ///
 /// # Errors
 ///

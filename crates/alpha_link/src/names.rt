@@ -2,14 +2,18 @@
 
 ghost use Rattle.std.specs.Prelude.{◌≡◌, ◌≢◌, ◌&&◌, ◌<◌, ◌+◌, take, drop, slice_get, length, ℕ, List, [], None, Some, OnOk, OnErr, IfOk, IfErr, IfSome, is_some, is_none, map, position, if◌then◌else◌};
 ghost use Rattle.std.specs.Option.{option_map, option_or};
+ghost use Rattle.std.specs.List.{list_all};
 ghost use Rattle.std.specs.Str.{bytes_eq};
 ghost use Rattle.alpha_link.specs.declared.fault.LinkFault.TheVariants as faults;
 ghost use Rattle.alpha_link.specs.Linked.{address_in, address_of, is_defined, repeated};
 ghost use Rattle.alpha_link.specs.Names.{found_in};
 ghost use Rattle.alpha_names.specs.Finder.{number_in, Grows, Keeps};
+ghost use Rattle.alpha_link.specs.Addresses.{address_by_own, Knows, AllKnow};
+ghost use Rattle.alpha_link.specs.Symbols.{named};
 ghost use Rattle.alpha_link.specs.Standings.{standings, standings_in, front, is_of};
 
 use crate::LinkFault;
+use crate::addresses::Addresses;
 use crate::located::Located;
 use crate::row::Row;
 use crate::symbol::{Symbol, SymbolSection};
@@ -65,6 +69,7 @@ impl<'p, 'm> Names<'p, 'm> {
     pub(crate) fn of(alloc: Global, places: &'p [Located<'m>]) -> Result<Names<'p, 'm>, LinkFault>
         ensures found { IfOk result (λ names. (name : List ℕ) →
             found_in names name ≡ address_of places.now name) }
+        ensures own { IfOk result (λ names. AllKnow (found_in names) places.now) }
         ensures single { OnOk result (repeated [] places.now ≡ None) }
         ensures refused { IfErr result (λ fault. fault ≢ faults.NoMemory →
             option_map (λ p. faults.Duplicate p.0 p.1) (repeated [] places.now) ≡ Some fault) }
@@ -157,23 +162,36 @@ impl<'p, 'm> Names<'p, 'm> {
         }
     }
 
-    // The least of some symbols whose name has no address.
-    fn least_missing(&self, symbols: &'m [Symbol<'m>]) -> Option<usize>
+    // The address of a symbol: that at which the module defines it, or that of its name.
+    fn address_of(&self, located: &Located<'_>, symbol: &Symbol<'_>) -> Option<u64>
+        ensures { result ≡ address_by_own (found_in self.now) located.now (named symbol.now) }
+    {
+        match located.address(symbol) {
+            Some(address) => Some(address),
+            None => self.address(symbol.name),
+        }
+    }
+
+    // The least of some symbols that isn't defined and whose name has no address.
+    fn least_missing(&self, located: &Located<'m>, symbols: &'m [Symbol<'m>]) -> Option<usize>
         ensures value { result
-            ≡ position (λ s. is_none (found_in self.now s.name.now)) symbols.entry.now }
+            ≡ position (λ s. is_none (address_by_own (found_in self.now) located.now (named s)))
+            symbols.entry.now }
         ensures bound { IfSome result (λ number. number < length symbols.entry.now) }
     {
-        symbols.iter().position(|s| self.address(s.name).is_none())
+        symbols
+            .iter()
+            .position(|s| self.address_of(located, s).is_none())
     }
 
     /// The least symbol of a module whose name has no address.
-    #[tactic(auto, using(crate::proofs::Lists::position_map))]
     pub(crate) fn missing(&self, located: &Located<'m>) -> Option<u32>
+        requires { Knows (found_in self.now) located.now }
         ensures { result ≡ position (λ s. is_none (found_in self.now s.name))
             located.now.parts.symbols }
     {
         let module = located.module;
-        match self.least_missing(&module.symbols) {
+        match self.least_missing(located, &module.symbols) {
             Some(number) => Some(number as u32),
             None => None,
         }
@@ -183,29 +201,41 @@ impl<'p, 'm> Names<'p, 'm> {
     fn addresses_of(
         &self,
         alloc: Global,
+        located: &Located<'m>,
         symbols: &'m [Symbol<'m>],
     ) -> Result<Vec<Option<u64>>, AllocError>
         ensures { IfOk result (λ all. all.items
-            ≡ map (λ s. found_in self.now s.name.now) symbols.entry.now) }
+            ≡ map (λ s. address_by_own (found_in self.now) located.now (named s)) symbols.entry.now) }
     {
         let mut all = Vec::with_capacity(alloc, symbols.len())?;
         for symbol in symbols {
-            all.push(self.address(symbol.name))?;
+            all.push(self.address_of(located, symbol))?;
         }
         Ok(all)
     }
 
-    /// The addresses of a module's symbols.
-    #[tactic(auto, using(crate::proofs::Lists::map_map))]
-    pub(crate) fn addresses(
+    /// The addresses of a module's symbols. They take memory only where the module doesn't define all of them.
+    pub(crate) fn addresses<'q>(
         &self,
         alloc: Global,
-        located: &Located<'m>,
-    ) -> Result<Vec<Option<u64>>, AllocError>
-        ensures { IfOk result (λ all. all.items
-            ≡ map (λ s. found_in self.now s.name) located.now.parts.symbols) }
+        located: &'q Located<'m>,
+    ) -> Result<Addresses<'q, 'm>, AllocError>
+        requires { Knows (found_in self.now) located.now }
+        ensures { IfOk result (λ all. all
+            ≡ map (λ s. found_in self.now s.name) located.entry.now.parts.symbols) }
     {
         let module = located.module;
-        self.addresses_of(alloc, &module.symbols)
+        if defines_all(&module.symbols) {
+            return Ok(Addresses::own(located));
+        }
+        let listed = self.addresses_of(alloc, located, &module.symbols)?;
+        Ok(Addresses::listed(located, listed))
     }
+}
+
+// Whether all symbols are defined.
+fn defines_all(symbols: &[Symbol<'_>]) -> bool
+    ensures { result ≡ list_all (λ s. is_defined s.section) symbols.now }
+{
+    symbols.iter().all(|s| s.section.is_defined())
 }

@@ -9,9 +9,11 @@ ghost use Rattle.alpha_image.specs.Insns.{IsCodeInsn};
 ghost use Rattle.alpha_asm.specs.Patches.{IsField, IsNear};
 ghost use Rattle.alpha_asm.specs.Program.{reached};
 ghost use Rattle.alpha_link.specs.Linked.{use_of, target, insn_with, code_at, displacement, quadword, is_met, addresses_by};
+ghost use Rattle.alpha_link.specs.Addresses.{Knows};
 ghost use Rattle.alpha_link.specs.Names.{found_in};
 ghost use Rattle.alpha_link.specs.Output.{code_with, bytes_with, code_with_all, bytes_with_all, JoinsOne};
 
+use crate::addresses::Addresses;
 use crate::located::Located;
 use crate::relocation::{Relocation, RelocationKind};
 use crate::relocations::is_taken_by;
@@ -35,14 +37,12 @@ impl RelocationKind {
 }
 
 // The address that a relocation puts in: its symbol's, and its addend.
-fn target(addresses: &[Option<u64>], relocation: &Relocation) -> Option<i128>
+fn target(addresses: &Addresses<'_, '_>, relocation: &Relocation) -> Option<i128>
     ensures value { result ≡ target addresses.now relocation.now }
     ensures near { IfSome result IsNear }
 {
-    match addresses.get(relocation.symbol as usize) {
-        Some(Some(address)) => Some(i128::from(*address) + i128::from(relocation.addend)),
-        Some(None) | None => None,
-    }
+    let address = addresses.get(relocation.symbol as usize)?;
+    Some(i128::from(address) + i128::from(relocation.addend))
 }
 
 // The displacement that a relocation puts into an instruction at `pc`, if it reaches.
@@ -105,7 +105,7 @@ impl Output {
     fn put_insn(
         &mut self,
         by: Use,
-        addresses: &[Option<u64>],
+        addresses: &Addresses<'_, '_>,
         located: &Located<'_>,
         relocation: &Relocation,
     ) -> bool
@@ -131,7 +131,7 @@ impl Output {
     // Puts the quadword of an address into the data bytes, and answers whether the address fits into one.
     fn put_quad(
         &mut self,
-        addresses: &[Option<u64>],
+        addresses: &Addresses<'_, '_>,
         located: &Located<'_>,
         relocation: &Relocation,
     ) -> bool
@@ -151,7 +151,7 @@ impl Output {
     // Puts in what a relocation of the last module asks for. Whether it fits.
     fn put(
         &mut self,
-        addresses: &[Option<u64>],
+        addresses: &Addresses<'_, '_>,
         located: &Located<'_>,
         relocation: &Relocation,
     ) -> bool
@@ -168,7 +168,7 @@ impl Output {
     }
 
     // Puts in all that the last module asks for. The least relocation that doesn't fit.
-    fn put_all(&mut self, addresses: &[Option<u64>], located: &Located<'_>) -> Option<u32>
+    fn put_all(&mut self, addresses: &Addresses<'_, '_>, located: &Located<'_>) -> Option<u32>
         ensures unmet { result ≡ position (λ r. not (is_met addresses.now located.now r))
             located.now.parts.relocations }
         ensures code { result ≡ None → self.new.code.items
@@ -216,6 +216,7 @@ impl Output {
     ) -> Result<Option<u32>, AllocError>
         requires words { located.now.words ≡ length self.old.code.items }
         requires filled { length self.old.bytes.items ≤ located.now.filled }
+        requires own { Knows (found_in names.now) located.now }
         ensures unmet { let addresses = addresses_by (found_in names.now) located.now in
             IfOk result (λ unmet. unmet
             ≡ position (λ r. not (is_met addresses located.now r)) located.now.parts.relocations) }

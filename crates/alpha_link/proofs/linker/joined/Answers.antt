@@ -7,6 +7,7 @@ use Rattle.alpha_link.specs.Names.{found_in}
 use Rattle.alpha_link.specs.Output.{JoinsOne}
 use Rattle.alpha_link.proofs.Lists.{first_stops}
 use Rattle.alpha_link.proofs.Joining.{joins, unmet_as}
+use Rattle.alpha_link.proofs.Owned.{knows_item}
 use Rattle.alpha_link.proofs.linker.joined.Goals as goal
 
 pub returns-in-Some-clause-refused : goal.returns-in-Some-clause-refused
@@ -33,3 +34,6 @@ loop-located-preserved c =
       joined = joins all c.loop-located.located-index l c.loop-located.output c.join.new.self c.loop-located-test.true c.located-item.is met one c.loop-located.invariant.joined;
       insns = c.join.ensures.insns done c.loop-located.invariant.insns;
     }
+
+pub join-requires-clause-own : goal.join-requires-clause-own
+join-requires-clause-own c = knows_item (found_in c.args.names.now) c.args.places.now c.loop-located.located-index c.located-item.result c.requires.own c.loop-located-test.true c.located-item.is

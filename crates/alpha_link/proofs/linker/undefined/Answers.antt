@@ -6,6 +6,7 @@ use Rattle.alpha_link.specs.Names.{found_in}
 use Rattle.alpha_link.specs.Linked.{Located}
 use Rattle.alpha_link.proofs.Lists.{first_goes, first_stops, first_ends}
 use Rattle.alpha_link.proofs.Joining.{missing_by, missing_in}
+use Rattle.alpha_link.proofs.Owned.{knows_item}
 use Rattle.alpha_link.proofs.linker.undefined.Goals as goal
 
 pub returns-in-Some : goal.returns-in-Some
@@ -16,7 +17,7 @@ returns-in-Some c =
     let here = ap (option_map (λ (n : ℕ). (l.number, n))) (sym c.in-Some.ensures) in
     let number = ap (λ (x : Located). x.number) c.located.view_is in
     ap (λ (k : ℕ). Some (faults.Undefined k c.in-Some.number)) number
-    ∙ sym (ap (λ (f : List ℕ → Option ℕ). option_map (λ (p : ℕ × ℕ). faults.Undefined p.0 p.1) (missing_by f ls)) (sym (fun_ext c.requires))
+    ∙ sym (ap (λ (f : List ℕ → Option ℕ). option_map (λ (p : ℕ × ℕ). faults.Undefined p.0 p.1) (missing_by f ls)) (sym (fun_ext c.requires.names))
     ∙ ap (option_map (λ (p : ℕ × ℕ). faults.Undefined p.0 p.1))
     (first_stops (missing_in find) ls c.loop-located.located-index l (l.number, c.in-Some.number) _ c.loop-located-test.true c.located-item.is here c.loop-located.invariant))
 
@@ -30,5 +31,8 @@ pub returns : goal.returns
 returns c =
     let find = found_in c.args.names.now in
     let ls = c.args.places.now in
-    sym (ap (λ (f : List ℕ → Option ℕ). option_map (λ (p : ℕ × ℕ). faults.Undefined p.0 p.1) (missing_by f ls)) (sym (fun_ext c.requires))
+    sym (ap (λ (f : List ℕ → Option ℕ). option_map (λ (p : ℕ × ℕ). faults.Undefined p.0 p.1) (missing_by f ls)) (sym (fun_ext c.requires.names))
     ∙ ap (option_map (λ (p : ℕ × ℕ). faults.Undefined p.0 p.1)) (first_ends (missing_in find) ls c.loop-located.located-index _ c.loop-located-test.false c.loop-located.invariant))
+
+pub missing-requires : goal.missing-requires
+missing-requires c = knows_item (found_in c.args.names.now) c.args.places.now c.loop-located.located-index c.located-item.result c.requires.own c.loop-located-test.true c.located-item.is

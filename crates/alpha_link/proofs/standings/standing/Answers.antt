@@ -1,6 +1,4 @@
-use Rattle.std.proofs.Common.{ap, sym, ◌∙◌}
-use Rattle.std.specs.Option.{option_map}
-use Rattle.alpha_link.specs.Standings.{standing}
+use Rattle.std.proofs.Common.{sym, ◌∙◌}
 use Rattle.alpha_link.proofs.Entered.{here_get, past_get, end_get}
 use Rattle.alpha_link.proofs.standings.standing.Goals as goal
 

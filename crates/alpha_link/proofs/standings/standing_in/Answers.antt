@@ -1,8 +1,8 @@
-use Rattle.std.proofs.Common.{◌≡◌, ℕ, Some, ap, sym, ◌∙◌, Option}
+use Rattle.std.proofs.Common.{ℕ, Some, ap, sym, ◌∙◌, Option}
 use Rattle.alpha_link.specs.declared.symbol.Symbol as own
-use Rattle.alpha_link.specs.Symbols.{Named, named}
+use Rattle.alpha_link.specs.Symbols.{named}
 use Rattle.alpha_link.specs.Linked.{Located}
-use Rattle.alpha_link.specs.Standings.{Standing, standing_of}
+use Rattle.alpha_link.specs.Standings.{standing_of}
 use Rattle.alpha_link.proofs.Entered.{standing_at}
 use Rattle.alpha_link.proofs.standings.standing_in.Goals as goal
 

@@ -1,4 +1,4 @@
-use Rattle.std.proofs.Common.{◌≡◌, ℕ, List, ap}
+use Rattle.std.proofs.Common.{List, ap}
 use Rattle.std.specs.Prelude.{is_some}
 use Rattle.alpha_names.specs.Finder.{number_in}
 use Rattle.alpha_link.specs.Standings.{Standing, standings}

@@ -4,9 +4,10 @@ use Rattle.alpha_link.specs.declared.fault.LinkFault.TheVariants as faults
 use Rattle.alpha_link.specs.Names.{found_in}
 use Rattle.alpha_link.specs.Linked.{Located}
 use Rattle.alpha_link.proofs.Naming.{behind, found_more, none_again, some_again}
-use Rattle.alpha_link.specs.Standings.{standings, is_of, address_at}
+use Rattle.alpha_link.specs.Standings.{standings, front, is_of, address_at}
 use Rattle.alpha_names.specs.Finder.{number_in}
 use Rattle.alpha_link.proofs.Lists.{next}
+use Rattle.alpha_link.proofs.Owned.{all_know, whole_row}
 use Rattle.alpha_link.proofs.Entered.{count_next, next_standings, nothing_found}
 use Rattle.alpha_link.proofs.table.Names.of.Goals as goal
 
@@ -51,3 +52,11 @@ loop-located-init c =
       places = c.empty-names.ensures.places;
       count = c.empty-names.ensures.count;
     }
+
+pub returns-clause-own : goal.returns-clause-own
+unfolding found_in
+returns-clause-own c =
+    let names = c.loop-located.names in
+    let ls = c.args.places.now in
+    all_know (front names.row) names.numbers ls
+    (whole_row ls names.row.places.now c.loop-located.located-index names.row.count c.loop-located-test.false c.loop-located.invariant.places c.loop-located.invariant.count) names.entered
