@@ -34,6 +34,14 @@ pub met_free : (s : Slot) (mark place : ℕ) (further : Look) → s.below ≡ 0 
 met_free s mark place further e =
     ap (λ (b : ℕ). if nat_eq b 0 then Free place else (if nat_eq s.mark mark then Taken s.number else further)) e
 
+-- where all slots are free
+pub nothing_there : (slot : ℕ → Slot) (hash : ℕ) → ((place : ℕ) → slot place ≡ free) → seek_in slot hash ≡ Free (hash / 2 ^ 52)
+unfolding seek_in
+nothing_there slot hash all =
+    let place = hash / 2 ^ 52 in
+    seek_next slot (hash % 2 ^ 32) 20 19 (hash / 2 ^ 32) place refl
+    ∙ met_free (slot place) (hash % 2 ^ 32) place _ (ap (λ (s : Slot). s.below) (all place))
+
 -- what further levels find decides, or it doesn't matter
 otherwise : (b c : Bool) (p q x y l : Look) → b ≡ false → (x ≡ l → y ≡ l) →
     (if b then p else (if c then q else x)) ≡ l → (if b then p else (if c then q else y)) ≡ l

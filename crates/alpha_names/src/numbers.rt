@@ -1,4 +1,4 @@
-ghost use Rattle.std.specs.Prelude.{◌≡◌, is_none, true, false, IfOk, OnErr};
+ghost use Rattle.std.specs.Prelude.{◌≡◌, ℕ, List, Bool, None, is_none, true, false, IfOk, OnErr};
 ghost use Rattle.alpha_names.specs.Finder.{number_in, Grows, Keeps};
 
 use crate::crowd::Crowd;
@@ -16,8 +16,10 @@ pub struct Numbers<'a> {
 }
 
 impl<'a> Numbers<'a> {
-    /// No numbers.
-    pub fn empty(alloc: Global) -> Numbers<'a> {
+    /// No numbers: none of any name.
+    pub fn empty(alloc: Global) -> Numbers<'a>
+        ensures { (is_right : ℕ → Bool) → (name : List ℕ) → number_in result is_right name ≡ None }
+    {
         Numbers {
             tree: Tree::empty(alloc),
             crowd: Crowd::empty(alloc),
