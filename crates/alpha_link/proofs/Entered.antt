@@ -4,15 +4,14 @@ use Rattle.std.specs.Prelude.{◌&&◌, slice_get, unwrap_or}
 use Rattle.std.specs.Option.{option_map, option_map_or, option_and_then, option_or}
 use Rattle.std.specs.Str.{bytes_eq}
 use Rattle.std.proofs.lemmas.List.{take_more, length-map, length-append}
-use Rattle.std.proofs.lemmas.Option.{slice_get_within, slice_get-map, slice_get-get_or, get_or_from_slice_get}
+use Rattle.std.proofs.lemmas.Option.{slice_get_within, slice_get-map, get_or_from_slice_get}
 use Rattle.std.proofs.lemmas.Slice.Eq.{bytes_eq-Decides}
 use Rattle.alpha_names.specs.Finder.{Finder, IsOnly, Keeps, Grows, number_in}
 use Rattle.alpha_names.specs.declared.numbers.Numbers.{Numbers}
 use Rattle.alpha_names.proofs.Searching.{not_both}
 use Rattle.alpha_names.proofs.Naming.{sound, by_option}
 use Rattle.alpha_asm.specs.Layout.{first}
-use Rattle.alpha_link.specs.Symbols.{Named, named}
-use Rattle.alpha_link.specs.declared.symbol.Symbol as own
+use Rattle.alpha_link.specs.Symbols.{Named}
 use Rattle.alpha_link.specs.Linked.{Located, named_address}
 use Rattle.alpha_link.specs.Standings.{Standing, standing_of, standings_in, standings, defines, is_of, address_at, AreEntered}
 use Rattle.alpha_link.proofs.Naming.{first_append, or_assoc}
@@ -321,18 +320,14 @@ past_get ls i l rest count whole within here size past e =
 pub end_get : (ls : List Located) (i rest : ℕ) (whole : Option Standing) → length ls ≤ i → slice_get (standings (drop i ls)) rest ≡ whole → whole ≡ None
 end_get ls i rest whole past e = sym e ∙ ap (λ (x : List Located). slice_get (standings x) rest) (none_left ls i past)
 
--- the symbol of a module that a loop has come to
-pub standing_at : (l : Located) (ss : List own.Symbol) (i : ℕ) (d : own.Symbol) → map named ss ≡ l.parts.symbols → i < length ss →
-    slice_get (standings_in l) i ≡ Some (standing_of l (named (get_or ss i d)))
-standing_at l ss i d same within =
-    ap (λ (x : List Named). slice_get (map (standing_of l) x) i) (sym same)
-    ∙ (slice_get-map (standing_of l) (map named ss) i ∙ ap (option_map (standing_of l)) (slice_get-map named ss i ∙ ap (option_map named) (slice_get-get_or ss i d within)))
+-- the symbol of a module with a number
+pub standing_at : (l : Located) (i : ℕ) (s : Named) → slice_get l.parts.symbols i ≡ Some s → slice_get (standings_in l) i ≡ Some (standing_of l s)
+standing_at l i s here = slice_get-map (standing_of l) l.parts.symbols i ∙ ap (option_map (standing_of l)) here
 
-pub symbol_there : (es : List Standing) (l : Located) (ss : List own.Symbol) (c i : ℕ) (d : own.Symbol) → take (length l.parts.symbols) (drop c es) ≡ standings_in l → map named ss ≡ l.parts.symbols →
-    i < length ss → slice_get es (c + i) ≡ Some (standing_of l (named (get_or ss i d)))
-symbol_there es l ss c i d part same within =
-    let size : length (standings_in l) ≡ length ss = length-map l.parts.symbols (standing_of l) ∙ (ap length (sym same) ∙ length-map ss named) in
-    at_place es (standings_in l) c (length l.parts.symbols) i part (subst (λ (n : ℕ). i < n) (sym size) within) ∙ standing_at l ss i d same within
+pub symbol_there : (es : List Standing) (l : Located) (c i : ℕ) (s : Named) → take (length l.parts.symbols) (drop c es) ≡ standings_in l → slice_get l.parts.symbols i ≡ Some s
+    → slice_get es (c + i) ≡ Some (standing_of l s)
+symbol_there es l c i s part here =
+    at_place es (standings_in l) c (length l.parts.symbols) i part (slice_get_within (standings_in l) i (standing_of l s) (standing_at l i s here)) ∙ standing_at l i s here
 
 -- a symbol gives its name its address
 pub gives : (l : Located) (name : List ℕ) (s : Named) (old new : Option ℕ) (rest : List Named) (whole : Option ℕ) → new ≡ option_or old (named_address l name s)

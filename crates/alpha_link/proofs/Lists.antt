@@ -1,9 +1,11 @@
 -- Lists that a loop goes along.
-use Rattle.std.proofs.Common.{◌≡◌, ℕ, ◌+◌, ◌<◌, ◌≤◌, List, [], ◌∷◌, length, map, drop, get_or, Bool, cond, Option, None, Some, refl, sym, ap, ◌∙◌, add-one, drop-cons}
-use Rattle.std.specs.Prelude.{position}
-use Rattle.std.specs.List.{position_from}
+use Rattle.std.proofs.Common.{◌≡◌, ℕ, ◌+◌, ◌<◌, ◌≤◌, List, [], ◌∷◌, length, map, drop, get_or, Bool, true, false, cond, take, ◌++◌, Option, None, Some, refl, sym, ap, ◌∙◌, add-one, drop-cons}
+use Rattle.std.specs.Prelude.{◌&&◌, position, slice_get}
+use Rattle.std.specs.List.{position_from, list_all}
 use Rattle.std.specs.Option.{option_or}
 use Rattle.alpha_asm.specs.Layout.{first}
+use Rattle.std.proofs.lemmas.List.{take_more}
+use Rattle.std.proofs.lemmas.Option.{slice_get_within, get_or_from_slice_get}
 use Rattle.std.proofs.Math.ListN.{drop_of_length-le}
 use Rattle.std.proofs.lemmas.Iterator.Adapters.{position_from-zero}
 
@@ -17,18 +19,6 @@ none_left xs i h = drop_of_length-le xs h
 pub position_begins : {A : Type 0} (p : A → Bool) (xs : List A) → position_from p 0 xs ≡ position p xs
 position_begins p xs = sym (position_from-zero p xs)
 
-place_map : {A B : Type 0} (p : B → Bool) (f : A → B) (n : ℕ) (xs : List A) → position_from p n (map f xs) ≡ position_from (λ x. p (f x)) n xs
-place_map p f n [] = refl
-place_map p f n (x ∷ xs) = ap (λ (o : Option ℕ). cond (p (f x)) (Some n) o) (place_map p f (n + 1) xs)
-
--- the first of what a function makes of elements is that of these
-pub position_map : {A B : Type 0} (p : B → Bool) (f : A → B) (xs : List A) → position p (map f xs) ≡ position (λ x. p (f x)) xs
-position_map p f xs = sym (position_begins p (map f xs)) ∙ (place_map p f 0 xs ∙ position_begins (λ x. p (f x)) xs)
-
-pub map_map : {A B C : Type 0} (g : B → C) (f : A → B) (xs : List A) → map g (map f xs) ≡ map (λ x. g (f x)) xs
-map_map g f [] = refl
-map_map g f (x ∷ xs) = ap (λ (ys : List _). g (f x) ∷ ys) (map_map g f xs)
-
 -- the first of what a function makes of elements: the loop goes on, stops at an element, or ends
 pub first_goes : {A B : Type 0} (f : A → Option B) (xs : List A) (i : ℕ) (x : A) (whole : Option B) → i < length xs → x ≡ get_or xs i x → f x ≡ None → first f (drop i xs) ≡ whole → first f (drop (i + 1) xs) ≡ whole
 first_goes f xs i x whole h here none e =
@@ -41,3 +31,36 @@ first_stops f xs i x y whole h here some e =
 
 pub first_ends : {A B : Type 0} (f : A → Option B) (xs : List A) (i : ℕ) (whole : Option B) → length xs ≤ i → first f (drop i xs) ≡ whole → whole ≡ None
 first_ends f xs i whole past e = sym e ∙ ap (first f) (none_left xs i past)
+
+-- the element with a number, and those behind it
+pub next_get : {A : Type 0} (xs : List A) (i : ℕ) (x : A) → slice_get xs i ≡ Some x → drop i xs ≡ x ∷ drop (i + 1) xs
+next_get xs i x e = next xs i x (slice_get_within xs i x e) ∙ ap (λ (y : _). y ∷ drop (i + 1) xs) (get_or_from_slice_get xs i x x e)
+
+pub take_get : {A : Type 0} (xs : List A) (i : ℕ) (x : A) → slice_get xs i ≡ Some x → take (i + 1) xs ≡ take i xs ++ x ∷ []
+take_get xs i x e = take_more xs i x (slice_get_within xs i x e) ∙ ap (λ (y : _). take i xs ++ y ∷ []) (get_or_from_slice_get xs i x x e)
+
+-- the first element that passes a test, as a loop goes along their numbers
+pub position_stops : {A : Type 0} (p : A → Bool) (xs : List A) (i : ℕ) (x : A) (whole : Option ℕ) → slice_get xs i ≡ Some x → p x ≡ true → position_from p i (drop i xs) ≡ whole → Some i ≡ whole
+position_stops p xs i x whole here passes e =
+    sym (ap (λ (b : Bool). cond b (Some i) (position_from p (i + 1) (drop (i + 1) xs))) passes) ∙ (ap (position_from p i) (sym (next_get xs i x here)) ∙ e)
+
+pub position_goes : {A : Type 0} (p : A → Bool) (xs : List A) (i : ℕ) (x : A) (whole : Option ℕ) → slice_get xs i ≡ Some x → p x ≡ false → position_from p i (drop i xs) ≡ whole
+    → position_from p (i + 1) (drop (i + 1) xs) ≡ whole
+position_goes p xs i x whole here fails e =
+    sym (ap (λ (b : Bool). cond b (Some i) (position_from p (i + 1) (drop (i + 1) xs))) fails) ∙ (ap (position_from p i) (sym (next_get xs i x here)) ∙ e)
+
+pub position_ends : {A : Type 0} (p : A → Bool) (xs : List A) (i : ℕ) (whole : Option ℕ) → length xs ≤ i → position_from p i (drop i xs) ≡ whole → None ≡ whole
+position_ends p xs i whole past e = sym (ap (position_from p i) (none_left xs i past)) ∙ e
+
+-- whether all elements pass a test, as a loop goes along their numbers
+whole_at : {A : Type 0} (p : A → Bool) (xs : List A) (i : ℕ) (x : A) (whole : Bool) → slice_get xs i ≡ Some x → list_all p (drop i xs) ≡ whole → (p x && list_all p (drop (i + 1) xs)) ≡ whole
+whole_at p xs i x whole here e = ap (list_all p) (sym (next_get xs i x here)) ∙ e
+
+pub all_stops : {A : Type 0} (p : A → Bool) (xs : List A) (i : ℕ) (x : A) (whole : Bool) → slice_get xs i ≡ Some x → p x ≡ false → list_all p (drop i xs) ≡ whole → false ≡ whole
+all_stops p xs i x whole here fails e = sym (ap (λ (b : Bool). b && list_all p (drop (i + 1) xs)) fails) ∙ whole_at p xs i x whole here e
+
+pub all_goes : {A : Type 0} (p : A → Bool) (xs : List A) (i : ℕ) (x : A) (whole : Bool) → slice_get xs i ≡ Some x → p x ≡ true → list_all p (drop i xs) ≡ whole → list_all p (drop (i + 1) xs) ≡ whole
+all_goes p xs i x whole here passes e = sym (ap (λ (b : Bool). b && list_all p (drop (i + 1) xs)) passes) ∙ whole_at p xs i x whole here e
+
+pub all_ends : {A : Type 0} (p : A → Bool) (xs : List A) (i : ℕ) (whole : Bool) → length xs ≤ i → list_all p (drop i xs) ≡ whole → true ≡ whole
+all_ends p xs i whole past e = sym (ap (list_all p) (none_left xs i past)) ∙ e

@@ -1,6 +1,6 @@
 -- The addresses at which modules define their own symbols.
-use Rattle.std.proofs.Common.{◌≡◌, ℕ, zero, suc, ◌+◌, ◌-◌, ◌*◌, ◌<◌, ◌≤◌, Bool, true, false, ◌&&◌, List, [], ◌∷◌, length, map, take, get_or, Option, None, Some, is_some, is_none, refl, sym, subst, ap, ◌∙◌, arith}
-use Rattle.std.specs.Prelude.{slice_get, position}
+use Rattle.std.proofs.Common.{◌≡◌, ℕ, zero, suc, ◌+◌, ◌-◌, ◌*◌, ◌<◌, ◌≤◌, Bool, true, false, ◌&&◌, List, [], ◌∷◌, length, map, take, get_or, Option, None, Some, is_some, refl, sym, subst, ap, ◌∙◌, arith}
+use Rattle.std.specs.Prelude.{slice_get}
 use Rattle.std.specs.List.{list_all}
 use Rattle.std.specs.Option.{option_map, option_and_then, option_or}
 use Rattle.std.proofs.lemmas.List.{take_all}
@@ -8,14 +8,12 @@ use Rattle.std.proofs.lemmas.Option.{slice_get_within, slice_get-map, slice_get-
 use Rattle.alpha_names.specs.Finder.{number_in}
 use Rattle.alpha_names.specs.declared.numbers.Numbers.{Numbers}
 use Rattle.alpha_asm.specs.Program.{code_base, data_base}
-use Rattle.alpha_link.specs.declared.symbol.Symbol as own
 use Rattle.alpha_link.specs.declared.symbol.SymbolSection.{SymbolSection}
 use Rattle.alpha_link.specs.declared.symbol.SymbolSection.TheVariants as sections
-use Rattle.alpha_link.specs.Symbols.{Named, named}
+use Rattle.alpha_link.specs.Symbols.{Named}
 use Rattle.alpha_link.specs.Linked.{Located, section_address, addresses_by, is_defined}
 use Rattle.alpha_link.specs.Standings.{Standing, standing_of, standings_in, standings, is_of, address_at, AreEntered}
 use Rattle.alpha_link.specs.Addresses.{owned, address_by_own, Knows, AllKnow}
-use Rattle.alpha_link.proofs.Lists.{position_map, map_map}
 use Rattle.alpha_link.proofs.Entered.{get_front, get_behind, own_found}
 
 none_some : {X : Type 0} (x : X) → None ≡ Some x → ⊥
@@ -29,28 +27,15 @@ map_same f g (x ∷ xs) h =
     ∙ ap (λ (ys : List _). g x ∷ ys) (map_same f g xs (λ k y e. h (suc k) y e))
 
 -- a symbol that a module defines has the address at which it does
-own_address : (find : List ℕ → Option ℕ) (l : Located) (k : ℕ) (s : Named) → Knows find l → slice_get l.parts.symbols k ≡ Some s → address_by_own find l s ≡ find s.name
+pub own_address : (find : List ℕ → Option ℕ) (l : Located) (k : ℕ) (s : Named) → Knows find l → slice_get l.parts.symbols k ≡ Some s → address_by_own find l s ≡ find s.name
 own_address find l k s knows here = by (section_address l s.section s.offset) refl
   where
     by : (o : Option ℕ) → section_address l s.section s.offset ≡ o → option_or o (find s.name) ≡ find s.name
     by None e = refl
     by (Some a) e = sym (knows k s a here e)
 
-by_own : (find : List ℕ → Option ℕ) (l : Located) → Knows find l → map (address_by_own find l) l.parts.symbols ≡ addresses_by find l
+pub by_own : (find : List ℕ → Option ℕ) (l : Located) → Knows find l → map (address_by_own find l) l.parts.symbols ≡ addresses_by find l
 by_own find l knows = map_same (address_by_own find l) (λ (s : Named). find s.name) l.parts.symbols (λ k s here. own_address find l k s knows here)
-
--- the addresses of all symbols
-pub listed_own : (find : List ℕ → Option ℕ) (l : Located) (ss : List own.Symbol) → Knows find l → map named ss ≡ l.parts.symbols
-    → map (λ s. address_by_own find l (named s)) ss ≡ addresses_by find l
-listed_own find l ss knows same =
-    sym (map_map (address_by_own find l) named ss) ∙ (ap (map (address_by_own find l)) same ∙ by_own find l knows)
-
--- the least symbol that has none
-pub missing_own : (find : List ℕ → Option ℕ) (l : Located) (ss : List own.Symbol) → Knows find l → map named ss ≡ l.parts.symbols
-    → position (λ s. is_none (address_by_own find l (named s))) ss ≡ position (λ s. is_none (find s.name)) l.parts.symbols
-missing_own find l ss knows same =
-    sym (position_map is_none (λ (s : own.Symbol). address_by_own find l (named s)) ss)
-    ∙ (ap (position is_none) (listed_own find l ss knows same) ∙ position_map is_none (λ (s : Named). find s.name) l.parts.symbols)
 
 both : (a b : Bool) → (a && b) ≡ true → (a ≡ true) × (b ≡ true)
 both true b e = (refl, e)
@@ -61,20 +46,13 @@ all_at p [] k x all here = absurd (none_some x here)
 all_at p (y ∷ xs) zero x all here = let same : y ≡ x = cc in ap p (sym same) ∙ (both (p y) (list_all p xs) all).0
 all_at p (y ∷ xs) (suc k) x all here = all_at p xs k x (both (p y) (list_all p xs) all).1 here
 
-all_map : {A B : Type 0} (p : B → Bool) (f : A → B) (xs : List A) → list_all p (map f xs) ≡ list_all (λ x. p (f x)) xs
-all_map p f [] = refl
-all_map p f (x ∷ xs) = ap (λ (b : Bool). p (f x) && b) (all_map p f xs)
-
 -- a module that defines all its symbols
-pub all_own : (find : List ℕ → Option ℕ) (l : Located) (ss : List own.Symbol) → Knows find l → map named ss ≡ l.parts.symbols → list_all (λ s. is_defined s.section) ss ≡ true
+pub all_own : (find : List ℕ → Option ℕ) (l : Located) → Knows find l → list_all (λ s. is_defined s.section) l.parts.symbols ≡ true
     → owned l ≡ addresses_by find l
-all_own find l ss knows same all =
+all_own find l knows all =
     map_same (λ (s : Named). section_address l s.section s.offset) (λ (s : Named). find s.name) l.parts.symbols
-    (λ k s here. by k s here s.section refl (all_at (λ (t : Named). is_defined t.section) l.parts.symbols k s defined here))
+    (λ k s here. by k s here s.section refl (all_at (λ (t : Named). is_defined t.section) l.parts.symbols k s all here))
   where
-    defined : list_all (λ (t : Named). is_defined t.section) l.parts.symbols ≡ true
-    defined = ap (list_all (λ (t : Named). is_defined t.section)) (sym same) ∙ (all_map (λ (t : Named). is_defined t.section) named ss ∙ all)
-
     by : (k : ℕ) (s : Named) → slice_get l.parts.symbols k ≡ Some s → (t : SymbolSection) → s.section ≡ t → is_defined s.section ≡ true → section_address l s.section s.offset ≡ find s.name
     by k s here sections.Code e d =
         let at : section_address l s.section s.offset ≡ Some (code_base + 4 * l.words + s.offset) = ap (λ (t : SymbolSection). section_address l t s.offset) e in
@@ -117,9 +95,8 @@ pub knows_item : (find : List ℕ → Option ℕ) (ls : List Located) (i : ℕ) 
 knows_item find ls i l all within here = all i l (slice_get-get_or ls i l within ∙ ap Some (sym here))
 
 -- the address at which a module defines the symbol with a number
-pub owned_at : (l : Located) (ss : List own.Symbol) (i : ℕ) (d : own.Symbol) → map named ss ≡ l.parts.symbols → i < length ss →
-    option_and_then (λ a. a) (slice_get (owned l) i) ≡ section_address l (get_or ss i d).section (get_or ss i d).offset
-owned_at l ss i d same within =
-    let at = λ (s : Named). section_address l s.section s.offset in
-    ap (λ (x : List Named). option_and_then (λ a. a) (slice_get (map at x) i)) (sym same)
-    ∙ ap (option_and_then (λ a. a)) (slice_get-map at (map named ss) i ∙ ap (option_map at) (slice_get-map named ss i ∙ ap (option_map named) (slice_get-get_or ss i d within)))
+pub owned_at : (l : Located) (i : ℕ) (s : Named) → slice_get l.parts.symbols i ≡ Some s →
+    option_and_then (λ a. a) (slice_get (owned l) i) ≡ section_address l s.section s.offset
+owned_at l i s here =
+    let at = λ (t : Named). section_address l t.section t.offset in
+    ap (option_and_then (λ a. a)) (slice_get-map at l.parts.symbols i ∙ ap (option_map at) here)

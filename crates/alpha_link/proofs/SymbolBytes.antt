@@ -1,12 +1,11 @@
 -- Symbols, both ways.
-use Rattle.std.proofs.Common.{◌≡◌, ℕ, zero, suc, ◌+◌, ◌^◌, ◌<◌, ◌≤◌, Bool, true, false, ◌&&◌, nat_lt, List, [], ◌∷◌, ◌++◌, length, map, take, drop, slice_index, Option, None, Some, refl, sym, ap, subst, ◌∙◌, append_assoc, arith}
+use Rattle.std.proofs.Common.{◌≡◌, ℕ, zero, suc, ◌+◌, ◌-◌, ◌^◌, ◌<◌, ◌≤◌, Bool, true, false, ◌&&◌, nat_lt, List, [], ◌∷◌, ◌++◌, length, take, drop, slice_index, Option, None, Some, refl, sym, ap, subst, ◌∙◌, append_assoc, arith}
 use Rattle.std.specs.Prelude.{Ok, All}
 use Rattle.std.proofs.lemmas.List.Elements.{All-nil, All-cons}
-use Rattle.alpha_link.specs.declared.symbol.Symbol.{Symbol}
 use Rattle.alpha_link.specs.Parts.{AreGood}
 use Rattle.std.specs.Option.{option_map}
 use Rattle.std.proofs.lemmas.Bool.{ltb-false, le-ltb, leb-true}
-use Rattle.std.proofs.lemmas.List.{length-append, length-take-le, take_at, drop_at, take-append-drop}
+use Rattle.std.proofs.lemmas.List.{length-append, length-take-le, length-drop, drop-drop, take_at, drop_at, take-append-drop}
 use Rattle.alpha_image.specs.Layout.{longword}
 use Rattle.alpha_image.specs.Reading.{longword_at}
 use Rattle.alpha_image.proofs.Numbers.{IsBytes, IsBytes-drop, longword_at-lt, longword_at-front, drop-longword}
@@ -17,7 +16,8 @@ use Rattle.alpha_link.specs.declared.symbol.SymbolSection.{SymbolSection}
 use Rattle.alpha_link.specs.declared.symbol.SymbolSection.TheVariants.{Code, Data, Undefined}
 use Rattle.alpha_link.specs.Bytes.{halfword, halfword_at}
 use Rattle.alpha_link.specs.Reading.{Read, and_then, taken}
-use Rattle.alpha_link.specs.Symbols.{Named, named, section_of, section_number, symbol_fits, front_at, made_symbol, good_symbol, symbol_at, symbol_bytes, IsSymbol}
+use Rattle.alpha_link.specs.Symbols.{Named, section_of, section_number, symbol_fits, front_at, made_symbol, good_symbol, symbol_at, symbol_bytes, IsSymbol}
+use Rattle.alpha_link.specs.Listed.{symbol_from}
 use Rattle.alpha_link.proofs.Results.{bind_ok, ok_is, pair_is, unless_err, if_ok, taken_ok}
 use Rattle.alpha_link.proofs.Formats.{IsFormat}
 use Rattle.alpha_link.proofs.Numbers.{halfword_at-front, drop-halfword, first_byte}
@@ -140,7 +140,44 @@ pub symbol_format : (total : ℕ) (z : Sizes) → IsFormat (symbol_at total z) s
 symbol_format total z = record { takes = symbol_takes total z; again = symbol_again total z }
 
 -- the names of good symbols are short
-pub short_names : (z : Sizes) (before : List Named) (xs : List Symbol) → AreGood (IsSymbol z) before (map named xs) → All (λ (s : Symbol). length s.name.now ≤ 1024) xs
-short_names z before [] good = All-nil (λ (s : Symbol). length s.name.now ≤ 1024)
+pub short_names : (z : Sizes) (before xs : List Named) → AreGood (IsSymbol z) before xs → All (λ (s : Named). length s.name ≤ 1024) xs
+short_names z before [] good = All-nil (λ (s : Named). length s.name ≤ 1024)
 short_names z before (s ∷ xs) good =
-    All-cons (λ (s : Symbol). length s.name.now ≤ 1024) s xs (short_name z before (named s) good.0.fits) (short_names z (before ++ named s ∷ []) xs good.1)
+    All-cons (λ (s : Named). length s.name ≤ 1024) s xs (short_name z before s good.0.fits) (short_names z (before ++ s ∷ []) xs good.1)
+
+-- a symbol that is read stands at the front of the bytes
+pub stands_there : (total : ℕ) (z : Sizes) (before : List Named) (bytes : List ℕ) (s : Named) (rest : List ℕ) → symbol_at total z before bytes ≡ Ok (s, rest)
+    → (symbol_from bytes ≡ s) × ((rest ≡ drop (7 + length s.name) bytes) × (7 + length s.name ≤ length bytes))
+unfolding symbol_at symbol_from
+stands_there total z before bytes s rest e =
+    let a = bind_ok (front_at total bytes) (λ (front : Front × List ℕ). and_then (taken total front.0.size front.1) (behind_name z before front.0)) (s, rest) e in
+    let b = unless_err (nat_lt (length bytes) 7) (faults.Cut total) (Ok (front_of bytes, drop 7 bytes)) a.0 a.1 in
+    let long : 7 ≤ length bytes = ltb-false (length bytes) 7 b.0 in
+    let front = ok_is (front_of bytes, drop 7 bytes) a.0 b.1 in
+    let size = halfword_at 1 bytes in
+    let behind = drop 7 bytes in
+    let name = take size behind in
+    let f : and_then (taken total size behind) (behind_name z before (front_of bytes)) ≡ Ok (s, rest) =
+    ap (λ (f : Front × List ℕ). and_then (taken total f.0.size f.1) (behind_name z before f.0)) front ∙ a.2 in
+    let g = bind_ok (taken total size behind) (behind_name z before (front_of bytes)) (s, rest) f in
+    let h = taken_ok total size behind g.0 g.1 in
+    let j : behind_name z before (front_of bytes) (name, drop size behind) ≡ Ok (s, rest) =
+    ap (λ (n : List ℕ × List ℕ). behind_name z before (front_of bytes) n) h.1 ∙ g.2 in
+    let d = good_symbol_ok z before (option_map (made_symbol (front_of bytes) name) (section_of (slice_index bytes 0))) s (drop size behind) rest j in
+    let m = made_is (front_of bytes) name (section_of (slice_index bytes 0)) s d.0 in
+    let count : length s.name ≡ size = ap (λ (t : Named). length t.name) (sym m.2) ∙ length-take-le size behind h.0 in (
+      rw (b.0, m.1) m.2,
+      (
+        sym d.2 ∙ (drop-drop size 7 bytes ∙ ap (λ (k : ℕ). drop (7 + k) bytes) (sym count)),
+        omega (arith, h.0, count, long, length-drop 7 bytes),
+      ),
+    )
+
+-- where the bytes behind a symbol begin
+pub place_next : (bytes rest behind : List ℕ) (m : ℕ) → rest ≡ drop (length bytes - length rest) bytes → length rest ≤ length bytes → m ≤ length rest → behind ≡ drop m rest
+    → (behind ≡ drop (length bytes - length behind) bytes) × (length behind ≤ length bytes)
+place_next bytes rest behind m place below fits e =
+    let b = length bytes - length rest in
+    let size : length behind ≡ length rest - m = ap length e ∙ length-drop m rest in
+    let at : b + m ≡ length bytes - length behind = omega (arith, size, below, fits) in
+    (e ∙ (ap (drop m) place ∙ (drop-drop m b bytes ∙ ap (λ (k : ℕ). drop k bytes) at)), omega (arith, size, below))

@@ -10,7 +10,7 @@ abbrev pub owned : Located → List (Option ℕ)
 owned l = map (λ s. section_address l s.section s.offset) l.parts.symbols
 
 abbrev pub addresses_in : Inside → List (Option ℕ)
-addresses_in i = option_map_or (λ v. v.items) i.listed (owned i.located.now)
+addresses_in i = option_map_or (λ v. map Some v.items) i.listed (owned i.located.now)
 
 -- the address at which a module defines a symbol, or that of its name
 abbrev pub address_by_own : (List ℕ → Option ℕ) → Located → Named → Option ℕ

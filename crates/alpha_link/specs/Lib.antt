@@ -16,5 +16,6 @@ pub mod Numbered
 pub mod Standings
 pub mod Names
 pub mod Addresses
+pub mod Listed
 pub mod Output
 pub mod Unlinked

@@ -3,7 +3,6 @@ use Rattle.std.specs.Prelude.{◌≡◌, map, Some}
 use Rattle.alpha_table.specs.Decoded.{decoded}
 use Rattle.alpha_table.specs.Encoded.{encoded}
 use Rattle.alpha_link.specs.declared.module.Module.TheInside.{Inside}
-use Rattle.alpha_link.specs.Symbols.{named}
 use Rattle.alpha_link.specs.Parts.{ModuleParts, IsModule}
 
 -- the code words are those of the instructions
@@ -12,7 +11,7 @@ parts_in i = record {
   words = map encoded i.insns.items;
   bytes = i.bytes.items;
   zeroed = i.zeroed;
-  symbols = map named i.symbols.items;
+  symbols = i.symbols;
   relocations = i.relocations.items;
 }
 

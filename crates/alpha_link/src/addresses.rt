@@ -1,6 +1,6 @@
 //! The addresses of a module's symbols, for the relocations that ask for them.
 
-ghost use Rattle.std.specs.Prelude.{◌≡◌, map, slice_get};
+ghost use Rattle.std.specs.Prelude.{◌≡◌, map, slice_get, Some};
 ghost use Rattle.std.specs.Option.{option_and_then};
 ghost use Rattle.alpha_link.specs.Addresses.{owned};
 ghost use Rattle.alpha_link.specs.Linked.{section_address};
@@ -8,11 +8,11 @@ ghost use Rattle.alpha_link.specs.Linked.{section_address};
 use crate::located::Located;
 use std::marker::Model;
 
-/// The addresses of a module's symbols, listed, or those that it defines them at.
+/// The addresses of a module's symbols, all of which have one: listed, or those that it defines them at.
 #[derive(Drop)]
 pub(crate) struct Addresses<'p, 'm> {
     located: &'p Located<'m>,
-    listed: Option<Vec<Option<u64>>>,
+    listed: Option<Vec<u64>>,
 }
 
 impl<'p, 'm> Model for Addresses<'p, 'm> {
@@ -31,8 +31,8 @@ fn own_address(located: &Located<'_>, number: usize) -> Option<u64>
         (slice_get (owned located.now) number) }
 {
     let module = located.module;
-    let symbol = module.symbols().get(number)?;
-    located.address(symbol)
+    let symbol = module.symbols.get(number)?;
+    located.address(&symbol)
 }
 
 impl<'p, 'm> Addresses<'p, 'm> {
@@ -48,8 +48,8 @@ impl<'p, 'm> Addresses<'p, 'm> {
     }
 
     /// These addresses.
-    pub(crate) fn listed(located: &'p Located<'m>, addresses: Vec<Option<u64>>) -> Addresses<'p, 'm>
-        ensures { result ≡ addresses.items }
+    pub(crate) fn listed(located: &'p Located<'m>, addresses: Vec<u64>) -> Addresses<'p, 'm>
+        ensures { result ≡ map Some addresses.items }
     {
         Addresses {
             located,
@@ -62,10 +62,7 @@ impl<'p, 'm> Addresses<'p, 'm> {
         ensures { result ≡ option_and_then (λ address. address) (slice_get self.now number) }
     {
         match &self.listed {
-            Some(addresses) => match addresses.get(number) {
-                Some(address) => *address,
-                None => None,
-            },
+            Some(addresses) => addresses.get(number).copied(),
             None => own_address(self.located, number),
         }
     }

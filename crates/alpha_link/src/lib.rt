@@ -44,8 +44,9 @@
 //!   is accepted.
 //!
 //! `header.rt` has the sizes at the front, `symbol.rt` and `relocation.rt` have what symbols and
-//! relocations are, `symbols.rt` and `relocations.rt` read and write them, `number.rt` reads a number of two
-//! bytes; `read.rt` and `write.rt` are the ways in and out, and `judged.rt` has the verdict.
+//! relocations are, `symbol_list.rt` has the symbols of a module, `symbols.rt` and `relocations.rt` read and write
+//! them, `number.rt` reads a number of two bytes; `read.rt` and `write.rt` are the ways in and out, and `judged.rt`
+//! has the verdict.
 //! A module of a source is `made.rt`. `labels.rt` numbers the labels that the source defines or names, and
 //! `made_relocations.rt` makes relocations by these numbers; `keyed.rt` sorts the labels, which `radix.rt`
 //! puts in the order of their keys first where they stand in many runs; and `made_symbols.rt` makes their
@@ -60,7 +61,8 @@
 //!
 //! `specs/Reading.antt` says how bytes are read from the front, `specs/Header.antt`, `specs/Symbols.antt`
 //! and `specs/Relocations.antt` which items there are and which are good, `specs/Parts.antt` what a module
-//! is, `specs/Spelled.antt` its bytes both ways, and `specs/Module.antt` what a [`Module`] holds;
+//! is, `specs/Spelled.antt` its bytes both ways, `specs/Module.antt` what a [`Module`] holds, and `specs/Listed.antt`
+//! what a [`SymbolList`] does;
 //! `specs/Made.antt` has the module that a source makes, `specs/Numbered.antt` what is made by the numbers
 //! of labels on the way, `specs/Rising.antt` names in order, `specs/NameKeys.antt` the keys that they are
 //! sorted by, and `specs/Digits.antt` the digits of these, counted;
@@ -92,6 +94,7 @@ mod relocations;
 mod row;
 mod standings;
 mod symbol;
+mod symbol_list;
 mod symbols;
 mod table;
 mod write;
@@ -105,4 +108,5 @@ pub use module::Module;
 pub use read::read_module;
 pub use relocation::{Relocation, RelocationKind};
 pub use symbol::{Symbol, SymbolSection};
+pub use symbol_list::SymbolList;
 pub use write::module_bytes;

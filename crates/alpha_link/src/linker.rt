@@ -165,7 +165,7 @@ fn linked_at<'m>(
 
 /// The image that modules link to, 64 modules at most. Its entry is the address of a name. Memory taken
 /// is that of the image and of a table of the names that the modules define, of 16 bytes for each symbol, with
-/// 24 bytes for each module and 16 for each symbol of the module being joined, unless it defines all of them.
+/// 24 bytes for each module and 8 for each symbol of the module being joined, unless it defines all of them.
 ///
 /// # Errors
 ///

@@ -14,6 +14,7 @@ use crate::keyed::by_keys;
 use crate::made_relocations::{Numbered, put_ranks};
 use crate::made_symbols::Ranked;
 use crate::module::Module;
+use crate::symbol_list::SymbolList;
 use alpha_asm::{AsmFault, Unlinked};
 use alpha_words::NoMemory;
 use std::alloc::Global;
@@ -73,7 +74,7 @@ fn module_of<'a>(alloc: Global, unlinked: Unlinked<'a>) -> Result<Module<'a>, No
         insns: unlinked.code,
         bytes: unlinked.bytes,
         zeroed: unlinked.zeroed as u32,
-        symbols,
+        symbols: SymbolList::made(symbols),
         relocations,
     })
 }

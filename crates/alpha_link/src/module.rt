@@ -1,10 +1,9 @@
 //! Modules.
 
-ghost use Rattle.std.specs.Prelude.{◌≡◌, map};
-ghost use Rattle.alpha_link.specs.Symbols.{named};
+ghost use Rattle.std.specs.Prelude.{◌≡◌};
 
 use crate::relocation::Relocation;
-use crate::symbol::Symbol;
+use crate::symbol_list::SymbolList;
 use alpha_table::Insn;
 use std::marker::Model;
 
@@ -16,7 +15,7 @@ pub struct Module<'a> {
     pub(crate) insns: Vec<Insn>,
     pub(crate) bytes: Vec<u8>,
     pub(crate) zeroed: u32,
-    pub(crate) symbols: Vec<Symbol<'a>>,
+    pub(crate) symbols: SymbolList<'a>,
     pub(crate) relocations: Vec<Relocation>,
 }
 
@@ -34,8 +33,8 @@ impl<'a> Model for Module<'a> {
 
 impl<'a> Module<'a> {
     /// Its symbols, whose names rise: the labels that it defines, and those that another module has to define.
-    pub fn symbols(&self) -> &[Symbol<'a>]
-        ensures { map named result.now ≡ self.now.symbols }
+    pub fn symbols(&self) -> &SymbolList<'a>
+        ensures { result.now ≡ self.now.symbols }
     {
         &self.symbols
     }

@@ -1,6 +1,6 @@
 //! The names that modules define, with their addresses.
 
-ghost use Rattle.std.specs.Prelude.{◌≡◌, ◌≢◌, ◌&&◌, ◌<◌, ◌+◌, take, drop, slice_get, length, ℕ, List, [], None, Some, OnOk, OnErr, IfOk, IfErr, IfSome, is_some, is_none, map, position, if◌then◌else◌};
+ghost use Rattle.std.specs.Prelude.{◌≡◌, ◌≢◌, ◌&&◌, ◌+◌, take, drop, slice_get, length, ℕ, List, [], None, Some, OnOk, OnErr, IfOk, IfErr, is_some, is_none, map, position, if◌then◌else◌};
 ghost use Rattle.std.specs.Option.{option_map, option_or};
 ghost use Rattle.std.specs.List.{list_all};
 ghost use Rattle.std.specs.Str.{bytes_eq};
@@ -17,6 +17,7 @@ use crate::addresses::Addresses;
 use crate::located::Located;
 use crate::row::Row;
 use crate::symbol::{Symbol, SymbolSection};
+use crate::symbol_list::SymbolList;
 use crate::table::Names;
 use alpha_names::Numbers;
 use std::alloc::{AllocError, Global};
@@ -132,34 +133,36 @@ impl<'p, 'm> Names<'p, 'm> {
         ensures places { self.new.row.places.now ≡ self.old.row.places.now }
     {
         let module = located.module;
-        for symbol in module.symbols() {
-            self.enter(symbol.name, located.address(symbol))?;
+        let symbols = &module.symbols;
+        for number in 0..symbols.len() {
+            let symbol = symbols.at(number);
+            self.enter(symbol.name, located.address(&symbol))?;
         }
         Ok(())
     }
 
-    // The least of some symbols that is defined and whose name has an address.
-    fn least_repeated(&self, symbols: &'m [Symbol<'m>]) -> Option<usize>
-        ensures value { result
-            ≡ position (λ s. is_defined s.section && is_some (found_in self.now s.name.now))
-            symbols.entry.now }
-        ensures bound { IfSome result (λ number. number < length symbols.entry.now) }
+    // Whether a symbol is defined and its name has an address.
+    fn is_repeated(&self, symbol: &Symbol<'_>) -> bool
+        ensures { result ≡ (is_defined symbol.now.section
+            && is_some (found_in self.now symbol.now.name.now)) }
     {
-        symbols.iter().position(|s| s.section.is_defined() && self.address(s.name).is_some())
+        symbol.section.is_defined() && self.address(symbol.name).is_some()
     }
 
     // The least symbol that a module defines and whose name has an address.
-    #[tactic(auto, using(crate::proofs::Lists::position_map))]
     fn repeated(&self, located: &Located<'m>) -> Option<u32>
         ensures { result
             ≡ position (λ s. is_defined s.section && is_some (found_in self.now s.name))
             located.now.parts.symbols }
     {
         let module = located.module;
-        match self.least_repeated(&module.symbols) {
-            Some(number) => Some(number as u32),
-            None => None,
+        let symbols = &module.symbols;
+        for number in 0..symbols.len() {
+            if self.is_repeated(&symbols.at(number)) {
+                return Some(number as u32);
+            }
         }
+        None
     }
 
     // The address of a symbol: that at which the module defines it, or that of its name.
@@ -172,18 +175,6 @@ impl<'p, 'm> Names<'p, 'm> {
         }
     }
 
-    // The least of some symbols that isn't defined and whose name has no address.
-    fn least_missing(&self, located: &Located<'m>, symbols: &'m [Symbol<'m>]) -> Option<usize>
-        ensures value { result
-            ≡ position (λ s. is_none (address_by_own (found_in self.now) located.now (named s)))
-            symbols.entry.now }
-        ensures bound { IfSome result (λ number. number < length symbols.entry.now) }
-    {
-        symbols
-            .iter()
-            .position(|s| self.address_of(located, s).is_none())
-    }
-
     /// The least symbol of a module whose name has no address.
     pub(crate) fn missing(&self, located: &Located<'m>) -> Option<u32>
         requires { Knows (found_in self.now) located.now }
@@ -191,25 +182,28 @@ impl<'p, 'm> Names<'p, 'm> {
             located.now.parts.symbols }
     {
         let module = located.module;
-        match self.least_missing(located, &module.symbols) {
-            Some(number) => Some(number as u32),
-            None => None,
+        let symbols = &module.symbols;
+        for number in 0..symbols.len() {
+            if self.address_of(located, &symbols.at(number)).is_none() {
+                return Some(number as u32);
+            }
         }
+        None
     }
 
-    // The addresses of symbols.
-    fn addresses_of(
-        &self,
-        alloc: Global,
-        located: &Located<'m>,
-        symbols: &'m [Symbol<'m>],
-    ) -> Result<Vec<Option<u64>>, AllocError>
-        ensures { IfOk result (λ all. all.items
-            ≡ map (λ s. address_by_own (found_in self.now) located.now (named s)) symbols.entry.now) }
+    // The addresses of a module's symbols. One that has none counts as want of memory: such symbols are told before.
+    fn addresses_of(&self, alloc: Global, located: &Located<'m>) -> Result<Vec<u64>, AllocError>
+        ensures { IfOk result (λ all. map Some all.items
+            ≡ map (address_by_own (found_in self.now) located.now) located.now.parts.symbols) }
     {
+        let module = located.module;
+        let symbols = &module.symbols;
         let mut all = Vec::with_capacity(alloc, symbols.len())?;
-        for symbol in symbols {
-            all.push(self.address_of(located, symbol))?;
+        for number in 0..symbols.len() {
+            let Some(address) = self.address_of(located, &symbols.at(number)) else {
+                return Err(AllocError);
+            };
+            all.push(address)?;
         }
         Ok(all)
     }
@@ -228,14 +222,19 @@ impl<'p, 'm> Names<'p, 'm> {
         if defines_all(&module.symbols) {
             return Ok(Addresses::own(located));
         }
-        let listed = self.addresses_of(alloc, located, &module.symbols)?;
+        let listed = self.addresses_of(alloc, located)?;
         Ok(Addresses::listed(located, listed))
     }
 }
 
 // Whether all symbols are defined.
-fn defines_all(symbols: &[Symbol<'_>]) -> bool
+fn defines_all(symbols: &SymbolList<'_>) -> bool
     ensures { result ≡ list_all (λ s. is_defined s.section) symbols.now }
 {
-    symbols.iter().all(|s| s.section.is_defined())
+    for number in 0..symbols.len() {
+        if !symbols.at(number).section.is_defined() {
+            return false;
+        }
+    }
+    true
 }

@@ -11,7 +11,7 @@ fn count_of(located: &Located<'_>) -> usize
     ensures { result ≡ length (standings_in located.now) }
 {
     let module = located.module;
-    module.symbols().len()
+    module.symbols.len()
 }
 
 // The symbol of a module with a number.
@@ -19,10 +19,10 @@ fn standing_in<'m>(located: &Located<'m>, number: usize) -> Option<Standing<'m>>
     ensures { option_map standing result ≡ slice_get (standings_in located.now) number }
 {
     let module = located.module;
-    let symbol = module.symbols().get(number)?;
+    let symbol = module.symbols.get(number)?;
     Some(Standing {
         name: symbol.name,
-        address: located.address(symbol),
+        address: located.address(&symbol),
     })
 }
 

@@ -5,6 +5,7 @@ ghost use Rattle.std.specs.List.{flat_map};
 ghost use Rattle.alpha_image.specs.Layout.{longword};
 ghost use Rattle.alpha_link.specs.Bytes.{halfword};
 ghost use Rattle.alpha_link.specs.Reading.{Gives, items_at};
+ghost use Rattle.alpha_link.specs.Listed.{read_in};
 ghost use Rattle.alpha_link.specs.Symbols.{named, offset_fits, comes_behind, symbol_fits, front_at, symbol_at, symbol_bytes};
 
 use crate::ModuleFault;
@@ -12,13 +13,12 @@ use crate::header::Sizes;
 use crate::number::halfword_at;
 use crate::read::taken;
 use crate::symbol::{Front, Symbol, SymbolSection, is_label_name};
+use crate::symbol_list::{FRONT_BYTES, ReadSymbols, SymbolList};
 use alpha_image::longword_at;
 use std::alloc::{AllocError, Global};
 
 /// The most bytes of a symbol's name.
 const LONGEST_NAME: usize = 1024;
-
-const FRONT_BYTES: usize = 7;
 
 // What stands before a name, and the bytes behind it.
 fn front_at(total: u64, bytes: &[u8]) -> Result<(Front, &[u8]), ModuleFault>
@@ -50,8 +50,8 @@ fn offset_fits(sizes: &Sizes, section: SymbolSection, offset: u32) -> bool
 }
 
 // Whether a name is above that of the last symbol before it.
-fn comes_behind(before: &[Symbol<'_>], name: &[u8]) -> bool
-    ensures { result ≡ comes_behind (map named before.now) name.now }
+fn comes_behind(before: &ReadSymbols<'_>, name: &[u8]) -> bool
+    ensures { result ≡ comes_behind (read_in before.now) name.now }
 {
     match before.last() {
         Some(last) => last.name.cmp(name).is_lt(),
@@ -63,13 +63,13 @@ fn comes_behind(before: &[Symbol<'_>], name: &[u8]) -> bool
 #[tactic(auto, unfolding(crate::specs::Symbols::symbol_fits))]
 pub(crate) fn symbol_fits(
     sizes: &Sizes,
-    before: &[Symbol<'_>],
+    before: &ReadSymbols<'_>,
     section: SymbolSection,
     offset: u32,
     name: &[u8],
 ) -> bool
     requires { sizes.now.words ≤ 262144 }
-    ensures { result ≡ symbol_fits sizes.now (map named before.now)
+    ensures { result ≡ symbol_fits sizes.now (read_in before.now)
         (record { section = section; offset = offset; name = name.now }) }
 {
     name.len() <= LONGEST_NAME
@@ -83,13 +83,13 @@ pub(crate) fn symbol_fits(
 fn symbol_at<'a>(
     total: u64,
     sizes: &Sizes,
-    before: &[Symbol<'_>],
+    before: &ReadSymbols<'_>,
     bytes: &'a [u8],
 ) -> Result<(Symbol<'a>, &'a [u8]), ModuleFault>
     requires words { sizes.now.words ≤ 262144 }
-    requires number { length before.now < 2 ^ 32 }
+    requires number { length (read_in before.now) < 2 ^ 32 }
     ensures { Gives (λ x. (named x.0, x.1.now)) result
-        (symbol_at total sizes.now (map named before.now) bytes.now) }
+        (symbol_at total sizes.now (read_in before.now) bytes.now) }
 {
     let (front, behind) = front_at(total, bytes)?;
     let (name, rest) = taken(total, usize::from(front.size), behind)?;
@@ -114,30 +114,30 @@ pub(crate) fn read_symbols<'a>(
     total: u64,
     sizes: &Sizes,
     bytes: &'a [u8],
-) -> Result<(Vec<Symbol<'a>>, &'a [u8]), ModuleFault>
+) -> Result<(SymbolList<'a>, &'a [u8]), ModuleFault>
     requires { sizes.now.words ≤ 262144 }
-    ensures { Gives (λ x. (map named x.0.items, x.1.now)) result
+    ensures { Gives (λ x. (x.0, x.1.now)) result
         (items_at (symbol_at total sizes.now) sizes.now.symbols [] bytes.now) }
 {
     // No more than the bytes can have, whatever the header says.
     let most = bytes.len() / FRONT_BYTES;
-    let mut symbols = Vec::with_capacity(alloc, most.min(sizes.symbols as usize))?;
+    let mut symbols = ReadSymbols::empty(alloc, bytes, most.min(sizes.symbols as usize))?;
     let mut rest = bytes;
     for _number in 0..sizes.symbols {
-        let (symbol, behind) = symbol_at(total, sizes, &symbols, rest)?;
-        symbols.push(symbol)?;
+        let (_, behind) = symbol_at(total, sizes, &symbols, rest)?;
+        symbols.push(bytes.len().saturating_sub(rest.len()))?;
         rest = behind;
     }
-    Ok((symbols, rest))
+    Ok((SymbolList::read(symbols), rest))
 }
 
 /// How many bytes the symbols have, or the last number of a usize.
-pub(crate) fn size_of_symbols(symbols: &[Symbol<'_>]) -> usize {
+pub(crate) fn size_of_symbols(symbols: &SymbolList<'_>) -> usize {
     let mut size = 0usize;
-    for symbol in symbols {
+    for number in 0..symbols.len() {
         size = size
             .saturating_add(FRONT_BYTES)
-            .saturating_add(symbol.name.len());
+            .saturating_add(symbols.at(number).name.len());
     }
     size
 }
@@ -166,13 +166,12 @@ fn push_symbol(out: &mut Vec<u8>, symbol: &Symbol<'_>) -> Result<(), AllocError>
 }
 
 /// Appends the bytes of the symbols.
-pub(crate) fn push_symbols(out: &mut Vec<u8>, symbols: &[Symbol<'_>]) -> Result<(), AllocError>
-    requires { All (λ s. length s.name.now ≤ 1024) symbols.now }
-    ensures ok { OnOk result
-        (out.new.items ≡ out.old.items ++ flat_map symbol_bytes (map named symbols.now)) }
+pub(crate) fn push_symbols(out: &mut Vec<u8>, symbols: &SymbolList<'_>) -> Result<(), AllocError>
+    requires { All (λ s. length s.name ≤ 1024) symbols.now }
+    ensures ok { OnOk result (out.new.items ≡ out.old.items ++ flat_map symbol_bytes symbols.now) }
 {
-    for symbol in symbols {
-        push_symbol(out, symbol)?;
+    for number in 0..symbols.len() {
+        push_symbol(out, &symbols.at(number))?;
     }
     Ok(())
 }

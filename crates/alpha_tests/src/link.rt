@@ -117,7 +117,8 @@ fn a_module_is_written_as_it_was_read(rt: HostRuntime) -> Result<(), Fail> {
 #[test]
 fn a_module_lists_its_symbols_and_relocations(rt: HostRuntime) -> Result<(), Fail> {
     let module = read_module(rt.alloc(), &START)?;
-    if let [start, sum] = module.symbols() {
+    let symbols = module.symbols();
+    if let (Some(start), Some(sum)) = (symbols.get(0), symbols.get(1)) {
         assert_eq!(rt; (start.section, start.offset), (SymbolSection::Code, 0));
         assert_eq!(rt; start.name, b"start".as_slice());
         assert_eq!(rt; (sum.section, sum.offset), (SymbolSection::Undefined, 0));
@@ -243,9 +244,12 @@ fn labels_in_no_order_make_symbols_in_order(rt: HostRuntime) -> Result<(), Fail>
         (2048, 2048)
     );
     let mut last: &[u8] = b"";
-    for symbol in module.symbols() {
-        assert!(rt; last < symbol.name);
-        last = symbol.name;
+    let symbols = module.symbols();
+    for number in 0..symbols.len() {
+        if let Some(symbol) = symbols.get(number) {
+            assert!(rt; last < symbol.name);
+            last = symbol.name;
+        }
     }
     for relocation in module.relocations() {
         let label = module.symbols().get(relocation.symbol as usize);

@@ -56,8 +56,8 @@ invariant_of-result c =
     let symbol_count : length (map named symbols) ≡ length symbols = length-map symbols named in
     let relocation_count : length new ≡ length old = ap length ranked_so ∙ length-map old (ranked ranks) in
     record {
-      good = module_good c.args.unlinked (names_once ks) (map named symbols) new c.requires.lines c.requires.level c.requires.words c.requires.filled c.requires.data bytes rise among made put
-          (omega (arith, symbol_count)) (omega (arith, relocation_count));
+      good = rw c.made.ensures (module_good c.args.unlinked (names_once ks) (map named symbols) new c.requires.lines c.requires.level c.requires.words c.requires.filled c.requires.data bytes rise among made put
+          (omega (arith, symbol_count)) (omega (arith, relocation_count)));
       insns = (code_words_of_insns One c.args.unlinked.code.items c.requires.level).1;
     }
 
@@ -73,7 +73,7 @@ returns c = record {
       let among = names_among is c.args.unlinked names (names_once ks) m c.in_ok-names.ensures.among (sorted_among ks names c.in_ok-sorted.ensures.among) in
       let are = ranks_of names ks ranks c.in_ok-sorted.ensures.numbers c.in_ok-sorted.ensures.each (rw c.deref.ensures.value at c.in_ok-symbols.ensures.ranks) in
       let ranked_so : new ≡ map (ranked ranks) old = c.put_ranks.ensures ∙ ap (λ rs. map (ranked rs) old) c.deref-2.ensures.value in
-      module_is is c.args.unlinked (names_once ks) (map named c.in_ok-symbols.field-0.symbols.items) new m c.requires.filled (names_are is (names_once ks) rise among)
+      rw c.made.ensures (module_is is c.args.unlinked (names_once ks) (map named c.in_ok-symbols.field-0.symbols.items) new m c.requires.filled (names_are is (names_once ks) rise among)
       (rw c.deref.ensures.value at c.in_ok-symbols.ensures.symbols)
-      (all_ranked (texts names) (names_once ks) ranks c.args.unlinked.patches.items old new rise are c.in_ok-names.ensures.relocations ranked_so);
+      (all_ranked (texts names) (names_once ks) ranks c.args.unlinked.patches.items old new rise are c.in_ok-names.ensures.relocations ranked_so));
 }

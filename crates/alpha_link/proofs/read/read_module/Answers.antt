@@ -4,7 +4,7 @@ use Rattle.std.proofs.lemmas.Result.{err_from_is_err_and}
 use Rattle.alpha_table.specs.Encoded.{encoded}
 use Rattle.alpha_link.specs.Reading.{taken, items_at}
 use Rattle.alpha_link.specs.Header.{header_at}
-use Rattle.alpha_link.specs.Symbols.{named as named_symbol, symbol_at}
+use Rattle.alpha_link.specs.Symbols.{symbol_at}
 use Rattle.alpha_link.specs.Relocations.{relocation_at, body}
 use Rattle.alpha_link.specs.Parts.{ModuleParts}
 use Rattle.alpha_link.specs.Spelled.{words_at, parts, module_at}
@@ -76,7 +76,7 @@ returns-in_err-relocations-clause-value c =
     let b2 = c.in_ok-insns.behind.now in
     let stored = c.in_ok-data.data.now in
     let b3 = c.in_ok-data.behind.now in
-    let symbols = map named_symbol c.in_ok-symbols.symbols.items in
+    let symbols = c.in_ok-symbols.symbols in
     let b4 = c.in_ok-symbols.behind.now in
     let so_far = to_relocations bytes z behind words b2 stored b3 symbols b4 c.in_ok-sizes.ensures c.in_ok-insns.ensures.value c.in_ok-data.ensures c.in_ok-symbols.ensures in
     let refused = rw c.deref.ensures.value at c.in_err-relocations.ensures in
@@ -93,7 +93,7 @@ returns-then-not-is_empty-clause-value c =
     let b2 = c.in_ok-insns.behind.now in
     let stored = c.in_ok-data.data.now in
     let b3 = c.in_ok-data.behind.now in
-    let symbols = map named_symbol c.in_ok-symbols.symbols.items in
+    let symbols = c.in_ok-symbols.symbols in
     let b4 = c.in_ok-symbols.behind.now in
     let relocations = c.in_ok-relocations.relocations.items in
     let b5 = c.in_ok-relocations.behind.now in
@@ -112,7 +112,7 @@ returns-clause-value c =
     let b2 = c.in_ok-insns.behind.now in
     let stored = c.in_ok-data.data.now in
     let b3 = c.in_ok-data.behind.now in
-    let symbols = map named_symbol c.in_ok-symbols.symbols.items in
+    let symbols = c.in_ok-symbols.symbols in
     let b4 = c.in_ok-symbols.behind.now in
     let relocations = c.in_ok-relocations.relocations.items in
     let b5 = c.in_ok-relocations.behind.now in
@@ -133,7 +133,7 @@ returns-clause-good c =
     let b2 = c.in_ok-insns.behind.now in
     let stored = c.in_ok-data.data.now in
     let b3 = c.in_ok-data.behind.now in
-    let symbols = map named_symbol c.in_ok-symbols.symbols.items in
+    let symbols = c.in_ok-symbols.symbols in
     let b4 = c.in_ok-symbols.behind.now in
     let relocations = c.in_ok-relocations.relocations.items in
     let b5 = c.in_ok-relocations.behind.now in
@@ -154,7 +154,7 @@ returns-clause-spelled c =
     let b2 = c.in_ok-insns.behind.now in
     let stored = c.in_ok-data.data.now in
     let b3 = c.in_ok-data.behind.now in
-    let symbols = map named_symbol c.in_ok-symbols.symbols.items in
+    let symbols = c.in_ok-symbols.symbols in
     let b4 = c.in_ok-symbols.behind.now in
     let relocations = c.in_ok-relocations.relocations.items in
     let b5 = c.in_ok-relocations.behind.now in
@@ -175,7 +175,7 @@ invariant_of-result c =
     let b2 = c.in_ok-insns.behind.now in
     let stored = c.in_ok-data.data.now in
     let b3 = c.in_ok-data.behind.now in
-    let symbols = map named_symbol c.in_ok-symbols.symbols.items in
+    let symbols = c.in_ok-symbols.symbols in
     let b4 = c.in_ok-symbols.behind.now in
     let relocations = c.in_ok-relocations.relocations.items in
     let b5 = c.in_ok-relocations.behind.now in

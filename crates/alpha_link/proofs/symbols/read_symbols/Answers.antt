@@ -1,54 +1,44 @@
-use Rattle.std.proofs.Common.{◌≡◌, ◌+◌, ◌-◌, ℕ, List, [], ◌∷◌, length, map, ap, ◌∙◌, arith}
-use Rattle.std.proofs.lemmas.List.{length-append, map-append}
+use Rattle.std.proofs.Common.{◌≡◌, ◌+◌, ◌-◌, ◌++◌, ℕ, List, [], ◌∷◌, length, drop, ap, sym, ◌∙◌, arith}
+use Rattle.std.proofs.lemmas.List.{length-append}
 use Rattle.std.proofs.lemmas.Result.{err_from_is_err_and}
-use Rattle.alpha_link.specs.declared.symbol.Symbol.{Symbol}
 use Rattle.alpha_link.specs.Symbols.{Named, named, symbol_at}
+use Rattle.alpha_link.specs.Listed.{symbol_from, read_in}
 use Rattle.alpha_link.specs.Reading.{items_at}
 use Rattle.alpha_link.proofs.Results.{passed_on}
-use Rattle.alpha_link.proofs.Formats.{goes_on, stops, ends}
+use Rattle.alpha_link.proofs.Formats.{goes_on, stops}
+use Rattle.alpha_link.proofs.SymbolBytes.{stands_there, place_next}
 use Rattle.alpha_link.proofs.symbols.read_symbols.Goals as goal
-
-pub loop-number-init : goal.loop-number-init
-loop-number-init c =
-    let read = symbol_at c.args.total c.args.sizes.now in
-    let n = c.args.sizes.now.symbols in
-    let bytes = c.args.bytes.now in
-    let none = c.in_ok-symbols.ensures.items in
-    let all : n - 0 ≡ n = omega arith in
-    record {
-      size = ap length none;
-      reads = ap (λ (l : List Symbol). items_at read (n - 0) (map named l) bytes) none ∙ ap (λ (k : ℕ). items_at read k [] bytes) all;
-    }
 
 pub loop-number-preserved : goal.loop-number-preserved
 loop-number-preserved c =
     let read = symbol_at c.args.total c.args.sizes.now in
     let n = c.args.sizes.now.symbols in
     let l = c.loop-number in
-    let before = l.symbols.items in
-    let x = c.in_ok-symbol.symbol in
-    let pushed = c.in_ok-push.ensures.items in
-    let at = rw c.deref.ensures.value at c.in_ok-symbol.ensures in
-    let step = goes_on read n l._number (map named before) l.rest.now (named x) c.in_ok-symbol.behind.now (items_at read n [] c.args.bytes.now) c.loop-number-test.true l.invariant.reads at in
+    let bytes = c.args.bytes.now in
+    let before = read_in l.symbols in
+    let rest = l.rest.now in
+    let behind = c.in_ok-behind.behind.now in
+    let s = named c.in_ok-behind.field-0-0 in
+    let there = stands_there c.args.total c.args.sizes.now before rest s behind c.in_ok-behind.ensures in
+    let step = goes_on read n l._number before rest s behind (items_at read n [] bytes) c.loop-number-test.true l.invariant.reads c.in_ok-behind.ensures in
+    let begin : drop c.saturating_sub.result l.symbols.bytes.now ≡ rest =
+    ap (λ (k : ℕ). drop k l.symbols.bytes.now) c.saturating_sub.ensures ∙ (ap (drop (length bytes - length rest)) l.invariant.bytes ∙ sym l.invariant.place) in
+    let pushed : read_in c.push.new.self ≡ before ++ s ∷ [] = c.in_ok-push.ensures.ok ∙ ap (λ (t : Named). before ++ t ∷ []) (ap symbol_from begin ∙ there.0) in
+    let next = place_next bytes rest behind (7 + length s.name) l.invariant.place l.invariant.below there.1.1 there.1.0 in
     record {
-      size = omega (arith, ap length pushed, length-append before (x ∷ []), l.invariant.size);
-      reads = ap (λ (t : List Symbol). items_at read (n - (l._number + 1)) (map named t) c.in_ok-symbol.behind.now) pushed ∙ (ap (λ (t : List Named). items_at read (n - (l._number + 1)) t c.in_ok-symbol.behind.now) (map-append named before (x ∷ [])) ∙ step);
+      size = omega (arith, ap length pushed, length-append before (s ∷ []), l.invariant.size);
+      reads = ap (λ (t : List Named). items_at read (n - (l._number + 1)) t behind) pushed ∙ step;
+      bytes = c.push.ensures.bytes ∙ l.invariant.bytes;
+      place = next.0;
+      below = next.1;
     }
 
-pub returns : goal.returns
-returns c =
+pub returns-in_err-behind : goal.returns-in_err-behind
+returns-in_err-behind c =
     let read = symbol_at c.args.total c.args.sizes.now in
     let n = c.args.sizes.now.symbols in
     let l = c.loop-number in
-    ends read n l._number (map named l.symbols.items) l.rest.now (items_at read n [] c.args.bytes.now) c.loop-number-test.false l.invariant.reads
-
-pub returns-in_err-symbol : goal.returns-in_err-symbol
-returns-in_err-symbol c =
-    let read = symbol_at c.args.total c.args.sizes.now in
-    let n = c.args.sizes.now.symbols in
-    let l = c.loop-number in
-    let before = (map named l.symbols.items) in
+    let before = read_in l.symbols in
     let whole = items_at read n [] c.args.bytes.now in
-    let p = err_from_is_err_and c.from_residual-in_err-symbol.result c.from_residual-in_err-symbol.ensures.1 in
-    let refused = rw c.deref.ensures.value at c.in_err-symbol.ensures in
-    rw (p.1, p.2) (passed_on c.in_err-symbol.field-0.0 (read before l.rest.now) whole (λ d r. stops read n l._number before l.rest.now whole c.loop-number-test.true l.invariant.reads d r) refused)
+    let p = err_from_is_err_and c.from_residual-in_err-behind.result c.from_residual-in_err-behind.ensures.1 in
+    rw (p.1, p.2) (passed_on c.in_err-behind.field-0.0 (read before l.rest.now) whole (λ d r. stops read n l._number before l.rest.now whole c.loop-number-test.true l.invariant.reads d r) c.in_err-behind.ensures)

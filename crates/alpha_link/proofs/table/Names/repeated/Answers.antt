@@ -1,0 +1,29 @@
+use Rattle.std.proofs.Common.{◌≡◌, List, Some, is_some, ap, sym, ◌∙◌}
+use Rattle.std.specs.Prelude.{◌&&◌, slice_get}
+use Rattle.alpha_link.specs.Symbols.{Named, named}
+use Rattle.alpha_link.specs.Parts.{ModuleParts}
+use Rattle.alpha_link.specs.Linked.{Located, is_defined}
+use Rattle.alpha_link.specs.Names.{found_in}
+use Rattle.alpha_link.proofs.Lists.{position_begins, position_stops, position_goes}
+use Rattle.alpha_link.proofs.table.Names.repeated.Goals as goal
+
+pub loop-number-init : goal.loop-number-init
+loop-number-init c = position_begins (λ (t : Named). is_defined t.section && is_some (found_in c.args.self.now t.name)) c.args.located.now.parts.symbols
+
+pub returns-then-is_repeated : goal.returns-then-is_repeated
+returns-then-is_repeated c =
+    let l : Located = c.args.located.now in
+    let i = c.loop-number.number in
+    let s = named c.at.result in
+    let same = ap (λ (m : ModuleParts). m.symbols) c.module.view_is ∙ ap (λ (x : Located). x.parts.symbols) c.located.view_is in
+    let here : slice_get l.parts.symbols i ≡ Some s = ap (λ (xs : List Named). slice_get xs i) (sym same) ∙ c.at.ensures in
+    position_stops (λ (t : Named). is_defined t.section && is_some (found_in c.args.self.now t.name)) l.parts.symbols i s _ here (sym c.is_repeated.ensures ∙ c.if-is_repeated.true) c.loop-number.invariant
+
+pub loop-number-preserved : goal.loop-number-preserved
+loop-number-preserved c =
+    let l : Located = c.args.located.now in
+    let i = c.loop-number.number in
+    let s = named c.at.result in
+    let same = ap (λ (m : ModuleParts). m.symbols) c.module.view_is ∙ ap (λ (x : Located). x.parts.symbols) c.located.view_is in
+    let here : slice_get l.parts.symbols i ≡ Some s = ap (λ (xs : List Named). slice_get xs i) (sym same) ∙ c.at.ensures in
+    position_goes (λ (t : Named). is_defined t.section && is_some (found_in c.args.self.now t.name)) l.parts.symbols i s _ here (sym c.is_repeated.ensures ∙ c.if-is_repeated.false) c.loop-number.invariant
