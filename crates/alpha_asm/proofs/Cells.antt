@@ -1,5 +1,5 @@
 -- The values of data of a statement are those that its list or its text is read as to its end.
-use Rattle.std.proofs.Common.{◌≡◌, ℕ, zero, suc, ◌<◌, ◌≤◌, List, [], ◌∷◌, length, length-drop, map, drop, Option, None, Some, refl, sym, ◌∙◌, ap, arith}
+use Rattle.std.proofs.Common.{◌≡◌, ℕ, zero, suc, ◌<◌, ◌≤◌, List, [], ◌∷◌, length, length-drop, map, drop, Option, None, Some, refl, ap, arith}
 use Rattle.std.specs.Option.{option_map, option_map_or, option_and_then}
 use Rattle.alpha_token.specs.Quoted.{byte_at, first_byte, IsTextOf}
 use Rattle.alpha_operands.specs.declared.shape.Shape.{Shape}

@@ -2,7 +2,9 @@
 use Rattle.std.proofs.Common.{◌≡◌, ℕ, ◌+◌, ◌<◌, ◌≤◌, List, [], ◌∷◌, ◌++◌, length, Bool, true, false, cond, ◌||◌, Option, None, Some, is_some, Result, Ok, Err, OnOk, IfErr, nat_lt, refl, sym, ◌∙◌, ap, arith}
 use Rattle.std.proofs.lemmas.Bool.Decides.{nat_tests}
 use Rattle.alpha_text.specs.declared.reader.LineFault.{LineFault}
-use Rattle.alpha_text.specs.Reading.{LineSaid, read}
+use Rattle.alpha_token.specs.Tokens.{tokens}
+use Rattle.alpha_text.specs.Reading.{LineSaid, located, line_of, read}
+use Rattle.alpha_quick.specs.Parts.{unlabelled}
 use Rattle.alpha_table.specs.declared.form.Form.{Form}
 use Rattle.alpha_asm.specs.declared.kind.SourceKind.{SourceKind}
 use Rattle.alpha_asm.specs.declared.kind.SourceKind.TheVariants as kinds
@@ -11,8 +13,16 @@ use Rattle.alpha_asm.specs.declared.fault.AsmFault.TheVariants.{Line, Section, D
 use Rattle.alpha_asm.specs.declared.pass.Pass.{Pass}
 use Rattle.alpha_asm.specs.Layout.{layout, fields, spot_of, is_misplaced, is_misplaced_insn, is_barred, is_misplaced_in, repeats_field, repeats_label}
 use Rattle.alpha_asm.specs.Assembled.{item_at, refused_read, refused}
-use Rattle.alpha_asm.specs.Pass.{place_of, spot_at, fields_read, refused_here, unlabelled, AddsItem, Stands}
+use Rattle.alpha_asm.specs.Pass.{place_of, spot_at, fields_read, refused_here, AddsItem, Stands}
 use Rattle.alpha_asm.proofs.Growing.{grow}
+
+-- a line with an instruction
+pub read_insn : (line : List ℕ) (insn : Form) → line_of (tokens line) ≡ Ok (unlabelled insn) → read line ≡ Ok (unlabelled insn)
+unfolding read
+read_insn line insn h = ap (located (length line)) h
+
+pub insn_at : (line : List ℕ) (insn : Form) → line_of (tokens line) ≡ Ok (unlabelled insn) → item_at line ≡ unlabelled insn
+insn_at line insn h = rw (read_insn line insn h) refl
 
 pub long_line : (kind : SourceKind) (is : List LineSaid) (line : List ℕ) (p : Pass) → Stands is p → 1024 < length line → refused kind is line ≡ Some (LongLine (p.line + 1))
 unfolding refused

@@ -6,7 +6,6 @@ use Rattle.std.specs.Str.{bytes_eq}
 use Rattle.alpha_words.specs.Levels.{level_number}
 use Rattle.alpha_table.specs.declared.form.Form.{Form}
 use Rattle.alpha_table.specs.Columns.{level_of}
-use Rattle.alpha_text.specs.Statements.{code}
 use Rattle.alpha_text.specs.Reading.{LineSaid}
 use Rattle.alpha_asm.specs.declared.kind.SourceKind.{SourceKind}
 use Rattle.alpha_asm.specs.declared.fault.AsmFault.{AsmFault}
@@ -56,10 +55,6 @@ pub record IsBounded (p : Pass) : Type 0 where
 -- the item as it stands here
 abbrev pub here : Pass → LineSaid → Placed
 here p i = record { place = place_of p; line = p.line + 1; item = i }
-
--- an instruction without a label
-abbrev pub unlabelled : Form → LineSaid
-unlabelled insn = record { label = None; statement = code insn }
 
 -- why an item of a source of this kind is refused here
 abbrev pub refused_here : SourceKind → Pass → LineSaid → Option AsmFault

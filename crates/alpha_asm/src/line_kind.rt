@@ -1,7 +1,7 @@
 //! What the lines of a source are to whoever puts instructions before them.
 
 ghost use Rattle.std.specs.Prelude.{◌≡◌, ◌++◌, ◌∷◌, [], true, OnOk};
-ghost use Rattle.alpha_text.specs.Statements.{said};
+ghost use Rattle.alpha_text.specs.Statements.{said, code};
 ghost use Rattle.alpha_asm.specs.LineKinds.{is_branch, insn_if, line_kind};
 
 use crate::kind::{is_lda, is_ldah};
@@ -90,6 +90,19 @@ impl LineKinds {
             gathers: false,
             items: Vec::new(alloc),
         }
+    }
+
+    /// Adds that of a line with an instruction.
+    #[inline(always)]
+    pub(crate) fn push_insn(&mut self, insn: &Insn) -> Result<(), AllocError>
+        ensures gathers { self.new.gathers ≡ self.old.gathers }
+        ensures items { OnOk result (self.old.gathers ≡ true →
+            self.new.items.items ≡ self.old.items.items ++ line_kind (code insn.now) ∷ []) }
+    {
+        if self.gathers {
+            self.items.push(insn_if(!is_branch(insn)))?;
+        }
+        Ok(())
     }
 
     /// Adds that of a line with a statement.

@@ -1,14 +1,16 @@
-ghost use Rattle.std.specs.Prelude.{◌≡◌, ◌≢◌, ◌+◌, ◌^◌, ◌<◌, ◌++◌, ◌∷◌, ℕ, true, false, List, [], Some, None, OnOk, IfOk, IfErr};
+ghost use Rattle.std.specs.Prelude.{◌≡◌, ◌≢◌, ◌+◌, ◌^◌, ◌<◌, ◌++◌, ◌∷◌, ℕ, true, false, List, [], Some, None, OnOk, IfOk, IfErr, length, ◌≤◌};
 ghost use Rattle.std.specs.Option.{option_map};
 ghost use Rattle.alpha_text.specs.Statements.{said};
 ghost use Rattle.alpha_text.specs.Bounds.{IsWithin};
 ghost use Rattle.alpha_text.specs.Reading.{item_said};
+ghost use Rattle.alpha_quick.specs.Parts.{unlabelled};
+ghost use Rattle.alpha_quick.specs.Rest.{IsRest};
 ghost use Rattle.alpha_asm.specs.Statement.{cells, coded};
 ghost use Rattle.alpha_asm.specs.LineKinds.{line_kind};
 ghost use Rattle.alpha_asm.specs.Layout.{spot, repeats_label};
 ghost use Rattle.alpha_asm.specs.Assembled.{item_at, refused};
 ghost use Rattle.alpha_asm.specs.Patches.{coded_of, AddsCells};
-ghost use Rattle.alpha_asm.specs.Pass.{place_of, spot_at, with_label, refused_here, unlabelled, IsBounded, AddsInsn, AddsStatement, AddsItem, Stands};
+ghost use Rattle.alpha_asm.specs.Pass.{place_of, spot_at, with_label, refused_here, IsBounded, AddsInsn, AddsStatement, AddsItem, Stands};
 ghost use Rattle.alpha_asm.specs.declared.kind.SourceKind.{SourceKind};
 ghost use Rattle.alpha_asm.specs.declared.fault.AsmFault.TheVariants as faults;
 
@@ -20,7 +22,7 @@ use crate::line_kind::LineKinds;
 use crate::output::{Output, push_entry};
 use crate::place::Place;
 use crate::statement::{Coded, coded_in, is_statement};
-use alpha_quick::read_line;
+use alpha_quick::{Rest, read_insn};
 use alpha_table::Insn;
 use alpha_text::{Item, Statement};
 use std::alloc::{AllocError, Global};
@@ -83,7 +85,41 @@ impl<'a> Pass<'a> {
         if line.len() > LONGEST_LINE {
             return Err(AsmFault::LongLine(self.line + 1));
         }
-        match read_line(line) {
+        match read_insn(line) {
+            Ok(insn) => match self.take_code(&insn) {
+                Ok(()) => Ok(kinds.push_insn(&insn)?),
+                Err(fault) => Err(fault),
+            },
+            Err(rest) => self.take_rest(kind, &rest, kinds),
+        }
+    }
+
+    // Goes over the next line where it is no instruction alone. It is a call of its own, so that what a line may
+    // say beside an instruction has a place on the stack for such lines only.
+    #[inline(never)]
+    fn take_rest(
+        &mut self,
+        kind: SourceKind,
+        rest: &Rest<'a>,
+        kinds: &mut LineKinds,
+    ) -> Result<(), AsmFault>
+        requires bounded { IsBounded self.old }
+        requires lines { self.old.line + 1 < 2 ^ 32 }
+        requires read { IsRest rest.now }
+        requires size { length rest.now.line.now ≤ 1024 }
+        ensures ok { OnOk result ((is : _) → Stands is self.old
+            → Stands (is ++ item_at rest.now.line.now ∷ []) self.new) }
+        ensures taken { OnOk result ((is : _) → Stands is self.old
+            → refused kind is rest.now.line.now ≡ None) }
+        ensures refused { IfErr result (λ fault. fault ≢ faults.NoMemory →
+            (is : _) → Stands is self.old → refused kind is rest.now.line.now ≡ Some fault) }
+        ensures bounded { OnOk result (IsBounded self.new) }
+        ensures line { OnOk result (self.new.line ≡ self.old.line + 1) }
+        ensures gathers { kinds.new.gathers ≡ kinds.old.gathers }
+        ensures kinds { OnOk result (kinds.old.gathers ≡ true → kinds.new.items.items
+            ≡ kinds.old.items.items ++ line_kind (item_at rest.now.line.now).statement ∷ []) }
+    {
+        match rest.item() {
             Ok(item) => match self.take_item(kind, &item) {
                 Ok(()) => Ok(kinds.push(&item.statement)?),
                 Err(fault) => Err(fault),
@@ -92,7 +128,7 @@ impl<'a> Pass<'a> {
         }
     }
 
-    // Goes over the item of the next line, which mostly is an instruction without a label.
+    // Goes over the item of the next line.
     fn take_item(&mut self, kind: SourceKind, item: &Item<'a>) -> Result<(), AsmFault>
         requires bounded { IsBounded self.old }
         requires lines { self.old.line + 1 < 2 ^ 32 }
@@ -103,13 +139,6 @@ impl<'a> Pass<'a> {
             refused_here kind self.old (item_said item.now) ≡ Some fault) }
         ensures bounded { OnOk result (IsBounded self.new) }
     {
-        if let Item {
-            label: None,
-            statement: Statement::Code(insn),
-        } = item
-        {
-            return self.take_code(insn);
-        }
         if kind.bars(&item.statement) || self.place.is_misplaced(&item.statement) {
             return Err(AsmFault::Section(self.line + 1));
         }
@@ -124,6 +153,7 @@ impl<'a> Pass<'a> {
     }
 
     // Goes over an instruction without a label.
+    #[inline(always)]
     fn take_code(&mut self, insn: &Insn) -> Result<(), AsmFault>
         requires bounded { IsBounded self.old }
         requires lines { self.old.line + 1 < 2 ^ 32 }

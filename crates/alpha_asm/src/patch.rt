@@ -109,7 +109,7 @@ fn with_words(insn: &Insn, disp: i32) -> Insn
     ensures { result ≡ displaced insn.now (Words disp) }
 {
     match insn.form() {
-        Form::Branch { op, ra, .. } => Insn::of(Form::Branch { op, ra, disp }).unwrap(),
+        Form::Branch { op, ra, .. } => Insn::branch(op, ra, disp),
         _ => *insn,
     }
 }
@@ -119,7 +119,7 @@ fn with_bytes(insn: &Insn, disp: i16) -> Insn
     ensures { result ≡ displaced insn.now (Bytes disp) }
 {
     match insn.form() {
-        Form::Mem { op, ra, rb, .. } => Insn::of(Form::Mem { op, ra, rb, disp }).unwrap(),
+        Form::Mem { op, ra, rb, .. } => Insn::memory(op, ra, rb, disp),
         _ => *insn,
     }
 }

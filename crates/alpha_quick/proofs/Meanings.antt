@@ -1,8 +1,9 @@
 -- What a name and the words behind it say.
 use Rattle.std.proofs.Common.{◌≡◌, ◌⊎◌, ℕ, ℤ, pos, List, Option, Some, None, IfSome, Ok, refl, sym, ◌∙◌, ap, subst, inl, inr}
-use Rattle.std.specs.Prelude.{⊤}
+use Rattle.std.specs.Prelude.{⊤, true, false}
 use Rattle.std.specs.Option.{option_map}
 use Rattle.alpha_table.specs.Op.{op_row}
+use Rattle.alpha_table.specs.Row.{OperandsFit}
 use Rattle.alpha_table.specs.declared.names.Mnemonic.{Mnemonic}
 use Rattle.alpha_table.specs.declared.names.Mnemonic.TheVariants as mnemonics
 use Rattle.alpha_table.specs.declared.form.Form.{Form}
@@ -10,7 +11,7 @@ use Rattle.alpha_table.specs.declared.form.Form.TheVariants.{Mem, Branch, Jump, 
 use Rattle.alpha_table.specs.declared.form.Src.{Src}
 use Rattle.alpha_table.specs.declared.form.Src.TheVariants.{Reg, Lit}
 use Rattle.alpha_table.specs.declared.op.Op.{Op}
-use Rattle.alpha_table.specs.declared.op.Op.TheVariants.{Bis}
+use Rattle.alpha_table.specs.declared.op.Op.TheVariants.{Bis, Ornot, Subl, Subq, SublV, SubqV, Addl}
 use Rattle.alpha_table.specs.declared.op.OperandRule.{OperandRule}
 use Rattle.alpha_table.specs.declared.op.OperandRule.TheVariants as rules
 use Rattle.alpha_table.specs.declared.rows.MemOp.{MemOp}
@@ -32,11 +33,12 @@ use Rattle.alpha_text.specs.declared.head.Head.TheVariants as heads
 use Rattle.alpha_text.specs.declared.head.Own.{Own}
 use Rattle.alpha_text.specs.declared.head.Own.TheVariants as owns
 use Rattle.alpha_text.specs.Heads.{operate_shape}
-use Rattle.alpha_text.specs.Statements.{Said, said, code, target, half_said, operate_form, own_said, link, move_number}
-use Rattle.alpha_text.specs.declared.statement.Statement.{Statement}
+use Rattle.alpha_text.specs.Statements.{Said, code, target, half_said, operate_form, own_said, link, move_number}
 use Rattle.alpha_text.specs.Reading.{list_in}
 use Rattle.alpha_text.specs.Behind.{Says, SaysBy}
+use Rattle.alpha_quick.specs.declared.forms.Lead.{Lead}
 use Rattle.alpha_quick.specs.Parts.{StandsFor, IsAlone, operation_of}
+use Rattle.alpha_quick.specs.Lead.{Reaches, Leads}
 use Rattle.alpha_quick.specs.Words.{HasComma, HasNumber, HasEnd, HasSigned, HasFirst, HasPair, HasUnary, HasBinary, HasJump, HasLast, HasLastBase, HasTail, HasTarget, HasAddress, HasDistance}
 use Rattle.alpha_quick.proofs.Forwards.{memory_plus, memory_plus_base, memory_minus, memory_minus_base, memory_half, memory_half_base, memory_half_plus, memory_half_plus_base, memory_half_minus, memory_half_minus_base, memory_base, branch_over, branch_back, branch_label, branch_label_plus, branch_label_minus, call_over, call_back, call_label, call_label_plus, call_label_minus, bare_label, bare_label_plus, bare_label_minus, jump_hint, jump_plain, return_hint, return_plain, return_alone, operate_register, operate_literal, unary_register, unary_literal, pair_words, move_register, move_plus, move_minus, single_word, alone_words, prefetch_words}
 
@@ -45,15 +47,25 @@ pub if-some : {A : Type 0} (P Q : A → Type 0) (r : Option A) → ((x : A) → 
 if-some P Q None f h = h
 if-some P Q (Some x) f h = f x h
 
--- the statement of an instruction says what the instruction does
-pub if-coded : (m : Mnemonic) (line : List ℕ) (i : Form) (r : Option Statement) → Says m line (code i) → IfSome r (λ s. said s ≡ code i) → IfSome r (λ s. Says m line (said s))
-if-coded m line i None h e = e
-if-coded m line i (Some s) (o, h, says) e = (o, h, says ∙ sym e)
+-- what an instruction says its equal says
+pub if-insn : (m : Mnemonic) (line : List ℕ) (i : Form) (r : Option Form) → Says m line (code i) → IfSome r (λ j. j ≡ i) → IfSome r (λ j. Says m line (code j))
+if-insn m line i None h e = e
+if-insn m line i (Some j) (o, h, says) e = (o, h, says ∙ ap code (sym e))
 
-pub if-coded-behind : (m : Mnemonic) (ra : ℕ) (words : List ℕ) (i : Form) (r : Option Statement) → ((line : List ℕ) → HasFirst line ra words → Says m line (code i)) → IfSome r (λ s. said s ≡ code i) →
-    IfSome r (λ s. (line : List ℕ) → HasFirst line ra words → Says m line (said s))
-if-coded-behind m ra words i None h e = e
-if-coded-behind m ra words i (Some s) h e = λ line first. let (o, given, says) = h line first in (o, given, says ∙ sym e)
+-- a lead that is an instruction
+pub whole_leads : (P : Said → Type 0) (l : Lead) (i : Form) → l.insn ≡ i → l.reaches ≡ false → P (code i) → Leads P l
+whole_leads P l i e whole h = (λ _. rw e h, λ reaches. absurd cc)
+
+-- one that is to reach a label
+pub reaching_leads : (P : Said → Type 0) (l : Lead) (i : Form) (left : List ℕ) → l.insn ≡ i → l.reaches ≡ true → l.left.now ≡ left → ((s : Said) → Reaches i left s → P s) → Leads P l
+reaching_leads P l i left e reaches same h = (λ whole. absurd cc, λ _. rw (e, same) h)
+
+pub leads_as : (P Q : Said → Type 0) (l : Lead) → ((s : Said) → P s → Q s) → Leads P l → Leads Q l
+leads_as P Q l f (whole, reaches) = (λ e. f (code l.insn) (whole e), λ e s h. f s (reaches e s h))
+
+-- a lead behind a register and its comma
+pub at_first : (m : Mnemonic) (words : List ℕ) (ra : ℕ) (rest : List ℕ) (r : Option Lead) → HasFirst words ra rest → IfSome r (λ l. (line : List ℕ) → HasFirst line ra rest → Leads (Says m line) l) → IfSome r (Leads (Says m words))
+at_first m words ra rest r first h = if-some (λ l. (line : List ℕ) → HasFirst line ra rest → Leads (Says m line) l) (Leads (Says m words)) r (λ l k. k words first) h
 
 -- the same said of what is the same
 pub said_as : (m : Mnemonic) (line : List ℕ) (s t : Said) → s ≡ t → Says m line s → Says m line t
@@ -77,6 +89,10 @@ says_address op ra rb half label offset line words rest (a, r, c) (x, y, p, inr 
 says_address op ra rb half label offset line words rest (a, r, c) (x, y, p, inr (signs.Minus, u, v, g, m, (n, d, is)), q) (inl (t, (i, k, o, b, w), e)) = (_, memory_half_minus_base line a words x u v y rest i k t ra n rb half label offset r c p g m d is q o b w e, refl)
 says_address op ra rb half label offset line words rest (a, r, c) (x, y, p, inr (signs.Minus, u, v, g, m, (n, d, is)), q) (inr (zero, e)) = (_, memory_half_minus line a words x u v y rest ra n half label offset r c p g m d is q e, halved_as op ra rb half label offset offset zero refl)
 
+-- an instruction whose label is named by the words that are left
+pub says_half : (op : MemOp) (ra rb : ℕ) (disp : ℤ) (line words : List ℕ) → HasFirst line ra words → (s : Said) → Reaches (Mem op ra rb disp) words s → Says (mnemonics.Mem op) line s
+says_half op ra rb disp line words first s (half, label, offset, rest, base, a, t, e) = said_as (mnemonics.Mem op) line _ s e (says_address op ra base half label offset line words rest first a t)
+
 pub says_base : (op : MemOp) (ra rb : ℕ) (line words : List ℕ) → HasFirst line ra words → HasLastBase words rb → Says (mnemonics.Mem op) line (code (Mem op ra rb (pos 0)))
 says_base op ra rb line words (a, r, c) (rest, (i, k, o, b, q), e) = (_, memory_base line a words i k rest ra rb r c o b q e, refl)
 
@@ -99,6 +115,12 @@ says_target op ra label offset line words (a, r, c) (t, inl (g, z), e) = (_, bra
 says_target op ra label offset line words (a, r, c) (t, inr (signs.Plus, u, v, g, m, (n, d, is)), e) = (_, branch_label_plus line a words u v t ra n label offset r c g m d is e, refl)
 says_target op ra label offset line words (a, r, c) (t, inr (signs.Minus, u, v, g, m, (n, d, is)), e) = (_, branch_label_minus line a words u v t ra n label offset r c g m d is e, refl)
 
+pub says_link : (op : BranchOp) (ra : ℕ) (line words : List ℕ) → HasFirst line ra words → (s : Said) → Reaches (Branch op ra (pos 0)) words s → Says (mnemonics.Branch op) line s
+says_link op ra line words first s (label, offset, t, e) = said_as (mnemonics.Branch op) line _ s e (says_target op ra label offset line words first t)
+
+pub branch_reaches : (i : Form) (op : BranchOp) (ra : ℕ) (disp : ℤ) (left : List ℕ) (s : Said) → i ≡ Branch op ra disp → ((label : List ℕ) × (offset : ℤ) × HasTarget left label offset × (target i label offset ≡ s)) → Reaches i left s
+branch_reaches i op ra disp left s e (label, offset, t, k) = rw e (label, offset, t, ap (λ j. target j label offset) (sym e) ∙ k)
+
 -- the branches that may leave their register out
 abbrev pub IsCall : BranchOp → Type 0
 IsCall branches.Br = ⊤
@@ -117,6 +139,9 @@ says_bare branches.Bsr label offset line call (t, inl (g, z), e) = (_, bare_labe
 says_bare branches.Bsr label offset line call (t, inr (signs.Plus, u, v, g, m, (n, d, is)), e) = (_, bare_label_plus line u v t n label offset g m d is e, refl)
 says_bare branches.Bsr label offset line call (t, inr (signs.Minus, u, v, g, m, (n, d, is)), e) = (_, bare_label_minus line u v t n label offset g m d is e, refl)
 says_bare op label offset line call h = absurd call
+
+pub says_call : (op : BranchOp) (ra : ℕ) (line : List ℕ) → IsCall op → ra ≡ link op → (s : Said) → Reaches (Branch op ra (pos 0)) line s → Says (mnemonics.Branch op) line s
+says_call op ra line call is s (label, offset, t, e) = said_as (mnemonics.Branch op) line _ s (ap (λ r. target (Branch op r (pos 0)) label offset) (sym is) ∙ e) (says_bare op label offset line call t)
 
 pub says_jump : (kind : JumpKind) (ra rb hint : ℕ) (line : List ℕ) → HasJump line ra rb hint → Says (mnemonics.Jump kind) line (code (Jump kind ra rb hint))
 says_jump jumps.Ret ra rb hint line (u, v, (a, r, c), (i, k, o, b, q), inl (n, w, t, m, d, is, e)) = (_, return_hint line a u i k v w t ra rb n (numbers.Hint hint) r c o b q m d is e, refl)
@@ -161,6 +186,23 @@ pub says_alone : (row : Mnemonic) (i : Form) (line : List ℕ) → IsAlone row i
 says_alone (mnemonics.Misc op) i line is e = (_, alone_words line e, ap code (sym is))
 says_alone (mnemonics.Pal call) i line is e = (_, alone_words line e, ap code (sym is))
 says_alone row i line is e = absurd is
+
+same_rule : (a b : Op) → Some a ≡ Some b → (op_row a).operands ≡ rules.Any → (op_row b).operands ≡ rules.Any
+same_rule a b e h = let same : a ≡ b = cc in rw (← same) h
+
+-- the operation of a pseudo-operation takes any operands
+any_rule : (own : Own) (op : Op) → operation_of own ≡ Some op → (op_row op).operands ≡ rules.Any
+any_rule owns.Mov op e = same_rule Bis op e refl
+any_rule owns.Not op e = same_rule Ornot op e refl
+any_rule owns.Negl op e = same_rule Subl op e refl
+any_rule owns.Negq op e = same_rule Subq op e refl
+any_rule owns.NeglV op e = same_rule SublV op e refl
+any_rule owns.NegqV op e = same_rule SubqV op e refl
+any_rule owns.Sextl op e = same_rule Addl op e refl
+any_rule own op e = cc
+
+pub takes_any : (own : Own) (op : Op) (ra : ℕ) (src : Src) → operation_of own ≡ Some op → OperandsFit (op_row op).operands ra src
+takes_any own op ra src e = rw (any_rule own op e) tt
 
 pub stands_pair : (own : Own) (op : Op) (rb rc : ℕ) (line : List ℕ) → operation_of own ≡ Some op → HasPair line rb rc → StandsFor own line (Operate op 31 (Reg rb) rc)
 stands_pair owns.Mov op rb rc line is (v, (a, r, c), (t, q, e)) = (_, move_register line a v t rb rc r c q e, ap (option_map (λ x. Operate x 31 (Reg rb) rc)) is)

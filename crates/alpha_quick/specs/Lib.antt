@@ -1,3 +1,5 @@
+pub mod Lead
+pub mod Rest
 pub mod Keys
 pub mod Listed
 pub mod Parts

@@ -16,11 +16,10 @@ use Rattle.alpha_text.specs.declared.head.Head.{Head}
 use Rattle.alpha_text.specs.declared.head.Own.{Own}
 use Rattle.alpha_text.specs.declared.head.Own.TheVariants as owns
 use Rattle.alpha_text.specs.Heads.{head_name, own_shape}
-use Rattle.alpha_text.specs.Statements.{Said, empty, pseudo_form}
+use Rattle.alpha_text.specs.Statements.{Said, code, pseudo_form}
 use Rattle.alpha_text.specs.Behind.{IsApart, SaysBy}
 use Rattle.alpha_text.specs.References.{goes_on_label}
-use Rattle.alpha_text.specs.Reading.{line_of}
-use Rattle.alpha_quick.specs.Words.{HasEnd}
+use Rattle.alpha_text.specs.Reading.{LineSaid}
 
 -- the instruction that a pseudo-operation stands for with the operands behind it
 abbrev pub StandsFor : Own → List ℕ → Form → Type 0
@@ -55,11 +54,9 @@ IsAlone m i = ⊥
 abbrev pub SaysNamed : List ℕ → List ℕ → Said → Type 0
 SaysNamed name behind s = (head : Head) × (head_name head ≡ name) × IsApart behind × SaysBy head behind s
 
--- a line has this label, and behind it this name and more, whatever they say, or nothing
-abbrev pub IsParted : List ℕ → Option (List ℕ) → List ℕ → List ℕ → Type 0
-IsParted line label name behind =
-    ((s : Said) → SaysNamed name behind s → line_of (tokens line) ≡ Ok (record { label = label; statement = s }))
-    × (name ≡ [] → HasEnd behind → line_of (tokens line) ≡ Ok (record { label = label; statement = empty }))
+-- an instruction without a label
+abbrev pub unlabelled : Form → LineSaid
+unlabelled insn = record { label = None; statement = code insn }
 
 abbrev pub class_of : ℕ → ℕ
 class_of b = if goes_on_label b then 1 else 0

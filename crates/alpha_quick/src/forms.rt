@@ -1,6 +1,6 @@
-//! What a name says with the words behind it, where they stand as most programs write them. What is written
-//! otherwise is `None` here.
-ghost use Rattle.std.specs.Prelude.{◌≡◌, List, ℕ, IfSome};
+//! The instruction that a name gives with the words behind it, where these stand as most programs write them. What is
+//! written otherwise is `None` here. Where the words name a label they are left to `reach.rt`.
+ghost use Rattle.std.specs.Prelude.{◌≡◌, List, ℕ, IfSome, true, false};
 ghost use Rattle.alpha_table.specs.Op.{op_row};
 ghost use Rattle.alpha_table.specs.declared.names.Mnemonic.TheVariants as mnemonics;
 ghost use Rattle.alpha_table.specs.declared.op.OperandRule.TheVariants as rules;
@@ -8,136 +8,155 @@ ghost use Rattle.alpha_table.specs.declared.form.Form.TheVariants.{Operate};
 ghost use Rattle.alpha_table.specs.declared.form.Src.TheVariants as sources;
 ghost use Rattle.alpha_table.specs.declared.op.Op.TheVariants.{Bis};
 ghost use Rattle.alpha_text.specs.declared.head.Own.TheVariants as owns;
-ghost use Rattle.alpha_text.specs.Statements.{said, code};
+ghost use Rattle.alpha_text.specs.Statements.{code};
 ghost use Rattle.alpha_text.specs.Behind.{Says};
 ghost use Rattle.alpha_quick.specs.Parts.{StandsFor, IsAlone, operation_of};
+ghost use Rattle.alpha_quick.specs.Lead.{Leads};
 ghost use Rattle.alpha_quick.specs.Words.{HasFirst};
 
-use crate::groups::{
-    address, binary, distance, first, jump, last, last_base, pair, tail, target, unary,
-};
+use crate::groups::{binary, distance, first, jump, last, last_base, pair, tail, unary};
 use crate::words::{comma, is_end, number, signed};
 use alpha_operands::{Number, Piece, Sign, number_at};
 use alpha_table::{BranchOp, Form, Insn, JumpKind, MemOp, Mnemonic, Op, OperandRule, Src};
-use alpha_text::{Own, Statement, halved, link, move_number};
+use alpha_text::{Own, link, move_number};
 use alpha_words::Reg;
 
-// The statement of an instruction. It is inlined: a caller would clear a place for its answer before a call.
-#[inline(always)]
-fn coded<'a>(form: Form) -> Option<Statement<'a>>
-    ensures { IfSome result (λ s. said s ≡ code form) }
-{
-    let insn = Insn::of(form)?;
-    Some(Statement::Code(insn))
+/// An instruction that a name gives with the words behind it, or with their front: then what is left of them names
+/// the label that it is to reach, and it has displacement 0.
+#[derive(Clone, Copy)]
+pub(crate) struct Lead<'a> {
+    pub insn: Insn,
+    /// Whether it is to reach a label.
+    pub reaches: bool,
+    /// The words that name it.
+    pub left: &'a [u8],
+}
+
+impl<'a> Lead<'a> {
+    // An instruction that reaches no label.
+    #[inline(always)]
+    pub(crate) fn whole(insn: Insn, end: &'a [u8]) -> Lead<'a>
+        ensures insn { result.insn ≡ insn }
+        ensures whole { result.reaches ≡ false }
+    {
+        Lead {
+            insn,
+            reaches: false,
+            left: end,
+        }
+    }
+
+    // An instruction that is to reach the label of these words.
+    #[inline(always)]
+    fn to(insn: Insn, left: &'a [u8]) -> Lead<'a>
+        ensures insn { result.insn ≡ insn }
+        ensures reaches { result.reaches ≡ true }
+        ensures left { result.left.now ≡ left.now }
+    {
+        Lead {
+            insn,
+            reaches: true,
+            left,
+        }
+    }
 }
 
 // A memory instruction with a number, behind its register and a comma.
 #[inline(always)]
-fn displaced<'a>(op: MemOp, ra: Reg, words: &'a [u8]) -> Option<Statement<'a>>
-    ensures { IfSome result (λ s. (line : List ℕ) → HasFirst line ra words.now
-        → Says (mnemonics.Mem op) line (said s)) }
+fn displaced(op: MemOp, ra: Reg, words: &[u8]) -> Option<Insn>
+    ensures { IfSome result (λ i. (line : List ℕ) → HasFirst line ra words.now
+        → Says (mnemonics.Mem op) line (code i)) }
 {
     let (sign, n, rest) = signed(words)?;
     let Some(Number::Displacement(disp)) = number_at(Piece::Displacement, sign, n) else {
         return None;
     };
     let rb = tail(rest)?;
-    coded(Form::Mem { op, ra, rb, disp })
-}
-
-// A memory instruction with half of the address of a label, behind its register and a comma.
-#[inline(always)]
-fn addressed<'a>(op: MemOp, ra: Reg, words: &'a [u8]) -> Option<Statement<'a>>
-    ensures { IfSome result (λ s. (line : List ℕ) → HasFirst line ra words.now
-        → Says (mnemonics.Mem op) line (said s)) }
-{
-    let (half, address, rest) = address(words)?;
-    let rb = tail(rest)?;
-    let disp = 0;
-    let insn = Insn::of(Form::Mem { op, ra, rb, disp })?;
-    Some(halved(Some(half), insn, address))
+    Some(Insn::memory(op, ra, rb, disp))
 }
 
 // A memory instruction with a base alone, behind its register and a comma.
 #[inline(always)]
-fn based<'a>(op: MemOp, ra: Reg, words: &'a [u8]) -> Option<Statement<'a>>
-    ensures { IfSome result (λ s. (line : List ℕ) → HasFirst line ra words.now
-        → Says (mnemonics.Mem op) line (said s)) }
+fn based(op: MemOp, ra: Reg, words: &[u8]) -> Option<Insn>
+    ensures { IfSome result (λ i. (line : List ℕ) → HasFirst line ra words.now
+        → Says (mnemonics.Mem op) line (code i)) }
 {
     let rb = last_base(words)?;
     let disp = 0;
-    coded(Form::Mem { op, ra, rb, disp })
+    Some(Insn::memory(op, ra, rb, disp))
+}
+
+// A memory instruction behind its register and a comma.
+#[inline(always)]
+fn accessing<'a>(op: MemOp, ra: Reg, words: &'a [u8]) -> Option<Lead<'a>>
+    ensures { IfSome result (λ l. (line : List ℕ) → HasFirst line ra words.now
+        → Leads (Says (mnemonics.Mem op) line) l) }
+{
+    match words {
+        [b'%', ..] => Some(Lead::to(Insn::memory(op, ra, Reg::ZERO, 0), words)),
+        [b'(', ..] => {
+            let insn = based(op, ra, words)?;
+            Some(Lead::whole(insn, words))
+        }
+        _ => {
+            let insn = displaced(op, ra, words)?;
+            Some(Lead::whole(insn, words))
+        }
+    }
 }
 
 // A memory instruction.
 #[inline(always)]
-fn memory(op: MemOp, words: &[u8]) -> Option<Statement<'_>>
-    ensures { IfSome result (λ s. Says (mnemonics.Mem op) words.now (said s)) }
+fn memory(op: MemOp, words: &[u8]) -> Option<Lead<'_>>
+    ensures { IfSome result (Leads (Says (mnemonics.Mem op) words.now)) }
 {
     let Some((ra, rest)) = first(words) else {
         return None;
     };
-    match rest {
-        [b'%', ..] => addressed(op, ra, rest),
-        [b'(', ..] => based(op, ra, rest),
-        _ => displaced(op, ra, rest),
-    }
+    accessing(op, ra, rest)
 }
 
 // A branch over a distance, behind its register and a comma.
 #[inline(always)]
-fn over<'a>(op: BranchOp, ra: Reg, words: &'a [u8]) -> Option<Statement<'a>>
-    ensures { IfSome result (λ s. (line : List ℕ) → HasFirst line ra words.now
-        → Says (mnemonics.Branch op) line (said s)) }
+fn over(op: BranchOp, ra: Reg, words: &[u8]) -> Option<Insn>
+    ensures { IfSome result (λ i. (line : List ℕ) → HasFirst line ra words.now
+        → Says (mnemonics.Branch op) line (code i)) }
 {
     let disp = distance(words)?;
-    coded(Form::Branch { op, ra, disp })
-}
-
-// A branch to a label, behind its register and a comma.
-#[inline(always)]
-fn to_label<'a>(op: BranchOp, ra: Reg, words: &'a [u8]) -> Option<Statement<'a>>
-    ensures { IfSome result (λ s. (line : List ℕ) → HasFirst line ra words.now
-        → Says (mnemonics.Branch op) line (said s)) }
-{
-    let target = target(words)?;
-    let disp = 0;
-    let insn = Insn::of(Form::Branch { op, ra, disp })?;
-    Some(Statement::Target { insn, target })
+    Some(Insn::branch(op, ra, disp))
 }
 
 // A branch behind its register and a comma.
 #[inline(always)]
-fn linked<'a>(op: BranchOp, ra: Reg, words: &'a [u8]) -> Option<Statement<'a>>
-    ensures { IfSome result (λ s. (line : List ℕ) → HasFirst line ra words.now
-        → Says (mnemonics.Branch op) line (said s)) }
+fn linked<'a>(op: BranchOp, ra: Reg, words: &'a [u8]) -> Option<Lead<'a>>
+    ensures { IfSome result (λ l. (line : List ℕ) → HasFirst line ra words.now
+        → Leads (Says (mnemonics.Branch op) line) l) }
 {
     match words {
-        [b'.', ..] => over(op, ra, words),
-        _ => to_label(op, ra, words),
+        [b'.', ..] => {
+            let insn = over(op, ra, words)?;
+            Some(Lead::whole(insn, words))
+        }
+        _ => Some(Lead::to(Insn::branch(op, ra, 0), words)),
     }
 }
 
 // A branch to a label, where no register is written.
 #[inline(always)]
-fn unlinked(op: BranchOp, words: &[u8]) -> Option<Statement<'_>>
-    ensures { IfSome result (λ s. Says (mnemonics.Branch op) words.now (said s)) }
+fn unlinked(op: BranchOp, words: &[u8]) -> Option<Lead<'_>>
+    ensures { IfSome result (Leads (Says (mnemonics.Branch op) words.now)) }
 {
-    let (ra, disp) = (link(op), 0);
+    let ra = link(op);
     match op {
-        BranchOp::Br | BranchOp::Bsr => {
-            let target = target(words)?;
-            let insn = Insn::of(Form::Branch { op, ra, disp })?;
-            Some(Statement::Target { insn, target })
-        }
+        BranchOp::Br | BranchOp::Bsr => Some(Lead::to(Insn::branch(op, ra, 0), words)),
         _ => None,
     }
 }
 
 // A branch.
 #[inline(always)]
-fn branch(op: BranchOp, words: &[u8]) -> Option<Statement<'_>>
-    ensures { IfSome result (λ s. Says (mnemonics.Branch op) words.now (said s)) }
+fn branch(op: BranchOp, words: &[u8]) -> Option<Lead<'_>>
+    ensures { IfSome result (Leads (Says (mnemonics.Branch op) words.now)) }
 {
     match words {
         [b'$', ..] => {
@@ -152,25 +171,25 @@ fn branch(op: BranchOp, words: &[u8]) -> Option<Statement<'_>>
 
 // A jump with its registers, and a hint or none.
 #[inline(always)]
-fn jumping(kind: JumpKind, words: &[u8]) -> Option<Statement<'_>>
-    ensures { IfSome result (λ s. Says (mnemonics.Jump kind) words.now (said s)) }
+fn jumping(kind: JumpKind, words: &[u8]) -> Option<Insn>
+    ensures { IfSome result (λ i. Says (mnemonics.Jump kind) words.now (code i)) }
 {
     let operands = jump(words)?;
     let (ra, rb, hint) = (operands.ra, operands.rb, operands.hint);
-    coded(Form::Jump { kind, ra, rb, hint })
+    Insn::of(Form::Jump { kind, ra, rb, hint })
 }
 
 // `ret` alone.
 #[inline(always)]
-fn bare(kind: JumpKind, words: &[u8]) -> Option<Statement<'_>>
-    ensures { IfSome result (λ s. Says (mnemonics.Jump kind) words.now (said s)) }
+fn bare(kind: JumpKind, words: &[u8]) -> Option<Insn>
+    ensures { IfSome result (λ i. Says (mnemonics.Jump kind) words.now (code i)) }
 {
     match kind {
         JumpKind::Ret => {
             let rb = Reg::new(26)?;
             let (ra, hint) = (Reg::ZERO, 1);
             if is_end(words) {
-                coded(Form::Jump { kind, ra, rb, hint })
+                Insn::of(Form::Jump { kind, ra, rb, hint })
             } else {
                 None
             }
@@ -181,53 +200,53 @@ fn bare(kind: JumpKind, words: &[u8]) -> Option<Statement<'_>>
 
 // An operate instruction of two sources.
 #[inline(always)]
-fn two_sources(op: Op, words: &[u8]) -> Option<Statement<'_>>
+fn two_sources(op: Op, words: &[u8]) -> Option<Insn>
     requires { (op_row op).operands ≡ rules.Any }
-    ensures { IfSome result (λ s. Says (mnemonics.Operate op) words.now (said s)) }
+    ensures { IfSome result (λ i. Says (mnemonics.Operate op) words.now (code i)) }
 {
     let operands = binary(words)?;
     let (ra, src, rc) = (operands.ra, operands.src, operands.rc);
-    coded(Form::Operate { op, ra, src, rc })
+    Some(Insn::operate(op, ra, src, rc))
 }
 
 // An operate instruction of one source.
 #[inline(always)]
-fn one_source(op: Op, words: &[u8]) -> Option<Statement<'_>>
+fn one_source(op: Op, words: &[u8]) -> Option<Insn>
     requires { (op_row op).operands ≡ rules.Unary }
-    ensures { IfSome result (λ s. Says (mnemonics.Operate op) words.now (said s)) }
+    ensures { IfSome result (λ i. Says (mnemonics.Operate op) words.now (code i)) }
 {
     let Some((src, rc)) = unary(words) else {
         return None;
     };
     let ra = Reg::ZERO;
-    coded(Form::Operate { op, ra, src, rc })
+    Some(Insn::operate(op, ra, src, rc))
 }
 
 // An operate instruction of one source that is a register.
 #[inline(always)]
-fn one_register(op: Op, words: &[u8]) -> Option<Statement<'_>>
+fn one_register(op: Op, words: &[u8]) -> Option<Insn>
     requires { (op_row op).operands ≡ rules.UnaryRegister }
-    ensures { IfSome result (λ s. Says (mnemonics.Operate op) words.now (said s)) }
+    ensures { IfSome result (λ i. Says (mnemonics.Operate op) words.now (code i)) }
 {
     let registers = pair(words)?;
     let (ra, src, rc) = (Reg::ZERO, Src::Reg(registers.rb), registers.rc);
-    coded(Form::Operate { op, ra, src, rc })
+    Some(Insn::operate(op, ra, src, rc))
 }
 
 // An operate instruction of no source.
 #[inline(always)]
-fn no_source(op: Op, words: &[u8]) -> Option<Statement<'_>>
+fn no_source(op: Op, words: &[u8]) -> Option<Insn>
     requires { (op_row op).operands ≡ rules.Version }
-    ensures { IfSome result (λ s. Says (mnemonics.Operate op) words.now (said s)) }
+    ensures { IfSome result (λ i. Says (mnemonics.Operate op) words.now (code i)) }
 {
     let rc = last(words)?;
     let (ra, src) = (Reg::ZERO, Src::Lit(1));
-    coded(Form::Operate { op, ra, src, rc })
+    Some(Insn::operate(op, ra, src, rc))
 }
 
 // An operate instruction that doesn't have two sources.
-fn fewer_sources(op: Op, words: &[u8]) -> Option<Statement<'_>>
-    ensures { IfSome result (λ s. Says (mnemonics.Operate op) words.now (said s)) }
+fn fewer_sources(op: Op, words: &[u8]) -> Option<Insn>
+    ensures { IfSome result (λ i. Says (mnemonics.Operate op) words.now (code i)) }
 {
     match op.row().operands {
         OperandRule::Any => None,
@@ -239,31 +258,31 @@ fn fewer_sources(op: Op, words: &[u8]) -> Option<Statement<'_>>
 
 // A prefetch.
 #[inline(always)]
-fn prefetch(modify: bool, words: &[u8]) -> Option<Statement<'_>>
-    ensures { IfSome result (λ s. Says (mnemonics.Fetch modify) words.now (said s)) }
+fn prefetch(modify: bool, words: &[u8]) -> Option<Insn>
+    ensures { IfSome result (λ i. Says (mnemonics.Fetch modify) words.now (code i)) }
 {
     let (n, rest) = number(words)?;
     let Some(Number::Nothing) = number_at(Piece::Nothing, Sign::Plus, n) else {
         return None;
     };
     let rb = last_base(rest)?;
-    coded(Form::Fetch { modify, rb })
+    Insn::of(Form::Fetch { modify, rb })
 }
 
 // An instruction that is a name alone.
 #[inline(always)]
-fn alone<'a>(row: Mnemonic, form: Form, words: &'a [u8]) -> Option<Statement<'a>>
+fn alone(row: Mnemonic, form: Form, words: &[u8]) -> Option<Insn>
     requires { IsAlone row form }
-    ensures { IfSome result (λ s. Says row words.now (said s)) }
+    ensures { IfSome result (λ i. Says row words.now (code i)) }
 {
-    if is_end(words) { coded(form) } else { None }
+    if is_end(words) { Insn::of(form) } else { None }
 }
 
-// What a row's name says with the words behind it, for rows that few lines have. Those of the others are
-// read in `of_row`.
+// The instruction that a row's name gives with the words behind it, for rows that few lines have. Those of
+// the others are read in `of_row`.
 #[inline(never)]
-fn of_rare_row(row: Mnemonic, words: &[u8]) -> Option<Statement<'_>>
-    ensures { IfSome result (λ s. Says row words.now (said s)) }
+fn of_rare_row(row: Mnemonic, words: &[u8]) -> Option<Insn>
+    ensures { IfSome result (λ i. Says row words.now (code i)) }
 {
     match row {
         Mnemonic::Mem(_) | Mnemonic::Branch(_) => None,
@@ -278,16 +297,22 @@ fn of_rare_row(row: Mnemonic, words: &[u8]) -> Option<Statement<'_>>
     }
 }
 
-/// What a row's name says with the words behind it.
+/// The instruction that a row's name gives with the words behind it, or with their front.
 #[inline(always)]
-pub(crate) fn of_row(row: Mnemonic, words: &[u8]) -> Option<Statement<'_>>
-    ensures { IfSome result (λ s. Says row words.now (said s)) }
+pub(crate) fn of_row(row: Mnemonic, words: &[u8]) -> Option<Lead<'_>>
+    ensures { IfSome result (Leads (Says row words.now)) }
 {
     match row {
         Mnemonic::Mem(op) => memory(op, words),
         Mnemonic::Branch(op) => branch(op, words),
-        Mnemonic::Operate(op) if op.row().operands == OperandRule::Any => two_sources(op, words),
-        _ => of_rare_row(row, words),
+        Mnemonic::Operate(op) if op.row().operands == OperandRule::Any => {
+            let insn = two_sources(op, words)?;
+            Some(Lead::whole(insn, words))
+        }
+        _ => {
+            let insn = of_rare_row(row, words)?;
+            Some(Lead::whole(insn, words))
+        }
     }
 }
 
@@ -330,16 +355,15 @@ fn paired(own: Own, words: &[u8]) -> Option<Insn>
     let op = operation(own)?;
     let registers = pair(words)?;
     let (ra, src, rc) = (Reg::ZERO, Src::Reg(registers.rb), registers.rc);
-    Insn::of(Form::Operate { op, ra, src, rc })
+    Some(Insn::operate(op, ra, src, rc))
 }
 
 // The instruction that sets a register to 0.
 #[inline(always)]
-fn cleared(rc: Reg) -> Option<Insn>
-    ensures { IfSome result (λ i. i ≡ Operate Bis 31 (sources.Reg 31) rc) }
+fn cleared(rc: Reg) -> Insn
+    ensures { result ≡ Operate Bis 31 (sources.Reg 31) rc }
 {
-    let (op, ra, src) = (Op::Bis, Reg::ZERO, Src::Reg(Reg::ZERO));
-    Insn::of(Form::Operate { op, ra, src, rc })
+    Insn::operate(Op::Bis, Reg::ZERO, Src::Reg(Reg::ZERO), rc)
 }
 
 // `nop`.
@@ -348,7 +372,7 @@ fn nop(words: &[u8]) -> Option<Insn>
     ensures { IfSome result (λ i. StandsFor owns.Nop words.now i) }
 {
     if is_end(words) {
-        cleared(Reg::ZERO)
+        Some(cleared(Reg::ZERO))
     } else {
         None
     }
@@ -360,7 +384,7 @@ fn clear(words: &[u8]) -> Option<Insn>
     ensures { IfSome result (λ i. StandsFor owns.Clr words.now i) }
 {
     let rc = last(words)?;
-    cleared(rc)
+    Some(cleared(rc))
 }
 
 // `mov`.

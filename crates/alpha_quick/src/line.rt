@@ -1,22 +1,26 @@
 //! Lines as programs write them, read in one pass: blanks, a label, a name, and the words behind it. What is
 //! written otherwise is left to the reader of all lines.
-ghost use Rattle.std.specs.Prelude.{◌≡◌, ◌≤◌, ◌∷◌, ◌++◌, IfSome, Ok, List, ℕ, length, true};
+ghost use Rattle.std.specs.Prelude.{◌≡◌, ◌≤◌, ◌∷◌, ◌++◌, IfSome, IfOk, IfErr, Ok, length, true};
 ghost use Rattle.std.specs.List.{list_all};
-ghost use Rattle.std.specs.Option.{option_map};
 ghost use Rattle.alpha_token.specs.Tokens.{tokens};
 ghost use Rattle.alpha_operands.specs.Operands.{Gives};
 ghost use Rattle.alpha_text.specs.Behind.{IsApart};
 ghost use Rattle.alpha_text.specs.References.{goes_on_label};
-ghost use Rattle.alpha_text.specs.Statements.{said};
-ghost use Rattle.alpha_text.specs.Reading.{item_said, line_of, read};
+ghost use Rattle.alpha_text.specs.Statements.{said, code, empty};
+ghost use Rattle.alpha_text.specs.Reading.{item_said, statement_of, line_of, read};
 ghost use Rattle.alpha_quick.specs.Keys.{IsKeyed};
-ghost use Rattle.alpha_quick.specs.Parts.{SaysNamed, IsParted};
+ghost use Rattle.alpha_quick.specs.Parts.{SaysNamed, unlabelled};
+ghost use Rattle.alpha_quick.specs.Lead.{Leads, HasStatement};
+ghost use Rattle.alpha_quick.specs.Rest.{IsRest};
+ghost use Rattle.alpha_quick.specs.Words.{HasEnd};
 
 use crate::data::of_directive;
-use crate::forms::{of_own, of_row};
+use crate::forms::{Lead, of_own, of_row};
 use crate::front::{Front, begins_label};
+use crate::reach::reached;
 use crate::rows::{own_named, row_named};
 use crate::words::{behind_blanks, behind_byte, is_end};
+use alpha_table::Insn;
 use alpha_text::{Item, LineFault, Statement};
 use alpha_token::without_blanks;
 
@@ -43,117 +47,181 @@ fn apart(behind: &[u8]) -> Option<&[u8]>
     }
 }
 
-// The statement of a name beside the table with the words behind it.
+// The instruction of a name with what stands behind it, or with the front of that.
 #[inline(always)]
-fn of_own_name<'a>(front: &Front<'a>, words: &'a [u8]) -> Option<Statement<'a>>
-    requires { IsApart front.now.behind.now × (tokens front.now.behind.now ≡ tokens words.now) }
-    ensures { IfSome result (λ s. SaysNamed front.now.name.now front.now.behind.now (said s)) }
-{
-    let own = own_named(front.name, front.key)?;
-    match of_own(own, words) {
-        Some(insn) => Some(Statement::Code(insn)),
-        None => of_directive(own, front.behind, words),
-    }
-}
-
-// The statement of a name with what stands behind it.
-#[inline(always)]
-fn of_name<'a>(front: &Front<'a>) -> Option<Statement<'a>>
+fn lead_of<'a>(front: &Front<'a>) -> Option<Lead<'a>>
     requires { IsKeyed front.now.name.now front.now.key.0 }
-    ensures { IfSome result (λ s. SaysNamed front.now.name.now front.now.behind.now (said s)) }
+    ensures { IfSome result (Leads (SaysNamed front.now.name.now front.now.behind.now)) }
 {
     let words = apart(front.behind)?;
     match row_named(front.name, front.key) {
         Some(row) => of_row(row, words),
-        None => of_own_name(front, words),
+        None => {
+            let own = own_named(front.name, front.key)?;
+            let insn = of_own(own, words)?;
+            Some(Lead::whole(insn, words))
+        }
     }
 }
 
-// A line that is cut in two: its label, if it has one, and the front of what stands behind it.
-#[derive(Clone, Copy)]
-struct Parted<'a> {
-    label: Option<&'a [u8]>,
-    front: Front<'a>,
-}
-
-// The front of a line without a label, with `/v` if that stands behind it.
+// The statement of a line that ends.
 #[inline(always)]
-fn whole_front(line: &[u8]) -> Front<'_>
-    ensures line { line.now ≡ result.name.now ++ result.behind.now }
-    ensures key { IsKeyed result.name.now result.key.0 }
+fn empty(line: &[u8]) -> Option<Statement<'_>>
+    ensures { IfSome result (λ s. HasEnd line.now × (said s ≡ empty)) }
 {
-    let front = Front::of(line);
-    front.with_trap(line)
+    if is_end(line) {
+        Some(Statement::Empty)
+    } else {
+        None
+    }
 }
 
-// A line that is cut in two behind this label and its colon.
+// The directive of a name with what stands behind it.
 #[inline(always)]
-fn part_behind<'a>(label: &'a [u8], rest: &'a [u8]) -> Option<Parted<'a>>
+fn directive_of<'a>(front: &Front<'a>) -> Option<Statement<'a>>
+    ensures { IfSome result (λ s. SaysNamed front.now.name.now front.now.behind.now (said s)) }
+{
+    let words = apart(front.behind)?;
+    let own = own_named(front.name, front.key)?;
+    of_directive(own, front.behind, words)
+}
+
+/// A line that is no instruction alone, as far as it was read.
+#[derive(Clone, Copy)]
+pub struct Rest<'a> {
+    /// The line.
+    pub line: &'a [u8],
+    // It is cut behind its blanks and the first bytes that go on a label.
+    pub(crate) front: Front<'a>,
+    // The instruction at its front, if there is one.
+    pub(crate) insn: Option<Insn>,
+    // The words that name the label that it is to reach.
+    pub(crate) left: &'a [u8],
+}
+
+impl<'a> Rest<'a> {
+    // The statement of a line without a label.
+    #[inline(always)]
+    fn statement(&self) -> Option<Statement<'a>>
+        requires { IsRest self.now }
+        ensures { IfSome result (λ s. HasStatement self.now.line.now (said s)) }
+    {
+        match self.insn {
+            Some(insn) => reached(insn, self.left),
+            None => {
+                if self.front.name.is_empty() {
+                    empty(self.front.behind)
+                } else {
+                    directive_of(&self.front)
+                }
+            }
+        }
+    }
+
+    // The item of a line with a label or without.
+    #[inline(always)]
+    fn found(&self) -> Option<Item<'a>>
+        requires { IsRest self.now }
+        ensures { IfSome result (λ i. line_of (tokens self.now.line.now) ≡ Ok (item_said i)) }
+    {
+        match behind_byte(b':', self.front.behind) {
+            Some(rest) => labelled(self.front.name, rest),
+            None => {
+                let label = None;
+                match self.statement() {
+                    Some(statement) => Some(Item { label, statement }),
+                    None => None,
+                }
+            }
+        }
+    }
+
+    /// The item of the line, or its first fault: the one at the least column, and at one column of the
+    /// least kind.
+    #[tactic(auto, unfolding(alpha_text::specs::Reading::read))]
+    #[inline(always)]
+    pub fn item(&self) -> Result<Item<'a>, LineFault>
+        requires read { IsRest self.now }
+        requires size { length self.now.line.now ≤ 1024 }
+        ensures { Gives item_said result (read self.now.line.now) }
+    {
+        match self.found() {
+            Some(item) => Ok(item),
+            None => alpha_text::read_line(self.line),
+        }
+    }
+}
+
+// The statement of a line without a label.
+fn statement_in(line: &[u8]) -> Option<Statement<'_>>
+    ensures { IfSome result (λ s. HasStatement line.now (said s)) }
+{
+    match read_insn(line) {
+        Ok(insn) => Some(Statement::Code(insn)),
+        Err(rest) => rest.statement(),
+    }
+}
+
+// The item of a line with this label, behind whose colon `rest` stands.
+#[inline(always)]
+fn labelled<'a>(label: &'a [u8], rest: &'a [u8]) -> Option<Item<'a>>
     requires { list_all goes_on_label label.now ≡ true }
-    ensures key { IfSome result (λ p. IsKeyed p.front.name.now p.front.key.0) }
-    ensures parts { IfSome result (λ p. IsParted (label.now ++ 58 ∷ rest.now)
-        (option_map (λ l. l.now) p.label) p.front.name.now p.front.behind.now) }
+    ensures { IfSome result (λ i. line_of (tokens (label.now ++ 58 ∷ rest.now)) ≡ Ok (item_said i)) }
 {
     if !begins_label(label) {
         return None;
     }
-    let line = without_blanks(rest);
-    Some(Parted {
-        label: Some(label),
-        front: whole_front(line),
-    })
+    let label = Some(label);
+    match statement_in(rest) {
+        Some(statement) => Some(Item { label, statement }),
+        None => None,
+    }
 }
 
-// A line that begins with no blank, cut in two.
+/// The instruction of a line that has no label and names none, or the line as far as it was read, which may have such
+/// an instruction too.
 #[inline(always)]
-fn part(line: &[u8]) -> Option<Parted<'_>>
-    ensures key { IfSome result (λ p. IsKeyed p.front.name.now p.front.key.0) }
-    ensures parts { IfSome result (λ p. IsParted line.now
-        (option_map (λ l. l.now) p.label) p.front.name.now p.front.behind.now) }
+pub fn read_insn(line: &[u8]) -> Result<Insn, Rest<'_>>
+    ensures line { IfOk result (λ i. line_of (tokens line.now) ≡ Ok (unlabelled i)) }
+    ensures statement { IfOk result (λ i. statement_of (tokens line.now) ≡ Ok (code i)) }
+    ensures rest { IfErr result IsRest }
+    ensures same { IfErr result (λ rest. rest.line.now ≡ line.now) }
 {
-    let front = Front::of(line);
-    match behind_byte(b':', front.behind) {
-        Some(rest) => part_behind(front.name, rest),
-        None => Some(Parted {
-            label: None,
-            front: front.with_trap(line),
+    let text = behind_blanks(line);
+    let front = Front::of(text);
+    let whole = front.with_trap(text);
+    match lead_of(&whole) {
+        Some(lead) => {
+            if lead.reaches {
+                Err(Rest {
+                    line,
+                    front,
+                    insn: Some(lead.insn),
+                    left: lead.left,
+                })
+            } else {
+                Ok(lead.insn)
+            }
+        }
+        None => Err(Rest {
+            line,
+            front,
+            insn: None,
+            left: line,
         }),
     }
 }
 
-// The item of a line that was cut in two.
+/// The instruction of a line that has no label and names none. `None` may also stand for a line that has such an
+/// instruction.
 #[inline(always)]
-fn of_parts<'a>(parted: &Parted<'a>) -> Option<Item<'a>>
-    requires { IsKeyed parted.now.front.name.now parted.now.front.key.0 }
-    ensures { IfSome result (λ i. (line : List ℕ)
-        → IsParted line (option_map (λ l. l.now) parted.now.label)
-        parted.now.front.name.now parted.now.front.behind.now
-        → line_of (tokens line) ≡ Ok (item_said i)) }
+pub fn read_code(line: &[u8]) -> Option<Insn>
+    ensures { IfSome result (λ i. line_of (tokens line.now) ≡ Ok (unlabelled i)) }
 {
-    let label = parted.label;
-    if parted.front.name.is_empty() {
-        if is_end(parted.front.behind) {
-            let statement = Statement::Empty;
-            Some(Item { label, statement })
-        } else {
-            None
-        }
-    } else {
-        match of_name(&parted.front) {
-            Some(statement) => Some(Item { label, statement }),
-            None => None,
-        }
+    match read_insn(line) {
+        Ok(insn) => Some(insn),
+        Err(_) => None,
     }
-}
-
-// The item of a line as programs write them, behind any blanks.
-#[inline(always)]
-fn item(line: &[u8]) -> Option<Item<'_>>
-    ensures { IfSome result (λ i. line_of (tokens line.now) ≡ Ok (item_said i)) }
-{
-    let line = behind_blanks(line);
-    let parted = part(line)?;
-    of_parts(&parted)
 }
 
 /// The item of a line, or its first fault: the one at the least column, and at one column of the
@@ -164,8 +232,11 @@ pub fn read_line(line: &[u8]) -> Result<Item<'_>, LineFault>
     requires { length line.now ≤ 1024 }
     ensures value { Gives item_said result (read line.now) }
 {
-    match item(line) {
-        Some(item) => Ok(item),
-        None => alpha_text::read_line(line),
+    match read_insn(line) {
+        Ok(insn) => Ok(Item {
+            label: None,
+            statement: Statement::Code(insn),
+        }),
+        Err(rest) => rest.item(),
     }
 }

@@ -3,10 +3,10 @@ ghost use Rattle.alpha_words.specs.Field.{signed_field};
 ghost use Rattle.alpha_table.specs.Op.{op_row};
 ghost use Rattle.alpha_table.specs.Row.{Row, IsInsn, IsSigned, OperandsFit};
 ghost use Rattle.alpha_table.specs.Encoded.{encoded};
-ghost use Rattle.alpha_table.specs.declared.form.Form.TheVariants.{Operate};
+ghost use Rattle.alpha_table.specs.declared.form.Form.TheVariants.{Mem, Branch, Operate};
 
 use crate::formats::{fetch_function, pal_function};
-use crate::{Form, Insn, Op, Src};
+use crate::{BranchOp, Form, Insn, MemOp, Op, Src};
 use alpha_words::{Reg, Word};
 
 /// The one word of the table that stands for the instruction (Architecture Handbook, section 3.3).
@@ -24,12 +24,8 @@ pub(crate) fn word_of(form: &Form) -> u32
     ensures { Row result form.now }
 {
     match *form {
-        Form::Mem { op, ra, rb, disp } => {
-            high(op.row().opcode, ra, rb) + u32::from(disp.cast_unsigned())
-        }
-        Form::Branch { op, ra, disp } => {
-            (u32::from(op.row().opcode) << 26) + (u32::from(ra.number()) << 21) + branch_field(disp)
-        }
+        Form::Mem { op, ra, rb, disp } => memory(op, ra, rb, disp),
+        Form::Branch { op, ra, disp } => branch(op, ra, disp),
         Form::Jump { kind, ra, rb, hint } => {
             high(0x1a, ra, rb) + (u32::from(kind.kind()) << 14) + u32::from(hint)
         }
@@ -42,7 +38,16 @@ pub(crate) fn word_of(form: &Form) -> u32
     }
 }
 
+/// The word of a memory instruction.
+#[inline(always)]
+pub(crate) fn memory(op: MemOp, ra: Reg, rb: Reg, disp: i16) -> u32
+    ensures { Row result (Mem op ra rb disp) }
+{
+    high(op.row().opcode, ra, rb) + u32::from(disp.cast_unsigned())
+}
+
 // A branch displacement as an unsigned field of 21 bits.
+#[inline(always)]
 fn branch_field(disp: i32) -> u32
     requires { IsSigned 20 disp }
     ensures bound { result < 2 ^ 21 }
@@ -55,8 +60,18 @@ fn branch_field(disp: i32) -> u32
     }
 }
 
-// The word of an operate instruction.
-fn operate(op: Op, ra: Reg, src: &Src, rc: Reg) -> u32
+/// The word of a branch.
+#[inline(always)]
+pub(crate) fn branch(op: BranchOp, ra: Reg, disp: i32) -> u32
+    requires { IsSigned 20 disp }
+    ensures { Row result (Branch op ra disp) }
+{
+    (u32::from(op.row().opcode) << 26) + (u32::from(ra.number()) << 21) + branch_field(disp)
+}
+
+/// The word of an operate instruction.
+#[inline(always)]
+pub(crate) fn operate(op: Op, ra: Reg, src: &Src, rc: Reg) -> u32
     requires { OperandsFit (op_row op).operands ra src.now }
     ensures { Row result (Operate op ra src.now rc) }
 {
@@ -70,6 +85,7 @@ fn operate(op: Op, ra: Reg, src: &Src, rc: Reg) -> u32
 }
 
 // The fields from bit 16 on: an opcode and two registers.
+#[inline(always)]
 fn high(opcode: u8, ra: Reg, rb: Reg) -> u32
     requires { opcode < 64 }
     ensures { result ≡ opcode * 2 ^ 26 + ra * 2 ^ 21 + rb * 2 ^ 16 }

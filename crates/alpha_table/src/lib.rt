@@ -5,7 +5,8 @@
 //!
 //! - [`Form`] is an instruction with its operands, by format. [`Insn`] is one whose fields are
 //!   within its row of the table: it is held as its row and its word, in eight bytes, and
-//!   [`Insn::form`] cuts out those fields that its caller matches.
+//!   [`Insn::form`] cuts out those fields that its caller matches. [`Insn::memory`], [`Insn::branch`]
+//!   and [`Insn::operate`] (`built.rt`) make one of a known format without a [`Form`].
 //! - [`decode`] and [`encode`] are the table in both directions. Each instruction has one word, so
 //!   a word with other values in fields that the table fixes is outside it.
 //! - [`uses`], [`sets`], [`kind`], [`access`], [`span`], [`trap_op`] and [`level_of`] are its
@@ -30,6 +31,7 @@
 //! `specs/Spans.antt` the bytes that accesses may touch as the code compares them.
 #![tactic(auto)]
 
+mod built;
 mod columns;
 mod decoder;
 mod encoder;

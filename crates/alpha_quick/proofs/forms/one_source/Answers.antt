@@ -1,7 +1,11 @@
+use Rattle.std.proofs.Common.{refl, sym, ap}
 use Rattle.alpha_table.specs.declared.names.Mnemonic.TheVariants as mnemonics
-use Rattle.alpha_table.specs.declared.form.Form.TheVariants.{Operate}
-use Rattle.alpha_quick.proofs.Meanings.{if-coded, says_unary}
+use Rattle.alpha_text.specs.Statements.{code}
+use Rattle.alpha_quick.proofs.Meanings.{said_as, says_unary}
 use Rattle.alpha_quick.proofs.forms.one_source.Goals as goal
 
+pub operate-requires : goal.operate-requires
+operate-requires c = rw c.requires refl
+
 pub returns : goal.returns
-returns c = if-coded (mnemonics.Operate c.args.op) c.args.words.now (Operate c.args.op 31 c.in-Some.src c.in-Some.rc) c.coded.result (says_unary c.args.op c.in-Some.rc c.in-Some.src c.args.words.now c.requires c.in-Some.ensures) c.coded.ensures
+returns c = said_as (mnemonics.Operate c.args.op) c.args.words.now _ (code c.operate.result) (ap code (sym c.operate.ensures)) (says_unary c.args.op c.in-Some.rc c.in-Some.src c.args.words.now c.requires c.in-Some.ensures)

@@ -1,7 +1,7 @@
 use Rattle.std.proofs.Common.{length, map, true, false, None, refl, sym, ◌∙◌}
 use Rattle.std.proofs.lemmas.List.{append-nil}
 use Rattle.alpha_asm.specs.Patches.{fix_of}
-use Rattle.alpha_asm.specs.Pass.{unlabelled}
+use Rattle.alpha_quick.specs.Parts.{unlabelled}
 use Rattle.alpha_asm.proofs.Adding.{adds_insn}
 use Rattle.alpha_asm.proofs.Refusing.{code_here}
 use Rattle.alpha_asm.proofs.pass.Pass.take_code.Goals as goal

@@ -1,26 +1,26 @@
-use Rattle.std.proofs.Common.{◌∙◌}
-use Rattle.alpha_text.specs.Reading.{item_said}
-use Rattle.alpha_text.proofs.Bounds.{read-within}
-use Rattle.alpha_asm.proofs.Refusing.{long_line, bad_line, item_line, next_line}
+use Rattle.std.proofs.Common.{[], ◌∷◌, ◌++◌, ◌∙◌, ap, sym}
+use Rattle.alpha_text.specs.Reading.{LineSaid}
+use Rattle.alpha_quick.specs.Parts.{unlabelled}
+use Rattle.alpha_asm.specs.LineKinds.{line_kind}
+use Rattle.alpha_asm.proofs.Refusing.{long_line, read_insn, insn_at, item_line, next_line}
 use Rattle.alpha_asm.proofs.pass.Pass.take_line.Goals as goal
 
 pub returns-then-line-gt-LONGEST_LINE-clause-refused : goal.returns-then-line-gt-LONGEST_LINE-clause-refused
 returns-then-line-gt-LONGEST_LINE-clause-refused c = λ other is s. long_line c.args.kind is _ _ s c.if-line-gt-LONGEST_LINE.true
 
-pub take_item-requires-clause-within : goal.take_item-requires-clause-within
-take_item-requires-clause-within c = read-within c.args.line.now (item_said c.in-Ok.item) c.in-Ok.ensures.value
+pub returns-in_ok-push_insn-in-Ok-take_code-clause-ok : goal.returns-in_ok-push_insn-in-Ok-take_code-clause-ok
+returns-in_ok-push_insn-in-Ok-take_code-clause-ok c = λ is s.
+    next_line c.args.kind is c.args.line.now (unlabelled c.in-Ok.insn) _ _ s (read_insn c.args.line.now c.in-Ok.insn c.in-Ok.ensures.line) (c.in-Ok-take_code.ensures.taken c.args.kind) c.in-Ok-take_code.ensures.ok
 
-pub returns-in_ok-push-in-Ok-take_item-clause-ok : goal.returns-in_ok-push-in-Ok-take_item-clause-ok
-returns-in_ok-push-in-Ok-take_item-clause-ok c = λ is s.
-    next_line c.args.kind is c.args.line.now (item_said c.in-Ok.item) _ _ s c.in-Ok.ensures.value c.in-Ok-take_item.ensures.taken c.in-Ok-take_item.ensures.ok
+pub returns-in_ok-push_insn-in-Ok-take_code-clause-taken : goal.returns-in_ok-push_insn-in-Ok-take_code-clause-taken
+returns-in_ok-push_insn-in-Ok-take_code-clause-taken c = λ is s.
+    item_line c.args.kind is c.args.line.now (unlabelled c.in-Ok.insn) _ s c.if-line-gt-LONGEST_LINE.false (read_insn c.args.line.now c.in-Ok.insn c.in-Ok.ensures.line) ∙ c.in-Ok-take_code.ensures.taken c.args.kind
 
-pub returns-in_ok-push-in-Ok-take_item-clause-taken : goal.returns-in_ok-push-in-Ok-take_item-clause-taken
-returns-in_ok-push-in-Ok-take_item-clause-taken c = λ is s.
-    item_line c.args.kind is c.args.line.now (item_said c.in-Ok.item) _ s c.if-line-gt-LONGEST_LINE.false c.in-Ok.ensures.value ∙ c.in-Ok-take_item.ensures.taken
+pub returns-in_ok-push_insn-in-Ok-take_code-clause-kinds : goal.returns-in_ok-push_insn-in-Ok-take_code-clause-kinds
+returns-in_ok-push_insn-in-Ok-take_code-clause-kinds c = λ gathers.
+    c.in_ok-push_insn-in-Ok-take_code.ensures.items gathers
+    ∙ ap (λ (i : LineSaid). c.args.kinds.now.items.items ++ (line_kind i.statement ∷ [])) (sym (insn_at c.args.line.now c.in-Ok.insn c.in-Ok.ensures.line))
 
-pub returns-in-Err-take_item-clause-refused : goal.returns-in-Err-take_item-clause-refused
-returns-in-Err-take_item-clause-refused c = λ other is s.
-    item_line c.args.kind is c.args.line.now (item_said c.in-Ok.item) _ s c.if-line-gt-LONGEST_LINE.false c.in-Ok.ensures.value ∙ c.in-Err-take_item.ensures.refused other
-
-pub returns-in-Err-clause-refused : goal.returns-in-Err-clause-refused
-returns-in-Err-clause-refused c = λ other is s. bad_line c.args.kind is c.args.line.now c.in-Err.fault _ s c.if-line-gt-LONGEST_LINE.false c.in-Err.ensures.value
+pub returns-in-Err-take_code-clause-refused : goal.returns-in-Err-take_code-clause-refused
+returns-in-Err-take_code-clause-refused c = λ other is s.
+    item_line c.args.kind is c.args.line.now (unlabelled c.in-Ok.insn) _ s c.if-line-gt-LONGEST_LINE.false (read_insn c.args.line.now c.in-Ok.insn c.in-Ok.ensures.line) ∙ c.in-Err-take_code.ensures.refused other c.args.kind
