@@ -115,7 +115,7 @@ fn row_by_rest(row: InsnRow, w: Word) -> Option<InsnRow>
 
 // The same, with `Other` where the word has no row. Few words ask for it, so that a loop over words
 // has it apart; and what it answers fits registers, so that the loop clears no place for it at each
-// word.
+// word. Barriers and PALcode calls, the least rare of them, are told apart first.
 #[cold]
 #[inline(never)]
 fn rare(row: InsnRow, w: Word) -> InsnRow
@@ -123,9 +123,15 @@ fn rare(row: InsnRow, w: Word) -> InsnRow
     ensures found { (result ≡ Other → ⊥) → Stands result w.0 }
     ensures none { result ≡ Other → (i : _) → Row w.0 i → ⊥ }
 {
-    match row_by_rest(row, w) {
-        Some(told) => told,
-        None => InsnRow::Other,
+    match row {
+        InsnRow::Other => match other(w) {
+            Some(told) => told,
+            None => InsnRow::Other,
+        },
+        _ => match row_by_rest(row, w) {
+            Some(told) => told,
+            None => InsnRow::Other,
+        },
     }
 }
 
