@@ -22,3 +22,4 @@ pub mod Freely
 pub mod FreeRuns
 pub mod FreeFilling
 pub mod FreeDrawing
+pub mod WildRushing

@@ -12,5 +12,6 @@ pub mod Wild
 pub mod Report
 pub mod WildEffect
 pub mod WildTurn
+pub mod WildRushed
 pub mod WildRunEffect
 pub mod Free

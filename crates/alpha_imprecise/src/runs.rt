@@ -84,13 +84,14 @@ pub fn run<C: Chooser, S: Source, K: Sink, N: Sink>(
     ensures notes { HasGrown (sunk N.Sink notes.old notes.new) }
     ensures same { Stays wild.old.machine wild.new.machine }
 {
-    let mut left = units;
+    let mut left = units - wild.rush(units);
     'steps: while wild.unit() <= left {
         left -= wild.unit();
         let step = turn(wild, chooser, input, out, notes, watch);
         if let Some(end) = step.run_end() {
             return end;
         }
+        left -= wild.rush(left);
     }
     RunEnd::Spent
 }

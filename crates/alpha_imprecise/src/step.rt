@@ -50,39 +50,10 @@ pub(crate) fn step<C: Chooser, S: Source, K: Sink, N: Sink>(
     }
 }
 
-// Makes a step with nothing pending.
-#[inline(always)]
-fn with_none<C: Chooser, S: Source, K: Sink, N: Sink>(
-    machine: &mut Machine,
-    pending: &mut Option<Pending>,
-    chooser: &mut C,
-    input: &mut S,
-    out: &mut K,
-    notes: &mut N,
-) -> WildEnd
-    requires user { IsTrue machine.old.kernel.user }
-    requires none { pending.old ≡ None }
-    ensures effect { WildEffect result
-        (wild_state machine.old pending.old) (wild_state machine.new pending.new)
-        (telling C.ahead C.drawn chooser.old) (telling C.ahead C.drawn chooser.new)
-        (drawn S.Source input.old input.new)
-        (sunk K.Sink out.old out.new)
-        (sunk N.Sink notes.old notes.new) }
-    ensures kernel { machine.new.kernel ≡ kernel_left (class_here machine.old)
-        (next_pc (bare machine.old)) machine.old.regs machine.old.kernel }
-    ensures user { IsTrue machine.new.kernel.user }
-    ensures bound { IfSome pending.new (λ p. p.waited ≤ 1024) }
-{
-    if machine.goes_on() {
-        return WildEnd::Went;
-    }
-    with_none_rarely(machine, pending, chooser, input, out, notes)
-}
-
-// Makes a step of any kind with nothing pending. `with_none` calls this where a step does more than go on, as one that
-// overflows, which is rare; it is never inlined there, so that the loop of the run is short.
+// Makes a step with nothing pending. The loop of a run has made the steps that only go on before, so this is rare, and
+// never inlined there.
 #[inline(never)]
-fn with_none_rarely<C: Chooser, S: Source, K: Sink, N: Sink>(
+fn with_none<C: Chooser, S: Source, K: Sink, N: Sink>(
     machine: &mut Machine,
     pending: &mut Option<Pending>,
     chooser: &mut C,

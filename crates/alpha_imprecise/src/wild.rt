@@ -34,6 +34,7 @@ impl Wild {
     ghost use Rattle.alpha_imprecise.specs.Telling.{telling};
     ghost use Rattle.alpha_imprecise.specs.Wild.{trap_in};
     ghost use Rattle.alpha_imprecise.specs.WildEffect.{Framed, WildCause, WildEffect, WildGoesOn};
+    ghost use Rattle.alpha_imprecise.specs.WildRushed.{WildRushed};
 
     /// The imprecise machine with nothing pending, over a machine in user mode.
     pub fn new(machine: Machine) -> Wild
@@ -90,6 +91,21 @@ impl Wild {
         match self.pending {
             None => self.machine.goes_on(),
             Some(_) => false,
+        }
+    }
+
+    /// Makes steps with nothing pending as long as each only goes on, `units` of them at most, and answers how many it
+    /// made. It may stop early: what a step does then is what [`Wild::step`] says.
+    #[inline(always)]
+    pub fn rush(&mut self, units: u64) -> u64
+        ensures most { result ≤ units }
+        ensures went { WildRushed result self.old self.new }
+        ensures pending { self.new.pending ≡ self.old.pending }
+        ensures same { Stays self.old.machine self.new.machine }
+    {
+        match self.pending {
+            None => self.machine.rush(units),
+            _ => 0,
         }
     }
 

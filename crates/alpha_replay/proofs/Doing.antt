@@ -90,7 +90,7 @@ module _ (m : Move) (old : WildState) (input : List ℕ) (from : Stand) where
         ∙ tested_fits (finished (happened_of from.last)) (may_add (class_here old.machine) m) (moved_here n trace output)
 
     -- what was put stood in memory
-    bytes_are : moved.bytes ≡ puts_at (class_here old.machine) (bare old.machine) (trap_in old.pending)
+    pub bytes_are : moved.bytes ≡ puts_at (class_here old.machine) (bare old.machine) (trap_in old.pending)
     bytes_are =
         let o = class_here old.machine in
         let p = trap_in old.pending in

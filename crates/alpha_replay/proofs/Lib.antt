@@ -8,6 +8,7 @@ pub mod Told
 pub mod Feeding
 pub mod JournaledReplays
 pub mod Recorded
+pub mod Rushed
 pub mod Turning
 pub mod Putting
 pub mod Taking

@@ -16,5 +16,7 @@ pub mod Gathered
 pub mod Journaled
 pub mod Looks
 pub mod Taped
+pub mod Ones
 pub mod Turned
 pub mod JournalEnd
+pub mod Stands

@@ -72,6 +72,7 @@ mod play;
 mod read;
 mod replay_fault;
 mod replaying;
+mod rush;
 mod tape;
 mod turn;
 mod words;

@@ -12,6 +12,7 @@ ghost use Rattle.alpha_replay.specs.Taped.{taped};
 ghost use Rattle.alpha_replay.specs.Endings.{FitsEnding};
 ghost use Rattle.alpha_replay.specs.JournalEnd.{FreeJournal, JournalCause, JournalEffect, JournalLosesNone, JournalTold, ended_as, is_past, journal_of, outcome};
 
+use crate::rush::rush;
 use crate::tape::Tape;
 use crate::turn::{Turned, turn};
 use crate::{Ending, JournalEnd};
@@ -104,7 +105,7 @@ fn make_taped<C: Chooser, S: Source, K: Sink, N: Sink>(
         (sunk N.Sink notes.old notes.new) }
     ensures same { Stays wild.old.machine wild.new.machine }
 {
-    let mut left = units;
+    let mut left = units - rush(tape, wild, units);
     'steps: while wild.unit() <= left {
         left -= wild.unit();
         let Turned { end, fits } = turn(tape, wild, chooser, input, out, notes);
@@ -114,6 +115,7 @@ fn make_taped<C: Chooser, S: Source, K: Sink, N: Sink>(
         if let Some(end) = end.run_end() {
             return Some(end);
         }
+        left -= rush(tape, wild, left);
     }
     Some(RunEnd::Spent)
 }

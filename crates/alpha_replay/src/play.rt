@@ -1,12 +1,14 @@
 //! The items of a journal, played on the machine.
 
-ghost use Rattle.std.specs.Prelude.{◌≡◌, ◌≤◌, length, IfSome, IfNone, IfOk, IfErr, is_some};
+ghost use Rattle.std.specs.Prelude.{◌≡◌, ◌≤◌, true, length, IfSome, IfNone, IfOk, IfErr, is_some};
 ghost use Rattle.alpha_imprecise.specs.Run.{finished};
 ghost use Rattle.alpha_imprecise.specs.Wild.{trap_in};
+ghost use Rattle.alpha_imprecise.specs.WildRushed.{WildRushed};
 ghost use Rattle.alpha_seq.specs.Machine.{class_here};
 ghost use Rattle.alpha_replay.specs.Journal.{most_items};
 ghost use Rattle.alpha_replay.specs.Listed.{move as moved, units as units_made, item as item_made};
 ghost use Rattle.alpha_replay.specs.Moves.{may_add, adds_here};
+ghost use Rattle.alpha_replay.specs.Stands.{stand_after};
 ghost use Rattle.alpha_replay.specs.Playing.{happened_of, accords, is_triggered, is_waited, place, first_stand, Moved, Did, Fails, Plays, StopsAt};
 
 use crate::compare::{Seen, put_here};
@@ -168,13 +170,35 @@ fn make_units(
         (place wild.old input.old from.now)) }
 {
     let mut stand = *from;
-    for done in 0..units {
+    let mut left = units - rush(wild, &mut stand, units);
+    'moves: while left != 0 {
         match make(wild, input, expected, &stand, &Move::One) {
             Some(to) => stand = to,
             None => return None,
         }
+        left -= 1;
+        left -= rush(wild, &mut stand, left);
     }
     Some(stand)
+}
+
+// Makes such steps as long as each only goes on, so many at most, and answers how many it made. They put nothing. It may
+// stop early: what the next step does is what `make` says.
+#[inline(always)]
+fn rush(wild: &mut Wild, stand: &mut Stand, units: u32) -> u32
+    ensures most { result ≤ units }
+    ensures went { WildRushed result wild.old wild.new }
+    ensures stand { stand.new ≡ stand_after stand.old result }
+    ensures finished { finished (happened_of stand.old.last) ≡ true → result ≡ 0 }
+{
+    if is_finished(&stand.last) {
+        return 0;
+    }
+    let made = wild.rush(u64::from(units)) as u32;
+    if made != 0 {
+        stand.last = WildEnd::Went;
+    }
+    made
 }
 
 // Makes the moves of an item, `None` where one of them is impossible.

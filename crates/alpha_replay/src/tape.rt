@@ -1,11 +1,12 @@
 //! What is gathered of a run while it is made.
 
 ghost use Rattle.std.specs.Prelude.{◌≡◌, ◌≤◌, ◌++◌, [], length, vec_capacity, nat_le, true, false, IfOk};
-ghost use Rattle.alpha_replay.specs.Journal.{most_bytes, parts};
+ghost use Rattle.alpha_replay.specs.Journal.{most_bytes, most_units, parts};
 ghost use Rattle.alpha_replay.specs.Endings.{FitsEnding};
 ghost use Rattle.alpha_replay.specs.Items.{FitsItem, is_units};
 ghost use Rattle.alpha_replay.specs.Gathered.{no_moves, closed, closed_by, with_item, gathered_by};
 ghost use Rattle.alpha_replay.specs.Taped.{Taped, taped, has_room};
+ghost use Rattle.alpha_replay.specs.Ones.{HasRoom, taped_ones};
 
 use crate::front::{MOST_BYTES, MOST_ITEMS};
 use crate::read::MOST_UNITS;
@@ -115,6 +116,30 @@ impl Tape {
         self.ones += 1;
         self.units += 1;
         true
+    }
+
+    /// So many such steps can be noted.
+    #[inline(always)]
+    pub fn room(&self) -> u64
+        ensures value { HasRoom self.now result }
+        ensures bound { result ≤ most_units }
+        ensures taken { length self.now.taken ≤ most_bytes }
+        ensures put { length self.now.put ≤ most_bytes }
+    {
+        if self.ones == 0 && self.items.len() == MOST_ITEMS as usize {
+            return 0;
+        }
+        u64::from(MOST_UNITS - self.units)
+    }
+
+    /// Notes so many such steps.
+    #[inline(always)]
+    pub fn note_ones(&mut self, made: u32)
+        requires { HasRoom self.old made }
+        ensures { self.new ≡ taped_ones self.old made }
+    {
+        self.ones += made;
+        self.units += made;
     }
 }
 

@@ -24,43 +24,11 @@ pub(crate) struct Turned {
     pub fits: bool,
 }
 
-/// Makes one step, and notes it, as far as that fits.
-#[inline(always)]
-pub(crate) fn turn<C: Chooser, S: Source, K: Sink, N: Sink>(
-    tape: &mut Tape,
-    wild: &mut Wild,
-    chooser: &mut C,
-    input: &mut S,
-    out: &mut K,
-    notes: &mut N,
-) -> Turned
-    ensures effect { WildTurnEffect false result.end wild.old wild.new
-        (telling C.ahead C.drawn chooser.old) (telling C.ahead C.drawn chooser.new)
-        (drawn S.Source input.old input.new)
-        (sunk K.Sink out.old out.new)
-        (sunk N.Sink notes.old notes.new) }
-    ensures tapes { TurnTapes result.end result.fits tape.old tape.new wild.old wild.new
-        (telling C.ahead C.drawn chooser.old) (telling C.ahead C.drawn chooser.new)
-        (drawn S.Source input.old input.new)
-        (sunk K.Sink out.old out.new) }
-    ensures frame { Framed wild.old.pending result.end wild.old.machine wild.new.machine }
-    ensures same { Stays wild.old.machine wild.new.machine }
-{
-    if wild.goes_on() {
-        let fits = tape.note_one();
-        return Turned {
-            end: WildEnd::Went,
-            fits,
-        };
-    }
-    turn_rarely(tape, wild, chooser, input, out, notes)
-}
-
-// Makes one step of any kind, and notes it. The bytes that the step puts are read from memory before it, and those that
-// it takes behind it. `turn` calls this where a step does more than go on, which is rare; it is never inlined there, so
-// that the loop of the run is short.
+/// Makes one step, and notes it, as far as that fits. The bytes that the step puts are read from memory before it, and
+/// those that it takes behind it. The loop of a run has made the steps that only go on before, so this is rare, and never
+/// inlined there.
 #[inline(never)]
-fn turn_rarely<C: Chooser, S: Source, K: Sink, N: Sink>(
+pub(crate) fn turn<C: Chooser, S: Source, K: Sink, N: Sink>(
     tape: &mut Tape,
     wild: &mut Wild,
     chooser: &mut C,

@@ -1,4 +1,4 @@
-use Rattle.std.proofs.Common.{◌≡◌, ◌+◌, ◌-◌, ◌*◌, ◌≤◌, ◌<◌, refl, sym, subst, ◌∙◌, arith}
+use Rattle.std.proofs.Common.{◌≡◌, ◌+◌, ◌-◌, ◌*◌, ◌≤◌, ◌<◌, refl, sym, ap, subst, ◌∙◌, arith}
 use Rattle.alpha_io.specs.Sunk.{sunk}
 use Rattle.alpha_seq.specs.declared.end.RunEnd.TheVariants as runs
 use Rattle.alpha_seq.specs.Devices.{drawn}
@@ -16,31 +16,36 @@ use Rattle.alpha_imprecise.proofs.RunEnds.{counts_go_on, counts_stop, grown_more
 use Rattle.alpha_imprecise.proofs.Prefixes.{run_shows_part}
 use Rattle.alpha_imprecise.proofs.Fresh.{run_told, run_sequential}
 use Rattle.alpha_imprecise.proofs.FreeRuns.{GoesFree, GoesFree-none, free_goes_on, free_spent, free_stops, loses_none}
+use Rattle.alpha_imprecise.proofs.WildRushing.{goes-rushed, free-rushed, rushed_shortens, rushed_left}
 use Rattle.alpha_imprecise.proofs.runs.run.Goals as goal
 
 pub steps-init : goal.steps-init
-steps-init g c = record {
-  most = omega arith;
-  made = λ bytes told.
-      let none : 0 ≡ c.args.units - c.args.units = omega arith in
-      let started = Goes-none c.args.watch c.args.wild.now (telling g.C.Chooser.ahead g.C.Chooser.drawn c.args.chooser.now) (g.S.Source.left c.args.input.now) (g.K.Sink.written c.args.out.now) (g.N.Sink.written c.args.notes.now) bytes (g.S.Source.faults c.args.input.now) (g.K.Sink.faults c.args.out.now) (g.N.Sink.faults c.args.notes.now) told in
-      subst (λ n. Goes n c.args.watch c.args.wild.now c.args.wild.now
-      (telling g.C.Chooser.ahead g.C.Chooser.drawn c.args.chooser.now) (telling g.C.Chooser.ahead g.C.Chooser.drawn c.args.chooser.now)
-      (drawn g.S.Source c.args.input.now c.args.input.now)
-      (sunk g.K.Sink c.args.out.now c.args.out.now)
-      (sunk g.N.Sink c.args.notes.now c.args.notes.now)) none started;
-  free =
-      let none : 0 ≡ c.args.units - c.args.units = omega arith in
-      subst (λ n. GoesFree n c.args.watch c.args.wild.now c.args.wild.now
-      (telling g.C.Chooser.ahead g.C.Chooser.drawn c.args.chooser.now) (telling g.C.Chooser.ahead g.C.Chooser.drawn c.args.chooser.now)
-      (drawn g.S.Source c.args.input.now c.args.input.now)
-      (sunk g.K.Sink c.args.out.now c.args.out.now)
-      (sunk g.N.Sink c.args.notes.now c.args.notes.now)) none
-      (GoesFree-none c.args.watch c.args.wild.now (telling g.C.Chooser.ahead g.C.Chooser.drawn c.args.chooser.now) (g.S.Source.left c.args.input.now) (g.K.Sink.written c.args.out.now) (g.N.Sink.written c.args.notes.now) (g.S.Source.faults c.args.input.now) (g.K.Sink.faults c.args.out.now) (g.N.Sink.faults c.args.notes.now));
-  calm = record { source = refl; sink = refl; lines = refl };
-  grown = (HasGrown-none (g.K.Sink.written c.args.out.now) (g.K.Sink.faults c.args.out.now), HasGrown-none (g.N.Sink.written c.args.notes.now) (g.N.Sink.faults c.args.notes.now));
-  same = record { program = refl; mode = refl };
-}
+steps-init g c =
+    let w = c.args.wild.now in
+    let to = c.rush.new.self in
+    let n = c.rush.result in
+    let t = telling g.C.Chooser.ahead g.C.Chooser.drawn c.args.chooser.now in
+    let input = drawn g.S.Source c.args.input.now c.args.input.now in
+    let out = sunk g.K.Sink c.args.out.now c.args.out.now in
+    let notes = sunk g.N.Sink c.args.notes.now c.args.notes.now in
+    let most : n ≤ c.args.units = c.rush.ensures.most in
+    let used : 0 + n ≡ c.args.units - (c.args.units - n) = omega (arith, most) in
+    record {
+      most = omega arith;
+      made = λ bytes told.
+          subst (λ k. Goes k c.args.watch w to t t input out notes) used
+          (goes-rushed bytes n 0 c.args.watch w w to t t input out notes told
+          (Goes-none c.args.watch w t input.old out.old notes.old bytes input.before out.before notes.before told)
+          c.rush.ensures.went);
+      free =
+          subst (λ k. GoesFree k c.args.watch w to t t input out notes) used
+          (free-rushed n 0 c.args.watch w w to t t input out notes refl
+          (GoesFree-none c.args.watch w t input.old out.old notes.old input.before out.before notes.before)
+          c.rush.ensures.went);
+      calm = record { source = refl; sink = refl; lines = refl };
+      grown = (HasGrown-none out.old out.before, HasGrown-none notes.old notes.before);
+      same = c.rush.ensures.same;
+    }
 
 pub returns-in-Some-clause-effect : goal.returns-in-Some-clause-effect
 returns-in-Some-clause-effect g c =
@@ -160,11 +165,16 @@ steps-smaller g c =
     let notes = times g.N.Sink.written g.N.Sink.faults c.args.notes.now c.steps.notes c.turn-step.new.notes in
     let goes = sym c.run_end.ensures ∙ c.in_default.is in
     let some = subst (λ n. n ≤ c.steps.left) c.unit.ensures.value c.steps-test.true in
-    subst (λ n. (c.steps.left - n) * 1026 + wait_left c.turn-step.new.wild.pending < c.steps.left * 1026 + wait_left c.steps.wild.pending) (sym c.unit-left.ensures.value)
-    (turn_shortens c.steps.left c.args.watch c.turn-step.result c.steps.wild c.turn-step.new.wild mid after (drawn_after input) (sunk_after out) (sunk_after notes) some goes c.turn-step.ensures.effect)
+    let shorter = subst (λ n. (c.steps.left - n) * 1026 + wait_left c.turn-step.new.wild.pending < c.steps.left * 1026 + wait_left c.steps.wild.pending) (sym c.unit-left.ensures.value)
+    (turn_shortens c.steps.left c.args.watch c.turn-step.result c.steps.wild c.turn-step.new.wild mid after (drawn_after input) (sunk_after out) (sunk_after notes) some goes c.turn-step.ensures.effect) in
+    rushed_shortens (c.steps.left - c.unit-left.result) c.rush-left.result (c.steps.left * 1026 + wait_left c.steps.wild.pending) c.turn-step.new.wild c.rush-left.new.self c.rush-left.ensures.pending shorter
 
 pub steps-preserved : goal.steps-preserved
 steps-preserved g c =
+    let w = c.args.wild.now in
+    let met = c.turn-step.new.wild in
+    let to = c.rush-left.new.self in
+    let n = c.rush-left.result in
     let before = telling g.C.Chooser.ahead g.C.Chooser.drawn c.args.chooser.now in
     let mid = telling g.C.Chooser.ahead g.C.Chooser.drawn c.steps.chooser in
     let after = telling g.C.Chooser.ahead g.C.Chooser.drawn c.turn-step.new.chooser in
@@ -174,19 +184,29 @@ steps-preserved g c =
     let goes = sym c.run_end.ensures ∙ c.in_default.is in
     let same = c.unit-left.ensures.value ∙ sym c.unit.ensures.value in
     let some = subst (λ n. n ≤ c.steps.left) (sym same) c.steps-test.true in
-    let units = room_less c.args.units c.steps.left c.unit-left.result (unit_of (trap_in c.steps.wild.pending)) c.unit-left.ensures.value some c.steps.invariant.most in
     let invariant = c.steps.invariant in
+    let left = c.steps.left - c.unit-left.result in
+    let fewer : left ≤ c.args.units = fewer_left c.args.units c.steps.left c.unit-left.result invariant.most in
+    let most : n ≤ left = c.rush-left.ensures.most in
+    let units =
+    ap (λ k. k + n) (room_less c.args.units c.steps.left c.unit-left.result (unit_of (trap_in c.steps.wild.pending)) c.unit-left.ensures.value some invariant.most)
+    ∙ rushed_left c.args.units left n most fewer in
+    let program = c.turn-step.ensures.same.program ∙ invariant.same.program in
     record {
-      most = fewer_left c.args.units c.steps.left c.unit-left.result invariant.most;
+      most = fewer_left c.args.units left n fewer;
       made = λ bytes told.
-          subst (λ n. Goes n c.args.watch c.args.wild.now c.turn-step.new.wild before after (drawn_over input) (sunk_over out) (sunk_over notes)) units
-          (turn_goes_on bytes (c.args.units - c.steps.left) c.args.watch c.turn-step.result c.args.wild.now c.steps.wild c.turn-step.new.wild before mid after input out notes told c.unit.ensures.pending goes (invariant.made bytes told) c.turn-step.ensures.effect);
+          subst (λ k. Goes k c.args.watch w to before after (drawn_over input) (sunk_over out) (sunk_over notes)) units
+          (goes-rushed bytes n (c.args.units - c.steps.left + unit_of (trap_in c.steps.wild.pending)) c.args.watch w met to before after (drawn_over input) (sunk_over out) (sunk_over notes) told
+          (turn_goes_on bytes (c.args.units - c.steps.left) c.args.watch c.turn-step.result w c.steps.wild met before mid after input out notes told c.unit.ensures.pending goes (invariant.made bytes told) c.turn-step.ensures.effect)
+          c.rush-left.ensures.went);
       free =
-          subst (λ n. GoesFree n c.args.watch c.args.wild.now c.turn-step.new.wild before after (drawn_over input) (sunk_over out) (sunk_over notes)) units
-          (free_goes_on (c.args.units - c.steps.left) c.args.watch c.turn-step.result c.args.wild.now c.steps.wild c.turn-step.new.wild before mid after input out notes invariant.same.program goes invariant.free c.turn-step.ensures.effect c.turn-step.ensures.frame);
-      calm = counts_go_on c.args.watch c.turn-step.result c.steps.wild c.turn-step.new.wild mid after input out notes goes invariant.calm c.turn-step.ensures.effect;
-      grown = grown_more c.args.watch c.turn-step.result c.steps.wild c.turn-step.new.wild mid after input out notes c.steps.invariant.grown c.turn-step.ensures.effect;
-      same = stays_then invariant.same c.turn-step.ensures.same;
+          subst (λ k. GoesFree k c.args.watch w to before after (drawn_over input) (sunk_over out) (sunk_over notes)) units
+          (free-rushed n (c.args.units - c.steps.left + unit_of (trap_in c.steps.wild.pending)) c.args.watch w met to before after (drawn_over input) (sunk_over out) (sunk_over notes) program
+          (free_goes_on (c.args.units - c.steps.left) c.args.watch c.turn-step.result w c.steps.wild met before mid after input out notes invariant.same.program goes invariant.free c.turn-step.ensures.effect c.turn-step.ensures.frame)
+          c.rush-left.ensures.went);
+      calm = counts_go_on c.args.watch c.turn-step.result c.steps.wild met mid after input out notes goes invariant.calm c.turn-step.ensures.effect;
+      grown = grown_more c.args.watch c.turn-step.result c.steps.wild met mid after input out notes invariant.grown c.turn-step.ensures.effect;
+      same = stays_then (stays_then invariant.same c.turn-step.ensures.same) c.rush-left.ensures.same;
     }
 
 pub returns-clause-effect : goal.returns-clause-effect

@@ -12,24 +12,24 @@ use Rattle.alpha_replay.proofs.make.make_taped.Given as goal
 abbrev pub invariant-steps : goal.invariant-steps
 invariant-steps g l = record {
   most : l.left ≤ l.units;
-  made : (bytes : List ℕ) → g.S.Source.left l.initial.input ≡ Some bytes
-      → Remains l.units l.left l.tape l.initial.wild l.wild
-      (telling g.C.Chooser.ahead g.C.Chooser.drawn l.initial.chooser)
+  made : (bytes : List ℕ) → g.S.Source.left l.fn.input ≡ Some bytes
+      → Remains l.units l.left l.tape l.fn.wild l.wild
+      (telling g.C.Chooser.ahead g.C.Chooser.drawn l.fn.chooser)
       (telling g.C.Chooser.ahead g.C.Chooser.drawn l.chooser)
-      (drawn g.S.Source l.initial.input l.input)
-      (sunk g.K.Sink l.initial.out l.out)
-      (sunk g.N.Sink l.initial.notes l.notes);
-  free : GoesFree (l.units - l.left) false l.initial.wild l.wild
-      (telling g.C.Chooser.ahead g.C.Chooser.drawn l.initial.chooser)
+      (drawn g.S.Source l.fn.input l.input)
+      (sunk g.K.Sink l.fn.out l.out)
+      (sunk g.N.Sink l.fn.notes l.notes);
+  free : GoesFree (l.units - l.left) false l.fn.wild l.wild
+      (telling g.C.Chooser.ahead g.C.Chooser.drawn l.fn.chooser)
       (telling g.C.Chooser.ahead g.C.Chooser.drawn l.chooser)
-      (drawn g.S.Source l.initial.input l.input)
-      (sunk g.K.Sink l.initial.out l.out)
-      (sunk g.N.Sink l.initial.notes l.notes);
+      (drawn g.S.Source l.fn.input l.input)
+      (sunk g.K.Sink l.fn.out l.out)
+      (sunk g.N.Sink l.fn.notes l.notes);
   calm : HasNoFault
-      (drawn g.S.Source l.initial.input l.input)
-      (sunk g.K.Sink l.initial.out l.out)
-      (sunk g.N.Sink l.initial.notes l.notes);
-  same : Stays l.initial.wild.machine l.wild.machine;
+      (drawn g.S.Source l.fn.input l.input)
+      (sunk g.K.Sink l.fn.out l.out)
+      (sunk g.N.Sink l.fn.notes l.notes);
+  same : Stays l.fn.wild.machine l.wild.machine;
 }
 
 abbrev pub decreases-steps : goal.decreases-steps

@@ -1,9 +1,14 @@
-use Rattle.std.proofs.Common.{◌≤◌, length}
+use Rattle.std.proofs.Common.{◌-◌, ◌≤◌, length}
 use Rattle.alpha_replay.specs.Listed.{units}
 use Rattle.alpha_replay.specs.Playing.{place, Did}
 use Rattle.alpha_replay.proofs.play.make_units.Given as goal
 
-abbrev pub invariant-loop-done : goal.invariant-loop-done
-invariant-loop-done l =
-    Did l.expected (λ g p. units g l.done p) (place l.initial.wild l.initial.input l.from) (place l.wild l.input l.stand)
-    × (l.stand.seen.at ≤ length l.expected)
+abbrev pub invariant-moves : goal.invariant-moves
+invariant-moves l = record {
+  most : l.left ≤ l.units;
+  did : Did l.expected (λ g p. units g (l.units - l.left) p) (place l.fn.wild l.fn.input l.from) (place l.wild l.input l.stand);
+  seen : l.stand.seen.at ≤ length l.expected;
+}
+
+abbrev pub decreases-moves : goal.decreases-moves
+decreases-moves l = l.left
