@@ -2,11 +2,14 @@
 """Measures `link` on many and on large modules: how many host instructions it takes a word beside what `asm` takes a line of
 the same source in one file, how much memory beside the image and the modules, and how both grow with the modules.
 
-    bench/link.py [PROGRAM]
+    bench/link.py [PROGRAM]         counts and measures
+    bench/link.py names [PROGRAM]   the memory for modules of short names alone
 """
 import os
+import string
 import struct
 import subprocess
+import sys
 import tempfile
 
 from measure import NOP, best, counts_instructions, instructions, most_memory, the_program
@@ -14,6 +17,9 @@ from measure import NOP, best, counts_instructions, instructions, most_memory, t
 WORDS = 4_096
 LABELS = 78
 MEBIBYTE = 1_048_576
+# What a name begins with and goes on with, in the order of their bytes.
+FIRST = string.ascii_uppercase + "_" + string.ascii_lowercase
+LATER = "." + string.digits + FIRST
 
 
 def lines(number, count):
@@ -48,6 +54,25 @@ def short_names(size, number=0):
     count = (size - 64) // 16
     names = [symbol(0, b"n%02d%06x" % (number, n)) for n in range(count)]
     return module(struct.pack("<I", NOP), b"", names + ([] if number else [symbol(0, b"start")]), [])
+
+
+def letters(number, count):
+    """The name of so many letters with a number: the names rise with their numbers."""
+    name = ""
+    for _ in range(count - 1):
+        number, letter = divmod(number, len(LATER))
+        name = LATER[letter] + name
+    return (FIRST[number] + name).encode()
+
+
+def names_of(size, count, number, undefined):
+    """A module of so many bytes, nearly all of them symbols of so many letters. The first of several has the entry, and a
+    symbol that isn't defined there where one is wanted."""
+    many = (size - 64) // (7 + count)
+    names = [(letters(number * many + n, count), 0) for n in range(many)]
+    if number == 0:
+        names += [(b"start", 0)] + ([(b"elsewhere", 2)] if undefined else [])
+    return module(struct.pack("<I", NOP), b"", [symbol(section, name) for name, section in sorted(names)], [])
 
 
 def quadwords(size):
@@ -116,10 +141,43 @@ def many_short(folder, count, size):
         os.remove(file)
 
 
+def many_names_of(folder, files, size, count):
+    """The memory of so many modules of so many bytes, with names of so many letters, in times these files."""
+    least = most_memory([folder.program, "link", folder.path("least"), folder.keep("small", short_names(64))])
+    other = folder.keep("other", module(struct.pack("<I", NOP), b"", [symbol(0, b"elsewhere")], []))
+    paths = [folder.keep(f"s{number}", names_of(size, count, number, False)) for number in range(files)]
+    times = []
+    for undefined in (False, True):
+        folder.keep("s0", names_of(size, count, 0, undefined))
+        # No more than 64 files are linked.
+        linked = [*paths[:63], other] if undefined else paths
+        command = [folder.program, "link", folder.path("image"), *linked]
+        subprocess.run(command, check=True)
+        times.append((most_memory(command, 2) - least) / sum(map(os.path.getsize, linked)))
+    print(
+        f"{files} of {size:,} bytes, names of {count} letters: {times[0]:.2f} times the files, "
+        f"{times[1]:.2f} where the first has an undefined symbol",
+        flush=True,
+    )
+    for path in paths:
+        os.remove(path)
+
+
+def all_names(folder):
+    for files, size, size_of_three in ((1, 20 * MEBIBYTE, 2_000_000), (64, MEBIBYTE, 32_000), (16, 5 * MEBIBYTE, 128_000)):
+        many_names_of(folder, files, size_of_three, 3)
+        for count in (4, 5, 9):
+            many_names_of(folder, files, size, count)
+
+
 def main():
-    program = the_program()
+    alone = sys.argv[1:2] == ["names"]
+    program = the_program(sys.argv[2:] if alone else None)
     with tempfile.TemporaryDirectory() as name:
         folder = Folder(program, name)
+        all_names(folder)
+        if alone:
+            return
         for count in (4, 16, 64):
             many(folder, count)
         for size in (5, 20):
