@@ -1,10 +1,11 @@
 //! The imprecise machine: a trap of an overflow is reported late, and until then what the program writes
 //! may be anything (Architecture Handbook, arithmetic traps; the exact form is this project's own).
 //!
-//! - [`Wild`] is the machine: a sequential machine, and a trap that may be pending, a [`Pending`].
-//!   [`Wild::step`] makes one step, and [`WildEnd`] says how it went. [`run`] makes steps until the program ends, a
-//!   trap is lost or a number of units is used up. [`Wild::unit`], [`WildEnd::run_end`], [`Pending::waiting_insn`] and
-//!   [`overflowing`] are the parts of a step and of a run that whoever records runs shares.
+//! - [`Wild`] is the machine: a sequential machine, and a trap that may be pending, a [`Pending`]. [`Wild::step`]
+//!   makes one step, and [`WildEnd`] says how it went; [`Wild::rush`] makes many that only go on. [`run`] makes steps
+//!   until the program ends, a trap is lost or a number of units is used up. [`Wild::unit`], [`WildEnd::run_end`],
+//!   [`Pending::waiting_insn`] and [`overflowing`] are the parts of a step and of a run that whoever records runs
+//!   shares.
 //! - A [`Chooser`] answers the words of 64 bits by which a step chooses: [`ListChooser`] has them from bytes,
 //!   [`PcgChooser`] from a seeded generator. A [`CountingChooser`] counts the words of another one.
 //! - [`laws_of_chosen_runs`]: a run by such words uses its units or is over before, takes 1,026 steps a unit at most,
@@ -18,7 +19,7 @@
 //! and `specs/Shown.antt` what such a program's runs show. `specs/WildEffect.antt` says what the code's step did
 //! against that, for choosers and devices that may tell nothing, `specs/WildRunEffect.antt` what its run did, and
 //! `specs/Telling.antt` how a chooser goes on. `specs/WildTurn.antt` says what a step does together with the lines of
-//! a barrier.
+//! a barrier, and `specs/WildRushed.antt` what steps are that only go on behind one another.
 //!
 //! `src/wild.rt` is the machine, `src/pending.rt` its pending trap and `src/end.rt` how a step went; `src/step.rt` has
 //! the step by what it is, `src/look.rt` what the word at the PC would do, `src/spoil.rt` the words

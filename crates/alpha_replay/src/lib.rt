@@ -40,19 +40,20 @@
 //! words (`src/given.rt`), and `src/compare.rt` compares what a step puts, where it stands in memory before the step.
 //!
 //! `specs/Journal.antt` has what a journal is and its spelling, over the `specs/Items.antt` and the
-//! `specs/Endings.antt`; `specs/Reading.antt` what bytes say of a journal, and `specs/JournalFault.antt`
-//! their first fault. `specs/Inside.antt`, `specs/Front.antt` and `specs/Scanned.antt` say what the code
-//! has of them. `specs/Moves.antt` has what a move chooses and where it is possible, `specs/Listed.antt` the
-//! steps that items list, or the first item that is impossible, and `specs/Replay.antt` what a replay answers, over the
-//! outputs of `specs/Compared.antt`. `specs/Puts.antt` says what a step puts, and `specs/Playing.antt` what the code did
-//! that plays items. `specs/Gathered.antt` has the items of the moves that words
-//! make, `specs/Journaled.antt` the journal of a run by them, which stops where it passes a limit.
+//! `specs/Endings.antt`; `specs/Reading.antt` what bytes say of a journal, and `specs/JournalFault.antt` their first
+//! fault. `specs/Inside.antt`, `specs/Front.antt` and `specs/Scanned.antt` say what the code has of them.
+//! `specs/Moves.antt` has what a move chooses and where it is possible, `specs/Listed.antt` the steps that items
+//! list, or the first item that is impossible, and `specs/Replay.antt` what a replay answers, over the outputs of
+//! `specs/Compared.antt`. `specs/Puts.antt` says what a step puts, and `specs/Playing.antt` what the code did that
+//! plays items, `specs/Stands.antt` how the last step went behind steps that only go on. `specs/Gathered.antt` has
+//! the items of the moves that words make, `specs/Journaled.antt` the journal of a run by them, which stops where it
+//! passes a limit.
 //!
-//! `src/turn.rt` makes a step of the machine and notes it on the `src/tape.rt`. Most words only go on: the machine makes
-//! their step, and a unit is counted. Of all others `src/look.rt` says before the step what it draws, puts and takes,
-//! and `src/words.rt` draws its words. `specs/Looks.antt`, `specs/Puts.antt`, `specs/Taped.antt` and
-//! `specs/Turned.antt` are what they say. `src/make.rt` has the loop over such steps, and `specs/JournalEnd.antt` what is
-//! answered of a run.
+//! Most words only go on: `src/rush.rt` makes their steps, many at a time, and counts their units on the
+//! `src/tape.rt` (`specs/Ones.antt`). `src/turn.rt` makes any other step, and notes it there. Of each `src/look.rt`
+//! says before the step what it draws, puts and takes, and `src/words.rt` draws its words. `specs/Looks.antt`,
+//! `specs/Puts.antt`, `specs/Taped.antt` and `specs/Turned.antt` are what they say. `src/make.rt` has the loop over
+//! such steps, and `specs/JournalEnd.antt` what is answered of a run.
 #![tactic(auto)]
 
 mod compare;

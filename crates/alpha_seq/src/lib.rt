@@ -4,6 +4,7 @@
 //! - [`Machine::step`] makes one step, [`Machine::step_by`] the same for a caller that has looked at the instruction,
 //!   and [`Machine::next`] says what that step would do, as a [`Next`]. [`run`] makes
 //!   steps until the program ends or a number of them is used up.
+//! - [`Machine::rush`] makes steps as long as each only goes on, many at a time: the loop of a run, of either machine.
 //! - [`StepEnd`] is how a step went, [`RunEnd`] how a run went, [`End`] how a program ends.
 //! - [`Machine::goes_on`], [`Machine::insn`], [`Machine::source`], [`Machine::accessed`], [`Machine::set`] and
 //!   [`Machine::advance`] are the parts of a step that other machines share, with [`memory_access`], [`size`] and
@@ -23,14 +24,15 @@
 //! `specs/Draws.antt` what they took of a source.
 //! `specs/Inputs.antt` says what a run does over a source that tells nothing: each step finds some input of its own.
 //! `specs/StartMemory.antt`, `specs/Executed.antt` and `specs/Turn.antt` say what the helpers of the start, of the step
-//! and of the run do.
+//! and of the run do, `specs/Rushed.antt` what steps are that only go on behind one another.
 //!
 //! `src/machine.rt` has the machine and `src/end.rt` its answers; `src/step.rt` has the step. Its layers are
 //! `src/execute.rt`, which executes each word that is no barrier, `src/words.rt` and `src/access.rt` with the
 //! families of these words, the second with those that have a displacement from a base register, `src/barrier.rt`
 //! with the PAL calls, and `src/parts.rt` with what they share. `src/look.rt` says what a word would do.
-//! `src/start.rt` makes the machine, `src/runs.rt` runs it, `src/lines.rt` writes the lines, `src/laws.rt` has the
-//! laws, and `proofs/Examples.antt` has programs whose runs the definitions compute.
+//! `src/start.rt` makes the machine, `src/rush.rt` executes words that only go on, `src/runs.rt` runs the machine,
+//! `src/lines.rt` writes the lines, `src/laws.rt` has the laws, and `proofs/Examples.antt` has programs whose runs
+//! the definitions compute.
 #![tactic(auto)]
 
 mod access;

@@ -3,7 +3,8 @@
 //! No call takes memory. A register is a `u64`; signed numbers stand in it in two's complement.
 //!
 //! - [`operate_at`] is the result of each instruction at a level, from Ra, Rb or the literal, and
-//!   what the destination had; a `/V` row gives the wrapped result. [`operate`] is that of level one.
+//!   what the destination had; a `/V` row gives the wrapped result. [`operate`] is that of level one, and [`outcome`]
+//!   is `None` where a `/V` row overflows.
 //! - [`overflows`] says whether a `/V` instruction overflows, [`completed`] which value completes it.
 //! - [`taken`] is the test of the conditional branches and moves.
 //! - [`address`] and [`high_address`] add a displacement to a base register, and [`access_address`]
@@ -17,7 +18,7 @@
 //! The definitions go by whole numbers, the code by machine words. `specs/Numbers.antt` has signed
 //! numbers and wrapped results, `specs/Bits.antt` a register's bits and bytes, `specs/Op.antt` the
 //! result of each instruction in the Handbook's words, `specs/TrapOp.antt` overflow and completed
-//! values, `specs/Cond.antt` the conditions, `specs/Source.antt` second sources, and
+//! values, `specs/Outcome.antt` both in one, `specs/Cond.antt` the conditions, `specs/Source.antt` second sources, and
 //! `specs/Address.antt` the addresses; `specs/Lists.antt` has logic and the byte forms once more, by
 //! lists. `src/results.rt` has the table of the instructions; `sums.rt`, `counts.rt`, `shifts.rt` and
 //! `bytes.rt` have the work by families, `trap.rt` that of the `/V` rows.
