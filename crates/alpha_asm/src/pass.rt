@@ -94,8 +94,8 @@ impl<'a> Pass<'a> {
         }
     }
 
-    // Goes over the next line where it is no instruction alone. It is a call of its own, so that what a line may
-    // say beside an instruction has a place on the stack for such lines only.
+    // Goes over the next line where no instruction alone was read of it. It is a call of its own, so that what a line
+    // may say beside an instruction has a place on the stack for such lines only.
     #[inline(never)]
     fn take_rest(
         &mut self,

@@ -50,7 +50,7 @@ pub(crate) fn step<C: Chooser, S: Source, K: Sink, N: Sink>(
     }
 }
 
-// Makes a step with nothing pending. The loop of a run has made the steps that only go on before, so this is rare, and
+// Makes a step with nothing pending. The loop of a run has made most steps that only go on before, so this is rare, and
 // never inlined there.
 #[inline(never)]
 fn with_none<C: Chooser, S: Source, K: Sink, N: Sink>(

@@ -57,7 +57,8 @@
 //! that they define are found, and `names.rt` enters these there, in which the names of undefined symbols are
 //! then looked up. `addresses.rt` has the addresses of a module's symbols. `linker.rt` has the refusals in
 //! their order, and `output.rt` copies the modules into one buffer of instructions and one of data bytes, and
-//! puts in there what each relocation asks for. The code of an image begins at [`alpha_asm::CODE_BASE`], as that of a source without a `.codebase`.
+//! puts in there what each relocation asks for. The code of an image begins at [`alpha_asm::CODE_BASE`], as
+//! that of a source without a `.codebase`.
 //!
 //! `specs/Reading.antt` says how bytes are read from the front, `specs/Header.antt`, `specs/Symbols.antt`
 //! and `specs/Relocations.antt` which items there are and which are good, `specs/Parts.antt` what a module

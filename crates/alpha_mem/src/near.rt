@@ -16,7 +16,7 @@ use crate::{MemFault, Memory, Size};
 
 impl Memory {
     /// What [`Memory::load`] answers. `near` is the number of a region, as that of the last access: the region that is
-    /// looked at first. Which one it is changes no answer, and it becomes that in which the bytes lie.
+    /// looked at first. Which one it is changes no answer.
     #[inline(always)]
     pub fn load_near(&self, near: &mut usize, addr: u64, size: Size) -> Result<u64, MemFault>
         ensures fault { result_err result ≡ fault_of (shapes self.now) Load addr (size_of size) }

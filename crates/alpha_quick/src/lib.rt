@@ -2,7 +2,8 @@
 //!
 //! [`read_line`] gives what the reader of `alpha_text` gives, and takes a fraction of its time for lines as
 //! programs write them, which it reads in one pass. [`read_insn`] stops at the instruction of a line that has no
-//! label and names none, as most lines; of any other line it gives the [`Rest`], which goes on to its item.
+//! label and names none, as most lines; of a line that it doesn't read so it gives the [`Rest`], which goes on to its
+//! item.
 //! [`read_code`] answers such an instruction alone.
 //!
 //! `line.rt` cuts a line into a label, a name and the words behind it, by `front.rt`; `rows.rt` finds what the

@@ -86,7 +86,7 @@ fn directive_of<'a>(front: &Front<'a>) -> Option<Statement<'a>>
     of_directive(own, front.behind, words)
 }
 
-/// A line that is no instruction alone, as far as it was read.
+/// A line whose instruction wasn't read alone, as far as it was read.
 #[derive(Clone, Copy)]
 pub struct Rest<'a> {
     /// The line.

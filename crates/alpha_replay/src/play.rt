@@ -182,8 +182,8 @@ fn make_units(
     Some(stand)
 }
 
-// Makes such steps as long as each only goes on, so many at most, and answers how many it made. They put nothing. It may
-// stop early: what the next step does is what `make` says.
+// Makes such steps as long as each only goes on, so many at most, and answers how many it made. They put nothing.
+// It may stop early: what the next step does is what `make` says.
 #[inline(always)]
 fn rush(wild: &mut Wild, stand: &mut Stand, units: u32) -> u32
     ensures most { result ≤ units }

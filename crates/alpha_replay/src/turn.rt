@@ -25,8 +25,8 @@ pub(crate) struct Turned {
 }
 
 /// Makes one step, and notes it, as far as that fits. The bytes that the step puts are read from memory before it, and
-/// those that it takes behind it. The loop of a run has made the steps that only go on before, so this is rare, and never
-/// inlined there.
+/// those that it takes behind it. The loop of a run has made most steps that only go on before, so this is rare, and
+/// never inlined there.
 #[inline(never)]
 pub(crate) fn turn<C: Chooser, S: Source, K: Sink, N: Sink>(
     tape: &mut Tape,

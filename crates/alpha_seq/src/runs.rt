@@ -68,7 +68,7 @@ pub fn run<S: Source, K: Sink, N: Sink>(
     RunEnd::Spent
 }
 
-// Makes one step and, where it is a barrier that is watched, writes its lines. Steps that only go on were made before.
+// Makes one step and, where it is a barrier that is watched, writes its lines. Most steps that only go on were made before.
 #[inline(always)]
 fn turn<S: Source, K: Sink, N: Sink>(
     machine: &mut Machine,

@@ -42,8 +42,8 @@ impl Machine {
         self.step_rarely(input, out, notes)
     }
 
-    // Makes one step of any kind. `step` and the loop of a run call this where a step does more than go on, which is
-    // rare; it is never inlined there, so that the loops are short.
+    // Makes one step of any kind. `step` and the loop of a run call this where a step does more than go on, the loop
+    // also at an access by the lock flag; that is rare, and it is never inlined there, so that the loops are short.
     #[inline(never)]
     pub(crate) fn step_rarely<S: Source, K: Sink, N: Sink>(
         &mut self,

@@ -38,6 +38,6 @@ pub record ExposedIn (code : List ℕ) (from to r : ℕ) : Type 0 where
   pub uses : Uses code place r
   pub unset : SetIn code from place r → ⊥
 
--- that register, where there is one
+-- the register that the word at a place sets, where there is one
 abbrev pub sets_at : List ℕ → ℕ → Option ℕ
 sets_at code i = sets (class_at code i)

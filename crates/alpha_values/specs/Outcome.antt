@@ -11,5 +11,6 @@ use Rattle.alpha_values.specs.Op.{result_of}
 abbrev pub overflows_at : Op → ℕ → ℕ → Bool
 overflows_at op a b = option_map_or (λ trap. overflow_of trap a b) (trap_of op) false
 
+-- the result, where the row doesn't overflow
 abbrev pub outcome_of : Level → Op → ℕ → ℕ → ℕ → Option ℕ
 outcome_of level op a b old = if overflows_at op a b then None else Some (result_of level op a b old)
