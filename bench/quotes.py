@@ -9,6 +9,7 @@
 - Of docs/theorems.md: the reading order has just the files of definitions that its clauses reach, each with its lines
   and with those of the clauses that reach it, and each name of a quoted clause is in one of them; each promise of the
   table from claim to clause begins with words of README.md, and its clauses are there; each must-fail edit is there.
+- Of docs/ARCHITECTURE.md: the constants and definitions that the table of limits names have its numbers.
 
     bench/quotes.py [--write]
 
@@ -30,6 +31,7 @@ LAW = re.compile(r"(?:laws|limits)_of_\w+")
 EDIT = re.compile(r"^\| `(alpha_\w+)` \| `(\w+)` \|", re.M)
 ORDERED = re.compile(r"^\| `(crates/\S+\.antt)` \| ([\d,]+) \| ([^|\n]*) \|", re.M)
 PROMISED = re.compile(r"^\| ([^|\n]+) \| ([^|\n]+) \| [^|\n]+ \|$", re.M)
+LIMIT = re.compile(r"^\| ([^|\n]+) \| ([^|\n]+) \| ([^|\n]+) \| ([^|\n]+) \|$", re.M)
 CITED = re.compile(r"((?:`\w+`(?:, | and ))*`\w+`) of `(\w+)` of `(alpha_\w+)`")
 REACHED = re.compile(r"^\| `(\w+)` of `(\w+)` of `(alpha_\w+)`([^|\n]*) \| ([\d,]+ lines of \d+ files) \| ([^|\n]*) \| ([^|\n]*) \| ([^|\n]*) \|$", re.M)
 CLAUSE = re.compile(r"ensures (\w+) \{")
@@ -187,6 +189,45 @@ def check_claims(text, readme, wrong):
             wrong.extend(f"{function} has no clause {name}" for name in names.split(", ") if name and name not in there)
 
 
+def files_named(cell, crate):
+    """The files that a cell names, each with the name in front of it, if there is one. A path without a crate is of the
+    crate of the row, a name without a folder of the folder of the path before it."""
+    found, folder, name = [], "", None
+    for word in re.findall(r"`([^`]+)`", cell):
+        if not word.endswith((".rt", ".antt")):
+            name = word
+            continue
+        path = word if "/" in word else f"{folder}/{word}"
+        path = path if path.startswith("alpha_") else f"{crate}/{path}"
+        folder = path.rpartition("/")[0]
+        found.append((TOP / "crates" / path, name))
+        name = None
+    return found
+
+
+def has_number(source, number):
+    """Whether a source has the number, in one of the ways in which code and definitions write it."""
+    power = number.bit_length() - 1
+    ways = [str(number), f"{number:_}"] + ([f"1 << {power}", f"2 ^ {power}"] if number == 1 << power else [])
+    return any(re.search(rf"(?<![\w.]){re.escape(way)}(?!\w)", source) for way in ways)
+
+
+def check_limits(text, wrong):
+    """Holds the table of limits against the constants and definitions that it names."""
+    section = text.split("\n## Limits and constants\n", 1)[1].split("\n## ", 1)[0]
+    for limit, numbers, *cells in LIMIT.findall(section)[1:]:
+        crate = re.search(r"alpha_\w+", cells[0]).group(0)
+        for named in (files_named(cell, crate) for cell in cells):
+            missing = [path for path, _ in named if not path.exists()]
+            wrong.extend(f"{limit}: there is no {path.relative_to(TOP)}" for path in missing)
+            sources = [(path, name, path.read_text()) for path, name in named if path not in missing]
+            wrong.extend(f"{limit}: {path.relative_to(TOP)} has no {name}" for path, name, source in sources
+                         if name and not re.search(rf"\b{name}\b", source))
+            whole = "".join(source for _, _, source in sources)
+            wrong.extend(f"{limit}: {', '.join(path.name for path, _ in named)} has no {number}"
+                         for number in re.findall(r"\d[\d,]*", numbers) if not has_number(whole, int(number.replace(",", ""))))
+
+
 def main():
     write, wrong, readme = "--write" in sys.argv[1:], [], (TOP / "README.md").read_text()
     for page in [TOP / "README.md", *sorted(TOP.glob("docs/*.md"))]:
@@ -198,6 +239,8 @@ def main():
             new = check_order(new, write, wrong) if page == THEOREMS else new
             check_names(name, new, page == THEOREMS, wrong)
             check_cited(name, new, wrong)
+        if page.name == "ARCHITECTURE.md":
+            check_limits(text, wrong)
         if page == THEOREMS:
             check_claims(new, readme, wrong)
             wrong.extend(f"there is no edit {edit} of {crate}" for crate, edit in EDIT.findall(new)
