@@ -29,7 +29,7 @@ use Rattle.alpha_cmd.specs.AnswerBy.{World}
 use Rattle.alpha_cmd.specs.Commands.{IsTold}
 use Rattle.alpha_cmd.specs.Commands.Check.{accepted}
 use Rattle.alpha_cmd.specs.Tried.{AreTold, IsAnswer}
-use Rattle.alpha_cmd.specs.Alike.{IsChecked, HasWords}
+use Rattle.alpha_cmd.specs.AlikeByAnswers.{IsChecked, HasWords}
 use Rattle.alpha_cmd.proofs.Commands.Check.{accepted_answer}
 
 -- ---- the spelling of a good image is within the limit of an image file

@@ -2,8 +2,6 @@
 -- of words that it draws.
 use Rattle.std.proofs.Common.{◌≡◌, ◌⊎◌, ◌∙◌, ℕ, Bool, true, false, List, Option, None, Some, IsSome, refl, sym, ap, subst}
 use Rattle.alpha_io.specs.Files.{Files, HasFile}
-use Rattle.alpha_io.specs.Shelved.{Shelved}
-use Rattle.alpha_io.specs.Sunk.{Sunk}
 use Rattle.alpha_image.specs.Parts.{Parts, IsImage, spelling}
 use Rattle.alpha_shadow.specs.Broken.{IsAccepted}
 use Rattle.alpha_request.specs.Command.{check, run, imprecise}
@@ -35,15 +33,13 @@ use Rattle.alpha_cmd.specs.RunAnswer.{program_by, answer_shown}
 use Rattle.alpha_cmd.specs.Commands.Imprecise as wilds
 use Rattle.alpha_cmd.specs.Commands.Imprecise.{Plan, plan_by, PlanOf, Passes, with_drawn, run_by, MayShowWild, answer_wild, RunsWild}
 use Rattle.alpha_cmd.specs.Tried.{TriedBy, IsGiven}
-use Rattle.alpha_cmd.specs.Drawn.{but_drawn}
-use Rattle.alpha_cmd.specs.Alike.{undrawn, IsChecked, HasWords}
+use Rattle.alpha_cmd.specs.AlikeByAnswers.{undrawn, IsChecked, HasWords}
 use Rattle.alpha_cmd.proofs.Forms.{done_goes}
 use Rattle.alpha_cmd.proofs.Commands.Check.{lawful}
 use Rattle.alpha_cmd.proofs.Commands.Run.{shown_answer}
 use Rattle.alpha_cmd.proofs.Commands.Imprecise.{Planned-lawful, passed, some_shown, wild_answer}
 use Rattle.alpha_cmd.proofs.Lawful.{Then-found}
 use Rattle.alpha_cmd.proofs.Tried.{AnswerOf-single, asked_answer, done_tried}
-use Rattle.alpha_cmd.proofs.Endings.{given_undrawn}
 use Rattle.alpha_cmd.proofs.Untold.{made_same, same_may}
 
 -- ---- an accepted file
@@ -171,19 +167,6 @@ pub alike : (options : RunOptions) (choices : Origin) (force : Bool) (file : Lis
     → HasWords w.files choices → IsChecked file w → AnswerBy (runs.steps options file) w a → AnswerBy (wilds.steps options choices force file) w b → undrawn b ≡ a
 alike options choices force file w a b files input words checked is other =
     AnswerOf-single (run options file) w (undrawn b) a (files, input) (run_answer options choices force file w b files words checked other) is
-
--- ---- a call
-
--- it gives the sequential run's answer, but for the number, if it gives an answer of its words
-pub alike_call : (words : List (List ℕ)) (options : RunOptions) (choices : Origin) (force : Bool) (file : List ℕ) (w : World) (a : Answer) (status : Status) (left : Option (List ℕ))
-    (s : Shelved) (out notes : Sunk) → Asks words (imprecise options choices force file) → IsSome w.files → IsSome w.input
-    → HasWords w.files choices → IsChecked file w → AnswerBy (runs.steps options file) w a
-    → IsGiven words w status left s out notes → IsAnswered a (but_drawn status) left s out notes ⊎ (status ≡ NoMemory)
-alike_call words options choices force file w a status left s out notes asks files input has checked is given =
-    given_undrawn words w a status left s out notes
-    (λ b answer.
-    alike options choices force file w a b files input has checked is (asked_answer words (imprecise options choices force file) w b asks answer))
-    given
 
 -- ---- a check that is done
 

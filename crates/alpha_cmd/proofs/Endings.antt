@@ -14,7 +14,7 @@ use Rattle.alpha_cmd.specs.Kept.{Kept, nothing, HasKept}
 use Rattle.alpha_cmd.specs.Ends.{Ends, EndsPart, Leaves, Decides, still}
 use Rattle.alpha_cmd.specs.Tried.{IsAnswer, TriedBy, IsGiven}
 use Rattle.alpha_cmd.specs.Drawn.{but_drawn}
-use Rattle.alpha_cmd.specs.Alike.{undrawn}
+use Rattle.alpha_cmd.specs.AlikeByAnswers.{undrawn}
 use Rattle.alpha_cmd.proofs.Tried.{calm_tried, tried_not_sink}
 
 IsLeft-same : (left : Option (List ℕ)) → IfSome left (λ rest. left ≡ Some rest)

@@ -12,7 +12,8 @@ use Rattle.alpha_cmd.specs.declared.status.Status.{Status}
 use Rattle.alpha_cmd.specs.declared.status.Status.TheVariants.{Done, SinkFault, NoMemory}
 use Rattle.alpha_cmd.specs.Status.{class_of}
 use Rattle.alpha_cmd.specs.Drawn.{but_drawn}
-use Rattle.alpha_cmd.specs.Alike.{undrawn, Alike}
+use Rattle.alpha_cmd.specs.Alike.{Alike}
+use Rattle.alpha_cmd.specs.AlikeByAnswers.{undrawn}
 use Rattle.alpha_cmd.specs.Answer.{Answer}
 use Rattle.alpha_cmd.specs.AnswerBy.{World, told}
 use Rattle.alpha_cmd.specs.Asks.{Asks}
@@ -20,7 +21,6 @@ use Rattle.alpha_cmd.specs.Call.{Call, Quiet}
 use Rattle.alpha_cmd.specs.Checked.{Checked, SpellsRestartable}
 use Rattle.alpha_cmd.specs.Restarts.{Restarts}
 use Rattle.alpha_cmd.specs.Accepts.{Accepts}
-use Rattle.alpha_cmd.specs.Sequential.{Sequential}
 use Rattle.alpha_cmd.specs.Commands.{EndsBy}
 use Rattle.alpha_cmd.specs.Commands.Link.{KeepsLinks}
 use Rattle.alpha_cmd.specs.Commands.Module.{KeepsModules}
@@ -33,7 +33,7 @@ use Rattle.alpha_cmd.specs.Replayed.{ShowsRuns}
 use Rattle.alpha_cmd.specs.ToldRun.{TellsAccepted, answer_told, AskRun, Ran}
 use Rattle.alpha_cmd.specs.Tried.{IsAnswer}
 use Rattle.alpha_cmd.proofs.Accepted.{accepted_call}
-use Rattle.alpha_cmd.proofs.Alike.{tried_restarts, alike_call}
+use Rattle.alpha_cmd.proofs.Alike.{tried_restarts}
 use Rattle.alpha_cmd.proofs.Endings.{given_whole, given_one, given_undrawn, calm_part}
 use Rattle.alpha_cmd.proofs.Fixed.{tried_fixed}
 use Rattle.alpha_cmd.proofs.KeptLinks.{kept_link}
@@ -115,13 +115,10 @@ module _ (words : List (List ℕ)) (status : Status) (c : Call) where
       (given_undrawn words (told c) a status c.input.new c.shelf c.out c.notes same (given quiet))
 
   pub alikes : GivesOne words status c → Alike words status c
-  alikes given options choices force name a asks files bytes has checked is quiet =
-      ⊎_elim (λ h. inl h) (λ (memory : status ≡ NoMemory). inr (ap but_drawn memory))
-      (alike_call words options choices force name (told c) a status c.input.new c.shelf c.out c.notes
-      (asked_rows words (imprecise options choices force name) asks) files bytes has checked is (given quiet))
-
-  pub sequentials : GivesOne words status c → Sequential words status c
-  sequentials given options choices force name bytes image asks h has quiet =
+  alikes given options name bytes image (inl asks) h quiet =
+      gave_undrawn (answer_told options image bytes)
+      (run_told image name bytes (told c) h.good h.accepted h.told h.there h.input options words (asked_rows words (run options name) asks)) given quiet
+  alikes given options name bytes image (inr (choices, force, asks, has)) h quiet =
       gave_undrawn (answer_told options image bytes)
       (wild_told image name bytes (told c) h.good h.accepted h.told h.there h.input options words choices force
       (asked_rows words (imprecise options choices force name) asks) has) given quiet

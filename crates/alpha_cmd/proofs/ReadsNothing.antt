@@ -21,7 +21,7 @@ use Rattle.alpha_cmd.specs.Outcome.{Outcome, goes, stops}
 use Rattle.alpha_cmd.specs.Image.{ImageOf}
 use Rattle.alpha_cmd.specs.Asks.{Asks}
 use Rattle.alpha_cmd.specs.Drawn.{but_drawn}
-use Rattle.alpha_cmd.specs.Alike.{undrawn, HasWords, IsChecked}
+use Rattle.alpha_cmd.specs.AlikeByAnswers.{undrawn, HasWords, IsChecked}
 use Rattle.alpha_cmd.specs.Answer.{Answer, IsAnswered}
 use Rattle.alpha_cmd.specs.AnswerBy.{World, AnswerBy, answer_of}
 use Rattle.alpha_cmd.specs.Commands.Imprecise as wilds

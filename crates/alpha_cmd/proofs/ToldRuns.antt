@@ -1,6 +1,6 @@
 -- A run of a file that spells an accepted image over a told input has, by either machine, the answer of the sequential run of
 -- that image.
-use Rattle.std.proofs.Common.{◌≡◌, ◌↔◌, ◌⊎◌, ◌∙◌, ℕ, Bool, List, Option, None, Some, IsSome, is_some, refl, sym, ap, subst}
+use Rattle.std.proofs.Common.{◌≡◌, ◌↔◌, ◌⊎◌, ◌∙◌, ℕ, Bool, List, Option, None, Some, IsSome, is_some, refl, sym, ap, subst, inr}
 use Rattle.alpha_io.specs.Files.{Files, HasFile}
 use Rattle.alpha_image.specs.Parts.{Parts, IsImage, spelling}
 use Rattle.alpha_shadow.specs.Broken.{IsAccepted}
@@ -17,14 +17,16 @@ use Rattle.alpha_cmd.specs.Image.{ImageOf}
 use Rattle.alpha_cmd.specs.Choosing.{listed_word}
 use Rattle.alpha_cmd.specs.Asks.{Asks}
 use Rattle.alpha_cmd.specs.Answer.{Answer}
-use Rattle.alpha_cmd.specs.AnswerBy.{World, AnswerBy}
+use Rattle.alpha_cmd.specs.AnswerBy.{World, AnswerBy, told}
 use Rattle.alpha_cmd.specs.Commands.Run as runs
 use Rattle.alpha_cmd.specs.Commands.Run.{MayShow}
 use Rattle.alpha_cmd.specs.RunAnswer.{program_by, run_status, answer_shown}
 use Rattle.alpha_cmd.specs.Drawn.{but_drawn}
-use Rattle.alpha_cmd.specs.Alike.{undrawn, IsChecked, HasWords}
+use Rattle.alpha_cmd.specs.Alike.{HaveWords, Alike}
+use Rattle.alpha_cmd.specs.AlikeByAnswers.{undrawn, IsChecked, HasWords, AlikeByAnswers}
 use Rattle.alpha_cmd.specs.Tried.{IsAnswer}
-use Rattle.alpha_cmd.specs.Sequential.{HaveWords}
+use Rattle.alpha_cmd.specs.Call.{Call}
+use Rattle.alpha_cmd.specs.Gave.{Gave}
 use Rattle.alpha_cmd.specs.ToldRun.{answer_told}
 use Rattle.alpha_cmd.proofs.Commands.Run.{shown_answer}
 use Rattle.alpha_cmd.proofs.Tried.{AnswerOf-single, asked_answer}
@@ -61,6 +63,10 @@ told_undrawn options image bytes =
     let a = answer_told options image bytes in
     ap (λ (s : Status). record a { status = s }) (run_undrawn (sequential (program_by options image) bytes options.steps options.watch).end)
 
+some_bytes : (left : Option (List ℕ)) → IsSome left → (bytes : List ℕ) × (left ≡ Some bytes)
+some_bytes None h = cc
+some_bytes (Some bytes) h = (bytes, refl)
+
 some_told : (w : World) (bytes : List ℕ) → w.input ≡ Some bytes → IsSome w.input
 some_told w bytes e = ap is_some e
 
@@ -92,6 +98,15 @@ told_back options name bytes w a files e check is =
       there = subst (HasFile w.files name) spelt.1 read.0;
       is = AnswerOf-single (run options name) w a (answer_told options h.image bytes) (files, some_told w bytes e) is (is_run options h.image name bytes w h.found e);
     }
+
+-- So what is said of accepted images is said by the answers of `check` and `run`.
+pub by_answers : (words : List (List ℕ)) (status : Status) (c : Call) → Alike words status c → AlikeByAnswers words status c
+by_answers words status c h options choices force name a asks files input has check is quiet =
+    let (bytes, tells) = some_bytes c.input.old input in
+    let good = told_back options name bytes (told c) a files tells check is in
+    subst (λ (b : Answer). Gave b (but_drawn status) c) (sym good.is)
+    (h options name bytes good.image (inr (choices, force, asks, have_words c.shelf.old choices has))
+    (record { good = good.good; accepted = good.accepted; told = files; there = good.there; input = tells }) quiet)
 
 -- ---- words that ask for a run of such a file
 

@@ -1,40 +1,31 @@
--- What it means that a run of the imprecise machine has the answer of the sequential run.
-use Rattle.std.specs.Prelude.{◌≡◌, ℕ, Bool, List, IsSome}
-use Rattle.alpha_io.specs.Files.{Files}
+-- What a run of an accepted image over a told input answers, by either machine and whatever words.
+use Rattle.std.specs.Prelude.{◌⊎◌, ◌≤◌, ℕ, Bool, List, length}
+use Rattle.alpha_io.specs.Files.{Files, HasFile}
+use Rattle.alpha_image.specs.Parts.{Parts}
+use Rattle.alpha_request.specs.Origin as choices_of
 use Rattle.alpha_request.specs.Origin.{Origin}
 use Rattle.alpha_request.specs.declared.options.RunOptions.{RunOptions}
 use Rattle.alpha_request.specs.Commands.Run as run_words
 use Rattle.alpha_cmd.specs.declared.status.Status.{Status}
-use Rattle.alpha_cmd.specs.declared.status.Status.TheVariants.{Done}
-use Rattle.alpha_cmd.specs.Outcome.{goes}
-use Rattle.alpha_cmd.specs.Choosing.{ChoicesOf}
-use Rattle.alpha_cmd.specs.Answer.{Answer}
-use Rattle.alpha_cmd.specs.AnswerBy.{World, AnswerBy, told}
 use Rattle.alpha_cmd.specs.Call.{Call, Quiet}
+use Rattle.alpha_cmd.specs.ChoicesLimit.{choices_limit}
 use Rattle.alpha_cmd.specs.Drawn.{but_drawn}
 use Rattle.alpha_cmd.specs.Gave.{Gave}
-use Rattle.alpha_cmd.specs.Commands.Check as checks
-use Rattle.alpha_cmd.specs.Commands.Run as runs
+use Rattle.alpha_cmd.specs.ToldRun.{answer_told, TellsAccepted}
 
--- an answer but for the number of words that its status carries
-abbrev pub undrawn : Answer → Answer
-undrawn a = record a { status = but_drawn a.status }
+-- a file of choices that is named is there, where files are told, and within its limit
+abbrev pub HaveWords : Files → Origin → Type 0
+HaveWords files (choices_of.seed n) = Unit {0}
+HaveWords files (choices_of.file name) = (bytes : List ℕ) × HasFile files name bytes × (length bytes ≤ choices_limit)
 
--- `check FILE` is done: the file spells an accepted image
-pub record IsChecked (file : List ℕ) (w : World) : Type 0 where
-  pub answer : Answer
-  pub is : AnswerBy (checks.steps file) w answer
-  pub done : answer.status ≡ Done 0
+-- words that ask for a run of the file with these options, by the one machine or by the other
+abbrev pub AskRunWith : List (List ℕ) → RunOptions → List ℕ → Files → Type 0
+AskRunWith words options file files = run_words.Asks words options file
+    ⊎ ((choices : Origin) × (force : Bool) × run_words.AsksImprecise words options choices force file × HaveWords files choices)
 
--- the choices have words: a file that they name is there, and within its limit
-abbrev pub HasWords : Files → Origin → Type 0
-HasWords files choices = (ahead : ℕ → ℕ) × ChoicesOf files choices (goes ahead)
-
--- A run of the imprecise machine of a file that a check accepts gives the answer of the sequential run with the same options,
--- if shelf and input are told and no device fails, whatever words it draws and whether the verdict is passed over. Only their
--- number, which the status carries where the program has exited, is its own.
+-- It is that of the sequential run of the image, if no device fails, whichever machine is asked for, whatever words are drawn
+-- and whether the verdict is passed over. Only the number of words that the imprecise machine draws, which its status carries
+-- where the program has exited, is its own.
 abbrev pub Alike : List (List ℕ) → Status → Call → Type 0
-Alike words status c = (options : RunOptions) (choices : Origin) (force : Bool) (file : List ℕ) (a : Answer)
-    → run_words.AsksImprecise words options choices force file
-    → IsSome c.shelf.old → IsSome c.input.old → HasWords c.shelf.old choices → IsChecked file (told c)
-    → AnswerBy (runs.steps options file) (told c) a → Quiet c → Gave a (but_drawn status) c
+Alike words status c = (options : RunOptions) (file bytes : List ℕ) (image : Parts) → AskRunWith words options file c.shelf.old
+    → TellsAccepted image file bytes c → Quiet c → Gave (answer_told options image bytes) (but_drawn status) c

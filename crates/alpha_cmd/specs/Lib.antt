@@ -1,5 +1,6 @@
 pub mod Accepts
 pub mod Alike
+pub mod AlikeByAnswers
 pub mod Answer
 pub mod AnswerBy
 pub mod Asks
@@ -27,7 +28,6 @@ pub mod RecordedRun
 pub mod Replayed
 pub mod Restarts
 pub mod RunAnswer
-pub mod Sequential
 pub mod SpentLine
 pub mod Status
 pub mod Sure

@@ -8,7 +8,7 @@ use Rattle.alpha_seq.specs.Start.{start}
 use Rattle.alpha_seq.specs.Run.{sequential}
 use Rattle.alpha_seq.specs.Inputs.{IsUnread}
 use Rattle.alpha_cmd.specs.declared.status.Status.{Status}
-use Rattle.alpha_cmd.specs.Alike.{HasWords, IsChecked}
+use Rattle.alpha_cmd.specs.AlikeByAnswers.{HasWords, IsChecked}
 use Rattle.alpha_cmd.specs.Answer.{Answer}
 use Rattle.alpha_cmd.specs.Call.{Call, Quiet}
 use Rattle.alpha_cmd.specs.Drawn.{but_drawn}

@@ -18,7 +18,6 @@ ghost use Rattle.alpha_cmd.specs.ReadsNothing.{Unread, UnreadAlike};
 ghost use Rattle.alpha_cmd.specs.Replayed.{ShowsRuns};
 ghost use Rattle.alpha_cmd.specs.Restarts.{Restarts};
 ghost use Rattle.alpha_cmd.specs.Accepts.{Accepts};
-ghost use Rattle.alpha_cmd.specs.Sequential.{Sequential};
 ghost use Rattle.alpha_cmd.specs.ToldRun.{Ran};
 
 use crate::{Status, alpha_top};
@@ -66,9 +65,6 @@ pub fn alpha_main<H: Shelf, S: Source, K: Sink, N: Sink>(
     ensures restarts { Restarts (words_in arguments.now) result (H.files shelf.old) }
     ensures checked { Checked (words_in arguments.now) result (H.files shelf.old) }
     ensures accepted { Accepts (words_in arguments.now) result
-        (called H.Shelf S.Source K.Sink N.Sink shelf.old shelf.new input.old
-        input.new out.old out.new notes.old notes.new) }
-    ensures sequential { Sequential (words_in arguments.now) result
         (called H.Shelf S.Source K.Sink N.Sink shelf.old shelf.new input.old
         input.new out.old out.new notes.old notes.new) }
     ensures ran { Ran (words_in arguments.now) result

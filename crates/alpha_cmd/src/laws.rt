@@ -7,12 +7,15 @@ ghost use Rattle.alpha_request.specs.Origin as choices;
 ghost use Rattle.alpha_request.specs.Origin.{Origin};
 ghost use Rattle.alpha_request.specs.declared.options.RunOptions.{RunOptions};
 ghost use Rattle.alpha_imprecise.specs.Restart.{IsRestartable};
+ghost use Rattle.alpha_cmd.specs.declared.status.Status.{Status};
 ghost use Rattle.alpha_cmd.specs.declared.status.Status.TheVariants.{Done};
 ghost use Rattle.alpha_cmd.specs.Outcome.{goes};
 ghost use Rattle.alpha_cmd.specs.Image.{ImageOf};
-ghost use Rattle.alpha_cmd.specs.Alike.{HasWords, IsChecked, undrawn};
+ghost use Rattle.alpha_cmd.specs.Alike.{Alike, HaveWords};
+ghost use Rattle.alpha_cmd.specs.AlikeByAnswers.{AlikeByAnswers, HasWords, IsChecked, undrawn};
 ghost use Rattle.alpha_cmd.specs.Answer.{Answer};
 ghost use Rattle.alpha_cmd.specs.AnswerBy.{AnswerBy, HaveBytes, World};
+ghost use Rattle.alpha_cmd.specs.Call.{Call};
 ghost use Rattle.alpha_cmd.specs.ChoicesLimit.{choices_limit};
 ghost use Rattle.alpha_cmd.specs.Commands.Dis as listings;
 ghost use Rattle.alpha_cmd.specs.Commands.Imprecise as wilds;
@@ -24,7 +27,6 @@ ghost use Rattle.alpha_cmd.specs.Commands.Replay as replays;
 ghost use Rattle.alpha_cmd.specs.Commands.Run as runs;
 ghost use Rattle.alpha_cmd.specs.ReadsNothing.{ReadsNothing, answer_unread};
 ghost use Rattle.alpha_cmd.specs.RecordedRun.{KeepsItsJournal};
-ghost use Rattle.alpha_cmd.specs.Sequential.{HaveWords};
 ghost use Rattle.alpha_cmd.specs.ToldRun.{answer_told};
 ghost use Rattle.alpha_cmd.specs.Tried.{AreTold, IsAnswer};
 
@@ -66,11 +68,14 @@ pub fn laws_of_restarts()
         → AnswerBy (wilds.steps options choices force file) w b → undrawn b ≡ a }
 {}
 
-/// The laws of told runs, by which the clauses `sequential` and `alike` of [`alpha_top`](crate::alpha_top) say
-/// the same. Choices have words where a file that they name is there and within its limit. Where `check FILE`
-/// is done and the input is told, FILE spells an accepted image, and the answer of `run FILE` is that of the
+/// The laws of told runs. What the clause `alike` of [`alpha_top`](crate::alpha_top) says of accepted images it says
+/// of each file that `check` accepts: then a run of the imprecise machine has the answer of `run` with the same
+/// options. Choices have words where a file that they name is there and within its limit. Where `check FILE` is
+/// done and the input is told, FILE spells an accepted image, and the answer of `run FILE` is that of the
 /// sequential run of this image.
 pub fn laws_of_told_runs()
+    ensures alike { (words : List (List ℕ)) (status : Status) (c : Call) → Alike words status c
+        → AlikeByAnswers words status c }
     ensures words { (files : Files) (choices : Origin) → HaveWords files choices
         ↔ HasWords files choices }
     ensures answer { (options : RunOptions) (file bytes : List ℕ) (w : World) (a : Answer)

@@ -16,8 +16,8 @@
 //! - [`laws_of_restarts`] says that accepted images can be restarted, and so that a run of the
 //!   imprecise machine of a file that `check` accepts has the answer of the sequential run, but for
 //!   the number of words that it draws, where files are told and its choices have words
-//!   (`specs/Alike.antt`). [`laws_of_told_runs`] says that this is, over a told input, the answer of the
-//!   sequential run of the image which the file spells (`specs/ToldRun.antt`). [`laws_of_records`] says
+//!   (`specs/AlikeByAnswers.antt`). [`laws_of_told_runs`] says that this is, over a told input, the answer
+//!   of the sequential run of the image which the file spells (`specs/Alike.antt`). [`laws_of_records`] says
 //!   that a journal that `record` has kept of a run over a told input is never refused by `replay`, as
 //!   long as the image's file spells that image, and [`laws_of_recorded_runs`] that it is the journal of
 //!   the run whose answer was given (`specs/RecordedRun.antt`). [`laws_of_accepted_files`] says that a

@@ -25,7 +25,6 @@ ghost use Rattle.alpha_cmd.specs.ReadsNothing.{Unread, UnreadAlike};
 ghost use Rattle.alpha_cmd.specs.Replayed.{ShowsRuns};
 ghost use Rattle.alpha_cmd.specs.Restarts.{Restarts};
 ghost use Rattle.alpha_cmd.specs.Accepts.{Accepts};
-ghost use Rattle.alpha_cmd.specs.Sequential.{Sequential};
 ghost use Rattle.alpha_cmd.specs.ToldRun.{Ran};
 ghost use Rattle.alpha_cmd.specs.Tried.{TriedBy};
 ghost use Rattle.alpha_cmd.specs.Tries.{CountStays, TriesBy};
@@ -124,19 +123,14 @@ pub fn alpha_top<H: Shelf, S: Source, K: Sink, N: Sink>(
         (called H.Shelf S.Source K.Sink N.Sink shelf.old shelf.new input.old
         input.new out.old out.new notes.old notes.new) }
 
-    // A run of the imprecise machine of a told file that spells an accepted image, over a told input,
-    // has the answer of the sequential run of that image, whatever words it draws and whether the
-    // verdict is passed over: only the number of words, which the status carries where the program has
-    // exited, is its own. So it is of the plain words `run FILE` and `run --imprecise FILE`.
-    ensures sequential { Sequential words.now result
+    // A run of a told file that spells an accepted image, over a told input, has the answer of the
+    // sequential run of that image by either machine, whatever words the imprecise one draws and whether
+    // the verdict is passed over: only the number of words, which the status carries where the program
+    // has exited, is its own. So it is of the plain words `run FILE` and `run --imprecise FILE`.
+    ensures alike { Alike words.now result
         (called H.Shelf S.Source K.Sink N.Sink shelf.old shelf.new input.old
         input.new out.old out.new notes.old notes.new) }
     ensures ran { Ran words.now result
-        (called H.Shelf S.Source K.Sink N.Sink shelf.old shelf.new input.old
-        input.new out.old out.new notes.old notes.new) }
-
-    // The same of a file that a check accepts, by the answer of `run` with the same options.
-    ensures alike { Alike words.now result
         (called H.Shelf S.Source K.Sink N.Sink shelf.old shelf.new input.old
         input.new out.old out.new notes.old notes.new) }
 

@@ -16,7 +16,6 @@ use Rattle.alpha_cmd.specs.ReadsNothing.{Unread, UnreadAlike}
 use Rattle.alpha_cmd.specs.Replayed.{ShowsRuns}
 use Rattle.alpha_cmd.specs.Restarts.{Restarts}
 use Rattle.alpha_cmd.specs.Accepts.{Accepts}
-use Rattle.alpha_cmd.specs.Sequential.{Sequential}
 use Rattle.alpha_cmd.specs.ToldRun.{Ran}
 use Rattle.alpha_cmd.proofs.JournalStatus.{no_end}
 use Rattle.alpha_cmd.proofs.Told.{tail_same}
@@ -109,15 +108,6 @@ returns-in-Ok-clause-accepted g c =
     (called g.H.Shelf g.S.Source g.K.Sink g.N.Sink c.args.shelf.now c.alpha_top.new.shelf c.args.input.now c.alpha_top.new.input c.args.out.now c.alpha_top.new.out
     c.args.notes.now c.alpha_top.new.notes))
     c.in-Ok.ensures c.alpha_top.ensures.accepted
-
-pub returns-in-Ok-clause-sequential : goal.returns-in-Ok-clause-sequential
-returns-in-Ok-clause-sequential g c =
-    subst
-    (λ (words : List (List ℕ)).
-    Sequential words c.alpha_top.result
-    (called g.H.Shelf g.S.Source g.K.Sink g.N.Sink c.args.shelf.now c.alpha_top.new.shelf c.args.input.now c.alpha_top.new.input c.args.out.now c.alpha_top.new.out
-    c.args.notes.now c.alpha_top.new.notes))
-    c.in-Ok.ensures c.alpha_top.ensures.sequential
 
 pub returns-in-Ok-clause-ran : goal.returns-in-Ok-clause-ran
 returns-in-Ok-clause-ran g c =
@@ -237,14 +227,11 @@ returns-in-Err-clause-checked g c = λ file is plain e. absurd (let x : NoMemory
 pub returns-in-Err-clause-accepted : goal.returns-in-Err-clause-accepted
 returns-in-Err-clause-accepted g c = λ image file asks good safe files there quiet. inr refl
 
-pub returns-in-Err-clause-sequential : goal.returns-in-Err-clause-sequential
-returns-in-Err-clause-sequential g c = λ options choices force name bytes image asks tells has quiet. inr refl
-
 pub returns-in-Err-clause-ran : goal.returns-in-Err-clause-ran
 returns-in-Err-clause-ran g c = λ name bytes image asks plain tells quiet. inr refl
 
 pub returns-in-Err-clause-alike : goal.returns-in-Err-clause-alike
-returns-in-Err-clause-alike g c = λ options choices force file a asks files input has checked is quiet. inr refl
+returns-in-Err-clause-alike g c = λ options file bytes image asks tells quiet. inr refl
 
 pub returns-in-Err-clause-unread : goal.returns-in-Err-clause-unread
 returns-in-Err-clause-unread g c = λ options file image asks files found unread quiet. inr refl

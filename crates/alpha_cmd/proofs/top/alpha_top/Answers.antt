@@ -188,18 +188,6 @@ returns-in-Err-clause-accepted g c =
     (called g.H.Shelf g.S.Source g.K.Sink g.N.Sink c.args.shelf.now c.decide.new.shelf c.args.input.now c.decide.new.input c.args.out.now c.decide.new.out c.args.notes.now c.decide.new.notes)
     (returns-in-Err-clause-exact g c)
 
-pub returns-in-Ok-clause-sequential : goal.returns-in-Ok-clause-sequential
-returns-in-Ok-clause-sequential g c =
-    promised.sequentials c.args.words.now c.deliver.result
-    (called g.H.Shelf g.S.Source g.K.Sink g.N.Sink c.args.shelf.now c.decide.new.shelf c.args.input.now c.decide.new.input c.args.out.now c.deliver.new.out c.args.notes.now c.deliver.new.notes)
-    (returns-in-Ok-clause-given g c)
-
-pub returns-in-Err-clause-sequential : goal.returns-in-Err-clause-sequential
-returns-in-Err-clause-sequential g c =
-    promised.sequentials c.args.words.now SinkFault
-    (called g.H.Shelf g.S.Source g.K.Sink g.N.Sink c.args.shelf.now c.decide.new.shelf c.args.input.now c.decide.new.input c.args.out.now c.decide.new.out c.args.notes.now c.decide.new.notes)
-    (returns-in-Err-clause-given g c)
-
 pub returns-in-Ok-clause-ran : goal.returns-in-Ok-clause-ran
 returns-in-Ok-clause-ran g c =
     promised.runs c.args.words.now c.deliver.result
