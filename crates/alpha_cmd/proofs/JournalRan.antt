@@ -1,5 +1,5 @@
 -- From what a run with its journal did to what the command `record` tries.
-use Rattle.std.proofs.Common.{◌≡◌, ◌⊎◌, ◌++◌, ◌∙◌, ◌≤◌, length, ℕ, ◌%◌, ◌^◌, Bool, false, List, [], Option, None, Some, IfSome, IsSome, option_map, Result, refl, sym, ap, subst, inl, inr, ⊎_elim, append-nil, arith}
+use Rattle.std.proofs.Common.{◌≡◌, ◌⊎◌, ◌++◌, ◌∙◌, ◌≤◌, ◌-◌, length, ℕ, ◌%◌, ◌^◌, Bool, false, List, [], Option, None, Some, IfSome, IsSome, option_map, Result, refl, sym, ap, subst, inl, inr, append-nil, arith}
 use Rattle.std.specs.Io.KnownBytes.{Appends}
 use Rattle.std.proofs.KnownBytes.{Appends-nil}
 use Rattle.alpha_io.specs.declared.Failed.{Failed}
@@ -7,46 +7,44 @@ use Rattle.alpha_io.specs.Files.{KeepsFiles}
 use Rattle.alpha_io.specs.Shelved.{Shelved}
 use Rattle.alpha_io.specs.Sunk.{Sunk, Puts}
 use Rattle.alpha_io.specs.Written.{WritesPrefix}
-use Rattle.alpha_io.proofs.Sinks.{Partly-more}
 use Rattle.alpha_request.specs.declared.options.RunOptions.{RunOptions}
 use Rattle.alpha_request.specs.Origin as choices
-use Rattle.alpha_seq.specs.declared.end.RunEnd.{RunEnd}
-use Rattle.alpha_seq.specs.declared.end.RunEnd.TheVariants as runs
+use Rattle.alpha_seq.specs.declared.event.Event.{Event as Seen}
 use Rattle.alpha_seq.specs.State.{Program}
 use Rattle.alpha_seq.specs.Run.{notes_of}
 use Rattle.alpha_seq.specs.Machine.{program_of}
 use Rattle.alpha_seq.specs.Devices.{Drawn, Rests, Idles}
-use Rattle.alpha_seq.specs.RunEffect.{HasInputFault, HasOutputFault, HasNotesFault}
-use Rattle.alpha_imprecise.specs.Made.{Making, shown_making, most_words}
+use Rattle.alpha_imprecise.specs.Moment.{Happening}
+use Rattle.alpha_imprecise.specs.Made.{Making, shown_making, first_words, most_words}
 use Rattle.alpha_imprecise.specs.Telling.{Telling}
 use Rattle.alpha_imprecise.specs.Wild.{WildState, IsFresh}
-use Rattle.alpha_imprecise.specs.WildRunEffect.{making_at, ShowsWildPart, IsWhole}
-use Rattle.alpha_imprecise.specs.Free.{FreeEffect, IsFreeRun}
 use Rattle.alpha_imprecise.proofs.Fresh.{told_starts}
+use Rattle.alpha_run.specs.WildRan.{making_from}
+use Rattle.alpha_run.proofs.WildShown.{Whole}
 use Rattle.alpha_words.specs.declared.Completion.TheVariants.{Wrap}
 use Rattle.alpha_replay.specs.declared.ending.Ending.TheVariants.{Spent}
 use Rattle.alpha_replay.specs.Journal.{Parts, parts, spelling}
 use Rattle.alpha_replay.specs.Journaled.{Journaled}
-use Rattle.alpha_replay.specs.JournalEnd.{IsFreeMoment, StopsAt, IsRecorded, IsPast, Shows}
+use Rattle.alpha_replay.specs.JournalEnd.{Stops, Records, StopsAt, ShowsWildPart, IsRecorded, IsPast, Shows}
 use Rattle.alpha_cmd.specs.declared.decision.Decision.{Decision}
 use Rattle.alpha_cmd.specs.declared.record.Recorded.{Recorded}
 use Rattle.alpha_cmd.specs.declared.record.Recorded.TheVariants as ends
 use Rattle.alpha_cmd.specs.declared.status.Status.{Status}
-use Rattle.alpha_cmd.specs.declared.status.Status.TheVariants.{InputFault, NoMemory, JournalFull}
+use Rattle.alpha_cmd.specs.declared.status.Status.TheVariants.{NoMemory, JournalFull}
 use Rattle.alpha_cmd.specs.Answer.{Answer}
 use Rattle.alpha_cmd.specs.AnswerBy.{World, said}
 use Rattle.alpha_cmd.specs.Decision.{answer_in}
-use Rattle.alpha_cmd.specs.Kept.{nothing}
-use Rattle.alpha_cmd.specs.Ends.{EndsPart, Leaves}
+use Rattle.alpha_cmd.specs.Ends.{Leaves}
 use Rattle.alpha_cmd.specs.Outcome.{goes}
 use Rattle.alpha_cmd.specs.Status.{status_line}
 use Rattle.alpha_cmd.specs.Tries.{TriesBy}
 use Rattle.alpha_cmd.specs.RunAnswer.{program_by}
 use Rattle.alpha_cmd.specs.Commands.Imprecise.{Plan, plan_by, PlanOf, Passes, answer_wild, answer_status, answer_line}
 use Rattle.alpha_cmd.specs.Commands.Record.{unwatched, HasJournal, MomentByReads, IsStopped, KeepsBehind, IsKeptRun, full_answer, IsFullRun, form, RunsOn, WhenMade, WhenOver}
+use Rattle.alpha_cmd.proofs.CutShort.{Fronts}
 use Rattle.alpha_cmd.proofs.Endings.{IsLeft-own}
 use Rattle.alpha_cmd.proofs.Commands.Record.{keeps_some, some_journal, recorded_answer}
-use Rattle.alpha_cmd.proofs.WildRan.{Shows as ShowsRun, Begins, same_program, reads_as, draws_most, status_by, line_by}
+use Rattle.alpha_cmd.proofs.WildRan.{Shows as ShowsRun, Begins, same_program, reads_as, draws_most}
 
 -- the answer of a run but for its keep
 same_output : (w : World) (out bytes : List ℕ) (a b : Answer) → KeepsBehind w out bytes a b → b.output ≡ a.output
@@ -67,14 +65,20 @@ pub over_map : (r : Recorded) (P Q : Result Decision Failed → Type 0) → ((x 
 over_map (ends.Made d journal) P Q f h = tt
 over_map (ends.Over r) P Q f h = f r h
 
--- a run that wasn't cut short
-pub free_whole : (end : RunEnd) (n : ℕ) (watch : Bool) (old new : WildState) (before after : Telling) (d : Drawn) (out notes : Sunk) → IsWhole end
-    → FreeEffect end n watch old new before after d out notes → IsFreeRun n watch end old new before after d out notes
-free_whole (runs.Ended end) n watch old new before after d out notes whole did = did
-free_whole runs.Spent n watch old new before after d out notes whole did = did
-free_whole (runs.Lost pc mask) n watch old new before after d out notes whole did = did
-free_whole runs.InputFault n watch old new before after d out notes whole did = absurd whole
-free_whole runs.SinkFault n watch old new before after d out notes whole did = absurd whole
+-- a run that has a journal was made for all its units, or to its end
+pub recorded_whole : (n : ℕ) (last : Option Seen) (journal : Parts) (old new : WildState) (before after : Telling) (d : Drawn) (out notes : Sunk)
+    → (r : Records n last journal old new before after d out notes) → Whole last n (n - r.stops.units) false old new before after d out notes
+recorded_whole n last journal old new before after d out notes r =
+    let most = r.stops.most in
+    record {
+      happened = r.happened;
+      units = r.stops.units;
+      ran = r.stops.ran;
+      last_is = r.last_is;
+      settled = r.settled;
+      used = omega arith;
+      full = λ going. (let all = r.full going in omega arith);
+    }
 
 -- a sink that wasn't called
 idle_puts : (s : Sunk) → Idles s → Puts s []
@@ -109,48 +113,48 @@ module _ (options : RunOptions) (m : WildState) (ahead : ℕ → ℕ) (how : m.m
   has_journal (Some bytes) p told =
       subst (λ (g : Program). IsRecorded options.steps g bytes ahead p) (same_program (unwatched options) m ahead how fresh) (told bytes refl)
 
-  pub runs_on : (force : Bool) (answer : RunEnd) (status : Status) (d : Drawn) (p : Parts) (decision : Decision) (out notes : Sunk)
+  pub runs_on : (force : Bool) (last : Option Seen) (count : ℕ) (d : Drawn) (p : Parts) (decision : Decision) (out notes : Sunk)
       → ((bytes : List ℕ) → d.old ≡ Some bytes → IsRecorded options.steps (program_of m.machine) bytes ahead p)
-      → answer_in d.new decision ≡ said d.new status (answer_line answer)
-      → ShowsRun (unwatched options) m ahead how fresh force answer status d.old d.new out notes
+      → answer_in d.new decision ≡ said d.new (answer_status last count) (answer_line last)
+      → ShowsRun (unwatched options) m ahead how fresh force last count d.old d.new out notes
       → RunsOn options force d.old (plan_by m.machine.image ahead) p decision d.new out notes
-  runs_on force answer status d p decision out notes told says did =
-      let n = did.what.drawn % 2 ^ 64 in
-      let st = sym did.status_is ∙ (ap (λ (r : RunEnd). answer_status r n) did.answer_is ∙ status_by did.what.end did.what.lost n) in
-      let line = ap answer_line did.answer_is ∙ sym (line_by did.what.end did.what.lost) in
-      record {
-        shown = did.what;
-        may = did.may;
-        has = has_journal d.old p told;
-        says = says ∙ (ap (λ (s : Status). said d.new s (answer_line answer)) st ∙ ap (said d.new _) line);
-        put = did.bytes;
-        noted = did.lines;
-        left_is = did.left;
-      }
+  runs_on force last count d p decision out notes told says did = record {
+    shown = did.what;
+    may = did.may;
+    has = has_journal d.old p told;
+    says = says ∙ λ i. said d.new (did.status_is i) (did.line_is i);
+    put = did.bytes;
+    noted = did.lines;
+    left_is = did.left;
+  }
 
   -- ---- one that was stopped
 
-  pub moment : (to : WildState) (before after : Telling) (d : Drawn) (out notes : Sunk) → before.ahead ≡ Some ahead
-      → IsFreeMoment options.steps m to before after d out notes → (k : Making) × MomentByReads options (plan_by m.machine.image ahead) k × Puts out k.run.state.outside.output × Puts notes (notes_of false k.run.trace)
-  moment to before after d out notes tells r =
-      let words = r.comes.words in
-      let one = r.comes.is [] in
-      let draws = draws_most (unwatched options) m ahead how fresh r.comes.inputs (words ++ []) in
-      let count : _ ≡ length words = ap (λ (k : Making). k.count) one in
-      let units : _ ≡ r.run.units = ap (λ (k : Making). k.run.units) one in
-      let most : r.run.units ≤ options.steps = r.most in
+  pub moment : (last : Happening) (to : WildState) (before after : Telling) (d : Drawn) (out notes : Sunk) → before.ahead ≡ Some ahead
+      → Stops options.steps last m to before after d out notes
+      → (k : Making) × MomentByReads options (plan_by m.machine.image ahead) k × Puts out k.run.state.outside.output × Puts notes (notes_of false k.run.trace)
+  moment last to before after d out notes tells r =
+      let words = r.ran.words in
+      let one = r.ran.is [] [] in
+      let draws = draws_most (unwatched options) m ahead how fresh r.ran.inputs (words ++ []) in
+      let count : (making_from m [] (words ++ []) r.ran.inputs).count ≡ length words = ap (λ (k : Making). k.count) one.is in
+      let units : (making_from m [] (words ++ []) r.ran.inputs).run.units ≡ r.units = ap (λ (k : Making). k.run.units) one.is ∙ one.units in
+      let most = r.most in
       let few : length words ≤ most_words options.steps = omega (arith, draws, count, units, most) in
-      let s = told_starts before after ahead words (most_words options.steps) tells r.comes.drew few in (
-        making_at r.run to r.comes.left r.comes.put s.coming (length words),
+      let s = told_starts before after ahead words (most_words options.steps) tells r.ran.drew few in
+      let there = r.ran.is [] s.coming in
+      let used : (making_from m [] (words ++ s.coming) r.ran.inputs).run.units ≡ r.units = ap (λ (k : Making). k.run.units) there.is ∙ there.units in
+      let drawn : (making_from m [] (words ++ s.coming) r.ran.inputs).count ≡ length words = ap (λ (k : Making). k.count) there.is in (
+        making_from m [] (words ++ s.coming) r.ran.inputs,
         record {
-          reads = r.comes.inputs;
+          reads = r.ran.inputs;
           given = most_words options.steps;
-          is = reads_as (unwatched options) m ahead how fresh r.comes.inputs (words ++ s.coming) _ s.is ∙ r.comes.is s.coming;
-          most = most;
-          enough = few;
+          is = reads_as (unwatched options) m ahead how fresh r.ran.inputs (words ++ s.coming) (first_words (most_words options.steps) ahead) s.is;
+          most = omega (arith, used, most);
+          enough = omega (arith, drawn, few);
         },
-        r.comes.wrote,
-        r.comes.lines,
+        subst (Puts out) (sym (ap (λ (k : Making). k.run.state.outside.output) there.is)) r.ran.wrote,
+        subst (Puts notes) (sym (ap (λ (k : Making). notes_of false k.run.trace) there.is ∙ there.notes)) r.ran.noted,
       )
 
   -- what the command has then, by whether the input is told
@@ -180,7 +184,7 @@ module _ (options : RunOptions) (m : WildState) (ahead : ℕ → ℕ) (how : m.m
   -- ---- one that a device's fault cut short
 
   -- fronts of what some answer has were written
-  pub record Fronts (force : Bool) (name : List ℕ) (w : World) (out notes : Sunk) : Type 0 where
+  pub record RunFronts (force : Bool) (name : List ℕ) (w : World) (out notes : Sunk) : Type 0 where
     pub answer : Answer
     pub run : IsKeptRun options force name w (plan_by m.machine.image ahead) answer ⊎ IsFullRun options w (plan_by m.machine.image ahead) answer
     pub bytes : WritesPrefix out.old out.new answer.output
@@ -188,7 +192,7 @@ module _ (options : RunOptions) (m : WildState) (ahead : ℕ → ℕ) (how : m.m
 
   pub fronts_by : (force : Bool) (name : List ℕ) (w : World) (out notes : Sunk)
       → ((bytes : List ℕ) → w.input ≡ Some bytes → (k : Journaled) → StopsAt options.steps (program_of m.machine) bytes ahead k → ShowsWildPart (shown_making false k.making) out notes)
-      → Begins (unwatched options) m ahead how fresh force w.input out notes → Fronts force name w out notes
+      → Begins (unwatched options) m ahead how fresh force w.input out notes → RunFronts force name w out notes
   fronts_by force name w out notes told b = by w.input refl (some_journal options w.input plan)
     where
       plan : Plan
@@ -199,7 +203,7 @@ module _ (options : RunOptions) (m : WildState) (ahead : ℕ → ℕ) (how : m.m
           subst (λ (j : Making). ShowsWildPart (shown_making false j) out notes) (sym h.is)
           (told bytes is h.place (subst (λ (g : Program). StopsAt options.steps g bytes ahead h.place) (sym (same_program (unwatched options) m ahead how fresh)) h.stops))
 
-      kept : (p : Parts) → HasJournal options w.input (plan_by m.machine.image ahead) p → Fronts force name w out notes
+      kept : (p : Parts) → HasJournal options w.input (plan_by m.machine.image ahead) p → RunFronts force name w out notes
       kept p has =
           let a = keeps_some w name (spelling p) (answer_wild w.input b.what) in
           record {
@@ -209,7 +213,7 @@ module _ (options : RunOptions) (m : WildState) (ahead : ℕ → ℕ) (how : m.m
             lines = subst (WritesPrefix notes.old notes.new) (sym (same_trace w name (spelling p) (answer_wild w.input b.what) a.0 a.1)) b.lines;
           }
 
-      stopped : (input : Option (List ℕ)) → w.input ≡ input → (k : Making) → IsStopped options input (plan_by m.machine.image ahead) k → IsSome input → Fronts force name w out notes
+      stopped : (input : Option (List ℕ)) → w.input ≡ input → (k : Making) → IsStopped options input (plan_by m.machine.image ahead) k → IsSome input → RunFronts force name w out notes
       stopped None is k h some = cc
       stopped (Some bytes) is k h some =
           let shows = past bytes is k h in
@@ -221,7 +225,7 @@ module _ (options : RunOptions) (m : WildState) (ahead : ℕ → ℕ) (how : m.m
           }
 
       by : (input : Option (List ℕ)) → w.input ≡ input → ((p : Parts) × HasJournal options w.input (plan_by m.machine.image ahead) p) ⊎ ((k : Making) × IsStopped options w.input (plan_by m.machine.image ahead) k)
-          → Fronts force name w out notes
+          → RunFronts force name w out notes
       by input is (inl h) = kept h.0 h.1
       by None is (inr h) =
           let p = parts Wrap Spent [] [] [] in
@@ -251,60 +255,12 @@ module _ (options : RunOptions) (m : WildState) (ahead : ℕ → ℕ) (how : m.m
           notes_are = refl;
         }
 
-    -- one whose input failed, with the line of the fault still to be written
-    pub starved_tried : (d : Drawn) (out notes : Sunk) → HasInputFault d out notes → (HasInputFault d out notes → input) → Fronts force name w out notes
-        → Leaves (TriesBy shelf input (form options drawn force file name) w) (said d.new InputFault (status_line InputFault)) s out notes
-    starved_tried d out notes fault cause f =
-        let line = status_line InputFault in
-        let t : Answer = record { status = InputFault; output = f.bytes.done; trace = f.lines.done; line = line; left = None; kept = nothing } in
-        record {
-          tried = t;
-          is = inr (inr (inl (record {
-            cause = cause fault;
-            takes = refl;
-            status_is = refl;
-            answer = f.answer;
-            is = recorded_answer w options drawn force file name (plan_by m.machine.image ahead) f.answer found passes f.run;
-            output = (f.bytes.rest, f.bytes.whole);
-            trace = (f.lines.rest, f.lines.whole);
-            line = refl;
-            left = refl;
-            kept = refl;
-          })));
-          status_is = refl;
-          left_is = tt;
-          files = same;
-          output = f.bytes.done;
-          put = record { written = f.bytes.written; same = fault.sink };
-          output_is = append-nil f.bytes.done;
-          trace = f.lines.done;
-          noted = record { written = f.lines.written; same = fault.lines };
-          notes_are = refl;
-        }
-
-    -- one for which a sink failed: nothing was kept
-    pub unwritten_tried : (d : Drawn) (out notes : Sunk) → HasOutputFault d out notes ⊎ HasNotesFault d out notes → Fronts force name w out notes
-        → EndsPart (TriesBy shelf input (form options drawn force file name) w) s out notes
-    unwritten_tried d out notes fault f =
-        let t : Answer = record f.answer { status = NoMemory; line = status_line NoMemory; kept = nothing } in
-        record {
-          tried = t;
-          is = inr (inr (inr (record {
-            cause = inl refl;
-            streams = (refl, refl);
-            kept = inl refl;
-            answer = f.answer;
-            is = recorded_answer w options drawn force file name (plan_by m.machine.image ahead) f.answer found passes f.run;
-            same = refl;
-          })));
-          files = same;
-          output = record {
-            prefix = f.bytes;
-            later = ⊎_elim (λ (x : HasOutputFault d out notes). x.later) (λ (x : HasNotesFault d out notes). omega (arith, x.sink)) fault;
-          };
-          line = Partly-more notes f.answer.trace (status_line NoMemory) (record {
-            prefix = f.lines;
-            later = ⊎_elim (λ (x : HasOutputFault d out notes). omega (arith, x.lines)) (λ (x : HasNotesFault d out notes). x.later) fault;
-          });
-          failed = ⊎_elim (λ (x : HasOutputFault d out notes). inl x.sink) (λ (x : HasNotesFault d out notes). inr x.lines) fault;
-        }
+    -- one that was cut short
+    pub cut_fronts : (out notes : Sunk) → RunFronts force name w out notes → Fronts (form options drawn force file name) w out notes
+    cut_fronts out notes f = record {
+      answer = f.answer;
+      kept = inr refl;
+      is = recorded_answer w options drawn force file name (plan_by m.machine.image ahead) f.answer found passes f.run;
+      bytes = f.bytes;
+      lines = f.lines;
+    }

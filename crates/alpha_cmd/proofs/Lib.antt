@@ -1,6 +1,7 @@
 pub mod Accepted
 pub mod Alike
 pub mod Commands
+pub mod CutShort
 pub mod Endings
 pub mod Fixed
 pub mod Forms

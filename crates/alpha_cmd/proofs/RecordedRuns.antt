@@ -29,7 +29,7 @@ use Rattle.alpha_replay.specs.Replay.{ending_of, reports_of}
 use Rattle.alpha_replay.proofs.Feeding.{list_feeds}
 use Rattle.alpha_replay.proofs.JournaledReplays.{input_stays, journaled_lists, listed_taken, journaled_replays}
 use Rattle.alpha_replay.proofs.JournaledRuns.{played_in, steps_run}
-use Rattle.alpha_replay.proofs.Recorded.{taken_is}
+use Rattle.alpha_replay.proofs.Recording.{taken_is}
 use Rattle.alpha_replay.proofs.Stopping.{few_words}
 use Rattle.alpha_cmd.specs.Outcome.{Outcome, goes, stops}
 use Rattle.alpha_cmd.specs.Image.{ImageOf}

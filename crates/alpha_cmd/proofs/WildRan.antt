@@ -1,69 +1,90 @@
 -- From what a run of the imprecise machine did to what the command `run --imprecise` tries.
-use Rattle.std.proofs.Common.{◌≡◌, ◌⊎◌, ◌++◌, ◌∙◌, ◌<◌, ◌≤◌, ◌+◌, length, ℕ, ◌%◌, ◌^◌, Bool, true, false, List, [], Option, None, Some, IfSome, option_map, refl, sym, ap, subst, inl, inr, ⊎_elim, append-nil, arith}
+use Rattle.std.proofs.Common.{◌≡◌, ◌≢◌, ◌++◌, ◌∙◌, ◌<◌, ◌≤◌, ◌+◌, length, ℕ, ◌%◌, ◌^◌, Bool, true, false, List, [], Option, None, Some, IfSome, option_map, unwrap_or, refl, sym, ap, subst, inl, append-nil, arith}
 use Rattle.alpha_io.specs.Files.{Files, KeepsFiles}
 use Rattle.alpha_io.specs.Shelved.{Shelved}
 use Rattle.alpha_io.specs.Sunk.{Sunk, Puts}
 use Rattle.alpha_io.specs.Written.{WritesPrefix}
-use Rattle.alpha_io.proofs.Sinks.{Partly-more}
 use Rattle.alpha_image.specs.Parts.{Parts, IsImage}
+use Rattle.alpha_shadow.specs.Broken.{IsAccepted}
 use Rattle.alpha_request.specs.declared.options.RunOptions.{RunOptions}
 use Rattle.alpha_request.specs.Origin as choices
-use Rattle.alpha_seq.specs.declared.end.End.{End}
-use Rattle.alpha_seq.specs.declared.end.RunEnd.{RunEnd}
-use Rattle.alpha_seq.specs.State.{Program}
+use Rattle.alpha_seq.specs.declared.event.Event.{Event as Seen}
+use Rattle.alpha_seq.specs.declared.event.Event.TheVariants as events
+use Rattle.alpha_pal.specs.declared.fault.Fault.{Fault}
+use Rattle.alpha_seq.specs.State.{Program, Went, Barriered, Overflowed, Ends}
 use Rattle.alpha_seq.specs.Start.{start}
-use Rattle.alpha_seq.specs.Run.{Mark, notes_of, shown, sequential}
+use Rattle.alpha_seq.specs.Run.{notes_of, shown, sequential}
 use Rattle.alpha_seq.specs.Machine.{program_of}
 use Rattle.alpha_seq.specs.Devices.{Drawn}
-use Rattle.alpha_seq.specs.RunEffect.{run_end, HasInputFault, HasOutputFault, HasNotesFault}
-use Rattle.alpha_imprecise.specs.Made.{Making, begun, ShownWild, shown_making, LostTrap, lost_trap, first_words, most_words, imprecise_by}
-use Rattle.alpha_imprecise.specs.Telling.{Telling, Counts}
-use Rattle.alpha_imprecise.specs.Wild.{WildState, IsFresh}
-use Rattle.alpha_imprecise.specs.WildRunEffect.{begun_at, making_at, run_answer, answer_of, IsWhole, ShowsTold, ShowsSequential}
-use Rattle.alpha_imprecise.specs.Free.{run_making_over, FreeAlike, IsFreeRun, IsFreeCut, IsFreeFront}
+use Rattle.alpha_imprecise.specs.Moment.{Happening, Precisely, Triggered, Waited, Reported, Lost}
+use Rattle.alpha_imprecise.specs.Used.{HasUsed}
+use Rattle.alpha_imprecise.specs.Made.{Making, begun, made, wild_end, lost_trap, ShownWild, shown_making, first_words, most_words, imprecise_by}
+use Rattle.alpha_imprecise.specs.Restart.{IsRestartable}
+use Rattle.alpha_imprecise.specs.Shown.{ShowsSame}
+use Rattle.alpha_imprecise.specs.Telling.{Telling}
+use Rattle.alpha_imprecise.specs.Wild.{WildState, IsFresh, begun_at}
+use Rattle.alpha_imprecise.specs.Free.{run_making_over, FreeAlike}
 use Rattle.alpha_imprecise.proofs.Fresh.{begun_fresh, told_starts}
 use Rattle.alpha_imprecise.proofs.FreeDrawing.{free_draws}
-use Rattle.alpha_imprecise.proofs.FreeFilling.{cut_free}
+use Rattle.alpha_imprecise.proofs.Showing.{runs_alike}
+use Rattle.alpha_restart.proofs.Agreeing.{accepted_restarts}
+use Rattle.alpha_restart.proofs.FreeTogether.{accepted_free}
+use Rattle.alpha_run.specs.WildRan.{making_from, ended_as, WildCut}
+use Rattle.alpha_run.proofs.WildShown.{drawn_from_none, Whole, used_all, few_drawn, told_all, cut_any, few_cut, cut_told}
 use Rattle.alpha_cmd.specs.declared.status.Status.{Status}
-use Rattle.alpha_cmd.specs.declared.status.Status.TheVariants.{InputFault}
-use Rattle.alpha_cmd.specs.Status.{status_line}
+use Rattle.alpha_cmd.specs.declared.status.Status.TheVariants.{ShelfFault}
 use Rattle.alpha_cmd.specs.Outcome.{goes}
 use Rattle.alpha_cmd.specs.Commands.Run.{run_by_reads}
 use Rattle.alpha_cmd.specs.RunAnswer.{program_by}
-use Rattle.alpha_cmd.specs.Commands.Imprecise.{Plan, plan_by, PlanOf, Passes, with_drawn, MadeByReads, MayShowWild, wild_status, wild_line, answer_status, answer_line, answer_wild, form}
-use Rattle.alpha_cmd.specs.Answer.{Answer}
+use Rattle.alpha_cmd.specs.Commands.Imprecise.{Plan, plan_by, PlanOf, Passes, with_drawn, MadeByReads, MayShowWild, wild_status, wild_line, answer_status, answer_line, answer_wild, kind, form}
 use Rattle.alpha_cmd.specs.AnswerBy.{World, said}
-use Rattle.alpha_cmd.specs.Kept.{nothing}
-use Rattle.alpha_cmd.specs.Ends.{EndsPart, Leaves}
+use Rattle.alpha_cmd.specs.Form.{MayTakeBy}
+use Rattle.alpha_cmd.specs.Ends.{Leaves}
 use Rattle.alpha_cmd.specs.Tries.{TriesBy}
-use Rattle.alpha_cmd.proofs.Commands.Imprecise.{wild_answer}
+use Rattle.alpha_cmd.proofs.Commands.Imprecise.{wild_answer, may_lose, drawn_not_shelf}
+use Rattle.alpha_cmd.proofs.CutShort.{Fronts}
 use Rattle.alpha_cmd.proofs.Untold.{made_same, same_may}
 
--- ---- the status and the line of an answer, by a number of words
+-- ---- the status and the line of a run's end
 
-pub status_by : (end : Option End) (trap : Option LostTrap) (n : ℕ) → answer_status (run_answer end trap) n ≡ wild_status end trap n
-status_by (Some end) trap n = refl
-status_by None (Some t) n = refl
-status_by None None n = refl
+status_by : (h : Happening) (n : ℕ) → answer_status (ended_as h) n ≡ wild_status (wild_end h) (lost_trap h) n
+status_by (Precisely Went) n = refl
+status_by (Precisely Barriered) n = refl
+status_by (Precisely (Overflowed at)) n = refl
+status_by (Precisely (Ends end)) n = refl
+status_by Triggered n = refl
+status_by Waited n = refl
+status_by (Reported at) n = refl
+status_by (Lost pc mask) n = refl
 
-pub line_by : (end : Option End) (trap : Option LostTrap) → wild_line end trap ≡ answer_line (run_answer end trap)
-line_by (Some end) trap = refl
-line_by None (Some t) = refl
-line_by None None = refl
+line_by : (h : Happening) → answer_line (ended_as h) ≡ wild_line (wild_end h) (lost_trap h)
+line_by (Precisely Went) = refl
+line_by (Precisely Barriered) = refl
+line_by (Precisely (Overflowed at)) = refl
+line_by (Precisely (Ends end)) = refl
+line_by Triggered = refl
+line_by Waited = refl
+line_by (Reported at) = refl
+line_by (Lost pc mask) = refl
 
-run_end-answer : (end : Option End) → run_end end ≡ run_answer end None
-run_end-answer None = refl
-run_end-answer (Some end) = refl
-
--- a count from 0
-pub counted : (before now n d : ℕ) → before ≡ 0 → n ≡ now → n < 2 ^ 64 → Counts (Some before) (Some now) d → d % 2 ^ 64 ≡ n
-counted before now n d start is low count = omega (arith, count)
+pub answer_not_shelf : (last : Option Seen) (n : ℕ) → answer_status last n ≢ ShelfFault
+answer_not_shelf (Some (events.Ended end)) n e = drawn_not_shelf n end e
+answer_not_shelf (Some (events.Lost pc mask)) n e = cc
+answer_not_shelf _ n e = cc
 
 -- the image of a plan is a good one
 pub planned_image : (files : Files) (name : List ℕ) (drawn : choices.Origin) (image : Parts) (ahead : ℕ → ℕ) → PlanOf files name drawn (goes (plan_by image ahead)) → IsImage image
 planned_image files name drawn image ahead found =
     let same : image ≡ found.0 = ap (λ (p : Plan). p.image) found.2.2 in
     subst IsImage (sym same) found.1.2.0
+
+-- whatever words are drawn, its runs are those of the sequential machine
+pub record RunsAlone (image : Parts) : Type 0 where
+  pub free : FreeAlike image
+  pub restarts : IsRestartable image
+
+pub accepted_alone : (image : Parts) → IsImage image → IsAccepted image.words → RunsAlone image
+accepted_alone image fine good = record { free = accepted_free image fine good; restarts = accepted_restarts image fine good }
 
 module _ (options : RunOptions) (m : WildState) (ahead : ℕ → ℕ) (how : m.machine.how ≡ options.complete) (fresh : IsFresh m) where
   pub same_program : program_of m.machine ≡ program_by options m.machine.image
@@ -88,157 +109,164 @@ module _ (options : RunOptions) (m : WildState) (ahead : ℕ → ℕ) (how : m.m
       (sym (begun_fresh m [] words fresh))
       (free_draws (program_of m.machine) (start (program_of m.machine) []) words reads)
 
-  -- a run that was made, whatever its source told
-  record MadeShown (answer : RunEnd) (before after : Telling) (out notes : Sunk) : Type 0 where
-    made : MadeByReads options (plan_by m.machine.image ahead)
-    answer_is : answer_of made.making.run.last ≡ answer
-    drew : Counts before.count after.count made.making.count
-    bytes : Puts out made.making.run.state.outside.output
-    lines : Puts notes (notes_of options.watch made.making.run.trace)
+  -- A run for all its units, or to its end, by the words that are told. Over an input that tells nothing each
+  -- step finds an input of its own.
+  pub record RunByReads (k : Making) : Type 0 where
+    pub reads : List (List ℕ)
+    pub is : k ≡ run_making_over (program_of m.machine) reads (begun_at m [] [] (first_words (most_words options.steps) ahead))
+    pub used : HasUsed options.steps k.run
 
-  made_shown : (answer : RunEnd) (to : WildState) (before after : Telling) (d : Drawn) (out notes : Sunk) → before.ahead ≡ Some ahead
-      → IsFreeRun options.steps options.watch answer m to before after d out notes → MadeShown answer before after out notes
-  made_shown answer to before after d out notes tells r =
-      let words = r.comes.words in
-      let one = r.comes.is [] in
-      let draws = draws_most r.comes.inputs (words ++ []) in
-      let count : (run_making_over (program_of m.machine) r.comes.inputs (begun_at m [] [] (words ++ []))).count ≡ length words = ap (λ (k : Making). k.count) one in
-      let units : (run_making_over (program_of m.machine) r.comes.inputs (begun_at m [] [] (words ++ []))).run.units ≡ r.run.units = ap (λ (k : Making). k.run.units) one in
-      let most : r.run.units ≤ options.steps = r.used.most in
-      let few : length words ≤ most_words options.steps = omega (arith, draws, count, units, most) in
-      let s = told_starts before after ahead words (most_words options.steps) tells r.comes.drew few in
+  by_reads : (k : Making) → RunByReads k → MadeByReads options (plan_by m.machine.image ahead)
+  by_reads k h =
+      let words = first_words (most_words options.steps) ahead in
+      let draws : k.count ≤ most_words k.run.units = subst (λ (j : Making). j.count ≤ most_words j.run.units) (sym h.is) (draws_most h.reads words) in
+      let most = h.used.most in
       record {
-        made = record {
-          reads = r.comes.inputs;
-          given = most_words options.steps;
-          making = making_at r.run to r.comes.left r.comes.put s.coming (length words);
-          is = reads_as r.comes.inputs (words ++ s.coming) (first_words (most_words options.steps) ahead) s.is ∙ r.comes.is s.coming;
-          used = record { settled = r.used.settled; most = r.used.most; full = r.used.full };
-          enough = few;
-        };
-        answer_is = r.answer_is;
-        drew = r.comes.drew.counted;
-        bytes = r.comes.wrote;
-        lines = r.comes.lines;
+        reads = h.reads;
+        given = most_words options.steps;
+        making = k;
+        is = reads_as h.reads words words refl ∙ sym h.is;
+        used = h.used;
+        enough = omega arith;
       }
 
-  -- a run that was cut short
-  record MadeFront (out notes : Sunk) : Type 0 where
-    made : MadeByReads options (plan_by m.machine.image ahead)
-    bytes : WritesPrefix out.old out.new made.making.run.state.outside.output
-    lines : WritesPrefix notes.old notes.new (notes_of options.watch made.making.run.trace)
+  told_as : (bytes words : List ℕ)
+      → made (program_of m.machine) (begun_at m bytes [] words) options.steps
+      ≡ made (program_by options m.machine.image) (begun (start (program_by options m.machine.image) bytes) None 0 words) options.steps
+  told_as bytes words =
+      ap (λ (k : Making). made (program_of m.machine) k options.steps) (begun_fresh m bytes words fresh)
+      ∙ ap (λ (g : Program). made g (begun (start g bytes) None 0 words) options.steps) same_program
 
-  made_front : (before after : Telling) (out notes : Sunk) → before.ahead ≡ Some ahead
-      → IsFreeFront options.steps options.watch m before after out notes → MadeFront out notes
-  made_front before after out notes tells f =
-      let given = length f.words + most_words options.steps in
-      let s = told_starts before after ahead f.words given tells f.drew (omega arith) in
-      let one = f.fronts s.coming in
-      let draws = draws_most one.inputs (f.words ++ s.coming) in
-      let most = one.used.most in
+  -- over an input that is told or another
+  abbrev IsRun : Option (List ℕ) → Making → Type 0
+  IsRun None k = RunByReads k
+  IsRun (Some bytes) k = k ≡ made (program_of m.machine) (begun_at m bytes [] (first_words (most_words options.steps) ahead)) options.steps
+
+  -- ---- what the command may show of such a run
+
+  record MayShowOf (force : Bool) (told : Option (List ℕ)) (k : Making) : Type 0 where
+    what : ShownWild
+    may : MayShowWild options force told (plan_by m.machine.image ahead) what
+    end : wild_end k.run.last ≡ what.end
+    lost : lost_trap k.run.last ≡ what.lost
+    output : k.run.state.outside.output ≡ what.output
+    notes : notes_of options.watch k.run.trace ≡ what.notes
+    drawn : k.count ≡ what.drawn
+    left : IfSome (option_map (λ (b : List ℕ). what.left) told) (λ rest. k.run.state.outside.input ≡ rest)
+
+  may_show : (force : Bool) (told : Option (List ℕ)) (k : Making) → IsRun told k → (force ≡ false → RunsAlone m.machine.image) → MayShowOf force told k
+  unfolding by_reads
+  may_show true None k is alone = record {
+    what = shown_making options.watch k;
+    may = (by_reads k is, refl);
+    end = refl;
+    lost = refl;
+    output = refl;
+    notes = refl;
+    drawn = refl;
+    left = tt;
+  }
+  may_show true (Some bytes) k is alone = record {
+    what = shown_making options.watch k;
+    may = ap (shown_making options.watch) (is ∙ told_as bytes (first_words (most_words options.steps) ahead));
+    end = refl;
+    lost = refl;
+    output = refl;
+    notes = refl;
+    drawn = refl;
+    left = refl;
+  }
+  may_show false None k is alone =
+      let h = by_reads k is in
+      let q = made_same options (plan_by m.machine.image ahead) (alone refl).free h in
+      let t = shown options.watch (run_by_reads options m.machine.image q.inputs) in
       record {
-        made = record {
-          reads = one.inputs;
-          given = given;
-          making = run_making_over (program_of m.machine) one.inputs (begun_at m [] [] (f.words ++ s.coming));
-          is = reads_as one.inputs (f.words ++ s.coming) (first_words given ahead) s.is;
-          used = one.used;
-          enough = omega (arith, draws, most);
-        };
-        bytes = one.bytes;
-        lines = one.lines;
+        what = with_drawn t k.count;
+        may = (h, (t, same_may options m.machine.image k.run q, refl));
+        end = q.end;
+        lost = q.lost;
+        output = q.output;
+        notes = ap (notes_of options.watch) q.trace;
+        drawn = refl;
+        left = tt;
+      }
+  may_show false (Some bytes) k is alone =
+      let g = program_by options m.machine.image in
+      let words = first_words (most_words options.steps) ahead in
+      let at = is ∙ told_as bytes words in
+      let same : ShowsSame (sequential g bytes options.steps options.watch) (imprecise_by g bytes ahead options.steps options.watch) =
+      runs_alike m.machine.image (alone refl).restarts options.complete bytes words options.steps options.watch in
+      record {
+        what = with_drawn (sequential g bytes options.steps options.watch) (imprecise_by g bytes ahead options.steps options.watch).drawn;
+        may = refl;
+        end = ap (λ (j : Making). wild_end j.run.last) at ∙ same.end;
+        lost = ap (λ (j : Making). lost_trap j.run.last) at ∙ same.lost;
+        output = ap (λ (j : Making). j.run.state.outside.output) at ∙ same.output;
+        notes = ap (λ (j : Making). notes_of options.watch j.run.trace) at ∙ same.notes;
+        drawn = ap (λ (j : Making). j.count) at;
+        left = ap (λ (j : Making). j.run.state.outside.input) at ∙ same.left;
       }
 
   -- ---- a run that was made: what it shows was written, and this is left
 
-  pub record Shows (force : Bool) (answer : RunEnd) (status : Status) (old new : Option (List ℕ)) (out notes : Sunk) : Type 0 where
+  -- by the step behind which it is over, and as many words as were drawn
+  pub record Shows (force : Bool) (last : Option Seen) (drawn : ℕ) (old new : Option (List ℕ)) (out notes : Sunk) : Type 0 where
     pub what : ShownWild
     pub may : MayShowWild options force old (plan_by m.machine.image ahead) what
-    pub answer_is : answer ≡ run_answer what.end what.lost
-    pub status_is : answer_status answer (what.drawn % 2 ^ 64) ≡ status
+    pub status_is : answer_status last drawn ≡ wild_status what.end what.lost (what.drawn % 2 ^ 64)
+    pub line_is : answer_line last ≡ wild_line what.end what.lost
     pub bytes : Puts out what.output
     pub lines : Puts notes what.notes
     pub left : IfSome (option_map (λ (b : List ℕ). what.left) old) (λ rest. new ≡ Some rest)
 
-  shows_told : (force : Bool) (answer : RunEnd) (status : Status) (bytes : List ℕ) (new : Option (List ℕ)) (before after : Telling) (a b : ℕ) (out notes : Sunk) → IsWhole answer
-      → ((d : ℕ) → Counts before.count after.count d → answer_status answer (d % 2 ^ 64) ≡ status)
-      → ShowsTold options.steps options.watch bytes ahead answer m.machine before after (record { old = Some bytes; new = new; before = a; now = b }) out notes
-      → (force ≡ false → ShowsSequential options.steps options.watch bytes answer m.machine (record { old = Some bytes; new = new; before = a; now = b }) out notes)
-      → Shows force answer status (Some bytes) new out notes
-  shows_told true answer status bytes new before after a b out notes whole counts told restarted =
-      let w = told.shows whole in
-      record {
-        what = imprecise_by (program_of m.machine) bytes ahead options.steps options.watch;
-        may = ap (λ (g : Program). imprecise_by g bytes ahead options.steps options.watch) same_program;
-        answer_is = w.answer_is;
-        status_is = counts (imprecise_by (program_of m.machine) bytes ahead options.steps options.watch).drawn (told.drew whole);
-        bytes = w.bytes;
-        lines = w.lines;
-        left = w.left_is;
-      }
-  shows_told false answer status bytes new before after a b out notes whole counts told restarted =
-      let s = sequential (program_of m.machine) bytes options.steps options.watch in
-      let w = (restarted refl).shows whole in
-      record {
-        what = with_drawn s (imprecise_by (program_of m.machine) bytes ahead options.steps options.watch).drawn;
-        may =
-            ap (λ (g : Program). with_drawn (sequential g bytes options.steps options.watch) (imprecise_by g bytes ahead options.steps options.watch).drawn) same_program;
-        answer_is = w.answer_is ∙ run_end-answer s.end;
-        status_is = counts (imprecise_by (program_of m.machine) bytes ahead options.steps options.watch).drawn (told.drew whole);
-        bytes = w.bytes;
-        lines = w.lines;
-        left = w.left;
-      }
-
-  -- over an input that tells nothing
-  shows_untold : (force : Bool) (answer : RunEnd) (status : Status) (new : Option (List ℕ)) (before after : Telling) (out notes : Sunk)
-      → ((d : ℕ) → Counts before.count after.count d → answer_status answer (d % 2 ^ 64) ≡ status)
-      → MadeShown answer before after out notes → (force ≡ false → FreeAlike m.machine.image) → Shows force answer status None new out notes
-  shows_untold true answer status new before after out notes counts h alike = record {
-    what = shown_making options.watch h.made.making;
-    may = (h.made, refl);
-    answer_is = sym h.answer_is;
-    status_is = counts h.made.making.count h.drew;
-    bytes = h.bytes;
-    lines = h.lines;
-    left = tt;
+  whole_is : (last : Option Seen) (rest : ℕ) (new : WildState) (before after : Telling) (d : Drawn) (out notes : Sunk) (w : Whole last options.steps rest options.watch m new before after d out notes)
+      (coming : List ℕ) → first_words (most_words options.steps) ahead ≡ w.ran.words ++ coming → (told : Option (List ℕ)) → d.old ≡ told
+      → IsRun told (making_from m (unwrap_or told []) (w.ran.words ++ coming) w.ran.inputs)
+  whole_is last rest new before after d out notes w coming same None is = record {
+    reads = w.ran.inputs;
+    is = ap (λ (l : List ℕ). making_from m [] l w.ran.inputs) (sym same);
+    used = used_all last options.steps rest options.watch m new before after d out notes w [] coming;
   }
-  shows_untold false answer status new before after out notes counts h alike =
-      let q = made_same options (plan_by m.machine.image ahead) (alike refl) h.made in
-      let t = shown options.watch (run_by_reads options m.machine.image q.inputs) in
+  whole_is last rest new before after d out notes w coming same (Some bytes) is =
+      told_all last options.steps rest options.watch m new before after d out notes w fresh.calm bytes coming is
+      ∙ ap (λ (l : List ℕ). made (program_of m.machine) (begun_at m bytes [] l) options.steps) (sym same)
+
+  left_by : (last : Option Seen) (rest : ℕ) (new : WildState) (before after : Telling) (d : Drawn) (out notes : Sunk) (w : Whole last options.steps rest options.watch m new before after d out notes)
+      (coming : List ℕ) (told : Option (List ℕ)) → d.old ≡ told → (left : List ℕ)
+      → IfSome (option_map (λ (b : List ℕ). left) told) (λ l. (making_from m (unwrap_or told []) (w.ran.words ++ coming) w.ran.inputs).run.state.outside.input ≡ l)
+      → IfSome (option_map (λ (b : List ℕ). left) told) (λ l. d.new ≡ Some l)
+  left_by last rest new before after d out notes w coming None is left same = tt
+  left_by last rest new before after d out notes w coming (Some bytes) is left same = (w.ran.told bytes coming is).1 ∙ ap (λ (l : List ℕ). Some l) same
+
+  pub ran_shows : (force : Bool) (last : Option Seen) (rest drawn : ℕ) (new : WildState) (before after : Telling) (d : Drawn) (out notes : Sunk)
+      → Whole last options.steps rest options.watch m new before after d out notes
+      → before.ahead ≡ Some ahead → before.count ≡ Some 0 → after.count ≡ Some drawn → drawn < 2 ^ 64 → (force ≡ false → RunsAlone m.machine.image)
+      → Shows force last drawn d.old d.new out notes
+  ran_shows force last rest drawn new before after d out notes w tells none now low alone =
+      let s = told_starts before after ahead w.ran.words (most_words options.steps) tells w.ran.drew
+      (few_drawn last options.steps rest options.watch m new before after d out notes w fresh.calm) in
+      let words = w.ran.words ++ s.coming in
+      let k = making_from m (unwrap_or d.old []) words w.ran.inputs in
+      let stands = w.ran.is (unwrap_or d.old []) s.coming in
+      let may = may_show force d.old k (whole_is last rest new before after d out notes w s.coming s.is d.old refl) alone in
+      let h = ap (λ (j : Making). j.run.last) stands.is ∙ stands.last_is in
+      let end : wild_end w.happened ≡ may.what.end = ap wild_end (sym h) ∙ may.end in
+      let lost : lost_trap w.happened ≡ may.what.lost = ap lost_trap (sym h) ∙ may.lost in
+      let all = drawn_from_none before.count after.count drawn (length w.ran.words) none now w.ran.drew.counted in
+      let count : may.what.drawn ≡ length w.ran.words = sym may.drawn ∙ ap (λ (j : Making). j.count) stands.is in
+      let many : drawn ≡ may.what.drawn % 2 ^ 64 = omega arith in
       record {
-        what = with_drawn t h.made.making.count;
-        may = (h.made, (t, same_may options m.machine.image h.made.making.run q, refl));
-        answer_is =
-            sym h.answer_is
-            ∙ (ap (λ (end : Option End). run_answer end (lost_trap h.made.making.run.last)) q.end ∙ ap (λ (lost : Option LostTrap). run_answer t.end lost) q.lost);
-        status_is = counts h.made.making.count h.drew;
-        bytes = subst (Puts out) q.output h.bytes;
-        lines = subst (λ (trace : List Mark). Puts notes (notes_of options.watch trace)) q.trace h.lines;
-        left = tt;
+        what = may.what;
+        may = may.may;
+        status_is =
+            ap (λ (o : Option Seen). answer_status o drawn) w.last_is
+            ∙ (status_by w.happened drawn
+            ∙ λ i. wild_status (end i) (lost i) (many i));
+        line_is = ap answer_line w.last_is ∙ (line_by w.happened ∙ λ i. wild_line (end i) (lost i));
+        bytes = subst (Puts out) (sym (ap (λ (j : Making). j.run.state.outside.output) stands.is) ∙ may.output) w.ran.wrote;
+        lines = subst (Puts notes) (sym (ap (λ (j : Making). notes_of options.watch j.run.trace) stands.is ∙ stands.notes) ∙ may.notes) w.ran.noted;
+        left = left_by last rest new before after d out notes w s.coming d.old refl may.what.left may.left;
       }
-
-  shows_by : (force : Bool) (answer : RunEnd) (status : Status) (old new : Option (List ℕ)) (a b : ℕ) (before after : Telling) (out notes : Sunk) → IsWhole answer
-      → ((d : ℕ) → Counts before.count after.count d → answer_status answer (d % 2 ^ 64) ≡ status)
-      → ((bytes : List ℕ) → old ≡ Some bytes → ShowsTold options.steps options.watch bytes ahead answer m.machine before after (record { old = old; new = new; before = a; now = b }) out notes)
-      → ((bytes : List ℕ) → old ≡ Some bytes → force ≡ false → ShowsSequential options.steps options.watch bytes answer m.machine (record { old = old; new = new; before = a; now = b }) out notes)
-      → MadeShown answer before after out notes → (force ≡ false → FreeAlike m.machine.image)
-      → Shows force answer status old new out notes
-  shows_by force answer status None new a b before after out notes whole counts told restarted h alike =
-      shows_untold force answer status new before after out notes counts h alike
-  shows_by force answer status (Some bytes) new a b before after out notes whole counts told restarted h alike =
-      shows_told force answer status bytes new before after a b out notes whole counts (told bytes refl) (restarted bytes refl)
-
-  pub run_shows : (force : Bool) (answer : RunEnd) (status : Status) (to : WildState) (d : Drawn) (before after : Telling) (out notes : Sunk) → IsWhole answer
-      → before.ahead ≡ Some ahead
-      → ((k : ℕ) → Counts before.count after.count k → answer_status answer (k % 2 ^ 64) ≡ status)
-      → ((bytes : List ℕ) → d.old ≡ Some bytes → ShowsTold options.steps options.watch bytes ahead answer m.machine before after d out notes)
-      → ((bytes : List ℕ) → d.old ≡ Some bytes → force ≡ false → ShowsSequential options.steps options.watch bytes answer m.machine d out notes)
-      → IsFreeRun options.steps options.watch answer m to before after d out notes → (force ≡ false → FreeAlike m.machine.image)
-      → Shows force answer status d.old d.new out notes
-  run_shows force answer status to d before after out notes whole tells counts told restarted free alike =
-      shows_by force answer status d.old d.new d.before d.now before after out notes whole counts told restarted
-      (made_shown answer to before after d out notes tells free) alike
 
   -- ---- a run that was cut short: fronts of what it would have shown were written
 
@@ -248,67 +276,58 @@ module _ (options : RunOptions) (m : WildState) (ahead : ℕ → ℕ) (how : m.m
     pub bytes : WritesPrefix out.old out.new what.output
     pub lines : WritesPrefix notes.old notes.new what.notes
 
-  begins_told : (force : Bool) (answer : RunEnd) (bytes : List ℕ) (before after : Telling) (d : Drawn) (out notes : Sunk)
-      → ShowsTold options.steps options.watch bytes ahead answer m.machine before after d out notes
-      → (force ≡ false → ShowsSequential options.steps options.watch bytes answer m.machine d out notes)
-      → Begins force (Some bytes) out notes
-  begins_told true answer bytes before after d out notes told restarted = record {
-    what = imprecise_by (program_of m.machine) bytes ahead options.steps options.watch;
-    may = ap (λ (g : Program). imprecise_by g bytes ahead options.steps options.watch) same_program;
-    bytes = told.part.bytes;
-    lines = told.part.lines;
-  }
-  begins_told false answer bytes before after d out notes told restarted = record {
-    what = with_drawn (sequential (program_of m.machine) bytes options.steps options.watch) (imprecise_by (program_of m.machine) bytes ahead options.steps options.watch).drawn;
-    may =
-        ap (λ (g : Program). with_drawn (sequential g bytes options.steps options.watch) (imprecise_by g bytes ahead options.steps options.watch).drawn) same_program;
-    bytes = (restarted refl).part.bytes;
-    lines = (restarted refl).part.lines;
-  }
-
-  begins_untold : (force : Bool) (out notes : Sunk) → MadeFront out notes → (force ≡ false → FreeAlike m.machine.image) → Begins force None out notes
-  begins_untold true out notes f alike = record { what = shown_making options.watch f.made.making; may = (f.made, refl); bytes = f.bytes; lines = f.lines }
-  begins_untold false out notes f alike =
-      let q = made_same options (plan_by m.machine.image ahead) (alike refl) f.made in
-      let t = shown options.watch (run_by_reads options m.machine.image q.inputs) in
+  begins_by : (force : Bool) (told : Option (List ℕ)) (k : Making) (out notes : Sunk) → IsRun told k → (force ≡ false → RunsAlone m.machine.image)
+      → WritesPrefix out.old out.new k.run.state.outside.output → WritesPrefix notes.old notes.new (notes_of options.watch k.run.trace) → Begins force told out notes
+  begins_by force told k out notes is alone bytes lines =
+      let may = may_show force told k is alone in
       record {
-        what = with_drawn t f.made.making.count;
-        may = (f.made, (t, same_may options m.machine.image f.made.making.run q, refl));
-        bytes = subst (WritesPrefix out.old out.new) q.output f.bytes;
-        lines = subst (λ (trace : List Mark). WritesPrefix notes.old notes.new (notes_of options.watch trace)) q.trace f.lines;
+        what = may.what;
+        may = may.may;
+        bytes = subst (WritesPrefix out.old out.new) may.output bytes;
+        lines = subst (WritesPrefix notes.old notes.new) may.notes lines;
       }
 
-  begins_by : (force : Bool) (answer : RunEnd) (old : Option (List ℕ)) (before after : Telling) (d : Drawn) (out notes : Sunk)
-      → ((bytes : List ℕ) → old ≡ Some bytes → ShowsTold options.steps options.watch bytes ahead answer m.machine before after d out notes)
-      → ((bytes : List ℕ) → old ≡ Some bytes → force ≡ false → ShowsSequential options.steps options.watch bytes answer m.machine d out notes)
-      → MadeFront out notes → (force ≡ false → FreeAlike m.machine.image) → Begins force old out notes
-  begins_by force answer None before after d out notes told restarted f alike = begins_untold force out notes f alike
-  begins_by force answer (Some bytes) before after d out notes told restarted f alike =
-      begins_told force answer bytes before after d out notes (told bytes refl) (restarted bytes refl)
-
-  pub run_begins : (force : Bool) (answer : RunEnd) (d : Drawn) (before after : Telling) (out notes : Sunk) → before.ahead ≡ Some ahead
-      → ((bytes : List ℕ) → d.old ≡ Some bytes → ShowsTold options.steps options.watch bytes ahead answer m.machine before after d out notes)
-      → ((bytes : List ℕ) → d.old ≡ Some bytes → force ≡ false → ShowsSequential options.steps options.watch bytes answer m.machine d out notes)
-      → IsFreeCut options.steps options.watch m before after d out notes → (force ≡ false → FreeAlike m.machine.image) → Begins force d.old out notes
-  run_begins force answer d before after out notes tells told restarted cut alike =
-      begins_by force answer d.old before after d out notes told restarted
-      (made_front before after out notes tells (cut_free options.steps options.watch m before after d out notes cut)) alike
+  pub cut_begins : (force : Bool) (fault : Fault) (before after : Telling) (d : Drawn) (out notes : Sunk) → WildCut fault options.steps options.watch m before after d out notes
+      → before.ahead ≡ Some ahead → (force ≡ false → RunsAlone m.machine.image) → (told : Option (List ℕ)) → d.old ≡ told → Begins force told out notes
+  cut_begins force fault before after d out notes cut tells alone None is =
+      let s = told_starts before after ahead cut.drawn (most_words options.steps) tells cut.drew (few_cut fault options.steps options.watch m before after d out notes cut fresh.calm) in
+      let words = cut.drawn ++ s.coming in
+      let front = cut_any fault options.steps options.watch m before after d out notes cut s.coming in
+      begins_by force None (run_making_over (program_of m.machine) front.inputs (begun_at m [] [] words)) out notes
+      (record {
+        reads = front.inputs;
+        is = ap (λ (l : List ℕ). run_making_over (program_of m.machine) front.inputs (begun_at m [] [] l)) (sym s.is);
+        used = front.used;
+      })
+      alone front.bytes front.lines
+  cut_begins force fault before after d out notes cut tells alone (Some bytes) is =
+      let s = told_starts before after ahead cut.drawn (most_words options.steps) tells cut.drew (few_cut fault options.steps options.watch m before after d out notes cut fresh.calm) in
+      let words = cut.drawn ++ s.coming in
+      let part = cut_told fault options.steps options.watch m before after d out notes cut fresh.calm bytes s.coming is in
+      begins_by force (Some bytes) (made (program_of m.machine) (begun_at m bytes [] words) options.steps) out notes
+      (ap (λ (l : List ℕ). made (program_of m.machine) (begun_at m bytes [] l) options.steps) (sym s.is)) alone part.0 part.1
 
   -- ---- what the command tries
 
-  module _ (name : List ℕ) (drawn : choices.Origin) (force : Bool) (w : World) (shelf input : Type 0) (found : PlanOf w.files name drawn (goes (plan_by m.machine.image ahead)))
-      (passes : Passes force (plan_by m.machine.image ahead) (goes (plan_by m.machine.image ahead))) (s : Shelved) (same : KeepsFiles s.old s.new) where
+  -- the status is one of an end
+  pub shows_takes : (force : Bool) (last : Option Seen) (drawn : ℕ) (old new : Option (List ℕ)) (out notes : Sunk) → Shows force last drawn old new out notes
+      → MayTakeBy (kind force) (answer_status last drawn)
+  shows_takes force last drawn old new out notes did =
+      let lost = may_lose options force old (plan_by m.machine.image ahead) did.what did.may in
+      (refl, inl (did.what.end, (did.what.lost, (did.what.drawn % 2 ^ 64, lost, did.status_is))))
+
+  module _ (name : List ℕ) (drawn : choices.Origin) (force : Bool) (w : World) (found : PlanOf w.files name drawn (goes (plan_by m.machine.image ahead)))
+      (passes : Passes force (plan_by m.machine.image ahead) (goes (plan_by m.machine.image ahead))) where
     -- a run that was made, with the status and the line of its end still to be written
-    pub made_tried : (answer : RunEnd) (status : Status) (d : Drawn) (out notes : Sunk) → d.old ≡ w.input → Shows force answer status d.old d.new out notes
-        → Leaves (TriesBy shelf input (form options drawn force name) w) (said d.new status (answer_line answer)) s out notes
-    made_tried answer status d out notes told did =
+    pub made_tried : (shelf input : Type 0) (s : Shelved) → KeepsFiles s.old s.new → (last : Option Seen) (count : ℕ) (d : Drawn) (out notes : Sunk) → d.old ≡ w.input
+        → Shows force last count d.old d.new out notes
+        → Leaves (TriesBy shelf input (form options drawn force name) w) (said d.new (answer_status last count) (answer_line last)) s out notes
+    made_tried shelf input s same last count d out notes told did =
         let may : MayShowWild options force w.input (plan_by m.machine.image ahead) did.what = subst (λ l. MayShowWild options force l (plan_by m.machine.image ahead) did.what) told did.may in
         record {
           tried = answer_wild w.input did.what;
           is = inl (wild_answer w options drawn force name (plan_by m.machine.image ahead) did.what found passes may);
-          status_is =
-              sym did.status_is
-              ∙ (ap (λ (r : RunEnd). answer_status r (did.what.drawn % 2 ^ 64)) did.answer_is ∙ status_by did.what.end did.what.lost (did.what.drawn % 2 ^ 64));
+          status_is = did.status_is;
           left_is = subst (λ (l : Option (List ℕ)). IfSome (option_map (λ (b : List ℕ). did.what.left) l) (λ rest. d.new ≡ Some rest)) told did.left;
           files = same;
           output = did.what.output;
@@ -316,54 +335,15 @@ module _ (options : RunOptions) (m : WildState) (ahead : ℕ → ℕ) (how : m.m
           output_is = append-nil did.what.output;
           trace = did.what.notes;
           noted = did.lines;
-          notes_are = ap (λ line. did.what.notes ++ line) (ap answer_line did.answer_is ∙ sym (line_by did.what.end did.what.lost));
+          notes_are = ap (λ line. did.what.notes ++ line) did.line_is;
         }
 
-    -- one whose input failed, with the line of the fault still to be written
-    pub starved_tried : (d : Drawn) (out notes : Sunk) → HasInputFault d out notes → (HasInputFault d out notes → input) → Begins force w.input out notes
-        → Leaves (TriesBy shelf input (form options drawn force name) w) (said d.new InputFault (status_line InputFault)) s out notes
-    starved_tried d out notes fault cause b =
-        let line = status_line InputFault in
-        let t : Answer = record { status = InputFault; output = b.bytes.done; trace = b.lines.done; line = line; left = None; kept = nothing } in
-        record {
-          tried = t;
-          is = inr (inr (inl (record {
-            cause = cause fault;
-            takes = refl;
-            status_is = refl;
-            answer = answer_wild w.input b.what;
-            is = wild_answer w options drawn force name (plan_by m.machine.image ahead) b.what found passes b.may;
-            output = (b.bytes.rest, b.bytes.whole);
-            trace = (b.lines.rest, b.lines.whole);
-            line = refl;
-            left = refl;
-            kept = refl;
-          })));
-          status_is = refl;
-          left_is = tt;
-          files = same;
-          output = b.bytes.done;
-          put = record { written = b.bytes.written; same = fault.sink };
-          output_is = append-nil b.bytes.done;
-          trace = b.lines.done;
-          noted = record { written = b.lines.written; same = fault.lines };
-          notes_are = refl;
-        }
-
-    -- one for which a sink failed
-    pub unwritten_tried : (d : Drawn) (out notes : Sunk) → HasOutputFault d out notes ⊎ HasNotesFault d out notes → Begins force w.input out notes
-        → EndsPart (TriesBy shelf input (form options drawn force name) w) s out notes
-    unwritten_tried d out notes fault b = record {
-      tried = answer_wild w.input b.what;
-      is = inl (wild_answer w options drawn force name (plan_by m.machine.image ahead) b.what found passes b.may);
-      files = same;
-      output = record {
-        prefix = b.bytes;
-        later = ⊎_elim (λ (f : HasOutputFault d out notes). f.later) (λ (f : HasNotesFault d out notes). omega (arith, f.sink)) fault;
-      };
-      line = Partly-more notes b.what.notes (wild_line b.what.end b.what.lost) (record {
-        prefix = b.lines;
-        later = ⊎_elim (λ (f : HasOutputFault d out notes). omega (arith, f.lines)) (λ (f : HasNotesFault d out notes). f.later) fault;
-      });
-      failed = ⊎_elim (λ (f : HasOutputFault d out notes). inl f.sink) (λ (f : HasNotesFault d out notes). inr f.lines) fault;
+    -- one that was cut short
+    pub cut_fronts : (out notes : Sunk) → Begins force w.input out notes → Fronts (form options drawn force name) w out notes
+    cut_fronts out notes b = record {
+      answer = answer_wild w.input b.what;
+      kept = inl refl;
+      is = wild_answer w options drawn force name (plan_by m.machine.image ahead) b.what found passes b.may;
+      bytes = b.bytes;
+      lines = b.lines;
     }

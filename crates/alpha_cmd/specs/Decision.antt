@@ -1,8 +1,14 @@
 -- What a decision has still to be written, as an answer.
-use Rattle.std.specs.Prelude.{◌≡◌, ℕ, List, [], Option}
+use Rattle.std.specs.Prelude.{◌≡◌, ⊤, ℕ, List, [], Option, Result, Ok, Err}
+use Rattle.alpha_io.specs.declared.Failed.{Failed}
+use Rattle.alpha_pal.specs.declared.fault.Fault.{Fault}
+use Rattle.alpha_pal.specs.declared.fault.Fault.TheVariants as faults
 use Rattle.alpha_cmd.specs.declared.decision.Decision.{Decision}
 use Rattle.alpha_cmd.specs.declared.status.Status.{Status}
+use Rattle.alpha_cmd.specs.declared.status.Status.TheVariants.{InputFault}
+use Rattle.alpha_cmd.specs.Status.{status_line}
 use Rattle.alpha_cmd.specs.Answer.{Answer}
+use Rattle.alpha_cmd.specs.AnswerBy.{said}
 use Rattle.alpha_cmd.specs.Kept.{nothing}
 
 -- with this input left
@@ -13,3 +19,10 @@ answer_in left d = record { status = d.status; output = d.output; trace = []; li
 pub record SaysBy (Why : Status → List ℕ → Type 0) (d : Decision) : Type 0 where
   pub why : Why d.status d.line
   pub alone : d.output ≡ []
+
+-- what is decided of a run that a device's fault cut short: the line of the input's fault, and nothing where a sink failed
+abbrev pub IsCutShort : Fault → Result Decision Failed → Type 0
+IsCutShort faults.Input (Ok d) = (left : Option (List ℕ)) → answer_in left d ≡ said left InputFault (status_line InputFault)
+IsCutShort faults.Input (Err failed) = ⊥
+IsCutShort _ (Ok d) = ⊥
+IsCutShort _ (Err failed) = ⊤

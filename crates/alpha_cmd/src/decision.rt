@@ -1,4 +1,4 @@
-ghost use Rattle.std.specs.Prelude.{◌≡◌, ◌≢◌, ◌⊎◌, ℕ, List, Option, OnOk, OnErr};
+ghost use Rattle.std.specs.Prelude.{◌≡◌, ◌≢◌, ◌⊎◌, ℕ, List, Option, Some, OnOk, OnErr};
 ghost use Rattle.alpha_io.specs.Sunk.{sunk, Puts, Partly, HasFailed};
 ghost use Rattle.alpha_shadow.specs.Report.{broken_line};
 ghost use Rattle.alpha_seq.specs.Notes.{end_line};
@@ -6,16 +6,16 @@ ghost use Rattle.alpha_cmd.specs.Status.{status_line, unfixable_line};
 ghost use Rattle.alpha_cmd.specs.AnswerBy.{said};
 ghost use Rattle.alpha_cmd.specs.Commands.Check.{accepted};
 ghost use Rattle.alpha_cmd.specs.Commands.Replay.{shown};
-ghost use Rattle.alpha_cmd.specs.Commands.Imprecise.{drawn_status};
-ghost use Rattle.alpha_cmd.specs.RunAnswer.{run_status};
-ghost use Rattle.alpha_cmd.specs.Decision.{answer_in};
+ghost use Rattle.alpha_cmd.specs.Commands.Imprecise.{drawn_status, answer_status, answer_line};
+ghost use Rattle.alpha_cmd.specs.Decision.{answer_in, IsCutShort};
 
 use crate::Status;
 use crate::line::{line_of, run_line, text, unfixable_line};
 use alpha_io::{Failed, Line, Sink, write_whole};
 use alpha_replay::Replayed;
-use alpha_seq::{End, line_of_end};
+use alpha_seq::{End, Event, Fault, line_of_end};
 use alpha_shadow::{Broken, line_of_broken};
+use alpha_trap::Lost;
 
 /// What a command has decided, and what is still to be written for it.
 #[derive(Drop)]
@@ -92,25 +92,49 @@ impl Decision {
         }
     }
 
-    /// An end of a program that was run.
-    pub(crate) fn ended(end: &End) -> Decision
-        ensures answer { (left : Option (List ℕ)) → answer_in left result
-            ≡ said left (run_status (Some end.now)) (end_line end.now) }
-        ensures status { result.status ≡ run_status (Some end.now) }
+    /// What is decided behind a run of the program: by the step behind which it is over, and none where all units were
+    /// used, and by how many words were drawn.
+    pub(crate) fn behind(last: Option<Event>, drawn: u64) -> Decision
+        ensures { (left : Option (List ℕ)) → answer_in left result
+            ≡ said left (answer_status last drawn) (answer_line last) }
     {
-        Decision::ended_by(end, 0)
+        match last {
+            None => Decision::said(Status::StepsSpent),
+            Some(event) => Decision::behind_step(&event, drawn),
+        }
     }
 
-    /// An end of a program that the imprecise machine ran by so many words.
-    pub(crate) fn ended_by(end: &End, drawn: u64) -> Decision
-        ensures answer { (left : Option (List ℕ)) → answer_in left result
+    // What is decided behind a run that this step ended.
+    fn behind_step(event: &Event, drawn: u64) -> Decision
+        ensures { (left : Option (List ℕ)) → answer_in left result
+            ≡ said left (answer_status (Some event.now) drawn) (answer_line (Some event.now)) }
+    {
+        match *event {
+            Event::Ended(end) => Decision::ended(&end, drawn),
+            Event::Lost(trap_pc, mask) => Decision::said(Status::Lost(Lost { trap_pc, mask })),
+            _ => Decision::said(Status::StepsSpent),
+        }
+    }
+
+    // An end of a program that was run by so many words.
+    fn ended(end: &End, drawn: u64) -> Decision
+        ensures { (left : Option (List ℕ)) → answer_in left result
             ≡ said left (drawn_status drawn end.now) (end_line end.now) }
-        ensures status { result.status ≡ drawn_status drawn end.now }
     {
         Decision {
             status: drawn_status_of(end, drawn),
             output: Line::new(),
             line: line_of_end(end),
+        }
+    }
+
+    /// What is decided of a run that a device's fault cut short.
+    pub(crate) fn cut_short(fault: Fault) -> Result<Decision, Failed>
+        ensures { IsCutShort fault result }
+    {
+        match fault {
+            Fault::Input => Ok(Decision::said(Status::InputFault)),
+            Fault::Output | Fault::Notes => Err(Failed),
         }
     }
 

@@ -30,9 +30,9 @@ use alpha_image::Image;
 use alpha_imprecise::{CountingChooser, Wild};
 use alpha_io::{Failed, Shelf, Sink, Source};
 use alpha_request::{Choices, RunOptions};
-use alpha_seq::{Machine, RunEnd};
+use alpha_run::run_imprecise;
+use alpha_seq::Machine;
 use alpha_shadow::{Broken, ImageCode, judge};
-use alpha_trap::Lost;
 use std::alloc::Global;
 
 /// What is asked of a run of the imprecise machine.
@@ -194,12 +194,9 @@ fn run_wild<S: Source, K: Sink, N: Sink>(
     ensures source { CountStays (drawn S.Source input.old input.new)
         (IfOk result (λ decision. decision.status ≢ Status.InputFault)) }
 {
-    let (steps, watch) = (options.steps, options.watch);
-    match alpha_imprecise::run(wild, chooser, input, out, notes, steps, watch) {
-        RunEnd::Ended(end) => Ok(Decision::ended_by(&end, chooser.drawn())),
-        RunEnd::Spent => Ok(Decision::said(Status::StepsSpent)),
-        RunEnd::Lost(trap_pc, mask) => Ok(Decision::said(Status::Lost(Lost { trap_pc, mask }))),
-        RunEnd::InputFault => Ok(Decision::said(Status::InputFault)),
-        RunEnd::SinkFault => Err(Failed),
+    let mut left = options.steps;
+    match run_imprecise(wild, chooser, input, out, notes, &mut left, options.watch) {
+        Ok(last) => Ok(Decision::behind(last, chooser.drawn())),
+        Err(fault) => Decision::cut_short(fault),
     }
 }

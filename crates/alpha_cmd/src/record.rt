@@ -16,12 +16,11 @@ ghost use Rattle.alpha_imprecise.specs.Made.{LostTrap};
 ghost use Rattle.alpha_imprecise.specs.Wild.{IsFresh};
 ghost use Rattle.alpha_replay.specs.Journal.{IsJournal, spelling};
 ghost use Rattle.alpha_cmd.specs.Outcome.{goes};
-ghost use Rattle.alpha_cmd.specs.AnswerBy.{said, world};
+ghost use Rattle.alpha_cmd.specs.AnswerBy.{world};
 ghost use Rattle.alpha_cmd.specs.Chooser.{ahead_in};
-ghost use Rattle.alpha_cmd.specs.Commands.Imprecise.{PlanOf, plan_by, wild_status, answer_line, answer_status};
+ghost use Rattle.alpha_cmd.specs.Commands.Imprecise.{PlanOf, plan_by, wild_status};
 ghost use Rattle.alpha_cmd.specs.Commands.Record as recordings;
 ghost use Rattle.alpha_cmd.specs.Commands.Record.{IsOver, KeepsRun, KeptBehind, RunsOn, WhenMade, WhenOver};
-ghost use Rattle.alpha_cmd.specs.Decision.{answer_in};
 ghost use Rattle.alpha_cmd.specs.Ends.{Decides, status_in};
 ghost use Rattle.alpha_cmd.specs.Form.{MayTakeBy, SparesBy};
 ghost use Rattle.alpha_cmd.specs.Kept.{Serves};
@@ -35,8 +34,7 @@ use alpha_imprecise::{CountingChooser, Wild};
 use alpha_io::{Failed, Shelf, Sink, Source};
 use alpha_replay::{Journal, JournalEnd, journal_bytes, make_journal};
 use alpha_request::RunOptions;
-use alpha_seq::{Machine, RunEnd};
-use alpha_trap::Lost;
+use alpha_seq::Machine;
 use std::alloc::Global;
 
 // A run with its journal, or why there is none.
@@ -195,28 +193,11 @@ fn run_wild<S: Source, K: Sink, N: Sink>(
         (WhenOver result (λ r. IfOk r (λ decision. decision.status ≢ Status.InputFault))) }
 {
     match make_journal(alloc, wild, chooser, input, out, notes, options.steps) {
-        JournalEnd::Made(end, journal) => {
-            Recorded::Made(decision_of(&end, chooser.drawn()), journal)
+        JournalEnd::Made(last, journal) => {
+            Recorded::Made(Decision::behind(last, chooser.drawn()), journal)
         }
-        JournalEnd::InputFault => Recorded::Over(Ok(Decision::said(Status::InputFault))),
-        JournalEnd::SinkFault => Recorded::Over(Err(Failed)),
+        JournalEnd::Failed(fault) => Recorded::Over(Decision::cut_short(fault)),
         JournalEnd::Full => Recorded::Over(Ok(Decision::said(Status::JournalFull))),
         JournalEnd::NoMemory => Recorded::Over(Ok(Decision::said(Status::NoMemory))),
-    }
-}
-
-// What is decided behind a run, by so many words.
-fn decision_of(end: &RunEnd, drawn: u64) -> Decision
-    ensures { (left : Option (List ℕ)) → answer_in left result
-        ≡ said left (answer_status end.now drawn) (answer_line end.now) }
-{
-    match *end {
-        RunEnd::Ended(end) => Decision::ended_by(&end, drawn),
-        RunEnd::Lost(trap_pc, mask) => Decision::said(Status::Lost(Lost { trap_pc, mask })),
-        RunEnd::Spent => Decision::said(Status::StepsSpent),
-        // These two are never reached: by the clause `cause` of `make_journal` no device failed in a run
-        // that has a journal.
-        RunEnd::InputFault => Decision::said(Status::InputFault),
-        RunEnd::SinkFault => Decision::said(Status::SinkFault),
     }
 }

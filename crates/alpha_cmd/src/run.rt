@@ -21,7 +21,8 @@ use crate::decision::Decision;
 use crate::image::load;
 use alpha_io::{Failed, Shelf, Sink, Source};
 use alpha_request::RunOptions;
-use alpha_seq::{Machine, RunEnd};
+use alpha_run::run_sequential;
+use alpha_seq::Machine;
 use std::alloc::Global;
 
 /// Reads the image of a file and runs it over the input. Nothing is put and nothing taken before the
@@ -80,11 +81,9 @@ fn run_machine<S: Source, K: Sink, N: Sink>(
     ensures source { CountStays (drawn S.Source input.old input.new)
         (IfOk result (λ decision. decision.status ≢ Status.InputFault)) }
 {
-    match alpha_seq::run(machine, input, out, notes, options.steps, options.watch) {
-        RunEnd::Ended(end) => Ok(Decision::ended(&end)),
-        RunEnd::Spent => Ok(Decision::said(Status::StepsSpent)),
-        RunEnd::Lost(..) => unreachable!(),
-        RunEnd::InputFault => Ok(Decision::said(Status::InputFault)),
-        RunEnd::SinkFault => Err(Failed),
+    let mut left = options.steps;
+    match run_sequential(machine, input, out, notes, &mut left, options.watch) {
+        Ok(last) => Ok(Decision::behind(last, 0)),
+        Err(fault) => Decision::cut_short(fault),
     }
 }

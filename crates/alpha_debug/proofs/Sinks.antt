@@ -1,6 +1,7 @@
 -- What calls in a row did to one sink and the block before it. `written` is what the sink tells and `faults` its count; o, p
 -- and q are the sink and the block at one moment after another.
-use Rattle.std.proofs.Common.{◌≡◌, ◌∙◌, ℕ, List, [], ◌++◌, Option, Result, Ok, Err, IfOk, OnOk, OnErr, refl, sym, ap, subst, append_assoc, append-nil, arith}
+use Rattle.std.proofs.Common.{◌≡◌, ◌∙◌, ℕ, List, [], ◌++◌, Option, Result, Ok, Err, IfOk, IfErr, OnOk, OnErr, MatchResult, refl, sym, ap, subst, append_assoc, append-nil, arith}
+use Rattle.std.specs.Result.{is_ok}
 use Rattle.alpha_io.specs.Sunk.{Sunk, sunk_by, Puts, Partly}
 use Rattle.alpha_io.specs.declared.sink.Sink.{Ghosts}
 use Rattle.alpha_io.proofs.Counts.{Rose-earlier}
@@ -29,6 +30,20 @@ IfOk-map (Err e) f p = tt
 pub OnErr-map : {T E P Q : Type 0} (result : Result T E) → (P → Q) → OnErr result P → OnErr result Q
 OnErr-map (Ok x) f p = tt
 OnErr-map (Err e) f p = f p
+
+-- the same of another result, whose error alone may differ
+pub IfOk-mapped : {T E F : Type 0} {P Q : T → Type 0} (D : E → Type 0) (result : Result T E) (mapped : Result T F)
+    → ((x : T) → P x → Q x)
+    → MatchResult result (λ x. mapped ≡ Ok x) D → is_ok mapped ≡ is_ok result → IfOk result P → IfOk mapped Q
+IfOk-mapped {Q = Q} D (Ok x) mapped f same both p = subst (λ r. IfOk r Q) (sym same) (f x p)
+IfOk-mapped D (Err e) (Ok x) f same both p = absurd cc
+IfOk-mapped D (Err e) (Err d) f same both p = tt
+
+pub OnErr-mapped : {T E F Q : Type 0} {P : E → Type 0} (D : E → Type 0) (result : Result T E) (mapped : Result T F)
+    → ((e : E) → P e → Q)
+    → MatchResult result (λ x. mapped ≡ Ok x) D → IfErr result P → OnErr mapped Q
+OnErr-mapped {Q = Q} D (Ok x) mapped f same p = subst (λ r. OnErr r Q) (sym same) tt
+OnErr-mapped D (Err e) mapped f same p = OnErr-any mapped (f e p)
 
 pub Grows-same : (text : List ℕ) → Grows text text
 Grows-same text = record { bytes = []; is = sym (append-nil text) }

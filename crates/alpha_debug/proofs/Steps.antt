@@ -1,68 +1,93 @@
 -- Steps of the machine over an empty input.
-use Rattle.std.proofs.Common.{◌≡◌, ◌∙◌, ℕ, zero, suc, ◌⊎◌, Bool, true, false, cond, List, [], ◌∷◌, ◌++◌, Option, None, Some, refl, sym, ap, subst, append_assoc, append-nil, ⊎_elim, arith}
-use Rattle.alpha_words.specs.Regs.{reg}
+use Rattle.std.proofs.Common.{◌≡◌, ◌∙◌, ℕ, zero, suc, Bool, true, false, cond, List, [], ◌∷◌, ◌++◌, Option, None, Some, refl, sym, ap, subst, append_assoc, append-nil, arith}
 use Rattle.alpha_io.specs.declared.sink.Sink.{Ghosts}
 use Rattle.alpha_io.specs.Sunk.{Sunk, sunk, Puts}
-use Rattle.alpha_mem.specs.Memory.{bytes_at}
 use Rattle.alpha_seq.specs.declared.machine.Machine.{Machine}
-use Rattle.alpha_seq.specs.State.{Program, State, Event, Stepped, stepped}
+use Rattle.alpha_seq.specs.declared.event.Event.{Event as Seen}
+use Rattle.alpha_seq.specs.State.{Program, State, Event, Went, Barriered, Overflowed, Ends, Stepped, stepped}
 use Rattle.alpha_seq.specs.Step.{step_from}
 use Rattle.alpha_seq.specs.Run.{end_of}
 use Rattle.alpha_seq.specs.Machine.{program_of, state_of, Stays}
-use Rattle.alpha_seq.specs.Devices.{Drawn, Idles}
-use Rattle.alpha_pal.specs.CallEffect.{Takes}
-use Rattle.alpha_seq.specs.StepEffect.{Steps, OutputFails, LineFails}
-use Rattle.alpha_seq.proofs.Growing.{after-begins, wrote_all}
+use Rattle.alpha_pal.specs.declared.fault.Fault.{Fault}
+use Rattle.alpha_pal.specs.declared.fault.Fault.TheVariants as faults
+use Rattle.alpha_pal.specs.declared.pal_end.Passed.{Passed}
+use Rattle.alpha_seq.specs.Devices.{Drawn}
+use Rattle.alpha_seq.specs.Sequential.{seen_as, SeqMakes, SeqBreaks}
+use Rattle.alpha_seq.proofs.Growing.{after-begins}
 use Rattle.alpha_debug.specs.declared.travel.Until.{Until}
 use Rattle.alpha_debug.specs.Session.{is_last, Walked, walk}
 use Rattle.alpha_debug.specs.Gathered.{Gathered, gathered, gathered_by, Gathers, Stops}
-use Rattle.alpha_debug.specs.Effects.{Grows, Breaks, Moves, MoveBreaks, IsUnmade, Walks, WalkBreaks}
+use Rattle.alpha_debug.specs.Effects.{Grows, Breaks, event_of, Moves, MoveBreaks, IsUnmade, Walks, WalkBreaks}
 use Rattle.alpha_debug.proofs.Sinks.{unblocked, Grows-same, Grows-trans, Breaks-more, Breaks-before, Breaks-after, Gathers-both, Stops-after}
 use Rattle.alpha_debug.proofs.Waiting.{Gathers-flushed}
 
 -- ---- one step
 
--- a write whose sink failed; the notes never fail
-pub sink_fault : (old new : Machine) (input : Drawn) (out notes : Sunk) → notes.before ≡ 0 → notes.now ≡ 0
-    → (OutputFails old new input out × Idles notes) ⊎ LineFails old new input out notes → MoveBreaks old (unblocked out)
-sink_fault old new input out notes first last did =
-    ⊎_elim
-    (λ (fails : OutputFails old new input out × Idles notes).
-    let one : OutputFails old new input out = fails.0 in
-    let part = one.part in
-    let bytes : List ℕ = bytes_at old.memory (reg old.regs 17) (reg old.regs 18) in
-    λ (text : List ℕ). record {
-      bytes = bytes;
-      is = wrote_all (program_of old) (state_of old [] text) one.class part.number part.descriptor part.range;
-      stops = record { part = record { prefix = part.prefix; later = one.later }; failed = one.cause };
-    })
-    (λ (fails : LineFails old new input out notes). absurd (let cause = fails.cause in omega arith))
-    did
-
--- the step wasn't made
-pub sink_fault_unmade : (old new : Machine) (input : Drawn) (out notes : Sunk) → notes.before ≡ 0 → notes.now ≡ 0
-    → (OutputFails old new input out × Idles notes) ⊎ LineFails old new input out notes → IsUnmade old new
-sink_fault_unmade old new input out notes first last did =
-    ⊎_elim
-    (λ (fails : OutputFails old new input out × Idles notes). fails.0.same)
-    (λ (fails : LineFails old new input out notes). absurd (let cause = fails.cause in omega arith))
-    did
-
 none-left : (taken rest : List ℕ) → [] ≡ taken ++ rest → (taken ++ rest ≡ []) × (rest ≡ [])
 none-left [] rest e = (sym e, sym e)
 none-left (x ∷ taken) rest e = absurd cc
 
+event-seen : (happened : Event) (passed : Passed) → event_of (seen_as happened passed) ≡ happened
+event-seen Went passed = refl
+event-seen Barriered passed = refl
+event-seen (Overflowed at) passed = refl
+event-seen (Ends end) passed = refl
+
 -- a step over an empty input
-pub moved : (event : Event) (old new : Machine) (input : Drawn) (out : Sunk) → input.old ≡ Some [] → Steps event old new input out → Moves event old new (unblocked out)
-moved event old new input out none steps =
-    let took : Takes (Some []) input.new steps.taken steps.rest = subst (λ (left : Option (List ℕ)). Takes left input.new steps.taken steps.rest) none steps.took.took in
-    let empty = none-left steps.taken steps.rest took.0 in
+pub moved : (event : Seen) (old new : Machine) (input : Drawn) (out : Sunk) → input.old ≡ Some []
+    → SeqMakes event old new input out → Moves (event_of event) old new (unblocked out)
+moved event old new input out none made =
+    let p = made.print in
+    let empty = none-left p.taken p.rest (made.found [] none).0 in
+    let same : made.is.happened ≡ event_of event = sym (event-seen made.is.happened made.is.passed)
+    ∙ ap event_of (sym made.is.event ∙ made.event_is) in
     record {
-      bytes = steps.bytes;
-      wrote = record { put = steps.bytes; puts = steps.wrote; whole = sym (append-nil steps.bytes) };
+      bytes = p.bytes;
+      wrote = record { put = p.bytes; puts = made.wrote; whole = sym (append-nil p.bytes) };
       is = λ text.
           ap (λ (l : List ℕ). step_from (program_of old) (state_of old l text)) (sym empty.0)
-          ∙ (steps.is text ∙ ap (λ (l : List ℕ). stepped (state_of new l (text ++ steps.bytes)) event) empty.1);
+          ∙ (made.is.is text
+          ∙ (ap (λ (l : List ℕ). stepped (state_of new l (text ++ p.bytes)) made.is.happened) empty.1
+          ∙ ap (λ (h : Event). stepped (state_of new [] (text ++ p.bytes)) h) same));
+    }
+
+-- notes that nobody writes
+untold : Sunk
+untold = record { old = None; new = None; before = 0; now = 0 }
+
+-- an empty input fails in no step, nor do notes
+output_failed : (fault : Fault) (old new : Machine) (input : Drawn) (out : Sunk) → input.before ≡ 0 → input.now ≡ 0
+    → SeqBreaks fault old new input out → fault ≡ faults.Output
+unfolding untold
+output_failed faults.Input old new input out before now breaks =
+    absurd (let cause = breaks.step.cause untold refl in omega (arith, cause.source))
+output_failed faults.Output old new input out before now breaks = refl
+output_failed faults.Notes old new input out before now breaks =
+    absurd (let cause = breaks.step.cause untold refl in omega (arith, cause.lines))
+
+-- the step wasn't made
+pub step_unmade : (fault : Fault) (old new : Machine) (input : Drawn) (out : Sunk) → input.before ≡ 0 → input.now ≡ 0
+    → SeqBreaks fault old new input out → IsUnmade old new
+step_unmade fault old new input out before now breaks =
+    breaks.unmade (output_failed fault old new input out before now breaks)
+
+-- a write whose sink failed
+pub sink_fault : (fault : Fault) (old new : Machine) (input : Drawn) (out : Sunk) → input.old ≡ Some []
+    → input.before ≡ 0 → input.now ≡ 0 → SeqBreaks fault old new input out
+    → MoveBreaks old (unblocked out)
+unfolding untold
+sink_fault fault old new input out none before now breaks =
+    let b = (subst (λ (f : Fault). SeqBreaks f old new input out)
+    (output_failed fault old new input out before now breaks) breaks).step in
+    let p = b.print in
+    let empty = none-left p.taken p.rest (b.found [] none).0 in
+    let cause = b.cause untold refl in
+    λ (text : List ℕ). record {
+      bytes = p.bytes;
+      is =
+          ap (λ (l : List ℕ). (step_from (program_of old) (state_of old l text)).state.outside.output) (sym empty.0)
+          ∙ ap (λ (t : Stepped). t.state.outside.output) (b.is.is text);
+      stops = record { part = record { prefix = b.wrote; later = cause.later }; failed = cause.sink };
     }
 
 -- what a step has put stays

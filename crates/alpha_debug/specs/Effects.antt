@@ -6,12 +6,12 @@ use Rattle.alpha_image.specs.Parts.{Parts}
 use Rattle.alpha_seq.specs.Devices.{Drawn}
 use Rattle.alpha_seq.specs.declared.machine.Machine.{Machine}
 use Rattle.alpha_seq.specs.declared.end.End.{End}
+use Rattle.alpha_seq.specs.declared.event.Event.{Event as Seen}
+use Rattle.alpha_seq.specs.declared.event.Event.TheVariants as events
 use Rattle.alpha_seq.specs.State.{Event, Went, Barriered, Overflowed, Ends, stepped}
 use Rattle.alpha_seq.specs.Step.{step_from}
 use Rattle.alpha_seq.specs.Machine.{program_of, state_of}
 use Rattle.alpha_debug.specs.declared.travel.Until.{Until}
-use Rattle.alpha_debug.specs.declared.travel.Moved.{Moved}
-use Rattle.alpha_debug.specs.declared.travel.Moved.TheVariants as moves
 use Rattle.alpha_debug.specs.declared.debugger.Debugger.{Debugger}
 use Rattle.alpha_debug.specs.declared.command.Command.{Command}
 use Rattle.alpha_debug.specs.declared.debugger.Talk.{Talk}
@@ -37,11 +37,12 @@ pub record Breaks (s : Gathered) (front text : List ℕ) : Type 0 where
 
 -- ---- a machine over an empty input
 
-abbrev pub event_of : Moved → Event
-event_of moves.Went = Went
-event_of moves.Barrier = Barriered
-event_of (moves.Overflow at) = Overflowed at
-event_of (moves.Ended end) = Ends end
+-- what a step of the definition came to, by what the machine's step answers: it answers no other event
+abbrev pub event_of : Seen → Event
+event_of (events.Barrier passed) = Barriered
+event_of (events.Overflowed at) = Overflowed at
+event_of (events.Ended end) = Ends end
+event_of event = Went
 
 -- the step of the definition, with what it puts
 pub record Moves (event : Event) (old new : Machine) (out : Gathered) : Type 0 where
@@ -50,11 +51,11 @@ pub record Moves (event : Event) (old new : Machine) (out : Gathered) : Type 0 w
   pub is : (text : List ℕ)
       → step_from (program_of old) (state_of old [] text) ≡ stepped (state_of new [] (text ++ bytes)) event
 
--- the sink failed in a step
 -- a step that wasn't made: all is as before but for the kernel
 abbrev pub IsUnmade : Machine → Machine → Type 0
 IsUnmade old new = new ≡ record old { kernel = new.kernel }
 
+-- the sink failed in a step
 abbrev pub MoveBreaks : Machine → Gathered → Type 0
 MoveBreaks old out = (text : List ℕ)
     → Breaks out text (step_from (program_of old) (state_of old [] text)).state.outside.output

@@ -8,8 +8,8 @@ ghost use Rattle.alpha_debug.specs.Effects.{event_of, Moves, MoveBreaks, IsUnmad
 use crate::block::Block;
 use crate::breakpoints::has_point;
 use crate::input::NoInput;
-use alpha_io::{Failed, NullSink, Sink};
-use alpha_seq::{End, Machine, StepEnd};
+use alpha_io::{Failed, Sink};
+use alpha_seq::{End, Event, Fault, Machine};
 
 /// Which step is the last one that is wanted.
 #[derive(Clone, Copy, Debug, PartialEq, Eq)]
@@ -20,19 +20,6 @@ pub(crate) enum Until {
     Breakpoint,
     /// One that executes a barrier.
     Barrier,
-}
-
-/// How a step went whose devices didn't fail.
-#[derive(Clone, Copy, Debug, PartialEq, Eq)]
-pub(crate) enum Moved {
-    /// An instruction was executed.
-    Went,
-    /// A barrier was executed.
-    Barrier,
-    /// The instruction at this address overflowed, and was logged.
-    Overflow(u64),
-    /// The program ended.
-    Ended(End),
 }
 
 /// Makes at most so many steps, fewer where the program ends or the wanted step came, and answers how the program ended.
@@ -52,9 +39,9 @@ pub(crate) fn walk<K: Sink>(
     ensures same { Stays machine.old machine.new }
 {
     for _ in 0..most {
-        let moved = step(machine, block, out)?;
-        if is_last(until, points, moved, machine.pc) {
-            return Ok(end_of(moved));
+        let event = step(machine, block, out)?;
+        if is_last(until, points, &event, machine.pc) {
+            return Ok(end_of(&event));
         }
     }
     Ok(None)
@@ -62,9 +49,9 @@ pub(crate) fn walk<K: Sink>(
 
 // Makes one step, whose output waits in the block where it fits. Where it doesn't, the step wasn't made: what waits is
 // put, and the step is made anew over the sink itself.
-fn step<K: Sink>(machine: &mut Machine, block: &mut Block, out: &mut K) -> Result<Moved, Failed>
+fn step<K: Sink>(machine: &mut Machine, block: &mut Block, out: &mut K) -> Result<Event, Failed>
     requires { IsTrue machine.old.kernel.user }
-    ensures ok { IfOk result (λ moved. Moves (event_of moved) machine.old machine.new
+    ensures ok { IfOk result (λ event. Moves (event_of event) machine.old machine.new
         (gathered K.Sink out.old block.old out.new block.new)) }
     ensures refused { OnErr result (MoveBreaks machine.old
         (gathered K.Sink out.old block.old out.new block.new)) }
@@ -72,7 +59,7 @@ fn step<K: Sink>(machine: &mut Machine, block: &mut Block, out: &mut K) -> Resul
 {
     let waiting = block.len();
     match step_into(machine, block) {
-        Ok(moved) => Ok(moved),
+        Ok(event) => Ok(event),
         Err(Failed) => {
             block.cut(waiting);
             block.flush(out)?;
@@ -81,53 +68,46 @@ fn step<K: Sink>(machine: &mut Machine, block: &mut Block, out: &mut K) -> Resul
     }
 }
 
-// Makes one step over an empty input, without notes. Where the output fails the step wasn't made.
-fn step_into<K: Sink>(machine: &mut Machine, out: &mut K) -> Result<Moved, Failed>
+// Makes one step over an empty input, so that the output alone can fail. Where it does the step wasn't made.
+fn step_into<K: Sink>(machine: &mut Machine, out: &mut K) -> Result<Event, Failed>
     requires { IsTrue machine.old.kernel.user }
-    ensures ok { IfOk result (λ moved. Moves (event_of moved) machine.old machine.new
+    ensures ok { IfOk result (λ event. Moves (event_of event) machine.old machine.new
         (gathered K.Sink out.old [] out.new [])) }
     ensures refused { OnErr result (MoveBreaks machine.old
         (gathered K.Sink out.old [] out.new [])) }
     ensures unmade { OnErr result (IsUnmade machine.old machine.new) }
     ensures same { Stays machine.old machine.new }
 {
-    match machine.step(&mut NoInput, out, &mut NullSink::new()) {
-        StepEnd::Went => Ok(Moved::Went),
-        StepEnd::Barrier => Ok(Moved::Barrier),
-        StepEnd::Overflow(at) => Ok(Moved::Overflow(at)),
-        StepEnd::Ended(end) => Ok(Moved::Ended(end)),
-        StepEnd::SinkFault => Err(Failed),
-        StepEnd::InputFault => unreachable!(),
-    }
+    machine.step(&mut NoInput, out).map_err(|_| Failed)
 }
 
 // How the program ended, if it has.
-fn end_of(moved: Moved) -> Option<End>
-    ensures { result ≡ end_of (event_of moved) }
+fn end_of(event: &Event) -> Option<End>
+    ensures { result ≡ end_of (event_of event.now) }
 {
-    match moved {
-        Moved::Ended(end) => Some(end),
+    match event {
+        Event::Ended(end) => Some(*end),
         _ => None,
     }
 }
 
 // Whether no further step is made: the program has ended, or the wanted step came.
-fn is_last(until: Until, points: &[u64], moved: Moved, pc: u64) -> bool
-    ensures { result ≡ is_last until points.now (event_of moved) pc }
+fn is_last(until: Until, points: &[u64], event: &Event, pc: u64) -> bool
+    ensures { result ≡ is_last until points.now (event_of event.now) pc }
 {
-    match moved {
-        Moved::Ended(_) => true,
-        moved => is_reached(until, points, moved, pc),
+    match event {
+        Event::Ended(_) => true,
+        _ => is_reached(until, points, event, pc),
     }
 }
 
 // Whether the wanted step came.
-fn is_reached(until: Until, points: &[u64], moved: Moved, pc: u64) -> bool
-    ensures { result ≡ is_reached until points.now (event_of moved) pc }
+fn is_reached(until: Until, points: &[u64], event: &Event, pc: u64) -> bool
+    ensures { result ≡ is_reached until points.now (event_of event.now) pc }
 {
     match until {
         Until::Spent => false,
         Until::Breakpoint => has_point(points, pc),
-        Until::Barrier => matches!(moved, Moved::Barrier),
+        Until::Barrier => matches!(event, Event::Barrier(_)),
     }
 }

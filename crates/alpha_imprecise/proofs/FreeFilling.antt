@@ -1,25 +1,16 @@
 -- A run by coming words, over inputs of its own, that goes on until its units are used.
 use Rattle.std.proofs.Common.{◌≡◌, ◌<◌, ◌≤◌, ◌+◌, ◌-◌, ◌*◌, ◌||◌, ◌⊎◌, ℕ, zero, suc, Bool, true, false, List, [], ◌∷◌, ◌++◌, Option, Some, None, is_none, inl, inr, refl, sym, ap, subst, ◌∙◌, ⊎_elim, arith}
 use Rattle.std.proofs.lemmas.Bool.{cases_Bool, cases_lt}
-use Rattle.alpha_io.specs.Sunk.{Sunk}
-use Rattle.alpha_io.specs.Written.{WritesPrefix}
 use Rattle.alpha_seq.specs.State.{Program}
-use Rattle.alpha_seq.specs.Run.{notes_of}
-use Rattle.alpha_seq.specs.Machine.{program_of}
-use Rattle.alpha_seq.specs.Devices.{Drawn}
-use Rattle.alpha_seq.proofs.Filling.{front, notes-grow}
 use Rattle.alpha_imprecise.specs.Moment.{Trap}
 use Rattle.alpha_imprecise.specs.Run.{finished, unit_of}
 use Rattle.alpha_imprecise.specs.Used.{HasUsed}
 use Rattle.alpha_imprecise.specs.Made.{Making, advance_making, Nearer, Used, Waiting, Settled, Finished}
-use Rattle.alpha_imprecise.specs.Telling.{Telling}
-use Rattle.alpha_imprecise.specs.Wild.{WildState}
-use Rattle.alpha_imprecise.specs.WildRunEffect.{begun_at}
-use Rattle.alpha_imprecise.specs.Free.{making_over, advance_making_over, run_making_over, IsAmid, IsFreeCut, IsFrontBy, IsFreeFront}
+use Rattle.alpha_imprecise.specs.Free.{making_over, advance_making_over, run_making_over}
 use Rattle.alpha_imprecise.proofs.Settling.{advance-going}
 use Rattle.alpha_imprecise.proofs.Nearing.{comes_nearer}
 use Rattle.alpha_imprecise.proofs.Growing.{Begins, begins_same, begins_then, advance_begins}
-use Rattle.alpha_imprecise.proofs.Freely.{run_making-last, advance_making_over-going}
+use Rattle.alpha_imprecise.proofs.Freely.{advance_making_over-going}
 
 -- how many steps a run may still make: 1,026 a unit, and what a pending trap may still wait
 abbrev wait_of : Option Trap → ℕ → ℕ
@@ -130,42 +121,6 @@ module _ (g : Program) where
           })
           (cases_lt k.run.units n)
 
-  append-making : (xs ys : List (List ℕ)) (k : Making) → run_making_over g (xs ++ ys) k ≡ run_making_over g ys (run_making_over g xs k)
+  pub append-making : (xs ys : List (List ℕ)) (k : Making) → run_making_over g (xs ++ ys) k ≡ run_making_over g ys (run_making_over g xs k)
   append-making [] ys k = refl
   append-making (x ∷ xs) ys k = append-making xs ys (advance_making_over g k x)
-
--- ---- a run that a fault cut short
-
-cut_by : (n : ℕ) (watch : Bool) (old : WildState) (words next : List ℕ) (inputs : List (List ℕ)) (out notes : Sunk)
-    → IsAmid n watch (program_of old.machine) (run_making_over (program_of old.machine) inputs (begun_at old [] [] words)) next out notes
-    → IsFrontBy n watch old words out notes
-cut_by n watch old words next inputs out notes cut =
-    let g = program_of old.machine in
-    let start = begun_at old [] [] words in
-    let k = run_making_over g inputs start in
-    let over = making_over next k in
-    let l = advance_making_over g k next in
-    let stepped : l ≡ advance_making g over = advance_making_over-going g k next cut.going in
-    let one : run_making_over g (inputs ++ next ∷ []) start ≡ l = run_making-last g inputs next start in
-    let units : l.run.units ≤ n = subst (λ m. m ≤ n) (sym (ap (λ (j : Making). j.run.units) stepped ∙ units-step g over cut.going)) cut.room in
-    let rest = filled g n (suc (left_of n l)) l units (omega arith) in
-    let all : run_making_over g ((inputs ++ next ∷ []) ++ rest.inputs) start ≡ run_making_over g rest.inputs l =
-    append-making g (inputs ++ next ∷ []) rest.inputs start ∙ ap (run_making_over g rest.inputs) one in
-    let last = run_making_over g rest.inputs l in
-    record {
-      inputs = (inputs ++ next ∷ []) ++ rest.inputs;
-      used = subst (λ (j : Making). HasUsed n j.run) (sym all) rest.used;
-      bytes = subst (λ (j : Making). WritesPrefix out.old out.new j.run.state.outside.output) (sym all)
-          (front out.old out.new k.run.state.outside.output l.run.state.outside.output last.run.state.outside.output cut.output rest.begins.output);
-      lines = subst (λ (j : Making). WritesPrefix notes.old notes.new (notes_of watch j.run.trace)) (sym all)
-          (front notes.old notes.new (notes_of watch k.run.trace) (notes_of watch l.run.trace) (notes_of watch last.run.trace) cut.lines
-          (notes-grow watch l.run.trace last.run.trace rest.begins.trace));
-    }
-
-pub cut_free : (n : ℕ) (watch : Bool) (old : WildState) (before after : Telling) (input : Drawn) (out notes : Sunk)
-    → IsFreeCut n watch old before after input out notes → IsFreeFront n watch old before after out notes
-cut_free n watch old before after input out notes cut = record {
-  words = cut.words;
-  drew = cut.drew;
-  fronts = λ coming. cut_by n watch old (cut.words ++ coming) cut.next cut.inputs out notes (cut.amid coming);
-}

@@ -4,17 +4,11 @@ use Rattle.alpha_table.specs.Class.{Class}
 use Rattle.alpha_pal.specs.Kernel.{KernelState}
 use Rattle.alpha_seq.specs.declared.machine.Machine.{Machine}
 use Rattle.alpha_seq.specs.State.{Program}
-use Rattle.alpha_seq.specs.Machine.{program_of, state_of, class_here}
-use Rattle.alpha_seq.specs.State.{Went, Barriered, Ends}
-use Rattle.alpha_imprecise.specs.declared.end.WildEnd.{WildEnd}
-use Rattle.alpha_imprecise.specs.declared.end.WildEnd.TheVariants as ends
-use Rattle.alpha_imprecise.specs.declared.pending.Pending.{Pending}
+use Rattle.alpha_seq.specs.Machine.{program_of, state_of}
 use Rattle.alpha_imprecise.specs.Moment.{Trap, Choice, Happening, Precisely, Triggered, Waited, Reported, Lost}
 use Rattle.alpha_imprecise.specs.Run.{WildRun, finished, advance_wild}
 use Rattle.alpha_imprecise.specs.Made.{Making, advance_making, steps_making}
-use Rattle.alpha_imprecise.specs.Wild.{WildState, bare, trap_in}
-use Rattle.alpha_imprecise.specs.WildEffect.{kernel_stepped}
-use Rattle.alpha_imprecise.specs.WildRunEffect.{begun_at}
+use Rattle.alpha_imprecise.specs.Wild.{WildState, bare, begun_at}
 use Rattle.alpha_imprecise.specs.Free.{Free, wild_over, advance_free, run_free, making_over, advance_making_over, run_making_over, kernel_by, kernel_made, kernel_making_over, lefts_making}
 use Rattle.alpha_imprecise.proofs.Making.{making_step}
 use Rattle.alpha_imprecise.proofs.Settling.{advance-over}
@@ -63,31 +57,6 @@ told_making g k (suc n) =
     ∙ own-input g (steps_making g k n))
 
 -- ---- the kernel
-
--- how a step went, by its answer; a fault's answer is that of no step
-abbrev pub happening_of : WildEnd → Happening
-happening_of ends.Went = Precisely Went
-happening_of ends.Barrier = Precisely Barriered
-happening_of ends.Triggered = Triggered
-happening_of ends.Waited = Waited
-happening_of (ends.Reported at) = Reported at
-happening_of (ends.Ended end) = Precisely (Ends end)
-happening_of (ends.Lost pc mask) = Lost pc mask
-happening_of ends.InputFault = Triggered
-happening_of ends.SinkFault = Triggered
-
-pub kernel-framed : (pending : Option Pending) (end : WildEnd) (old new : Machine)
-    → kernel_stepped pending end old new ≡ kernel_by (trap_in pending) (class_here old) (bare old) (bare new) (happening_of end) old.kernel
-kernel-framed None end old new = refl
-kernel-framed (Some p) ends.Went old new = refl
-kernel-framed (Some p) ends.Barrier old new = refl
-kernel-framed (Some p) ends.Triggered old new = refl
-kernel-framed (Some p) ends.Waited old new = refl
-kernel-framed (Some p) (ends.Reported at) old new = refl
-kernel-framed (Some p) (ends.Ended end) old new = refl
-kernel-framed (Some p) (ends.Lost pc mask) old new = refl
-kernel-framed (Some p) ends.InputFault old new = refl
-kernel-framed (Some p) ends.SinkFault old new = refl
 
 -- no input and no output is looked at
 pub kernel_by-bare : (pending : Option Trap) (class : Option Class) (old new : Machine) (h : Happening) (kernel : KernelState) (left put left' put' : List ℕ)

@@ -1,23 +1,24 @@
--- Steps with their devices and their chooser.
+-- Steps that leave their devices alone, and a chooser that goes on twice.
 use Rattle.std.specs.Prelude.{slice_index, slice_index_or}
-use Rattle.std.proofs.Common.{◌≡◌, ◌≢◌, ◌<◌, ◌+◌, ◌^◌, ℕ, zero, suc, true, List, [], ◌∷◌, length, Option, None, Some, refl, sym, ap, subst, ◌∙◌, inr, arith, append-nil}
+use Rattle.std.proofs.Common.{◌≡◌, ◌<◌, ◌+◌, ◌^◌, ℕ, zero, suc, List, [], ◌∷◌, length, Option, None, Some, refl, sym, ap, subst, ◌∙◌, arith, append-nil}
 use Rattle.alpha_io.specs.Sunk.{Sunk}
 use Rattle.alpha_io.proofs.Sinks.{Puts-none}
+use Rattle.alpha_mem.specs.Block.{Block}
+use Rattle.alpha_pal.specs.declared.pal_end.Passed.TheVariants.{Nothing}
 use Rattle.alpha_pal.proofs.Serving.{rest_of, Takes-nothing}
-use Rattle.alpha_pal.specs.Kernel.{KernelState}
-use Rattle.alpha_table.specs.Class.{Class, operate, trigger, address, load, store, load_locked, store_conditional, branch, jump, barrier, idle}
-use Rattle.alpha_seq.specs.State.{State}
-use Rattle.alpha_seq.specs.Machine.{state_of, kernel_left}
+use Rattle.alpha_seq.specs.State.{Went, Barriered, Overflowed, Ends}
+use Rattle.alpha_seq.specs.Machine.{state_of, class_here}
 use Rattle.alpha_seq.specs.Devices.{Drawn}
-use Rattle.alpha_seq.specs.declared.machine.Machine.{Machine}
-use Rattle.alpha_imprecise.specs.declared.pending.Pending.{Pending}
-use Rattle.alpha_imprecise.specs.declared.end.WildEnd.{WildEnd}
-use Rattle.alpha_imprecise.specs.declared.end.WildEnd.TheVariants as ends
-use Rattle.alpha_imprecise.specs.Moment.{Happening}
-use Rattle.alpha_imprecise.specs.Step.{triggers}
+use Rattle.alpha_seq.specs.Print.{Passes}
+use Rattle.alpha_seq.specs.StepEffect.{Makes}
+use Rattle.alpha_seq.specs.Sequential.{no_words}
+use Rattle.alpha_seq.specs.declared.event.Event.{Event as Seen}
+use Rattle.alpha_seq.proofs.RunSteps.{Takes-told}
+use Rattle.alpha_imprecise.specs.Moment.{Choice, Happening, Precisely, Triggered, Waited, Reported, Lost, moment}
+use Rattle.alpha_imprecise.specs.Run.{unit_of}
 use Rattle.alpha_imprecise.specs.Telling.{Telling, Goes, Counts, Moves}
-use Rattle.alpha_imprecise.specs.Wild.{WildState}
-use Rattle.alpha_imprecise.specs.WildEffect.{IsChosen, WildSteps, Chooses, StepsAlone, WildEffect, IsFramed, Framed}
+use Rattle.alpha_imprecise.specs.Wild.{WildState, trap_in}
+use Rattle.alpha_imprecise.specs.WildEffect.{shown_as, GoesBy, wild_uses, wild_core, StepsAs}
 
 -- a device that is left alone
 abbrev pub resting : Option (List ℕ) → ℕ → Drawn
@@ -26,47 +27,47 @@ resting left faults = record { old = left; new = left; before = faults; now = fa
 abbrev pub idle_sink : Option (List ℕ) → ℕ → Sunk
 idle_sink written count = record { old = written; new = written; before = count; now = count }
 
--- a step that leaves the input and the output alone
-abbrev pub quietly : (happened : Happening) (old new : WildState) (before after : Telling) (words : List ℕ) (left written : Option (List ℕ)) (faults count : ℕ)
-    → Moves before after words → Chooses happened old new words
-    → WildSteps happened old new before after (resting left faults) (idle_sink written count)
-quietly happened old new before after words left written faults count drew chooses = record {
-  words = words;
-  taken = [];
-  rest = rest_of left left;
-  bytes = [];
-  drew = drew;
-  took = record { took = Takes-nothing left; same = refl };
-  wrote = Puts-none written count;
-  is = λ coming output.
-      subst (λ (l : List ℕ). IsChosen happened old new (state_of old.machine (rest_of left left) output) (state_of new.machine (rest_of left left) l) words coming)
-      (sym (append-nil output)) (chooses.is coming (rest_of left left) output);
-  waited = chooses.waited;
-  program = chooses.program;
-}
+-- a step that passes nothing says so
+passes-nothing : (w : WildState) (choice : Choice) (happened : Happening) (mem : List Block)
+    → Passes (shown_as (class_here w.machine) choice Nothing happened) mem [] []
+passes-nothing w choice (Precisely Went) mem = (refl, refl)
+passes-nothing w choice (Precisely Barriered) mem = (refl, refl)
+passes-nothing w choice (Precisely (Overflowed at)) mem = (refl, refl)
+passes-nothing w choice (Precisely (Ends end)) mem = (refl, refl)
+passes-nothing w choice Triggered mem = (refl, refl)
+passes-nothing w choice Waited mem = (refl, refl)
+passes-nothing w choice (Reported at) mem = (refl, refl)
+passes-nothing w choice (Lost pc mask) mem = (refl, refl)
 
-pub alone : (end : WildEnd) (old new : WildState) (before after : Telling) (notes : Sunk) (left written : Option (List ℕ)) (faults count : ℕ)
-    → StepsAlone end old new before after notes → WildEffect end old new before after (resting left faults) (idle_sink written count) notes
-alone ends.Went old new before after notes left written faults count s = absurd s.effect
-alone ends.Barrier old new before after notes left written faults count s = absurd s.effect
-alone ends.Triggered old new before after notes left written faults count s =
-    (quietly _ old new before after s.words left written faults count s.drew s.effect.0, s.effect.1)
-alone ends.Waited old new before after notes left written faults count s =
-    (quietly _ old new before after s.words left written faults count s.drew s.effect.0, s.effect.1)
-alone (ends.Reported at) old new before after notes left written faults count s =
-    (quietly _ old new before after s.words left written faults count s.drew s.effect.0, s.effect.1)
-alone (ends.Ended end) old new before after notes left written faults count s =
-    (quietly _ old new before after s.words left written faults count s.drew s.effect.0, s.effect.1)
-alone (ends.Lost pc mask) old new before after notes left written faults count s =
-    (quietly _ old new before after s.words left written faults count s.drew s.effect.0, s.effect.1)
-alone ends.InputFault old new before after notes left written faults count s = absurd s.effect
-alone ends.SinkFault old new before after notes left written faults count s =
-    inr (record {
-      at = s.effect.at;
-      made = quietly _ old new before after s.words left written faults count s.drew s.effect.made;
-      part = s.effect.part;
-      cause = s.effect.cause;
-    })
+-- a step that leaves the input and the output alone
+pub alone : (event : Seen) (old new : WildState) (choice : Choice) (left written : Option (List ℕ)) (faults count : ℕ)
+    → StepsAs event old new choice → Makes (GoesBy choice) wild_uses wild_core no_words event old new (resting left faults) (idle_sink written count)
+alone event old new choice left written faults count s =
+    let steps = s.steps in
+    let rest = rest_of left left in
+    record {
+      print = record { units = unit_of (trap_in old.pending); words = []; taken = []; rest = rest; bytes = []; event = event; core = new.machine };
+      is = record {
+        happened = s.happened;
+        passed = Nothing;
+        event = s.event_is;
+        units = refl;
+        core = refl;
+        is = λ output.
+            steps.is rest output ∙ ap (λ (l : List ℕ). moment (state_of new.machine rest l) (trap_in new.pending) s.happened) (sym (append-nil output));
+        passes = subst (λ (e : Seen). Passes e new.machine.memory [] []) (sym s.event_is) (passes-nothing old choice s.happened new.machine.memory);
+        waited = steps.waited;
+        kernel = steps.kernel;
+        program = steps.program;
+      };
+      units = refl;
+      event_is = refl;
+      core_is = refl;
+      drew = refl;
+      found = λ l is. Takes-told left left [] rest l is (Takes-nothing left);
+      same = refl;
+      wrote = Puts-none written count;
+    }
 
 -- ---- two words
 
@@ -98,31 +99,3 @@ Moves-two a b d x y first second = record {
     fits zero e below = first.fit 0 e (omega arith)
     fits (suc zero) e below = second.fit 0 e (omega arith)
     fits (suc (suc n)) e below = absurd (omega arith)
-
--- ---- the kernel
-
-pub framed : (end : WildEnd) (trap : Pending) (old new : Machine) → end ≢ ends.Waited → IsFramed new → Framed (Some trap) end old new
-framed ends.Went trap old new reports f = f
-framed ends.Barrier trap old new reports f = f
-framed ends.Triggered trap old new reports f = f
-framed ends.Waited trap old new reports f = absurd (reports refl)
-framed (ends.Reported at) trap old new reports f = f
-framed (ends.Ended end) trap old new reports f = f
-framed (ends.Lost pc mask) trap old new reports f = f
-framed ends.InputFault trap old new reports f = f
-framed ends.SinkFault trap old new reports f = f
-
--- a word that overflows is no PAL call
-pub kernel-triggers : (o : Option Class) (s : State) (next : ℕ) (regs : List ℕ) (k : KernelState) → triggers o s ≡ true → kernel_left o next regs k ≡ k
-kernel-triggers None s next regs k e = refl
-kernel-triggers (Some (operate op ra src rc)) s next regs k e = refl
-kernel-triggers (Some (trigger op ra src rc)) s next regs k e = refl
-kernel-triggers (Some (address op ra rb disp)) s next regs k e = refl
-kernel-triggers (Some (load extension at ra)) s next regs k e = refl
-kernel-triggers (Some (store at ra)) s next regs k e = refl
-kernel-triggers (Some (load_locked extension at ra)) s next regs k e = refl
-kernel-triggers (Some (store_conditional at ra)) s next regs k e = refl
-kernel-triggers (Some (branch condition ra disp)) s next regs k e = refl
-kernel-triggers (Some (jump ra rb)) s next regs k e = refl
-kernel-triggers (Some (barrier call)) s next regs k e = absurd cc
-kernel-triggers (Some idle) s next regs k e = refl

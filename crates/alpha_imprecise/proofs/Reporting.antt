@@ -7,6 +7,8 @@ use Rattle.alpha_values.specs.TrapOp.{stops}
 use Rattle.alpha_pal.specs.Kernel.{KernelState, arith_frame, arith_regs, entered}
 use Rattle.alpha_image.specs.Parts.{Parts}
 use Rattle.alpha_seq.specs.declared.end.End.TheVariants as ends
+use Rattle.alpha_seq.specs.declared.event.Event.{Event}
+use Rattle.alpha_seq.specs.declared.event.Event.TheVariants as events
 use Rattle.alpha_seq.specs.declared.machine.Machine.{Machine}
 use Rattle.alpha_seq.specs.State.{State, Ends}
 use Rattle.alpha_seq.specs.Machine.{program_of, state_of}
@@ -15,13 +17,15 @@ use Rattle.alpha_trap.specs.Scan.{scan}
 use Rattle.alpha_trap.specs.Handler.{Handled, handled, handled_at, going_on, reported, mask_in, trap_in, place_of_trap}
 use Rattle.alpha_trap.specs.Completed.{completed_regs}
 use Rattle.alpha_trap.proofs.Handling.{mask_in-entry, handled-entry}
-use Rattle.alpha_imprecise.specs.declared.report.Landing.{Landing}
-use Rattle.alpha_imprecise.specs.declared.report.Landing.TheVariants as landings
-use Rattle.alpha_imprecise.specs.Moment.{Trap, Moment, Precisely, Reported, moment}
+use Rattle.alpha_imprecise.specs.Moment.{Trap, Moment, Precisely, Reported, Lost as IsLost, moment}
 use Rattle.alpha_imprecise.specs.Step.{address_at, completed}
 use Rattle.alpha_imprecise.proofs.Landed.{report_at}
-use Rattle.alpha_imprecise.specs.Wild.{returned_kernel}
-use Rattle.alpha_imprecise.specs.Report.{ReportEffect, handler_trap, landing_at, machine_at}
+use Rattle.alpha_imprecise.specs.declared.pending.Pending.{Pending}
+use Rattle.alpha_imprecise.specs.Chosen.{reporting}
+use Rattle.alpha_imprecise.specs.Wild.{wild_state, trap_of, returned_kernel}
+use Rattle.alpha_imprecise.specs.WildEffect.{StepsAs}
+use Rattle.alpha_imprecise.proofs.Choosing.{report-steps}
+use Rattle.alpha_imprecise.specs.Report.{Reports, handler_trap, landing_at, answer_at, machine_at}
 
 -- the report of the definition
 pub handled-reported : (image : Parts) (how : Completion) (pc mask : ℕ) (regs live : List ℕ) (kernel : KernelState) (h : Handled)
@@ -87,7 +91,7 @@ abbrev stopped : Machine → State → ℕ → Moment
 stopped m s at = moment (record s { pc = address_at m.image at }) None (Precisely (Ends (ends.Overflow (address_at m.image at))))
 
 landed_by : (m : Machine) (t : Trap) (h : Handled) (b : Bool) → stops m.how ≡ b → Scanned m.image m.how m.pc t.mask m.regs h
-    → ReportEffect (landing_at b h.pc) t m (machine_at b (handled_machine m h) h.pc)
+    → Reports (landing_at b h.pc) None t m (machine_at b (handled_machine m h) h.pc)
 landed_by m t h true stopping found =
     let same = sym (stop_at m.image m.how m.regs found.at stopping) ∙ found.is in
     record {
@@ -113,30 +117,53 @@ landed_by m t h false going found =
       kernel = refl;
     }
 
+-- the program goes on or stops with the kernel that the handler left
+pub landed-kernel : (b : Bool) (mid : Machine) (pc : ℕ) → (machine_at b mid pc).kernel ≡ mid.kernel
+landed-kernel true mid pc = refl
+landed-kernel false mid pc = refl
+
+-- the step that such a report is
+landed_as : (m new : Machine) (trap : Pending) (pc : ℕ) (b : Bool) → Reports (landing_at b pc) None (trap_of trap) m new
+    → StepsAs (answer_at b pc) (wild_state m (Some trap)) (wild_state new None) (reporting 0).choice
+landed_as m new trap pc true reports =
+    let h = landing_at true pc in
+    record { happened = h; event_is = refl; steps = report-steps h m new trap None reports refl reports.kernel }
+landed_as m new trap pc false reports =
+    let h = landing_at false pc in
+    record { happened = h; event_is = refl; steps = report-steps h m new trap None reports refl reports.kernel }
+
 -- the report, by what the handler and the code behind it did
-pub landed-handled : (m mid new : Machine) (t : Trap) (pc : ℕ) (answer : Landing)
-    → reported m.image m.how m.pc t.mask m.regs ≡ Some (going_on pc mid.regs)
+pub landed-handled : (m mid new : Machine) (trap : Pending) (pc : ℕ) (answer : Event)
+    → reported m.image m.how m.pc trap.mask m.regs ≡ Some (going_on pc mid.regs)
     → mid ≡ record m { regs = mid.regs; kernel = returned_kernel pc mid.regs }
-    → answer ≡ landing_at (stops mid.how) pc → new ≡ machine_at (stops mid.how) mid pc
-    → ReportEffect answer t m new
-landed-handled m mid new t pc answer found is_mid is_answer is_new =
+    → answer ≡ answer_at (stops mid.how) pc → new ≡ machine_at (stops mid.how) mid pc
+    → StepsAs answer (wild_state m (Some trap)) (wild_state new None) (reporting 0).choice
+landed-handled m mid new trap pc answer found is_mid is_answer is_new =
     let h = going_on pc mid.regs in
+    let t = trap_of trap in
     let how_same : mid.how ≡ m.how = ap (λ (x : Machine). x.how) is_mid in
-    let by = landed_by m t h (stops m.how) refl (scanned m.image m.how m.pc t.mask m.regs h found) in
-    let answers : answer ≡ landing_at (stops m.how) pc = is_answer ∙ ap (λ how. landing_at (stops how) pc) how_same in
+    let answers : answer ≡ answer_at (stops m.how) pc = is_answer ∙ ap (λ how. answer_at (stops how) pc) how_same in
     let ends_at : new ≡ machine_at (stops m.how) (handled_machine m h) pc =
     is_new ∙ (ap (λ how. machine_at (stops how) mid pc) how_same ∙ ap (λ (x : Machine). machine_at (stops m.how) x pc) is_mid) in
-    subst (λ (a : Landing). ReportEffect a t m new) (sym answers) (subst (λ (x : Machine). ReportEffect (landing_at (stops m.how) pc) t m x) (sym ends_at) by)
+    let by = landed_by m t h (stops m.how) refl (scanned m.image m.how m.pc t.mask m.regs h found) in
+    subst (λ (a : Event). StepsAs a (wild_state m (Some trap)) (wild_state new None) (reporting 0).choice) (sym answers)
+    (landed_as m new trap pc (stops m.how) (subst (λ (x : Machine). Reports (landing_at (stops m.how) pc) None t m x) (sym ends_at) by))
 
 -- a trap that is lost
-pub lost-handled : (m new : Machine) (t : Trap) (lost : Lost) → scan m.image m.pc t.mask ≡ None → lost ≡ handler_trap m.pc t.mask
-    → new ≡ record m { kernel = returned_kernel m.pc m.regs } → ReportEffect (landings.Lost lost) t m new
-lost-handled m new t lost none is_lost is_new =
-    let by : ReportEffect (landings.Lost (handler_trap m.pc t.mask)) t m (record m { kernel = returned_kernel m.pc m.regs }) = record {
+pub lost-handled : (m new : Machine) (trap : Pending) (lost : Lost) → scan m.image m.pc trap.mask ≡ None → lost ≡ handler_trap m.pc trap.mask
+    → new ≡ record m { kernel = returned_kernel m.pc m.regs }
+    → StepsAs (events.Lost lost.trap_pc lost.mask) (wild_state m (Some trap)) (wild_state new (Some trap)) (reporting 0).choice
+lost-handled m new trap lost none is_lost is_new =
+    let t = trap_of trap in
+    let behind = record m { kernel = returned_kernel m.pc m.regs } in
+    let h = IsLost m.pc t.mask in
+    let reports : Reports h (Some t) t m behind = record {
       is = λ input output. ap (report_at (program_of m) (state_of m input output) t) none;
       program = refl;
       memory = refl;
       kernel = refl;
     } in
-    subst (λ (l : Lost). ReportEffect (landings.Lost l) t m new) (sym is_lost)
-    (subst (λ (x : Machine). ReportEffect (landings.Lost (handler_trap m.pc t.mask)) t m x) (sym is_new) by)
+    let steps : StepsAs (events.Lost m.pc t.mask) (wild_state m (Some trap)) (wild_state behind (Some trap)) (reporting 0).choice =
+    record { happened = h; event_is = refl; steps = report-steps h m behind trap (Some trap) reports refl refl } in
+    subst (λ (l : Lost). StepsAs (events.Lost l.trap_pc l.mask) (wild_state m (Some trap)) (wild_state new (Some trap)) (reporting 0).choice) (sym is_lost)
+    (subst (λ (x : Machine). StepsAs (events.Lost m.pc t.mask) (wild_state m (Some trap)) (wild_state x (Some trap)) (reporting 0).choice) (sym is_new) steps)

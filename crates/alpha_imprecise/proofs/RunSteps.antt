@@ -1,26 +1,23 @@
 -- A run of the machine and one step more.
 use Rattle.std.specs.Prelude.{slice_index}
-use Rattle.std.proofs.Common.{◌≡◌, ◌<◌, ◌≤◌, ◌+◌, ◌-◌, ◌^◌, ℕ, false, List, ◌++◌, length, drop, Option, Some, None, refl, sym, ap, subst, ◌∙◌, ⊎_elim, append_assoc, arith}
+use Rattle.std.proofs.Common.{◌≡◌, ◌<◌, ◌≤◌, ◌+◌, ◌-◌, ◌^◌, ℕ, false, List, ◌++◌, length, drop, Option, Some, None, refl, sym, ap, ◌∙◌, ⊎_elim, arith}
 use Rattle.std.proofs.lemmas.Bool.{cases_lt}
 use Rattle.std.proofs.Math.Seq.{drop-append_seam}
 use Rattle.std.proofs.lemmas.List.{length-append, get_or_append_left, get_or-append_right}
 use Rattle.std.proofs.lemmas.List.Elements.{All-append}
-use Rattle.alpha_io.specs.Sunk.{Sunk}
-use Rattle.alpha_io.proofs.Sinks.{Puts-then}
 use Rattle.alpha_seq.specs.declared.machine.Machine.{Machine}
 use Rattle.alpha_seq.specs.State.{Program, State, Event, Went, Barriered, Overflowed, Ends}
 use Rattle.alpha_seq.specs.Run.{Mark, marks_of}
 use Rattle.alpha_seq.specs.Machine.{program_of, state_of}
-use Rattle.alpha_seq.specs.Devices.{Drawn}
-use Rattle.alpha_seq.proofs.RunSteps.{Times, drawn_before, drawn_after, drawn_over, sunk_before, sunk_after, sunk_over, joined}
+use Rattle.alpha_seq.specs.Print.{Print, found_by}
 use Rattle.alpha_imprecise.specs.Moment.{Happening, Precisely, Triggered, Waited, Reported, Lost, Moment, moment}
 use Rattle.alpha_imprecise.specs.Run.{WildRun, wild_marks, finished, unit_of, extended_wild}
+use Rattle.alpha_imprecise.specs.Step.{wild}
 use Rattle.alpha_imprecise.specs.Chosen.{Draw, draw, chosen, waited_after}
 use Rattle.alpha_imprecise.specs.Made.{Making, extended_making, advance_making}
 use Rattle.alpha_imprecise.specs.Telling.{Telling, Goes, Counts, Moves}
-use Rattle.alpha_imprecise.specs.Wild.{WildState, bare, trap_in, waited_in}
-use Rattle.alpha_imprecise.specs.WildEffect.{IsChosen, WildSteps}
-use Rattle.alpha_imprecise.specs.WildRunEffect.{begun_at, making_at, Leads}
+use Rattle.alpha_imprecise.specs.Wild.{WildState, bare, trap_in, waited_in, making_at}
+use Rattle.alpha_imprecise.specs.WildEffect.{WildGoes}
 use Rattle.alpha_imprecise.proofs.Settling.{advance-going}
 
 -- ---- the words
@@ -107,72 +104,19 @@ extended_at run mid new from h input output words coming count d m drew step wai
     ∙ (ap (λ (n : ℕ). record { run = over; waited = n; words = coming; count = count + length words }) (sym waits)
     ∙ ap (λ (marks : List Mark). record { run = record over { trace = run.trace ++ marks }; waited = waited_in new.pending; words = coming; count = count + length words }) (marks-same h new.machine input output))))
 
-pub advanced_at : (g : Program) (run : WildRun) (mid new : WildState) (h : Happening) (input output input' output' words coming : List ℕ) (count : ℕ)
-    → finished run.last ≡ false → program_of mid.machine ≡ g
-    → IsChosen h mid new (state_of mid.machine input output) (state_of new.machine input' output') words coming
-    → waited_in new.pending ≡ waited_after h (waited_in mid.pending)
-    → advance_making g (making_at run mid input output (words ++ coming) count) ≡ making_at (onto run h mid new) new input' output' coming (count + length words)
-advanced_at g run mid new h input output input' output' words coming count going program is waits =
-    let k = making_at run mid input output (words ++ coming) count in
-    let from = state_of mid.machine input output in
+pub advanced_at : (g : Program) (run : WildRun) (mid new : WildState) (p : Print) (output coming : List ℕ) (count : ℕ)
+    → finished run.last ≡ false → program_of mid.machine ≡ g → (is : WildGoes mid p new)
+    → advance_making g (making_at run mid (found_by p) output (p.words ++ coming) count)
+    ≡ making_at (onto run is.by.happened mid new) new p.rest (output ++ p.bytes) coming (count + length p.words)
+advanced_at g run mid new p output coming count going program is =
+    let k = making_at run mid (found_by p) output (p.words ++ coming) count in
+    let from = state_of mid.machine (found_by p) output in
+    let draws = ap (λ (h : Program). draw h from (trap_in mid.pending) (waited_in mid.pending) (p.words ++ coming)) (sym program) ∙ is.draws coming output in
     advance-going g k going
-    ∙ extended_at run mid new from h input' output' words coming count
-    (draw g from (trap_in mid.pending) (waited_in mid.pending) (words ++ coming))
-    (chosen g from (trap_in mid.pending) (waited_in mid.pending) (words ++ coming))
-    (ap (λ (p : Program). (draw p from (trap_in mid.pending) (waited_in mid.pending) (words ++ coming)).count) (sym program) ∙ is.count)
-    (ap (λ (p : Program). chosen p from (trap_in mid.pending) (waited_in mid.pending) (words ++ coming)) (sym program) ∙ is.step)
-    waits
-
--- ---- one step more of the machine
-
-pub Leads-more : (P Q : Making → Making → Type 0) (xs : List ℕ) (run : WildRun) (h : Happening) (old mid new : WildState) (before told after : Telling) (input out : Times)
-    → ((from k : Making) → k.run.pending ≡ trap_in mid.pending → finished k.run.last ≡ false → P from k → Q from (advance_making (program_of old.machine) k))
-    → input.first ≡ Some xs → finished run.last ≡ false
-    → Leads P run old mid before told (drawn_before input) (sunk_before out)
-    → WildSteps h mid new told after (drawn_after input) (sunk_after out)
-    → Leads Q (onto run h mid new) old new before after (drawn_over input) (sunk_over out)
-Leads-more P Q xs run h old mid new before told after input out lift tells going one two =
-    let j = joined xs input one.taken one.rest two.taken two.rest tells one.took two.took in
-    let g = program_of old.machine in
-    record {
-      words = one.words ++ two.words;
-      taken = one.taken ++ two.taken;
-      rest = two.rest;
-      bytes = one.bytes ++ two.bytes;
-      drew = Moves-then before told after one.words two.words one.drew two.drew;
-      took = j.took;
-      wrote = Puts-then out.first out.mid out.last out.faults_first out.faults_mid out.faults_last one.bytes two.bytes one.wrote two.wrote;
-      is = λ coming output.
-          let k = making_at run mid one.rest (output ++ one.bytes) (two.words ++ coming) (length one.words) in
-          let begin : begun_at old (one.taken ++ one.rest) output (one.words ++ (two.words ++ coming))
-          ≡ begun_at old ((one.taken ++ two.taken) ++ two.rest) output ((one.words ++ two.words) ++ coming) =
-          ap (λ (l : List ℕ). begun_at old (one.taken ++ l) output (one.words ++ (two.words ++ coming))) j.same
-          ∙ (ap (λ (l : List ℕ). begun_at old l output (one.words ++ (two.words ++ coming))) (sym (append_assoc one.taken two.taken two.rest))
-          ∙ ap (λ (l : List ℕ). begun_at old ((one.taken ++ two.taken) ++ two.rest) output l) (sym (append_assoc one.words two.words coming))) in
-          let end : advance_making g k ≡ making_at (onto run h mid new) new two.rest (output ++ (one.bytes ++ two.bytes)) coming (length (one.words ++ two.words)) =
-          ap (λ (l : List ℕ). advance_making g (making_at run mid l (output ++ one.bytes) (two.words ++ coming) (length one.words))) j.same
-          ∙ (advanced_at g run mid new h (two.taken ++ two.rest) (output ++ one.bytes) two.rest ((output ++ one.bytes) ++ two.bytes) two.words coming (length one.words) going one.program (two.is coming (output ++ one.bytes)) two.waited
-          ∙ (ap (λ (l : List ℕ). making_at (onto run h mid new) new two.rest l coming (length one.words + length two.words)) (append_assoc output one.bytes two.bytes)
-          ∙ ap (λ (n : ℕ). making_at (onto run h mid new) new two.rest (output ++ (one.bytes ++ two.bytes)) coming n) (sym (length-append one.words two.words)))) in
-          subst (λ (from : Making). Q from (making_at (onto run h mid new) new two.rest (output ++ (one.bytes ++ two.bytes)) coming (length (one.words ++ two.words)))) begin
-          (subst (λ (to : Making). Q (begun_at old (one.taken ++ one.rest) output (one.words ++ (two.words ++ coming))) to) end
-          (lift (begun_at old (one.taken ++ one.rest) output (one.words ++ (two.words ++ coming))) k refl going (one.is (two.words ++ coming) output)));
-      program = two.program ∙ one.program;
-    }
-
--- the same run, in another sense
-pub Leads-as : (P Q : Making → Making → Type 0) (run : WildRun) (old new : WildState) (before after : Telling) (input : Drawn) (out : Sunk)
-    → ((from k : Making) → k.run.pending ≡ trap_in new.pending → k.run.last ≡ run.last → P from k → Q from k)
-    → Leads P run old new before after input out → Leads Q run old new before after input out
-Leads-as P Q run old new before after input out turn one = record {
-  words = one.words;
-  taken = one.taken;
-  rest = one.rest;
-  bytes = one.bytes;
-  drew = one.drew;
-  took = one.took;
-  wrote = one.wrote;
-  is = λ coming output.
-      turn (begun_at old (one.taken ++ one.rest) output (one.words ++ coming)) (making_at run new one.rest (output ++ one.bytes) coming (length one.words)) refl refl (one.is coming output);
-  program = one.program;
-}
+    ∙ extended_at run mid new from is.by.happened p.rest (output ++ p.bytes) p.words coming count
+    (draw g from (trap_in mid.pending) (waited_in mid.pending) (p.words ++ coming))
+    (chosen g from (trap_in mid.pending) (waited_in mid.pending) (p.words ++ coming))
+    (ap (λ (d : Draw). d.count) draws)
+    (ap (λ (d : Draw). wild g from (trap_in mid.pending) d.choice) draws
+    ∙ (ap (λ (h : Program). wild h from (trap_in mid.pending) is.choice) (sym program) ∙ is.by.is output))
+    is.by.waited

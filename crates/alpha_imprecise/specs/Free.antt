@@ -1,28 +1,24 @@
 -- Runs in which each step finds an input of its own, by coming words and by free choices. A source that tells nothing may
 -- answer any bytes at each read, so what a run over such a source does is said by one input a step.
-use Rattle.std.specs.Prelude.{◌≡◌, ◌≢◌, ⊤, ℕ, zero, suc, ◌+◌, ◌≤◌, Bool, false, if◌then◌else◌, List, [], ◌∷◌, ◌++◌, length, Option, Some, None}
+use Rattle.std.specs.Prelude.{◌≡◌, ◌≢◌, ℕ, zero, suc, Bool, if◌then◌else◌, List, [], ◌∷◌, ◌++◌, length, Option, Some, None}
 use Rattle.alpha_words.specs.declared.Completion.{Completion}
-use Rattle.alpha_io.specs.Sunk.{Sunk, Puts}
+use Rattle.alpha_io.specs.Sunk.{Sunk}
 use Rattle.alpha_io.specs.Written.{WritesPrefix}
 use Rattle.alpha_table.specs.Class.{Class}
 use Rattle.alpha_pal.specs.Kernel.{KernelState}
 use Rattle.alpha_image.specs.Parts.{Parts}
-use Rattle.alpha_seq.specs.declared.end.RunEnd.{RunEnd}
-use Rattle.alpha_seq.specs.declared.end.RunEnd.TheVariants as runs
 use Rattle.alpha_seq.specs.State.{Program, State}
 use Rattle.alpha_seq.specs.Step.{next_pc, next_class}
 use Rattle.alpha_seq.specs.Start.{start}
 use Rattle.alpha_seq.specs.Run.{started, end_of, notes_of}
 use Rattle.alpha_seq.specs.Machine.{program_of, kernel_left}
-use Rattle.alpha_seq.specs.Devices.{Drawn}
-use Rattle.alpha_seq.specs.Inputs.{over_input, run_over, HasMade, WritesBetween}
+use Rattle.alpha_seq.specs.Inputs.{over_input, run_over, HasMade}
 use Rattle.alpha_imprecise.specs.Moment.{Trap, Choice, Happening, Waited, Lost}
-use Rattle.alpha_imprecise.specs.Run.{WildRun, finished, started_wild, unit_of, advance_wild}
+use Rattle.alpha_imprecise.specs.Run.{WildRun, finished, started_wild, advance_wild}
 use Rattle.alpha_imprecise.specs.Used.{HasUsed}
 use Rattle.alpha_imprecise.specs.Made.{Making, advance_making, steps_making, wild_end, lost_trap}
 use Rattle.alpha_imprecise.specs.Telling.{Telling, Moves}
-use Rattle.alpha_imprecise.specs.Wild.{WildState, returned_kernel}
-use Rattle.alpha_imprecise.specs.WildRunEffect.{begun_at, making_at, answer_of}
+use Rattle.alpha_imprecise.specs.Wild.{WildState, returned_kernel, begun_at}
 
 -- ---- by free choices
 
@@ -46,14 +42,6 @@ run_free g (f ∷ fs) w = run_free g fs (advance_free g w f)
 abbrev pub NeverLoses : Parts → Type 0
 NeverLoses image = (how : Completion) (s : State) (steps : List Free) (pc mask : ℕ)
     → let g : Program = record { image = image; how = how } in (run_free g steps (started_wild s)).last ≢ Lost pc mask
-
--- a run answered otherwise than by a trap that is lost
-abbrev pub LosesNone : RunEnd → Type 0
-LosesNone (runs.Ended end) = ⊤
-LosesNone runs.Spent = ⊤
-LosesNone (runs.Lost pc mask) = ⊥
-LosesNone runs.InputFault = ⊤
-LosesNone runs.SinkFault = ⊤
 
 -- ---- by coming words
 
@@ -94,70 +82,7 @@ abbrev pub lefts_making : Program → Making → ℕ → List (List ℕ)
 lefts_making g k zero = []
 lefts_making g k (suc n) = lefts_making g k n ++ (steps_making g k n).run.state.outside.input ∷ []
 
--- ---- what the machine's run did
-
--- Where the input was told, each step found what was left of it there, whatever words come.
-abbrev pub AreFedMaking : WildState → Option (List ℕ) → List ℕ → List (List ℕ) → Type 0
-AreFedMaking w old words inputs = (bytes coming : List ℕ) → old ≡ Some bytes
-    → inputs ≡ lefts_making (program_of w.machine) (begun_at w bytes [] (words ++ coming)) (length inputs)
-
--- Where the input was told, this is left of it: what so many steps leave.
-abbrev pub AreLeftMaking : WildState → Drawn → List ℕ → ℕ → Type 0
-AreLeftMaking w input words n = (bytes coming : List ℕ) → input.old ≡ Some bytes
-    → input.new ≡ Some (steps_making (program_of w.machine) (begun_at w bytes [] (words ++ coming)) n).run.state.outside.input
-
--- The machine came to where this run stands, by the words that the chooser went on by, whatever comes behind them, and
--- over some inputs, one a step: state, pending trap, kernel, output and notes are its own.
-pub record ComesFree (watch : Bool) (run : WildRun) (old new : WildState) (before after : Telling)
-    (input : Drawn) (out notes : Sunk) : Type 0 where
-  pub words : List ℕ
-  pub inputs : List (List ℕ)
-  pub left : List ℕ
-  pub put : List ℕ
-  pub drew : Moves before after words
-  pub is : (coming : List ℕ)
-      → run_making_over (program_of old.machine) inputs (begun_at old [] [] (words ++ coming))
-      ≡ making_at run new left put coming (length words)
-  pub kernel : (coming : List ℕ)
-      → new.machine.kernel
-      ≡ kernel_making_over (program_of old.machine) inputs (begun_at old [] [] (words ++ coming)) old.machine.kernel
-  pub fed : AreFedMaking old input.old words inputs
-  pub rest : AreLeftMaking old input words (length inputs)
-  pub wrote : Puts out put
-  pub lines : Puts notes (notes_of watch run.trace)
-
--- a run of so many units, or to its end
-pub record IsFreeRun (n : ℕ) (watch : Bool) (answer : RunEnd) (old new : WildState) (before after : Telling)
-    (input : Drawn) (out notes : Sunk) : Type 0 where
-  pub run : WildRun
-  pub comes : ComesFree watch run old new before after input out notes
-  pub used : HasUsed n (making_at run new [] [] [] 0).run
-  pub answer_is : answer_of run.last ≡ answer
-
--- A moment of a run and its next step, over this input: the run isn't over and may make the step within so many units, and
--- the output and the notes have all that it showed, and of what the step shows a front.
-pub record IsAmid (n : ℕ) (watch : Bool) (g : Program) (k : Making) (next : List ℕ) (out notes : Sunk) : Type 0 where
-  pub going : finished k.run.last ≡ false
-  pub room : k.run.units + unit_of k.run.pending ≤ n
-  pub output : WritesBetween out.old out.new k.run.state.outside.output
-      (advance_making_over g k next).run.state.outside.output
-  pub lines : WritesBetween notes.old notes.new (notes_of watch k.run.trace)
-      (notes_of watch (advance_making_over g k next).run.trace)
-
--- A run that a device's fault cut short within a step, by the words that the chooser went on by. Where the input is told, a
--- rest of what was left before that step is left.
-pub record IsFreeCut (n : ℕ) (watch : Bool) (old : WildState) (before after : Telling)
-    (input : Drawn) (out notes : Sunk) : Type 0 where
-  pub words : List ℕ
-  pub inputs : List (List ℕ)
-  pub next : List ℕ
-  pub drew : Moves before after words
-  pub amid : (coming : List ℕ)
-      → IsAmid n watch (program_of old.machine)
-      (run_making_over (program_of old.machine) inputs (begun_at old [] [] (words ++ coming))) next out notes
-  pub fed : AreFedMaking old input.old words (inputs ++ next ∷ [])
-  pub rest : (bytes : List ℕ) → input.old ≡ Some bytes
-      → (taken : List ℕ) × (left : List ℕ) × (next ≡ taken ++ left) × (input.new ≡ Some left)
+-- ---- what such runs show
 
 -- the output and the notes are fronts of what a run of so many units, or to its end, shows by these words over some inputs
 pub record IsFrontBy (n : ℕ) (watch : Bool) (w : WildState) (words : List ℕ) (out notes : Sunk) : Type 0 where
@@ -174,17 +99,6 @@ pub record IsFreeFront (n : ℕ) (watch : Bool) (old : WildState) (before after 
   pub words : List ℕ
   pub drew : Moves before after words
   pub fronts : (coming : List ℕ) → IsFrontBy n watch old (words ++ coming) out notes
-
--- what a run did over any source, by its answer
-abbrev pub FreeEffect : RunEnd → ℕ → Bool → WildState → WildState → Telling → Telling → Drawn → Sunk → Sunk → Type 0
-FreeEffect (runs.Ended end) n watch old new before after input out notes =
-    IsFreeRun n watch (runs.Ended end) old new before after input out notes
-FreeEffect runs.Spent n watch old new before after input out notes =
-    IsFreeRun n watch runs.Spent old new before after input out notes
-FreeEffect (runs.Lost pc mask) n watch old new before after input out notes =
-    IsFreeRun n watch (runs.Lost pc mask) old new before after input out notes
-FreeEffect runs.InputFault n watch old new before after input out notes = IsFreeCut n watch old before after input out notes
-FreeEffect runs.SinkFault n watch old new before after input out notes = IsFreeCut n watch old before after input out notes
 
 -- ---- where such runs are those of the sequential machine
 

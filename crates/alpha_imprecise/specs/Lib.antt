@@ -10,8 +10,7 @@ pub mod Telling
 pub mod Pcg
 pub mod Wild
 pub mod Report
+pub mod Picks
 pub mod WildEffect
-pub mod WildTurn
 pub mod WildRushed
-pub mod WildRunEffect
 pub mod Free

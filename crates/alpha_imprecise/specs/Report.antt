@@ -1,20 +1,25 @@
 -- What a report left, by how it went.
-use Rattle.std.specs.Prelude.{◌≡◌, ℕ, ◌+◌, ◌-◌, ◌%◌, ◌^◌, Bool, true, false, List, Option, Some, None}
+use Rattle.std.specs.Prelude.{◌≡◌, ℕ, ◌+◌, ◌-◌, ◌%◌, ◌^◌, Bool, true, false, List, Option, None}
 use Rattle.alpha_seq.specs.declared.end.End.TheVariants as ends
+use Rattle.alpha_seq.specs.declared.event.Event.{Event}
+use Rattle.alpha_seq.specs.declared.event.Event.TheVariants as events
 use Rattle.alpha_seq.specs.declared.machine.Machine.{Machine}
 use Rattle.alpha_seq.specs.State.{Ends}
 use Rattle.alpha_seq.specs.Machine.{program_of, state_of}
 use Rattle.alpha_trap.specs.declared.handler.Lost as handler
-use Rattle.alpha_imprecise.specs.declared.report.Landing.{Landing}
-use Rattle.alpha_imprecise.specs.declared.report.Landing.TheVariants as landings
-use Rattle.alpha_imprecise.specs.Moment.{Trap, Happening, Precisely, Reported, Lost, moment}
+use Rattle.alpha_imprecise.specs.Moment.{Trap, Happening, Precisely, Reported, moment}
 use Rattle.alpha_imprecise.specs.Step.{report}
 use Rattle.alpha_imprecise.specs.Wild.{returned_kernel}
 
--- how a report went at which the handler answered a PC, by whether it stops the program
-abbrev pub landing_at : Bool → ℕ → Landing
-landing_at true pc = landings.Stopped pc
-landing_at false pc = landings.Completed (pc - 4)
+-- how a report went at which the handler answered a PC, by whether it stops the program: as the definition and as the code
+-- says it
+abbrev pub landing_at : Bool → ℕ → Happening
+landing_at true pc = Precisely (Ends (ends.Overflow pc))
+landing_at false pc = Reported (pc - 4)
+
+abbrev pub answer_at : Bool → ℕ → Event
+answer_at true pc = events.Ended (ends.Overflow pc)
+answer_at false pc = events.Reported (pc - 4)
 
 -- the machine that the handler left, at that PC
 abbrev pub machine_at : Bool → Machine → ℕ → Machine
@@ -32,9 +37,3 @@ pub record Reports (happened : Happening) (left : Option Trap) (trap : Trap) (ol
 -- the trap of a report at an address, with a mask, as the handler has it
 abbrev pub handler_trap : ℕ → ℕ → handler.Lost
 handler_trap pc mask = record { trap_pc = pc; mask = mask }
-
--- what a report did, by how it went
-abbrev pub ReportEffect : Landing → Trap → Machine → Machine → Type 0
-ReportEffect (landings.Completed at) trap old new = Reports (Reported at) None trap old new
-ReportEffect (landings.Stopped pc) trap old new = Reports (Precisely (Ends (ends.Overflow pc))) None trap old new
-ReportEffect (landings.Lost lost) trap old new = Reports (Lost lost.trap_pc lost.mask) (Some trap) trap old new

@@ -1,5 +1,5 @@
 -- The imprecise step: a trap may be reported late, and until then what the machine writes may be anything.
-use Rattle.std.specs.Prelude.{ℕ, ◌+◌, ◌*◌, ◌/◌, ◌%◌, ◌^◌, Bool, true, false, not, ◌||◌, if◌then◌else◌, List, Option, Some, None, is_none, unwrap_or}
+use Rattle.std.specs.Prelude.{ℕ, ◌+◌, ◌*◌, ◌/◌, ◌%◌, ◌^◌, ◌==◌, Bool, true, false, not, ◌||◌, if◌then◌else◌, List, Option, Some, None, is_none, unwrap_or}
 use Rattle.std.specs.Option.{option_map_or}
 use Rattle.alpha_words.specs.Digits.{low_bytes}
 use Rattle.alpha_words.specs.Regs.{reg, put}
@@ -30,6 +30,10 @@ triggers _ s = false
 -- the destination of a word that may trap, R31 for any other word
 abbrev pub destination : Option Class → ℕ
 destination o = unwrap_or (trap_rc o) 31
+
+-- whether a word may add to the mask of a pending trap: it may trap, and its destination is not R31
+abbrev pub adds_here : Option Class → Bool
+adds_here o = not (destination o == 31)
 
 -- an overflow: the destination gets any value, and the trap of the word at the PC is pending
 abbrev pub triggered : Program → Option Class → State → Choice → Moment

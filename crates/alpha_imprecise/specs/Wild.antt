@@ -12,6 +12,8 @@ use Rattle.alpha_seq.specs.Machine.{program_of, state_of, class_here}
 use Rattle.alpha_imprecise.specs.declared.pending.Pending.{Pending}
 use Rattle.alpha_imprecise.specs.Moment.{Trap, Choice, with_register}
 use Rattle.alpha_imprecise.specs.Step.{triggers, destination, can_wait, spoilt}
+use Rattle.alpha_imprecise.specs.Run.{WildRun}
+use Rattle.alpha_imprecise.specs.Made.{Making, begun}
 
 -- the machine, and the trap that is pending
 pub record WildState : Type 0 where
@@ -29,6 +31,19 @@ trap_in pending = option_map trap_of pending
 
 abbrev pub waited_in : Option Pending → ℕ
 waited_in pending = option_map_or (λ p. p.waited) pending 0
+
+-- no step was made from this moment of the machine, at this input and output, with these words to come
+abbrev pub begun_at : WildState → List ℕ → List ℕ → List ℕ → Making
+begun_at w input output words = begun (state_of w.machine input output) (trap_in w.pending) (waited_in w.pending) words
+
+-- the run that has come to this moment of the machine, and has drawn so many words
+abbrev pub making_at : WildRun → WildState → List ℕ → List ℕ → List ℕ → ℕ → Making
+making_at run w input output words count = record {
+  run = record run { state = state_of w.machine input output; pending = trap_in w.pending };
+  waited = waited_in w.pending;
+  words = words;
+  count = count;
+}
 
 -- nothing is pending, and the machine is in the state at the start
 pub record IsFresh (w : WildState) : Type 0 where

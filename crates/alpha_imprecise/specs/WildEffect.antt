@@ -1,154 +1,128 @@
 -- What the machine's step did, by its answer.
-use Rattle.std.specs.Prelude.{◌≡◌, ◌⊎◌, ℕ, false, List, [], ◌++◌, length, Option, None, Some}
-use Rattle.alpha_io.specs.Sunk.{Sunk, Puts, Partly, HasFailed}
+use Rattle.std.specs.Prelude.{◌≡◌, ℕ, suc, ◌-◌, ◌&&◌, false, List, ◌++◌, length, Option, None, Some}
+use Rattle.alpha_io.specs.Sunk.{Sunk}
+use Rattle.alpha_pal.specs.declared.pal_end.Passed.{Passed}
+use Rattle.alpha_pal.specs.declared.pal_end.Passed.TheVariants.{Nothing}
+use Rattle.alpha_table.specs.Class.{Class}
 use Rattle.alpha_seq.specs.declared.machine.Machine.{Machine}
-use Rattle.alpha_seq.specs.State.{State, Went, Barriered, Ends}
-use Rattle.alpha_seq.specs.Notes.{overflow_line}
-use Rattle.alpha_pal.specs.Kernel.{KernelState}
-use Rattle.alpha_seq.specs.Step.{next_pc}
-use Rattle.alpha_seq.specs.Machine.{program_of, state_of, class_here, kernel_left}
-use Rattle.alpha_seq.specs.Devices.{Drawn, Idles}
-use Rattle.alpha_seq.specs.Draws.{Draws}
-use Rattle.alpha_seq.specs.StepEffect.{InputFails, OutputFails}
-use Rattle.alpha_seq.specs.RunEffect.{HasNoFault, HasInputFault, HasOutputFault, HasNotesFault}
-use Rattle.alpha_imprecise.specs.declared.end.WildEnd.{WildEnd}
-use Rattle.alpha_imprecise.specs.declared.end.WildEnd.TheVariants as ends
-use Rattle.alpha_imprecise.specs.Moment.{Happening, Precisely, Triggered, Waited, Reported, Lost, moment}
-use Rattle.alpha_imprecise.specs.Step.{triggers}
-use Rattle.alpha_imprecise.specs.Chosen.{draw, reporting, chosen, waited_after}
-use Rattle.alpha_imprecise.specs.Telling.{Telling, Moves}
+use Rattle.alpha_seq.specs.declared.event.Event.{Event as Seen}
+use Rattle.alpha_seq.specs.declared.event.Event.TheVariants as events
+use Rattle.alpha_pal.specs.declared.fault.Fault.{Fault}
+use Rattle.alpha_seq.specs.State.{Went}
+use Rattle.alpha_seq.specs.Machine.{program_of, state_of, class_here}
+use Rattle.alpha_seq.specs.Devices.{Drawn}
+use Rattle.alpha_seq.specs.Print.{Print, Passes, found_by}
+use Rattle.alpha_seq.specs.StepEffect.{Makes, Breaks}
+use Rattle.alpha_seq.specs.Sequential.{seen_as, no_words}
 use Rattle.alpha_imprecise.specs.declared.pending.Pending.{Pending}
-use Rattle.alpha_imprecise.specs.Wild.{WildState, trap_in, waited_in, bare, returned_kernel}
+use Rattle.alpha_imprecise.specs.Moment.{Choice, Happening, Precisely, Triggered, Waited, Reported, Lost, moment}
+use Rattle.alpha_imprecise.specs.Step.{triggers, adds_here, wild}
+use Rattle.alpha_imprecise.specs.Run.{unit_of}
+use Rattle.alpha_imprecise.specs.Chosen.{most_waited, reporting, draw, waited_after}
+use Rattle.alpha_imprecise.specs.Telling.{Telling, Moves}
+use Rattle.alpha_imprecise.specs.Wild.{WildState, trap_in, waited_in, bare}
+use Rattle.alpha_imprecise.specs.Free.{kernel_by}
+use Rattle.alpha_imprecise.specs.Picks.{Pick, Picked, asked}
 
--- From one state to another it is the step that these words choose, whatever comes behind them: they are as many as the
--- step draws.
-pub record IsChosen (happened : Happening) (old new : WildState) (from to : State) (words coming : List ℕ) : Type 0 where
-  pub count : (draw (program_of old.machine) from (trap_in old.pending) (waited_in old.pending) (words ++ coming)).count ≡ length words
-  pub step : chosen (program_of old.machine) from (trap_in old.pending) (waited_in old.pending) (words ++ coming)
-      ≡ moment to (trap_in new.pending) happened
+-- How a step went at a word of this class, by this choice, as its answer says it. A word that executes while a trap is
+-- pending is said to add to the mask only where it may.
+abbrev pub shown_as : Option Class → Choice → Passed → Happening → Seen
+shown_as o choice passed (Precisely event) = seen_as event passed
+shown_as o choice passed Triggered = events.Triggered choice.value
+shown_as o choice passed Waited = events.Waited (record { adds = choice.adds && adds_here o; value = choice.value })
+shown_as o choice passed (Reported at) = events.Reported at
+shown_as o choice passed (Lost pc mask) = events.Lost pc mask
 
--- The chosen step of the definition, at an input of what was taken and the rest, by the words that the chooser went on by;
--- what was put is the output's growth.
-pub record WildSteps (happened : Happening) (old new : WildState) (before after : Telling) (input : Drawn) (out : Sunk) : Type 0 where
-  pub words : List ℕ
-  pub taken : List ℕ
-  pub rest : List ℕ
-  pub bytes : List ℕ
-  pub drew : Moves before after words
-  pub took : Draws input taken rest
-  pub wrote : Puts out bytes
-  pub is : (coming output : List ℕ)
-      → IsChosen happened old new (state_of old.machine (taken ++ rest) output) (state_of new.machine rest (output ++ bytes)) words coming
+-- the kernel after a step from one state to another
+abbrev pub IsKernelBy : Happening → WildState → WildState → Type 0
+IsKernelBy happened old new = new.machine.kernel
+    ≡ kernel_by (trap_in old.pending) (class_here old.machine) (bare old.machine) (bare new.machine) happened old.machine.kernel
+
+-- the step of the definition by this choice, at the input that it found and at each output
+pub record GoesBy (choice : Choice) (old : WildState) (p : Print) (new : WildState) : Type 0 where
+  pub happened : Happening
+  pub passed : Passed
+  pub event : p.event ≡ shown_as (class_here old.machine) choice passed happened
+  pub units : p.units ≡ unit_of (trap_in old.pending)
+  pub core : p.core ≡ new.machine
+  pub is : (output : List ℕ)
+      → wild (program_of old.machine) (state_of old.machine (found_by p) output) (trap_in old.pending) choice
+      ≡ moment (state_of new.machine p.rest (output ++ p.bytes)) (trap_in new.pending) happened
+  pub passes : Passes p.event p.core.memory p.taken p.bytes
   pub waited : waited_in new.pending ≡ waited_after happened (waited_in old.pending)
+  pub kernel : IsKernelBy happened old new
   pub program : program_of new.machine ≡ program_of old.machine
+
+-- The same, where words choose it, whatever comes behind them: they are as many as the step draws.
+pub record WildGoes (old : WildState) (p : Print) (new : WildState) : Type 0 where
+  pub choice : Choice
+  pub by : GoesBy choice old p new
+  pub draws : (coming output : List ℕ)
+      → draw (program_of old.machine) (state_of old.machine (found_by p) output) (trap_in old.pending) (waited_in old.pending) (p.words ++ coming)
+      ≡ record { choice = choice; count = length p.words }
+
+-- the units that the next step uses, how many steps without one may follow, and the registers, memory and PC
+abbrev pub wild_uses : WildState → ℕ
+wild_uses w = unit_of (trap_in w.pending)
+
+abbrev pub wait_left : Option Pending → ℕ
+wait_left None = 0
+wait_left (Some p) = suc (most_waited - p.waited)
+
+abbrev pub wild_waits : WildState → ℕ
+wild_waits w = wait_left w.pending
+
+abbrev pub wild_core : WildState → Machine
+wild_core w = w.machine
+
+-- what a step did, by the words that the chooser went on by
+abbrev pub WildMakes : Seen → WildState → WildState → Telling → Telling → Drawn → Sunk → Type 0
+WildMakes event old new before after input out = Makes WildGoes wild_uses wild_core (Moves before after) event old new input out
+
+-- one that a device's fault cut short
+abbrev pub WildBreaks : Fault → WildState → Telling → Telling → Drawn → Sunk → Type 0
+WildBreaks fault old before after input out = Breaks WildGoes wild_uses wild_core (Moves before after) fault old input out
+
+-- ---- by who chooses
+
+-- what was done by a choice, with what was asked of who chooses
+pub record Chose {P : Type 0} (picks : P → Pick → P → Type 0) (values : P → ℕ → P → Type 0) (old : WildState) (before after : P)
+    (does : Choice → Type 0) : Type 0 where
+  pub choice : Choice
+  pub did : does choice
+  pub picked : Picked picks values (asked old) choice before after
+
+-- what a step did, by the choice that was made
+abbrev pub MakesBy : {P : Type 0} → (P → Pick → P → Type 0) → (P → ℕ → P → Type 0) → Seen → WildState → WildState → P → P → Drawn → Sunk → Type 0
+MakesBy picks values event old new before after input out =
+    Chose picks values old before after (λ choice. Makes (GoesBy choice) wild_uses wild_core no_words event old new input out)
+
+-- one that a device's fault cut short
+abbrev pub BreaksBy : {P : Type 0} → (P → Pick → P → Type 0) → (P → ℕ → P → Type 0) → Fault → WildState → P → P → Drawn → Sunk → Type 0
+BreaksBy picks values fault old before after input out =
+    Chose picks values old before after (λ choice. Breaks (GoesBy choice) wild_uses wild_core no_words fault old input out)
 
 -- ---- steps that leave the input and the output alone
 
--- the chosen step, by these words, at each input and output
-pub record Chooses (happened : Happening) (old new : WildState) (words : List ℕ) : Type 0 where
-  pub is : (coming input output : List ℕ)
-      → IsChosen happened old new (state_of old.machine input output) (state_of new.machine input output) words coming
+-- the step by this choice, at each input and output
+pub record StepsBy (happened : Happening) (choice : Choice) (old new : WildState) : Type 0 where
+  pub is : (input output : List ℕ)
+      → wild (program_of old.machine) (state_of old.machine input output) (trap_in old.pending) choice
+      ≡ moment (state_of new.machine input output) (trap_in new.pending) happened
   pub waited : waited_in new.pending ≡ waited_after happened (waited_in old.pending)
+  pub kernel : IsKernelBy happened old new
   pub program : program_of new.machine ≡ program_of old.machine
 
--- these words choose a report
-abbrev pub ChoosesReport : WildState → List ℕ → Type 0
-ChoosesReport w words = (coming input output : List ℕ)
-    → draw (program_of w.machine) (state_of w.machine input output) (trap_in w.pending) (waited_in w.pending) (words ++ coming)
-    ≡ reporting (length words)
-
--- a report whose line failed
-pub record LineFails (old new : WildState) (words : List ℕ) (notes : Sunk) : Type 0 where
-  pub at : ℕ
-  pub made : Chooses (Reported at) old new words
-  pub part : Partly notes (overflow_line at)
-  pub cause : HasFailed notes
-
--- what such a step did, by its answer and the words that it drew
-abbrev pub AloneEffect : WildEnd → WildState → WildState → List ℕ → Sunk → Type 0
-AloneEffect ends.Went old new words notes = ⊥
-AloneEffect ends.Barrier old new words notes = ⊥
-AloneEffect ends.Triggered old new words notes = Chooses Triggered old new words × Idles notes
-AloneEffect ends.Waited old new words notes = Chooses Waited old new words × Idles notes
-AloneEffect (ends.Reported at) old new words notes = Chooses (Reported at) old new words × Puts notes (overflow_line at)
-AloneEffect (ends.Ended end) old new words notes = Chooses (Precisely (Ends end)) old new words × Idles notes
-AloneEffect (ends.Lost pc mask) old new words notes = Chooses (Lost pc mask) old new words × Idles notes
-AloneEffect ends.InputFault old new words notes = ⊥
-AloneEffect ends.SinkFault old new words notes = LineFails old new words notes
-
--- the same, by the words that the chooser went on by
-pub record StepsAlone (end : WildEnd) (old new : WildState) (before after : Telling) (notes : Sunk) : Type 0 where
-  pub words : List ℕ
-  pub drew : Moves before after words
-  pub effect : AloneEffect end old new words notes
-
--- ---- all steps
-
--- a step that a device failed at which a PAL call needs: nothing was pending, and no word was drawn
-pub record CallFails (Fails : Type 0) (old new : WildState) (before after : Telling) : Type 0 where
-  pub fails : Fails
-  pub calm : old.pending ≡ None
-  pub still : new.pending ≡ None
-  pub drew : Moves before after []
-
--- a report whose line failed: it was made, and a prefix of the line was written
-pub record ReportFails (old new : WildState) (before after : Telling) (input : Drawn) (out notes : Sunk) : Type 0 where
-  pub at : ℕ
-  pub made : WildSteps (Reported at) old new before after input out
-  pub part : Partly notes (overflow_line at)
-  pub cause : HasFailed notes
-
--- what a step did, by its answer
-abbrev pub WildEffect : WildEnd → WildState → WildState → Telling → Telling → Drawn → Sunk → Sunk → Type 0
-WildEffect ends.Went old new before after input out notes = WildSteps (Precisely Went) old new before after input out × Idles notes
-WildEffect ends.Barrier old new before after input out notes = WildSteps (Precisely Barriered) old new before after input out × Idles notes
-WildEffect ends.Triggered old new before after input out notes = WildSteps Triggered old new before after input out × Idles notes
-WildEffect ends.Waited old new before after input out notes = WildSteps Waited old new before after input out × Idles notes
-WildEffect (ends.Reported at) old new before after input out notes =
-    WildSteps (Reported at) old new before after input out × Puts notes (overflow_line at)
-WildEffect (ends.Ended end) old new before after input out notes =
-    WildSteps (Precisely (Ends end)) old new before after input out × Idles notes
-WildEffect (ends.Lost pc mask) old new before after input out notes =
-    WildSteps (Lost pc mask) old new before after input out × Idles notes
-WildEffect ends.InputFault old new before after input out notes =
-    CallFails (InputFails old.machine new.machine input out) old new before after × Idles notes
-WildEffect ends.SinkFault old new before after input out notes =
-    (CallFails (OutputFails old.machine new.machine input out) old new before after × Idles notes)
-    ⊎ ReportFails old new before after input out notes
-
--- which count of faults rose, by the answer of a step
-abbrev pub WildCause : WildEnd → Drawn → Sunk → Sunk → Type 0
-WildCause ends.Went input out notes = HasNoFault input out notes
-WildCause ends.Barrier input out notes = HasNoFault input out notes
-WildCause ends.Triggered input out notes = HasNoFault input out notes
-WildCause ends.Waited input out notes = HasNoFault input out notes
-WildCause (ends.Reported at) input out notes = HasNoFault input out notes
-WildCause (ends.Ended end) input out notes = HasNoFault input out notes
-WildCause (ends.Lost pc mask) input out notes = HasNoFault input out notes
-WildCause ends.InputFault input out notes = HasInputFault input out notes
-WildCause ends.SinkFault input out notes = HasOutputFault input out notes ⊎ HasNotesFault input out notes
-
--- the kernel's frame is that of a trap at the PC with the registers as they are
-abbrev pub IsFramed : Machine → Type 0
-IsFramed m = m.kernel ≡ returned_kernel m.pc m.regs
-
--- The kernel after a step. With nothing pending it is as after a step of the sequential machine. A word that is executed
--- while a trap is pending leaves it, and a report, by whatever answer, leaves it in user mode with the frame of a trap at the
--- PC and the registers as they are then.
-abbrev pub kernel_stepped : Option Pending → WildEnd → Machine → Machine → KernelState
-kernel_stepped None end old new = kernel_left (class_here old) (next_pc (bare old)) old.regs old.kernel
-kernel_stepped (Some trap) ends.Waited old new = old.kernel
-kernel_stepped (Some trap) _ old new = returned_kernel new.pc new.regs
-
-abbrev pub Framed : Option Pending → WildEnd → Machine → Machine → Type 0
-Framed pending end old new = new.kernel ≡ kernel_stepped pending end old new
+-- such a step, with its answer
+pub record StepsAs (event : Seen) (old new : WildState) (choice : Choice) : Type 0 where
+  pub happened : Happening
+  pub event_is : event ≡ shown_as (class_here old.machine) choice Nothing happened
+  pub steps : StepsBy happened choice old new
 
 -- ---- a step that only goes on
 
--- With nothing pending, at a word that doesn't overflow, the chosen step only went on: by no word, and at each input and
--- output, which it leaves.
+-- With nothing pending, at a word that doesn't overflow, the step only went on, at each input and output, which it leaves.
 pub record WildGoesOn (old new : WildState) : Type 0 where
   pub calm : old.pending ≡ None
   pub exact : triggers (class_here old.machine) (bare old.machine) ≡ false
-  pub step : Chooses (Precisely Went) old new []
-  pub frame : Framed old.pending ends.Went old.machine new.machine
+  pub step : StepsBy (Precisely Went) (reporting 0).choice old new

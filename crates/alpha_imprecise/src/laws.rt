@@ -1,14 +1,10 @@
-ghost use Rattle.std.specs.Prelude.{◌≡◌, ◌≤◌, ◌+◌, ℕ, Bool, List, None, false};
-ghost use Rattle.alpha_io.specs.Sunk.{Sunk};
-ghost use Rattle.alpha_seq.specs.Devices.{Drawn};
+ghost use Rattle.std.specs.Prelude.{◌≡◌, ◌≤◌, ◌+◌, ℕ, List, None, false};
 ghost use Rattle.alpha_seq.specs.State.{Program, State};
 ghost use Rattle.alpha_imprecise.specs.Run.{finished};
 ghost use Rattle.alpha_imprecise.specs.Used.{HasUsed};
 ghost use Rattle.alpha_imprecise.specs.Chosen.{most_waited};
 ghost use Rattle.alpha_imprecise.specs.Made.{Making, begun, advance_making, steps_making, made, most_steps, most_words, IsWithin, Nearer};
-ghost use Rattle.alpha_imprecise.specs.Telling.{Telling};
-ghost use Rattle.alpha_imprecise.specs.Wild.{WildState};
-ghost use Rattle.alpha_imprecise.specs.Free.{run_making_over, lefts_making, IsFreeCut, IsFreeFront};
+ghost use Rattle.alpha_imprecise.specs.Free.{run_making_over, lefts_making};
 
 /// The laws of runs that coming words make: a run of so many units, with nothing pending at the beginning, uses them
 /// or is over before, with nothing pending at its end, takes 1,026 steps a unit at most, and draws 2,049 words a unit
@@ -28,16 +24,11 @@ pub fn laws_of_chosen_runs()
 {}
 
 /// The laws of runs in which each step finds an input of its own. The run over one input is such a run, in which each
-/// step finds what is left of it. A run with nothing pending at the beginning draws 2,049 words a unit at most. What a
-/// run has shown that a device's fault cut short is a front of what a whole run shows over some inputs, by the words
-/// that were drawn and any others behind them.
+/// step finds what is left of it. A run with nothing pending at the beginning draws 2,049 words a unit at most.
 pub fn laws_of_free_runs()
     ensures told { (g : Program) (k : Making) (n : ℕ)
         → run_making_over g (lefts_making g k n) k ≡ steps_making g k n }
     ensures words { (g : Program) (s : State) (words : List ℕ) (inputs : List (List ℕ))
         → let k = run_making_over g inputs (begun s None 0 words) in
         k.count ≤ most_words k.run.units }
-    ensures cut { (n : ℕ) (watch : Bool) (w : WildState) (before after : Telling) (input : Drawn)
-        (out notes : Sunk) → IsFreeCut n watch w before after input out notes
-        → IsFreeFront n watch w before after out notes }
 {}

@@ -1,13 +1,11 @@
 //! The imprecise machine: a trap of an overflow is reported late, and until then what the program writes
 //! may be anything (Architecture Handbook, arithmetic traps; the exact form is this project's own).
 //!
-//! - [`Wild`] is the machine: a sequential machine, and a trap that may be pending, a [`Pending`]. [`Wild::step`]
-//!   makes one step, and [`WildEnd`] says how it went; [`Wild::rush`] makes many that only go on. [`run`] makes steps
-//!   until the program ends, a trap is lost or a number of units is used up. [`Wild::unit`], [`WildEnd::run_end`],
-//!   [`Pending::waiting_insn`] and [`overflowing`] are the parts of a step and of a run that whoever records runs
-//!   shares.
+//! - [`Wild`] is the machine: a sequential machine, and a trap that may be pending, a [`Pending`].
+//!   [`Wild::step_by`] makes one step by the choices of someone who [`Picks`], [`Wild::step`] one by the words of a
+//!   [`Chooser`], and [`Wild::rush`] many steps that only go on.
 //! - A [`Chooser`] answers the words of 64 bits by which a step chooses: [`ListChooser`] has them from bytes,
-//!   [`PcgChooser`] from a seeded generator. A [`CountingChooser`] counts the words of another one.
+//!   [`PcgChooser`] from a seeded generator. A [`CountingChooser`] counts the words of another one. It picks by them.
 //! - [`laws_of_chosen_runs`]: a run by such words uses its units or is over before, takes 1,026 steps a unit at most,
 //!   and draws 2,049 words a unit at most. [`laws_of_free_runs`]: how runs in which each step finds an input of its own
 //!   stand to the run over one input.
@@ -17,37 +15,33 @@
 //! the runs that coming words make, `specs/Free.antt` the runs in which each step finds an input of its own, as over
 //! a source that tells nothing, `specs/Restart.antt` what it means that a program can be restarted after each trap,
 //! and `specs/Shown.antt` what such a program's runs show. `specs/WildEffect.antt` says what the code's step did
-//! against that, for choosers and devices that may tell nothing, `specs/WildRunEffect.antt` what its run did, and
-//! `specs/Telling.antt` how a chooser goes on. `specs/WildTurn.antt` says what a step does together with the lines of
-//! a barrier, and `specs/WildRushed.antt` what steps are that only go on behind one another.
+//! against that, for choosers and devices that may tell nothing, `specs/Picks.antt` what a step asks of who chooses,
+//! `specs/Telling.antt` how a chooser goes on, and `specs/WildRushed.antt` what steps are that only go on behind one
+//! another.
 //!
-//! `src/wild.rt` is the machine, `src/pending.rt` its pending trap and `src/end.rt` how a step went; `src/step.rt` has
-//! the step by what it is, `src/look.rt` what the word at the PC would do, `src/spoil.rt` the words
-//! that are executed while a trap is pending, `src/report.rt` the report, through the kernel's frame and the
-//! handler, `src/runs.rt` the run, and `src/laws.rt` the laws.
+//! `src/wild.rt` is the machine and `src/pending.rt` its pending trap; `src/step.rt` has the step by what it is,
+//! `src/look.rt` what the word at the PC would do, `src/spoil.rt` the words that are executed while a trap is pending,
+//! `src/report.rt` the report, through the kernel's frame and the handler, and `src/laws.rt` the laws.
 #![tactic(auto)]
 
 mod chooser;
 mod counting;
-mod end;
 mod laws;
 mod list;
 mod look;
 mod pcg;
 mod pending;
+mod picks;
 mod report;
-mod runs;
 mod spoil;
 mod step;
 mod wild;
 
 pub use chooser::Chooser;
 pub use counting::CountingChooser;
-pub use end::WildEnd;
 pub use laws::{laws_of_chosen_runs, laws_of_free_runs};
 pub use list::ListChooser;
-pub use look::overflowing;
 pub use pcg::PcgChooser;
 pub use pending::Pending;
-pub use runs::run;
+pub use picks::Picks;
 pub use wild::Wild;

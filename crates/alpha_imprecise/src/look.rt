@@ -33,11 +33,11 @@ pub(crate) fn overflow_of(machine: &Machine, insn: &Insn) -> Option<Overflow>
     Some(Overflow { place, rc })
 }
 
-/// The destination of an instruction with `/V` that overflows by the registers of a machine (Architecture
-/// Handbook, arithmetic traps), which may be R31; `None` for one that doesn't overflow, and for any other
-/// instruction.
+// The destination of an instruction with `/V` that overflows by the registers of a machine (Architecture
+// Handbook, arithmetic traps), which may be R31; `None` for one that doesn't overflow, and for any other
+// instruction.
 #[inline(always)]
-pub fn overflowing(machine: &Machine, insn: &Insn) -> Option<Reg>
+fn overflowing(machine: &Machine, insn: &Insn) -> Option<Reg>
     ensures found { IfSome result (λ rc. triggers (Some (class_of insn.now)) (bare machine.now)
         ≡ true) }
     ensures into { IfSome result (λ rc. destination (Some (class_of insn.now)) ≡ rc) }

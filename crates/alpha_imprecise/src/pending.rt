@@ -27,7 +27,7 @@ impl Pending {
     /// The word at the PC, if the trap may wait for its execution: fewer than 1,024 words were executed since the
     /// trigger, it is no barrier, and an access of it doesn't fault. The contract says the word's class.
     #[inline(always)]
-    pub fn waiting_insn(&self, machine: &Machine) -> Option<Insn>
+    pub(crate) fn waiting_insn(&self, machine: &Machine) -> Option<Insn>
         ensures found { IfSome result (λ insn. WaitsAt machine.now (class_of insn)) }
         ensures few { IfSome result (λ insn. self.now.waited < 1024) }
         ensures none { IfNone result (must_report (class_here machine.now) (bare machine.now)

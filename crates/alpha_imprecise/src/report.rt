@@ -1,54 +1,53 @@
 //! The report of a trap, through the kernel's frame and the handler.
 
-ghost use Rattle.std.specs.Prelude.{◌≡◌, ◌≤◌, ℕ, IfOk, IfErr, OnErr, Some, None, IsTrue, false};
+ghost use Rattle.std.specs.Prelude.{◌≡◌, ◌≤◌, IfOk, IfErr, OnErr, IfSome, Some, None, IsTrue, false};
 ghost use Rattle.alpha_values.specs.TrapOp.{stops};
 ghost use Rattle.alpha_trap.specs.Handler.{going_on, reported};
 ghost use Rattle.alpha_trap.specs.Scan.{scan};
-ghost use Rattle.alpha_imprecise.specs.Wild.{returned_kernel};
-ghost use Rattle.alpha_imprecise.specs.Report.{ReportEffect, handler_trap, landing_at, machine_at};
+ghost use Rattle.alpha_imprecise.specs.Chosen.{reporting};
+ghost use Rattle.alpha_imprecise.specs.Wild.{returned_kernel, wild_state};
+ghost use Rattle.alpha_imprecise.specs.WildEffect.{StepsAs};
+ghost use Rattle.alpha_imprecise.specs.Report.{handler_trap, answer_at, machine_at};
 
-use alpha_seq::Machine;
+use crate::Pending;
+use alpha_seq::{End, Event, Machine};
 use alpha_trap::{Lost, handle};
 use alpha_words::{Completion, Reg, RegSet};
 
-/// How a report went.
-#[derive(Clone, Copy)]
-pub(crate) enum Landing {
-    /// The word at this address was completed and logged, and the program goes on behind it.
-    Completed(u64),
-    /// The program stops at the word at this address.
-    Stopped(u64),
-    /// The handler found no word for this trap.
-    Lost(Lost),
-}
-
-/// Reports a trap with this mask, in user mode.
+/// Reports the pending trap of a machine in user mode. It is pending no more behind it, but where it is lost.
 #[inline(never)]
-pub(crate) fn report(machine: &mut Machine, mask: RegSet) -> Landing
-    requires { IsTrue machine.old.kernel.user }
-    ensures { (place : ℕ)
-        → ReportEffect result (record { place = place; mask = mask }) machine.old machine.new }
+pub(crate) fn report(machine: &mut Machine, pending: &mut Option<Pending>, trap: &Pending) -> Event
+    requires user { IsTrue machine.old.kernel.user }
+    requires trap { pending.old ≡ Some trap.now }
+    requires few { trap.now.waited ≤ 1024 }
+    ensures step { StepsAs result (wild_state machine.old pending.old)
+        (wild_state machine.new pending.new) (reporting 0).choice }
+    ensures user { IsTrue machine.new.kernel.user }
+    ensures bound { IfSome pending.new (λ p. p.waited ≤ 1024) }
 {
-    match handled(machine, mask) {
-        Ok(pc) => land(machine, pc),
-        Err(lost) => Landing::Lost(lost),
+    match handled(machine, trap.mask) {
+        Ok(pc) => {
+            *pending = None;
+            land(machine, pc)
+        }
+        Err(lost) => Event::Lost(lost.trap_pc, lost.mask),
     }
 }
 
 // Goes on at the PC that the handler answered.
-fn land(machine: &mut Machine, pc: u64) -> Landing
+fn land(machine: &mut Machine, pc: u64) -> Event
     requires { stops machine.old.how ≡ false → 4 ≤ pc }
-    ensures answer { result ≡ landing_at (stops machine.old.how) pc }
+    ensures answer { result ≡ answer_at (stops machine.old.how) pc }
     ensures state { machine.new ≡ machine_at (stops machine.old.how) machine.old pc }
 {
     machine.pc = pc;
     if machine.how == Completion::Stop {
-        return Landing::Stopped(pc);
+        return Event::Ended(End::Overflow { pc });
     }
     machine.lock = None;
     machine.overflows = machine.overflows.wrapping_add(1);
     machine.last = pc - 4;
-    Landing::Completed(pc - 4)
+    Event::Reported(pc - 4)
 }
 
 // Enters the kernel with the PC and this mask, runs the handler, and returns to the user. The answer

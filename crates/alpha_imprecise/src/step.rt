@@ -1,156 +1,148 @@
 //! A step, by what it is: precise, a trigger, a word that is executed while a trap waits, or a report.
 
-ghost use Rattle.std.specs.Prelude.{◌≡◌, ◌≢◌, ◌<◌, ◌≤◌, ◌%◌, ◌==◌, ℕ, List, [], ◌∷◌, false, IfSome, IsTrue, None, Some};
+ghost use Rattle.std.specs.Prelude.{◌≡◌, ◌<◌, ◌≤◌, false, IfSome, IfOk, IfErr, IsTrue, None, Some};
 ghost use Rattle.alpha_io.specs.Sunk.{sunk};
 ghost use Rattle.alpha_table.specs.ClassOf.{class_of};
 ghost use Rattle.alpha_seq.specs.Next.{next_insn};
-ghost use Rattle.alpha_seq.specs.Step.{next_pc};
-ghost use Rattle.alpha_seq.specs.Machine.{class_here, program_of, kernel_left};
+ghost use Rattle.alpha_seq.specs.Machine.{class_here, program_of};
 ghost use Rattle.alpha_seq.specs.Devices.{drawn};
-ghost use Rattle.alpha_imprecise.specs.Moment.{Triggered, Waited, with_register};
-ghost use Rattle.alpha_imprecise.specs.Step.{triggers, destination};
+ghost use Rattle.alpha_imprecise.specs.Chosen.{reporting, triggering};
+ghost use Rattle.alpha_imprecise.specs.Moment.{Triggered, with_register};
+ghost use Rattle.alpha_imprecise.specs.Step.{triggers, destination, adds_here};
+ghost use Rattle.alpha_imprecise.specs.Picks.{choice_by};
 ghost use Rattle.alpha_imprecise.specs.Wild.{mask_after, bare, wild_state, OverflowsAt, WaitsAt};
-ghost use Rattle.alpha_imprecise.specs.Telling.{Telling, telling};
-ghost use Rattle.alpha_imprecise.specs.WildEffect.{WildEffect, AloneEffect, StepsAlone, Chooses, ChoosesReport, IsFramed, Framed};
+ghost use Rattle.alpha_imprecise.specs.WildEffect.{GoesBy, wild_uses, wild_core, MakesBy, BreaksBy, Chose, StepsBy, StepsAs};
+ghost use Rattle.alpha_seq.specs.StepEffect.{Makes, Breaks};
+ghost use Rattle.alpha_seq.specs.Sequential.{no_words};
 
 use crate::look::{Overflow, overflow_of};
-use crate::report::{Landing, report};
+use crate::report::report;
 use crate::spoil::spoil;
-use crate::{Chooser, Pending, WildEnd};
-use alpha_io::{Failed, Sink, Source};
-use alpha_seq::{End, Machine, StepEnd, write_overflow};
+use crate::{Pending, Picks};
+use alpha_io::{Sink, Source};
+use alpha_seq::{Event, Fault, Machine, Wait};
 use alpha_table::{Form, Insn};
 use alpha_words::{Reg, RegSet};
 
 /// Makes a step of a machine in user mode, with a trap that may be pending.
 #[inline(always)]
-pub(crate) fn step<C: Chooser, S: Source, K: Sink, N: Sink>(
+pub(crate) fn step<P: Picks, S: Source, K: Sink>(
     machine: &mut Machine,
     pending: &mut Option<Pending>,
-    chooser: &mut C,
+    picks: &mut P,
     input: &mut S,
     out: &mut K,
-    notes: &mut N,
-) -> WildEnd
+) -> Result<Event, Fault>
     requires user { IsTrue machine.old.kernel.user }
     requires few { IfSome pending.old (λ p. p.waited ≤ 1024) }
-    ensures effect { WildEffect result
+    ensures made { IfOk result (λ event. MakesBy P.picks P.values event
         (wild_state machine.old pending.old) (wild_state machine.new pending.new)
-        (telling C.ahead C.drawn chooser.old) (telling C.ahead C.drawn chooser.new)
+        picks.old picks.new
         (drawn S.Source input.old input.new)
-        (sunk K.Sink out.old out.new)
-        (sunk N.Sink notes.old notes.new) }
-    ensures frame { Framed pending.old result machine.old machine.new }
+        (sunk K.Sink out.old out.new)) }
+    ensures broken { IfErr result (λ fault. BreaksBy P.picks P.values fault
+        (wild_state machine.old pending.old) picks.old picks.new
+        (drawn S.Source input.old input.new)
+        (sunk K.Sink out.old out.new)) }
+    ensures program { program_of machine.new ≡ program_of machine.old }
     ensures user { IsTrue machine.new.kernel.user }
     ensures bound { IfSome pending.new (λ p. p.waited ≤ 1024) }
 {
     match *pending {
-        None => with_none(machine, pending, chooser, input, out, notes),
-        Some(trap) => with_trap(machine, pending, &trap, chooser, notes),
+        None => with_none(machine, pending, picks, input, out),
+        Some(trap) => Ok(with_trap(machine, pending, &trap, picks)),
     }
 }
 
 // Makes a step with nothing pending. The loop of a run has made most steps that only go on before, so this is rare, and
 // never inlined there.
 #[inline(never)]
-fn with_none<C: Chooser, S: Source, K: Sink, N: Sink>(
+fn with_none<P: Picks, S: Source, K: Sink>(
     machine: &mut Machine,
     pending: &mut Option<Pending>,
-    chooser: &mut C,
+    picks: &mut P,
     input: &mut S,
     out: &mut K,
-    notes: &mut N,
-) -> WildEnd
+) -> Result<Event, Fault>
     requires user { IsTrue machine.old.kernel.user }
     requires none { pending.old ≡ None }
-    ensures effect { WildEffect result
+    ensures made { IfOk result (λ event. MakesBy P.picks P.values event
         (wild_state machine.old pending.old) (wild_state machine.new pending.new)
-        (telling C.ahead C.drawn chooser.old) (telling C.ahead C.drawn chooser.new)
+        picks.old picks.new
         (drawn S.Source input.old input.new)
-        (sunk K.Sink out.old out.new)
-        (sunk N.Sink notes.old notes.new) }
-    ensures kernel { machine.new.kernel ≡ kernel_left (class_here machine.old)
-        (next_pc (bare machine.old)) machine.old.regs machine.old.kernel }
+        (sunk K.Sink out.old out.new)) }
+    ensures broken { IfErr result (λ fault. BreaksBy P.picks P.values fault
+        (wild_state machine.old pending.old) picks.old picks.new
+        (drawn S.Source input.old input.new)
+        (sunk K.Sink out.old out.new)) }
+    ensures program { program_of machine.new ≡ program_of machine.old }
     ensures user { IsTrue machine.new.kernel.user }
     ensures bound { IfSome pending.new (λ p. p.waited ≤ 1024) }
 {
     let Some(insn) = machine.insn() else {
-        return precise(machine, None, input, out, notes);
+        return precise(machine, None, input, out);
     };
     match overflow_of(machine, &insn) {
         Some(overflow) => {
-            let value = chooser.next();
+            let value = picks.value();
             trigger(machine, pending, &overflow, value);
-            WildEnd::Triggered
+            Ok(Event::Triggered(value))
         }
-        None => precise(machine, Some(insn), input, out, notes),
+        None => precise(machine, Some(insn), input, out),
     }
 }
 
 // Makes a step while a trap is pending.
 #[inline(always)]
-fn with_trap<C: Chooser, N: Sink>(
+fn with_trap<P: Picks>(
     machine: &mut Machine,
     pending: &mut Option<Pending>,
     trap: &Pending,
-    chooser: &mut C,
-    notes: &mut N,
-) -> WildEnd
+    picks: &mut P,
+) -> Event
     requires user { IsTrue machine.old.kernel.user }
     requires trap { pending.old ≡ Some trap.now }
     requires few { trap.now.waited ≤ 1024 }
-    ensures effect { StepsAlone result
-        (wild_state machine.old pending.old) (wild_state machine.new pending.new)
-        (telling C.ahead C.drawn chooser.old) (telling C.ahead C.drawn chooser.new)
-        (sunk N.Sink notes.old notes.new) }
-    ensures frame { Framed (Some trap.now) result machine.old machine.new }
+    ensures made { Chose P.picks P.values (wild_state machine.old pending.old) picks.old picks.new
+        (StepsAs result (wild_state machine.old pending.old) (wild_state machine.new pending.new)) }
+    ensures program { program_of machine.new ≡ program_of machine.old }
     ensures user { IsTrue machine.new.kernel.user }
     ensures bound { IfSome pending.new (λ p. p.waited ≤ 1024) }
 {
     match trap.waiting_insn(machine) {
-        Some(insn) => {
-            let c = chooser.next();
-            if c % 4 == 0 {
-                report_pending(machine, pending, trap, notes)
-            } else {
-                let value = chooser.next();
-                wait(machine, pending, trap, &insn, c, value);
-                WildEnd::Waited
-            }
-        }
-        None => report_pending(machine, pending, trap, notes),
+        Some(insn) => match picks.pick() {
+            Some(how) => wait(machine, pending, trap, &insn, &how),
+            None => report(machine, pending, trap),
+        },
+        None => report(machine, pending, trap),
     }
 }
 
 // Makes a precise step, at a word that doesn't overflow.
 #[inline(always)]
-fn precise<S: Source, K: Sink, N: Sink>(
+fn precise<S: Source, K: Sink>(
     machine: &mut Machine,
     insn: Option<Insn>,
     input: &mut S,
     out: &mut K,
-    notes: &mut N,
-) -> WildEnd
+) -> Result<Event, Fault>
     requires user { IsTrue machine.old.kernel.user }
     requires here { insn ≡ next_insn (program_of machine.old) machine.old.pc }
     requires exact { triggers (class_here machine.old) (bare machine.old) ≡ false }
-    ensures effect { (chooser : Telling) → WildEffect result
-        (wild_state machine.old None) (wild_state machine.new None) chooser chooser
+    ensures made { IfOk result (λ event.
+        Makes (GoesBy (reporting 0).choice) wild_uses wild_core no_words event
+        (wild_state machine.old None) (wild_state machine.new None)
         (drawn S.Source input.old input.new)
-        (sunk K.Sink out.old out.new)
-        (sunk N.Sink notes.old notes.new) }
-    ensures kernel { machine.new.kernel ≡ kernel_left (class_here machine.old)
-        (next_pc (bare machine.old)) machine.old.regs machine.old.kernel }
+        (sunk K.Sink out.old out.new)) }
+    ensures broken { IfErr result (λ fault.
+        Breaks (GoesBy (reporting 0).choice) wild_uses wild_core no_words fault
+        (wild_state machine.old None)
+        (drawn S.Source input.old input.new)
+        (sunk K.Sink out.old out.new)) }
+    ensures program { program_of machine.new ≡ program_of machine.old }
     ensures user { IsTrue machine.new.kernel.user }
 {
-    match machine.step_by(insn, input, out, notes) {
-        StepEnd::Went => WildEnd::Went,
-        StepEnd::Barrier => WildEnd::Barrier,
-        StepEnd::Overflow(_) => unreachable!(),
-        StepEnd::Ended(end) => WildEnd::Ended(end),
-        StepEnd::InputFault => WildEnd::InputFault,
-        StepEnd::SinkFault => WildEnd::SinkFault,
-    }
+    machine.step_by(insn, input, out)
 }
 
 // Executes a word that overflows by this value for its destination. Its trap is pending then.
@@ -158,8 +150,8 @@ fn precise<S: Source, K: Sink, N: Sink>(
 fn trigger(machine: &mut Machine, pending: &mut Option<Pending>, overflow: &Overflow, value: u64)
     requires none { pending.old ≡ None }
     requires overflows { OverflowsAt machine.old overflow.now.place overflow.now.rc }
-    ensures step { Chooses Triggered
-        (wild_state machine.old pending.old) (wild_state machine.new pending.new) (value ∷ []) }
+    ensures step { StepsBy Triggered (triggering value).choice
+        (wild_state machine.old pending.old) (wild_state machine.new pending.new) }
     ensures user { machine.new.kernel ≡ machine.old.kernel }
     ensures bound { IfSome pending.new (λ p. p.waited ≤ 1024) }
 {
@@ -171,31 +163,42 @@ fn trigger(machine: &mut Machine, pending: &mut Option<Pending>, overflow: &Over
     });
 }
 
-// Executes a word while a trap waits, by its two words.
+// Executes a word while a trap waits.
 #[inline(always)]
 fn wait(
     machine: &mut Machine,
     pending: &mut Option<Pending>,
     trap: &Pending,
     insn: &Insn,
-    c: u64,
-    value: u64,
-)
+    how: &Wait,
+) -> Event
     requires trap { pending.old ≡ Some trap.now }
     requires few { trap.now.waited < 1024 }
     requires waits { WaitsAt machine.old (class_of insn.now) }
-    requires executes { (c % 4 == 0) ≡ false }
-    ensures step { Chooses Waited
-        (wild_state machine.old pending.old) (wild_state machine.new pending.new) (c ∷ value ∷ []) }
+    ensures step { StepsAs result (wild_state machine.old pending.old)
+        (wild_state machine.new pending.new) (choice_by (Some how.now)) }
     ensures user { machine.new.kernel ≡ machine.old.kernel }
     ensures bound { IfSome pending.new (λ p. p.waited ≤ 1024) }
 {
-    spoil(machine, insn, value);
+    let adds = how.adds && adds_here(insn);
+    spoil(machine, insn, how.value);
     *pending = Some(Pending {
         trigger: trap.trigger,
-        mask: mask_after(insn, trap.mask, c / 4 % 2 == 1),
+        mask: mask_after(insn, trap.mask, adds),
         waited: trap.waited + 1,
     });
+    Event::Waited(Wait {
+        adds,
+        value: how.value,
+    })
+}
+
+// Whether an instruction may add its destination to the mask.
+#[inline(always)]
+fn adds_here(insn: &Insn) -> bool
+    ensures { result ≡ adds_here (Some (class_of insn.now)) }
+{
+    destination(insn) != Reg::ZERO
 }
 
 // The mask after an instruction, which adds its destination to it where that is asked for.
@@ -229,40 +232,4 @@ fn mask_with(mask: RegSet, r: Reg) -> RegSet
     ensures { result ≡ with_register mask r }
 {
     mask.with(r)
-}
-
-// Reports the pending trap, and writes the line of what is logged.
-#[inline(always)]
-fn report_pending<N: Sink>(
-    machine: &mut Machine,
-    pending: &mut Option<Pending>,
-    trap: &Pending,
-    notes: &mut N,
-) -> WildEnd
-    requires user { IsTrue machine.old.kernel.user }
-    requires trap { pending.old ≡ Some trap.now }
-    requires few { trap.now.waited ≤ 1024 }
-    ensures effect { (words : List ℕ)
-        → ChoosesReport (wild_state machine.old pending.old) words
-        → AloneEffect result (wild_state machine.old pending.old)
-        (wild_state machine.new pending.new) words (sunk N.Sink notes.old notes.new) }
-    ensures frame { IsFramed machine.new }
-    ensures reports { result ≢ WildEnd.Waited }
-    ensures user { IsTrue machine.new.kernel.user }
-    ensures bound { IfSome pending.new (λ p. p.waited ≤ 1024) }
-{
-    match report(machine, trap.mask) {
-        Landing::Completed(at) => {
-            *pending = None;
-            match write_overflow(at, notes) {
-                Ok(()) => WildEnd::Reported(at),
-                Err(Failed) => WildEnd::SinkFault,
-            }
-        }
-        Landing::Stopped(pc) => {
-            *pending = None;
-            WildEnd::Ended(End::Overflow { pc })
-        }
-        Landing::Lost(lost) => WildEnd::Lost(lost.trap_pc, lost.mask),
-    }
 }

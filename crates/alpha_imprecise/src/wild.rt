@@ -1,9 +1,9 @@
-ghost use Rattle.std.specs.Prelude.{◌≡◌, ◌≤◌, false, None, IfSome, IsTrue};
+ghost use Rattle.std.specs.Prelude.{◌≡◌, ◌<◌, ◌≤◌, ◌+◌, ◌*◌, false, None, IfSome, IfOk, IfErr, IsTrue};
 
 use crate::step::step;
-use crate::{Chooser, Pending, WildEnd};
+use crate::{Chooser, Pending, Picks};
 use alpha_io::{Sink, Source};
-use alpha_seq::Machine;
+use alpha_seq::{Event, Fault, Machine};
 use std::marker::Model;
 
 /// The imprecise machine: a sequential machine, and a trap that may be pending.
@@ -28,13 +28,13 @@ impl Model for Wild {
 impl Wild {
     ghost use Rattle.alpha_io.specs.Sunk.{sunk};
     ghost use Rattle.alpha_seq.specs.Devices.{drawn};
-    ghost use Rattle.alpha_seq.specs.Machine.{class_here, Stays};
-    ghost use Rattle.alpha_seq.specs.Executed.{NeverGoes};
+    ghost use Rattle.alpha_seq.specs.Print.{is_over};
+    ghost use Rattle.alpha_seq.specs.Machine.{Stays};
     ghost use Rattle.alpha_imprecise.specs.Run.{unit_of};
     ghost use Rattle.alpha_imprecise.specs.Telling.{telling};
     ghost use Rattle.alpha_imprecise.specs.Wild.{trap_in};
-    ghost use Rattle.alpha_imprecise.specs.WildEffect.{Framed, WildCause, WildEffect, WildGoesOn};
     ghost use Rattle.alpha_imprecise.specs.WildRushed.{WildRushed};
+    ghost use Rattle.alpha_imprecise.specs.WildEffect.{wild_uses, wild_waits, WildMakes, WildBreaks, MakesBy, BreaksBy};
 
     /// The imprecise machine with nothing pending, over a machine in user mode.
     pub fn new(machine: Machine) -> Wild
@@ -77,23 +77,6 @@ impl Wild {
         }
     }
 
-    /// Makes one step exactly where nothing is pending and the word at the PC only goes on: it draws no word, puts and
-    /// takes nothing, doesn't overflow, is no barrier and doesn't end the program. All else stays to be done by
-    /// [`Wild::step`], and leaves all as it was.
-    #[inline(always)]
-    pub fn goes_on(&mut self) -> bool
-        ensures went { IsTrue result → WildGoesOn self.old self.new }
-        ensures stays { result ≡ false → self.new ≡ self.old }
-        ensures refused { result ≡ false → self.old.pending ≡ None
-            → NeverGoes (class_here self.old.machine) self.old.machine }
-        ensures same { Stays self.old.machine self.new.machine }
-    {
-        match self.pending {
-            None => self.machine.goes_on(),
-            Some(_) => false,
-        }
-    }
-
     /// Makes steps with nothing pending as long as each only goes on, `units` of them at most, and answers how many it
     /// made. It may stop early: what a step does then is what [`Wild::step`] says.
     #[inline(always)]
@@ -109,43 +92,57 @@ impl Wild {
         }
     }
 
-    /// Makes one step by the chooser's words. With nothing pending it is a precise step, or draws a
-    /// word for the destination of an instruction that overflows. While a trap is pending it reports
-    /// without a word where the instruction is a barrier, faults or isn't there, and after 1,024
-    /// words; else it draws a word and reports where that is a multiple of 4; else it draws a second
-    /// word and executes, by that word for the destination and the bytes that are stored, and adds
-    /// the destination of an instruction with `/V` to the mask where bit 2 of the first is 1.
+    /// Makes one step by the choices of `picks`. With nothing pending it is a precise step, or asks for
+    /// the value of the destination of an instruction that overflows. While a trap is pending it
+    /// reports unasked where the instruction is a barrier, faults or isn't there, and after 1,024
+    /// words; else it asks for a pick, and reports where that is none; else it executes, by the pick's
+    /// value for the destination and the bytes that are stored, and adds the destination of an
+    /// instruction with `/V` to the mask where the pick says so.
     ///
-    /// A report that logs writes its line after the handler has returned. `InputFault` comes only
-    /// where the input failed in this step, and `SinkFault` where the output did, or the notes at the
-    /// line of a report, which is then made and logged.
+    /// Whoever makes the steps writes the line of a report that logs, after the handler has returned.
+    /// `Fault::Input` comes only where the input failed in this step, and `Fault::Output` where the
+    /// output did.
     #[inline(always)]
-    pub fn step<C: Chooser, S: Source, K: Sink, N: Sink>(
+    pub fn step_by<P: Picks, S: Source, K: Sink>(
+        &mut self,
+        picks: &mut P,
+        input: &mut S,
+        out: &mut K,
+    ) -> Result<Event, Fault>
+        ensures made { IfOk result (λ event. MakesBy P.picks P.values event self.old self.new
+            picks.old picks.new
+            (drawn S.Source input.old input.new)
+            (sunk K.Sink out.old out.new)) }
+        ensures broken { IfErr result (λ fault. BreaksBy P.picks P.values fault self.old
+            picks.old picks.new
+            (drawn S.Source input.old input.new)
+            (sunk K.Sink out.old out.new)) }
+        ensures same { Stays self.old.machine self.new.machine }
+    {
+        step(&mut self.machine, &mut self.pending, picks, input, out)
+    }
+
+    /// Makes one step by the chooser's words, as [`Wild::step_by`] does: no word is drawn where nothing
+    /// is asked, one for a value or for a pick that is a report, and two for another pick.
+    #[inline(always)]
+    pub fn step<C: Chooser, S: Source, K: Sink>(
         &mut self,
         chooser: &mut C,
         input: &mut S,
         out: &mut K,
-        notes: &mut N,
-    ) -> WildEnd
-        ensures effect { WildEffect result self.old self.new
+    ) -> Result<Event, Fault>
+        ensures made { IfOk result (λ event. WildMakes event self.old self.new
             (telling C.ahead C.drawn chooser.old) (telling C.ahead C.drawn chooser.new)
             (drawn S.Source input.old input.new)
-            (sunk K.Sink out.old out.new)
-            (sunk N.Sink notes.old notes.new) }
-        ensures frame { Framed self.old.pending result self.old.machine self.new.machine }
-        ensures cause { WildCause result
+            (sunk K.Sink out.old out.new)) }
+        ensures nearer { IfOk result (λ event. is_over event ≡ false
+            → wild_waits self.new < wild_waits self.old + 1026 * wild_uses self.old) }
+        ensures broken { IfErr result (λ fault. WildBreaks fault self.old
+            (telling C.ahead C.drawn chooser.old) (telling C.ahead C.drawn chooser.new)
             (drawn S.Source input.old input.new)
-            (sunk K.Sink out.old out.new)
-            (sunk N.Sink notes.old notes.new) }
+            (sunk K.Sink out.old out.new)) }
         ensures same { Stays self.old.machine self.new.machine }
     {
-        step(
-            &mut self.machine,
-            &mut self.pending,
-            chooser,
-            input,
-            out,
-            notes,
-        )
+        self.step_by(chooser, input, out)
     }
 }

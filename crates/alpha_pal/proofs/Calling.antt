@@ -7,21 +7,26 @@ use Rattle.alpha_words.specs.declared.PalCall.TheVariants.{Bpt, Bugchk, Callsys,
 use Rattle.alpha_words.specs.Regs.{reg, put}
 use Rattle.alpha_mem.specs.Block.{Block}
 use Rattle.alpha_pal.specs.declared.frame.Frame.{Frame}
+use Rattle.alpha_pal.specs.declared.fault.Fault.{Fault}
+use Rattle.alpha_pal.specs.declared.fault.Fault.TheVariants.{Input, Output, Notes}
 use Rattle.alpha_pal.specs.declared.pal_end.PalEnd.{PalEnd}
+use Rattle.alpha_pal.specs.declared.pal_end.Passed.TheVariants.{Nothing}
 use Rattle.alpha_pal.specs.declared.serve.Request.{Request}
 use Rattle.alpha_pal.specs.declared.serve.Answer.{Answer}
-use Rattle.alpha_pal.specs.declared.serve.Answer.TheVariants.{Value, Error, Exit}
-use Rattle.alpha_pal.specs.declared.serve.Fault.{Fault}
-use Rattle.alpha_pal.specs.declared.serve.Fault.TheVariants.{Input, Sink}
+use Rattle.alpha_pal.specs.declared.serve.Answer.TheVariants.{Read, Wrote, Error, Exit}
 use Rattle.alpha_pal.specs.Kernel.{KernelState, entered, entry_regs}
 use Rattle.alpha_pal.specs.Call.{Outside, outside, goes, signals, call}
 use Rattle.alpha_pal.specs.Serve.{request_of, after_serve}
-use Rattle.alpha_pal.specs.CallEffect.{ServeEffect, CallEffect, GoesOn, seen, end_of, regs_after}
+use Rattle.alpha_pal.specs.CallEffect.{ServeEffect, CallEffect, GoesOn, InputCause, SinkCause, seen, end_of, regs_after}
 use Rattle.alpha_pal.proofs.Serving.{rest_of, Takes-nothing}
 use Rattle.alpha_pal.proofs.Callsys.{callsys-does}
 
 -- a call that leaves memory and devices alone
-GoesOn-quiet : (function : PalCall) (regs regs' : List ℕ) (mem : List Block) (unique unique' : ℕ) (left written : Option (List ℕ)) → ((input output : List ℕ) → call function regs mem (outside unique input output) ≡ goes regs' mem (outside unique' input output)) → GoesOn function (seen regs mem unique left written) (seen regs' mem unique' left written)
+GoesOn-quiet : (function : PalCall) (regs regs' : List ℕ) (mem : List Block) (unique unique' : ℕ)
+    (left written : Option (List ℕ))
+    → ((input output : List ℕ)
+    → call function regs mem (outside unique input output) ≡ goes regs' mem (outside unique' input output))
+    → GoesOn function Nothing (seen regs mem unique left written) (seen regs' mem unique' left written)
 GoesOn-quiet function regs regs' mem unique unique' left written does = record {
   taken = [];
   rest = rest_of left left;
@@ -31,9 +36,11 @@ GoesOn-quiet function regs regs' mem unique unique' left written does = record {
   is = λ output.
       does (rest_of left left) output
       ∙ ap (λ l. goes regs' mem (outside unique' (rest_of left left) l)) (sym (append-nil output));
+  passes = (refl, refl);
 }
 
-pub imb_goes_on : (regs : List ℕ) (mem : List Block) (unique : ℕ) (left written : Option (List ℕ)) → GoesOn Imb (seen regs mem unique left written) (seen regs mem unique left written)
+pub imb_goes_on : (regs : List ℕ) (mem : List Block) (unique : ℕ) (left written : Option (List ℕ))
+    → GoesOn Imb Nothing (seen regs mem unique left written) (seen regs mem unique left written)
 unfolding call
 imb_goes_on regs mem unique left written =
     GoesOn-quiet Imb regs regs mem unique unique left written (λ input output. refl)
@@ -42,7 +49,9 @@ rdunique-does : (regs : List ℕ) (mem : List Block) (o : Outside) → call Rdun
 unfolding call
 rdunique-does regs mem o = refl
 
-pub rdunique_goes_on : (regs regs' : List ℕ) (mem : List Block) (unique : ℕ) (left written : Option (List ℕ)) → regs' ≡ put regs 0 unique → GoesOn Rdunique (seen regs mem unique left written) (seen regs' mem unique left written)
+pub rdunique_goes_on : (regs regs' : List ℕ) (mem : List Block) (unique : ℕ) (left written : Option (List ℕ))
+    → regs' ≡ put regs 0 unique
+    → GoesOn Rdunique Nothing (seen regs mem unique left written) (seen regs' mem unique left written)
 rdunique_goes_on regs regs' mem unique left written set =
     GoesOn-quiet Rdunique regs regs' mem unique unique left written (λ input output. rdunique-does regs mem (outside unique input output) ∙ ap (λ l. goes l mem (outside unique input output)) (sym set))
 
@@ -50,7 +59,9 @@ wrunique-does : (regs : List ℕ) (mem : List Block) (o : Outside) → call Wrun
 unfolding call
 wrunique-does regs mem o = refl
 
-pub wrunique_goes_on : (regs : List ℕ) (mem : List Block) (unique unique' : ℕ) (left written : Option (List ℕ)) → unique' ≡ reg regs 16 → GoesOn Wrunique (seen regs mem unique left written) (seen regs mem unique' left written)
+pub wrunique_goes_on : (regs : List ℕ) (mem : List Block) (unique unique' : ℕ) (left written : Option (List ℕ))
+    → unique' ≡ reg regs 16
+    → GoesOn Wrunique Nothing (seen regs mem unique left written) (seen regs mem unique' left written)
 wrunique_goes_on regs mem unique unique' left written set =
     GoesOn-quiet Wrunique regs regs mem unique unique' left written (λ input output. wrunique-does regs mem (outside unique input output) ∙ ap (λ n. goes regs mem (outside n input output)) (sym set))
 
@@ -78,7 +89,8 @@ unfolding reg put
 restored_all regs sized = grind (arith, elements)
 
 restored : (served : Result Answer Fault) (regs : List ℕ) → length regs ≡ 32 → put (put (regs_after served (entry_regs regs)) 29 (reg regs 29)) 30 (reg regs 30) ≡ regs_after served regs
-restored (Ok (Value v)) regs sized = restored_two regs v 0 sized
+restored (Ok (Read n)) regs sized = restored_two regs n 0 sized
+restored (Ok (Wrote n)) regs sized = restored_two regs n 0 sized
 restored (Ok (Error n)) regs sized = restored_two regs n 1 sized
 restored (Ok (Exit v)) regs sized = restored_all regs sized
 restored (Err fault) regs sized = restored_all regs sized
@@ -87,8 +99,12 @@ restored (Err fault) regs sized = restored_all regs sized
 same_seen : (regs regs' : List ℕ) (mem mem' : List Block) (unique : ℕ) (left left' written written' : Option (List ℕ)) → regs' ≡ regs → mem' ≡ mem → left' ≡ left → written' ≡ written → seen regs' mem' unique left' written' ≡ seen regs mem unique left written
 same_seen regs regs' mem mem' unique left left' written written' e0 e1 e2 e3 = simp (e0, e1, e2, e3)
 
-served_effect : (served : Result Answer Fault) (regs regs' : List ℕ) (mem mem' : List Block) (unique : ℕ) (left left' written written' : Option (List ℕ)) → ServeEffect (request_of regs) served mem mem' left left' written written' → regs' ≡ regs_after served regs → CallEffect Callsys (end_of served) (seen regs mem unique left written) (seen regs' mem' unique left' written')
-served_effect (Ok (Value v)) regs regs' mem mem' unique left left' written written' h set = record {
+served_effect : (served : Result Answer Fault) (regs regs' : List ℕ) (mem mem' : List Block) (unique : ℕ)
+    (left left' written written' : Option (List ℕ))
+    → ServeEffect (request_of regs) served mem mem' left left' written written' → regs' ≡ regs_after served regs
+    → CallEffect Callsys (end_of (request_of regs) served) (seen regs mem unique left written)
+    (seen regs' mem' unique left' written')
+served_effect (Ok (Read n)) regs regs' mem mem' unique left left' written written' h set = record {
   taken = h.taken;
   rest = h.rest;
   bytes = h.bytes;
@@ -98,6 +114,19 @@ served_effect (Ok (Value v)) regs regs' mem mem' unique left left' written writt
       callsys-does regs mem (outside unique (h.taken ++ h.rest) output)
       ∙ (ap (after_serve regs) (h.is unique output)
       ∙ ap (λ l. goes l mem' (outside unique h.rest (output ++ h.bytes))) (sym set));
+  passes = h.passes;
+}
+served_effect (Ok (Wrote n)) regs regs' mem mem' unique left left' written written' h set = record {
+  taken = h.taken;
+  rest = h.rest;
+  bytes = h.bytes;
+  took = h.took;
+  wrote = h.wrote;
+  is = λ output.
+      callsys-does regs mem (outside unique (h.taken ++ h.rest) output)
+      ∙ (ap (after_serve regs) (h.is unique output)
+      ∙ ap (λ l. goes l mem' (outside unique h.rest (output ++ h.bytes))) (sym set));
+  passes = h.passes;
 }
 served_effect (Ok (Error n)) regs regs' mem mem' unique left left' written written' h set = record {
   taken = h.taken;
@@ -109,23 +138,27 @@ served_effect (Ok (Error n)) regs regs' mem mem' unique left left' written writt
       callsys-does regs mem (outside unique (h.taken ++ h.rest) output)
       ∙ (ap (after_serve regs) (h.is unique output)
       ∙ ap (λ l. goes l mem' (outside unique h.rest (output ++ h.bytes))) (sym set));
+  passes = h.passes;
 }
 served_effect (Ok (Exit v)) regs regs' mem mem' unique left left' written written' h set =
     (λ o. callsys-does regs mem o ∙ ap (after_serve regs) (h.0 o), same_seen regs regs' mem mem' unique left left' written written' set h.1 h.2 h.3)
 served_effect (Err Input) regs regs' mem mem' unique left left' written written' h set =
     (refl, h.0, same_seen regs regs' mem' mem' unique left' left' written written' set refl refl h.1)
-served_effect (Err Sink) regs regs' mem mem' unique left left' written written' h set =
+served_effect (Err Output) regs regs' mem mem' unique left left' written written' h set =
     (refl, h.0, same_seen regs regs' mem mem' unique left left' written' written' set h.1 h.2 refl)
+served_effect (Err Notes) regs regs' mem mem' unique left left' written written' h set = absurd h
 
 -- a system call between its entry and its return
-pub callsys_effect : (request : Request) (served : Result Answer Fault) (end : PalEnd) (k : KernelState) (f : Frame) (regs entry answer now : List ℕ) (mem mem' : List Block) (unique : ℕ) (left left' written written' : Option (List ℕ))
+pub callsys_effect : (request : Request) (served : Result Answer Fault) (end : Result PalEnd Fault) (k : KernelState)
+    (f : Frame) (regs entry answer now : List ℕ) (mem mem' : List Block) (unique : ℕ)
+    (left left' written written' : Option (List ℕ))
     → length regs ≡ 32
     → request ≡ request_of regs
     → k ≡ entered f regs
     → f.gp ≡ reg regs 29
     → entry ≡ entry_regs regs
     → ServeEffect request served mem mem' left left' written written'
-    → end ≡ end_of served
+    → end ≡ end_of request served
     → answer ≡ regs_after served entry
     → now ≡ put (put answer 29 k.frame.gp) 30 k.user_stack
     → CallEffect Callsys end (seen regs mem unique left written) (seen now mem' unique left' written')
@@ -136,4 +169,32 @@ callsys_effect request served end k f regs entry answer now mem mem' unique left
     ∙ (ap (λ x. put (put answer 29 (reg regs 29)) 30 x) (ap (λ (s : KernelState). s.user_stack) state)
     ∙ ap (λ l. put (put l 29 (reg regs 29)) 30 (reg regs 30)) (answer_is ∙ ap (regs_after served) entry_is))) in
     let effect = subst (λ (r : Request). ServeEffect r served mem mem' left left' written written') asked h in
-    subst (λ (e : PalEnd). CallEffect Callsys e (seen regs mem unique left written) (seen now mem' unique left' written')) (sym end_is) (served_effect served regs now mem mem' unique left left' written written' effect (set ∙ restored served regs sized))
+    subst (λ (e : Result PalEnd Fault). CallEffect Callsys e (seen regs mem unique left written)
+    (seen now mem' unique left' written')) (sym (end_is ∙ ap (λ (r : Request). end_of r served) asked))
+    (served_effect served regs now mem mem' unique left left' written written' effect
+    (set ∙ restored served regs sized))
+
+-- the causes of a system call's result are those of its end
+pub input_cause : (request : Request) (served : Result Answer Fault) (end : Result PalEnd Fault) (before now : ℕ)
+    → end ≡ end_of request served → InputCause served before now → InputCause end before now
+input_cause request served end before now is h =
+    subst (λ (e : Result PalEnd Fault). InputCause e before now) (sym is) (by served h)
+  where
+    by : (s : Result Answer Fault) → InputCause s before now → InputCause (end_of request s) before now
+    by (Ok (Read n)) h = h
+    by (Ok (Wrote n)) h = h
+    by (Ok (Error n)) h = h
+    by (Ok (Exit v)) h = h
+    by (Err fault) h = h
+
+pub sink_cause : (request : Request) (served : Result Answer Fault) (end : Result PalEnd Fault) (before now : ℕ)
+    → end ≡ end_of request served → SinkCause served before now → SinkCause end before now
+sink_cause request served end before now is h =
+    subst (λ (e : Result PalEnd Fault). SinkCause e before now) (sym is) (by served h)
+  where
+    by : (s : Result Answer Fault) → SinkCause s before now → SinkCause (end_of request s) before now
+    by (Ok (Read n)) h = h
+    by (Ok (Wrote n)) h = h
+    by (Ok (Error n)) h = h
+    by (Ok (Exit v)) h = h
+    by (Err fault) h = h

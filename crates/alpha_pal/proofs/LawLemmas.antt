@@ -7,6 +7,7 @@ use Rattle.alpha_words.proofs.RegLemmas.{length-put}
 use Rattle.alpha_mem.specs.Block.{Block, shapes}
 use Rattle.alpha_mem.proofs.LawLemmas.{shapes-write_bytes}
 use Rattle.alpha_pal.specs.Call.{Outside, outside, Called, goes, exits, signals, call}
+use Rattle.alpha_pal.specs.declared.pal_end.Passed.{Passed}
 use Rattle.alpha_pal.specs.CallEffect.{Takes, Seen, GoesOn, GoesOnTold}
 use Rattle.alpha_pal.proofs.Callsys.{callsys-each}
 
@@ -57,8 +58,9 @@ unfolding regs_of
 length-call function regs regs' mem mem' o o' e =
     ap (λ c. length (regs_of regs c)) (sym e) ∙ regs_of-call function regs mem o
 
-pub GoesOnTold-from : (function : PalCall) (old new : Seen) (left : List ℕ) → old.left ≡ Some left → GoesOn function old new → GoesOnTold function old new left
-GoesOnTold-from function old new left told h =
+pub GoesOnTold-from : (function : PalCall) (passed : Passed) (old new : Seen) (left : List ℕ) → old.left ≡ Some left
+    → GoesOn function passed old new → GoesOnTold function old new left
+GoesOnTold-from function passed old new left told h =
     let took = subst (λ (l : Option (List ℕ)). Takes l new.left h.taken h.rest) told h.took in
     record {
       rest = h.rest;

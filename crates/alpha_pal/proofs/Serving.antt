@@ -6,14 +6,16 @@ use Rattle.std.specs.Io.KnownBytes.{Appends, Consumes}
 use Rattle.std.proofs.KnownBytes.{Appends-nil}
 use Rattle.alpha_mem.specs.Intent.{Load, Store}
 use Rattle.alpha_mem.specs.Block.{Block, shapes, within}
-use Rattle.alpha_mem.specs.Memory.{bytes_at, write_bytes}
+use Rattle.alpha_mem.specs.Memory.{bytes_at, write_bytes, IsLayout}
 use Rattle.alpha_pal.specs.declared.serve.Request.{Request}
 use Rattle.alpha_pal.specs.declared.serve.Answer.{Answer}
-use Rattle.alpha_pal.specs.declared.serve.Answer.TheVariants.{Value, Error, Exit}
+use Rattle.alpha_pal.specs.declared.serve.Answer.TheVariants.{Read, Wrote, Error, Exit}
 use Rattle.alpha_pal.specs.Taken.{HasTaken, TakesLess, NothingLeft}
 use Rattle.alpha_pal.specs.Call.{Outside, outside}
 use Rattle.alpha_pal.specs.Serve.{served, serve_read, serve_write, serve}
-use Rattle.alpha_pal.specs.CallEffect.{Takes, Serves, TakesPart}
+use Rattle.alpha_pal.specs.Passed.{IsPassed}
+use Rattle.alpha_pal.specs.CallEffect.{Takes, Serves, TakesPart, passed_by}
+use Rattle.alpha_pal.proofs.Takings.{taken_behind}
 
 -- ---- what the input has left
 
@@ -60,8 +62,10 @@ serve-none r mem o n1 n3 n4 = rw (ne_eqb r.number 1 n1, ne_eqb r.number 3 n3, ne
 
 -- ---- answers that change nothing
 
-Serves-same : (r : Request) (answer : Answer) (mem : List Block) (left written : Option (List ℕ)) → ((o : Outside) → serve r mem o ≡ served answer mem o) → Serves r answer mem mem left left written written
-Serves-same r answer mem left written same = record {
+Serves-same : (r : Request) (answer : Answer) (mem : List Block) (left written : Option (List ℕ))
+    → IsPassed (passed_by r answer) mem [] [] → ((o : Outside) → serve r mem o ≡ served answer mem o)
+    → Serves r answer mem mem left left written written
+Serves-same r answer mem left written passes same = record {
   taken = [];
   rest = rest_of left left;
   bytes = [];
@@ -70,6 +74,7 @@ Serves-same r answer mem left written same = record {
   is = λ unique output.
       same (outside unique (rest_of left left) output)
       ∙ ap (λ l. served answer mem (outside unique (rest_of left left) l)) (sym (append-nil output));
+  passes = passes;
 }
 
 pub Serves-exit : (r : Request) (mem : List Block) → r.number ≡ 1 → (o : Outside) → serve r mem o ≡ served (Exit r.a0) mem o
@@ -77,7 +82,7 @@ Serves-exit r mem e o = serve-exit r mem o e
 
 pub Serves-none : (r : Request) (mem : List Block) (left written : Option (List ℕ)) → r.number ≢ 1 → r.number ≢ 3 → r.number ≢ 4 → Serves r (Error 78) mem mem left left written written
 Serves-none r mem left written n1 n3 n4 =
-    Serves-same r (Error 78) mem left written (λ o. serve-none r mem o n1 n3 n4)
+    Serves-same r (Error 78) mem left written (refl, refl) (λ o. serve-none r mem o n1 n3 n4)
 
 -- ---- read
 
@@ -87,16 +92,20 @@ read-descriptor r mem o bad = rw (ne_eqb r.a0 0 bad) refl
 read-range : (r : Request) (mem : List Block) (o : Outside) → r.a0 ≡ 0 → within (shapes mem) Store r.a1 r.a2 ≡ false → serve_read r mem o ≡ served (Error 14) mem o
 read-range r mem o good bad = rw (good, bad) refl
 
-read-good : (r : Request) (mem : List Block) (o : Outside) → r.a0 ≡ 0 → within (shapes mem) Store r.a1 r.a2 ≡ true → serve_read r mem o ≡ served (Value (length (take r.a2 o.input))) (write_bytes mem r.a1 (take r.a2 o.input)) (outside o.unique (drop r.a2 o.input) o.output)
+read-good : (r : Request) (mem : List Block) (o : Outside) → r.a0 ≡ 0 → within (shapes mem) Store r.a1 r.a2 ≡ true
+    → serve_read r mem o ≡ served (Read (length (take r.a2 o.input))) (write_bytes mem r.a1 (take r.a2 o.input))
+    (outside o.unique (drop r.a2 o.input) o.output)
 read-good r mem o good range = rw (good, range) refl
 
 pub read_bad_descriptor : (r : Request) (mem : List Block) (left written : Option (List ℕ)) → r.number ≡ 3 → r.a0 ≢ 0 → Serves r (Error 9) mem mem left left written written
 read_bad_descriptor r mem left written number bad =
-    Serves-same r (Error 9) mem left written (λ o. serves-read r mem o number ∙ read-descriptor r mem o bad)
+    Serves-same r (Error 9) mem left written (refl, refl)
+    (λ o. serves-read r mem o number ∙ read-descriptor r mem o bad)
 
 pub read_bad_range : (r : Request) (mem : List Block) (left written : Option (List ℕ)) → r.number ≡ 3 → r.a0 ≡ 0 → within (shapes mem) Store r.a1 r.a2 ≡ false → Serves r (Error 14) mem mem left left written written
 read_bad_range r mem left written number good bad =
-    Serves-same r (Error 14) mem left written (λ o. serves-read r mem o number ∙ read-range r mem o good bad)
+    Serves-same r (Error 14) mem left written (refl, refl)
+    (λ o. serves-read r mem o number ∙ read-range r mem o good bad)
 
 -- what was taken is the front of as many bytes as were asked for
 take-taken : (taken rest : List ℕ) (n : ℕ) → length taken ≤ n → (length taken < n → rest ≡ []) → take n (taken ++ rest) ≡ taken
@@ -107,8 +116,12 @@ drop-taken : (taken rest : List ℕ) (n : ℕ) → length taken ≤ n → (lengt
 drop-taken taken rest n fits ended =
     ⊎_elim (λ (p : length taken < n). let whole : taken ++ rest ≡ taken = ap (λ l. taken ++ l) (ended p) ∙ append-nil taken in ap (drop n) whole ∙ (drop_all n taken fits ∙ sym (ended p))) (λ (p : n ≤ length taken). drop_at taken rest n (omega arith)) (cases_lt (length taken) n)
 
-pub read_done : (r : Request) (mem mem' : List Block) (left left' written : Option (List ℕ)) (n : ℕ) → r.number ≡ 3 → r.a0 ≡ 0 → IsTrue (within (shapes mem) Store r.a1 r.a2) → HasTaken mem mem' r.a1 n left left' → n ≤ r.a2 → (n < r.a2 → NothingLeft left left') → Serves r (Value n) mem mem' left left' written written
-read_done r mem mem' left left' written n number good range h fits ended =
+pub read_done : (r : Request) (mem mem' : List Block) (left left' written : Option (List ℕ)) (n : ℕ)
+    → IsLayout (shapes mem) → r.number ≡ 3 → r.a0 ≡ 0 → IsTrue (within (shapes mem) Store r.a1 r.a2)
+    → HasTaken mem mem' r.a1 n left left' → n ≤ r.a2 → (n < r.a2 → NothingLeft left left')
+    → Serves r (Read n) mem mem' left left' written written
+read_done r mem mem' left left' written n layout number good range h fits ended =
+    let there = taken_behind mem mem' r.a1 n r.a2 left left' layout range fits h in
     let rest = rest_of left left' in
     let ends : length h.taken < r.a2 → rest ≡ [] = λ p. rest_of-ended left left' (ended (omega (arith, h.count))) in
     let bound : length h.taken ≤ r.a2 = omega (arith, h.count) in
@@ -124,15 +137,20 @@ read_done r mem mem' left left' written n number good range h fits ended =
           let o = outside unique (h.taken ++ rest) output in
           serves-read r mem o number
           ∙ (read-good r mem o good range
-          ∙ (ap (λ l. served (Value (length l)) (write_bytes mem r.a1 l) (outside unique (drop r.a2 (h.taken ++ rest)) output)) front
-          ∙ (ap (λ l. served (Value (length h.taken)) (write_bytes mem r.a1 h.taken) (outside unique l output)) back
-          ∙ (ap (λ k. served (Value k) (write_bytes mem r.a1 h.taken) (outside unique rest output)) (sym h.count)
-          ∙ (ap (λ m. served (Value n) m (outside unique rest output)) (sym h.there)
-          ∙ ap (λ l. served (Value n) mem' (outside unique rest l)) (sym (append-nil output)))))));
+          ∙ (ap (λ l. served (Read (length l)) (write_bytes mem r.a1 l)
+          (outside unique (drop r.a2 (h.taken ++ rest)) output)) front
+          ∙ (ap (λ l. served (Read (length h.taken)) (write_bytes mem r.a1 h.taken) (outside unique l output)) back
+          ∙ (ap (λ k. served (Read k) (write_bytes mem r.a1 h.taken) (outside unique rest output)) (sym h.count)
+          ∙ (ap (λ m. served (Read n) m (outside unique rest output)) (sym h.there)
+          ∙ ap (λ l. served (Read n) mem' (outside unique rest l)) (sym (append-nil output)))))));
+      passes = (there.0, there.1, refl);
     }
 
-pub read_failed : (r : Request) (mem mem' : List Block) (left left' : Option (List ℕ)) → r.number ≡ 3 → r.a0 ≡ 0 → IsTrue (within (shapes mem) Store r.a1 r.a2) → TakesLess mem mem' r.a1 r.a2 left left' → TakesPart r mem mem' left left'
-read_failed r mem mem' left left' number good range h = record {
+pub read_failed : (r : Request) (mem mem' : List Block) (left left' : Option (List ℕ)) → IsLayout (shapes mem)
+    → r.number ≡ 3 → r.a0 ≡ 0 → IsTrue (within (shapes mem) Store r.a1 r.a2) → TakesLess mem mem' r.a1 r.a2 left left'
+    → TakesPart r mem mem' left left'
+read_failed r mem mem' left left' layout number good range h = record {
+  layout = layout;
   number = number;
   descriptor = good;
   range = range;
@@ -151,18 +169,23 @@ write-descriptor r mem o bad = rw (ne_eqb r.a0 1 bad) refl
 write-range : (r : Request) (mem : List Block) (o : Outside) → r.a0 ≡ 1 → within (shapes mem) Load r.a1 r.a2 ≡ false → serve_write r mem o ≡ served (Error 14) mem o
 write-range r mem o good bad = rw (good, bad) refl
 
-write-good : (r : Request) (mem : List Block) (o : Outside) → r.a0 ≡ 1 → within (shapes mem) Load r.a1 r.a2 ≡ true → serve_write r mem o ≡ served (Value r.a2) mem (outside o.unique o.input (o.output ++ bytes_at mem r.a1 r.a2))
+write-good : (r : Request) (mem : List Block) (o : Outside) → r.a0 ≡ 1 → within (shapes mem) Load r.a1 r.a2 ≡ true
+    → serve_write r mem o ≡ served (Wrote r.a2) mem (outside o.unique o.input (o.output ++ bytes_at mem r.a1 r.a2))
 write-good r mem o good range = rw (good, range) refl
 
 pub write_bad_descriptor : (r : Request) (mem : List Block) (left written : Option (List ℕ)) → r.number ≡ 4 → r.a0 ≢ 1 → Serves r (Error 9) mem mem left left written written
 write_bad_descriptor r mem left written number bad =
-    Serves-same r (Error 9) mem left written (λ o. serves-write r mem o number ∙ write-descriptor r mem o bad)
+    Serves-same r (Error 9) mem left written (refl, refl)
+    (λ o. serves-write r mem o number ∙ write-descriptor r mem o bad)
 
 pub write_bad_range : (r : Request) (mem : List Block) (left written : Option (List ℕ)) → r.number ≡ 4 → r.a0 ≡ 1 → within (shapes mem) Load r.a1 r.a2 ≡ false → Serves r (Error 14) mem mem left left written written
 write_bad_range r mem left written number good bad =
-    Serves-same r (Error 14) mem left written (λ o. serves-write r mem o number ∙ write-range r mem o good bad)
+    Serves-same r (Error 14) mem left written (refl, refl)
+    (λ o. serves-write r mem o number ∙ write-range r mem o good bad)
 
-pub write_done : (r : Request) (mem : List Block) (left written written' : Option (List ℕ)) (bytes : List ℕ) → r.number ≡ 4 → r.a0 ≡ 1 → IsTrue (within (shapes mem) Load r.a1 r.a2) → bytes ≡ bytes_at mem r.a1 r.a2 → Appends written written' bytes → Serves r (Value r.a2) mem mem left left written written'
+pub write_done : (r : Request) (mem : List Block) (left written written' : Option (List ℕ)) (bytes : List ℕ)
+    → r.number ≡ 4 → r.a0 ≡ 1 → IsTrue (within (shapes mem) Load r.a1 r.a2) → bytes ≡ bytes_at mem r.a1 r.a2
+    → Appends written written' bytes → Serves r (Wrote r.a2) mem mem left left written written'
 write_done r mem left written written' bytes number good range these wrote = record {
   taken = [];
   rest = rest_of left left;
@@ -172,6 +195,7 @@ write_done r mem left written written' bytes number good range these wrote = rec
   is = λ unique output.
       let o = outside unique (rest_of left left) output in
       serves-write r mem o number ∙ write-good r mem o good range;
+  passes = (range, refl, refl);
 }
 
 -- a test that isn't true where another isn't

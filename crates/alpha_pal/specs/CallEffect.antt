@@ -8,25 +8,35 @@ use Rattle.alpha_io.specs.Faults.{Rose}
 use Rattle.alpha_io.specs.Written.{WritesPrefix}
 use Rattle.alpha_mem.specs.Intent.{Load, Store}
 use Rattle.alpha_mem.specs.Block.{Block, shapes, within}
-use Rattle.alpha_mem.specs.Memory.{bytes_at, write_bytes}
+use Rattle.alpha_mem.specs.Memory.{bytes_at, write_bytes, IsLayout}
 use Rattle.alpha_pal.specs.declared.serve.Request.{Request}
-use Rattle.alpha_pal.specs.declared.serve.Fault.{Fault}
-use Rattle.alpha_pal.specs.declared.serve.Fault.TheVariants.{Input, Sink}
+use Rattle.alpha_pal.specs.declared.fault.Fault.{Fault}
+use Rattle.alpha_pal.specs.declared.fault.Fault.TheVariants.{Input, Output, Notes}
 use Rattle.alpha_pal.specs.declared.serve.Answer.{Answer}
-use Rattle.alpha_pal.specs.declared.serve.Answer.TheVariants.{Value, Error, Exit as Exits}
+use Rattle.alpha_pal.specs.declared.serve.Answer.TheVariants.{Read, Wrote, Error, Exit as Exits}
 use Rattle.alpha_pal.specs.declared.pal_end.PalEnd.{PalEnd}
-use Rattle.alpha_pal.specs.declared.pal_end.PalEnd.TheVariants.{Goes, Exit, Signal, InputFault, SinkFault}
+use Rattle.alpha_pal.specs.declared.pal_end.PalEnd.TheVariants.{Goes, Exit, Signal}
+use Rattle.alpha_pal.specs.declared.pal_end.Passed.{Passed}
+use Rattle.alpha_pal.specs.declared.pal_end.Passed.TheVariants.{Nothing, Took, Put}
 use Rattle.alpha_pal.specs.Kernel.{KernelState, call_frame}
 use Rattle.alpha_pal.specs.Call.{Outside, outside, goes, exits, signals, call}
 use Rattle.alpha_pal.specs.Serve.{read_call, write_call, input_descriptor, output_descriptor, served, serve, request_of, answered}
+use Rattle.alpha_pal.specs.Passed.{IsPassed}
 
 -- where the input was told, it was `taken` and then `rest`, and `rest` is left
 abbrev pub Takes : Option (List ℕ) → Option (List ℕ) → List ℕ → List ℕ → Type 0
 Takes None now taken rest = ⊤
 Takes (Some xs) now taken rest = (xs ≡ taken ++ rest) × (now ≡ Some rest)
 
+-- what an answer to a request says that it took or put
+abbrev pub passed_by : Request → Answer → Passed
+passed_by r (Read n) = Took r.a1 n
+passed_by r (Wrote n) = Put r.a1 n
+passed_by r (Error n) = Nothing
+passed_by r (Exits v) = Nothing
+
 -- the answer and the memory are those of the definition, at an input of what was taken and the rest,
--- and what was put is the output's growth
+-- and what was put is the output's growth. Both stand in memory.
 pub record Serves
     (r : Request) (answer : Answer) (mem mem' : List Block)
     (left left' written written' : Option (List ℕ)) : Type 0 where
@@ -37,9 +47,12 @@ pub record Serves
   pub wrote : Appends written written' bytes
   pub is : (unique : ℕ) (output : List ℕ)
       → serve r mem (outside unique (taken ++ rest) output) ≡ served answer mem' (outside unique rest (output ++ bytes))
+  pub passes : IsPassed (passed_by r answer) mem' taken bytes
 
--- a good read whose source failed: the bytes taken so far are in memory, and fewer than were asked for
+-- a good read whose source failed: the bytes taken so far are in memory, whose blocks lie apart, and fewer than were
+-- asked for
 pub record TakesPart (r : Request) (mem mem' : List Block) (left left' : Option (List ℕ)) : Type 0 where
+  pub layout : IsLayout (shapes mem)
   pub number : r.number ≡ read_call
   pub descriptor : r.a0 ≡ input_descriptor
   pub range : IsTrue (within (shapes mem) Store r.a1 r.a2)
@@ -59,20 +72,22 @@ pub record PutsPart (r : Request) (mem : List Block) (written written' : Option 
 -- a system call's effect on memory, input and output, by its result
 abbrev pub ServeEffect : Request → Result Answer Fault → List Block → List Block
     → Option (List ℕ) → Option (List ℕ) → Option (List ℕ) → Option (List ℕ) → Type 0
-ServeEffect r (Ok (Value v)) mem mem' left left' written written' = Serves r (Value v) mem mem' left left' written written'
+ServeEffect r (Ok (Read n)) mem mem' left left' written written' = Serves r (Read n) mem mem' left left' written written'
+ServeEffect r (Ok (Wrote n)) mem mem' left left' written written' = Serves r (Wrote n) mem mem' left left' written written'
 ServeEffect r (Ok (Error n)) mem mem' left left' written written' = Serves r (Error n) mem mem' left left' written written'
 ServeEffect r (Ok (Exits v)) mem mem' left left' written written' =
     ((o : Outside) → serve r mem o ≡ served (Exits v) mem o) × (mem' ≡ mem) × (left' ≡ left) × (written' ≡ written)
 ServeEffect r (Err Input) mem mem' left left' written written' = TakesPart r mem mem' left left' × (written' ≡ written)
-ServeEffect r (Err Sink) mem mem' left left' written written' = PutsPart r mem written written' × (mem' ≡ mem) × (left' ≡ left)
+ServeEffect r (Err Output) mem mem' left left' written written' = PutsPart r mem written written' × (mem' ≡ mem) × (left' ≡ left)
+ServeEffect r (Err Notes) mem mem' left left' written written' = ⊥
 
 -- how a call ends, by a system call's result
-abbrev pub end_of : Result Answer Fault → PalEnd
-end_of (Ok (Value v)) = Goes
-end_of (Ok (Error n)) = Goes
-end_of (Ok (Exits v)) = Exit v
-end_of (Err Input) = InputFault
-end_of (Err Sink) = SinkFault
+abbrev pub end_of : Request → Result Answer Fault → Result PalEnd Fault
+end_of r (Ok (Read n)) = Ok (Goes (passed_by r (Read n)))
+end_of r (Ok (Wrote n)) = Ok (Goes (passed_by r (Wrote n)))
+end_of r (Ok (Error n)) = Ok (Goes (passed_by r (Error n)))
+end_of r (Ok (Exits v)) = Ok (Exit v)
+end_of r (Err fault) = Err fault
 
 -- the registers after a system call, which a fault leaves as they were
 abbrev pub regs_after : Result Answer Fault → List ℕ → List ℕ
@@ -91,8 +106,8 @@ abbrev pub seen : List ℕ → List Block → ℕ → Option (List ℕ) → Opti
 seen regs mem unique left written = record { regs = regs; mem = mem; unique = unique; left = left; written = written }
 
 -- registers, memory and unique value are those of the definition, at an input of what was taken and
--- the rest, and what was put is the output's growth
-pub record GoesOn (function : PalCall) (old new : Seen) : Type 0 where
+-- the rest, and what was put is the output's growth. Both stand in memory where the call says so.
+pub record GoesOn (function : PalCall) (passed : Passed) (old new : Seen) : Type 0 where
   pub taken : List ℕ
   pub rest : List ℕ
   pub bytes : List ℕ
@@ -101,6 +116,7 @@ pub record GoesOn (function : PalCall) (old new : Seen) : Type 0 where
   pub is : (output : List ℕ)
       → call function old.regs old.mem (outside old.unique (taken ++ rest) output)
       ≡ goes new.regs new.mem (outside new.unique rest (output ++ bytes))
+  pub passes : IsPassed passed new.mem taken bytes
 
 -- the same where the input is told
 pub record GoesOnTold (function : PalCall) (old new : Seen) (left : List ℕ) : Type 0 where
@@ -113,34 +129,33 @@ pub record GoesOnTold (function : PalCall) (old new : Seen) (left : List ℕ) : 
       ≡ goes new.regs new.mem (outside new.unique rest (output ++ bytes))
 
 -- a call's effect, by its end
-abbrev pub CallEffect : PalCall → PalEnd → Seen → Seen → Type 0
-CallEffect function Goes old new = GoesOn function old new
-CallEffect function (Exit v) old new = ((o : Outside) → call function old.regs old.mem o ≡ exits v) × (new ≡ old)
-CallEffect function (Signal code) old new = ((o : Outside) → call function old.regs old.mem o ≡ signals code) × (new ≡ old)
-CallEffect function InputFault old new =
+abbrev pub CallEffect : PalCall → Result PalEnd Fault → Seen → Seen → Type 0
+CallEffect function (Ok (Goes passed)) old new = GoesOn function passed old new
+CallEffect function (Ok (Exit v)) old new = ((o : Outside) → call function old.regs old.mem o ≡ exits v) × (new ≡ old)
+CallEffect function (Ok (Signal code)) old new = ((o : Outside) → call function old.regs old.mem o ≡ signals code) × (new ≡ old)
+CallEffect function (Err Input) old new =
     (function ≡ Callsys)
     × TakesPart (request_of old.regs) old.mem new.mem old.left new.left
     × (new ≡ record old { mem = new.mem; left = new.left })
-CallEffect function SinkFault old new =
+CallEffect function (Err Output) old new =
     (function ≡ Callsys)
     × PutsPart (request_of old.regs) old.mem old.written new.written
     × (new ≡ record old { written = new.written })
+CallEffect function (Err Notes) old new = ⊥
 
--- the input's count of faults rose exactly at an input fault
-abbrev pub InputCause : PalEnd → ℕ → ℕ → Type 0
-InputCause Goes before now = now ≡ before
-InputCause (Exit v) before now = now ≡ before
-InputCause (Signal code) before now = now ≡ before
-InputCause InputFault before now = (before ≤ now) × Rose before now
-InputCause SinkFault before now = now ≡ before
+-- the input's count of faults rose exactly where the input failed
+abbrev pub InputCause : {A : Type 0} → Result A Fault → ℕ → ℕ → Type 0
+InputCause (Ok answer) before now = now ≡ before
+InputCause (Err Input) before now = (before ≤ now) × Rose before now
+InputCause (Err Output) before now = now ≡ before
+InputCause (Err Notes) before now = now ≡ before
 
--- the sink's count of faults rose exactly at a sink fault
-abbrev pub SinkCause : PalEnd → ℕ → ℕ → Type 0
-SinkCause Goes before now = now ≡ before
-SinkCause (Exit v) before now = now ≡ before
-SinkCause (Signal code) before now = now ≡ before
-SinkCause InputFault before now = now ≡ before
-SinkCause SinkFault before now = (before ≤ now) × Rose before now
+-- the sink's count of faults rose exactly where the output failed
+abbrev pub SinkCause : {A : Type 0} → Result A Fault → ℕ → ℕ → Type 0
+SinkCause (Ok answer) before now = now ≡ before
+SinkCause (Err Input) before now = now ≡ before
+SinkCause (Err Output) before now = (before ≤ now) × Rose before now
+SinkCause (Err Notes) before now = now ≡ before
 
 -- the kernel after a call: a system call leaves its frame and the stack pointer that it saved
 abbrev pub kernel_after : PalCall → ℕ → List ℕ → KernelState → KernelState

@@ -3,4 +3,5 @@ pub mod Kernel
 pub mod Call
 pub mod Serve
 pub mod Taken
+pub mod Passed
 pub mod CallEffect

@@ -7,7 +7,7 @@ use Rattle.alpha_mem.specs.Block.{Block, shapes, within}
 use Rattle.alpha_mem.specs.Memory.{bytes_at, write_bytes}
 use Rattle.alpha_pal.specs.declared.serve.Request.{Request}
 use Rattle.alpha_pal.specs.declared.serve.Answer.{Answer}
-use Rattle.alpha_pal.specs.declared.serve.Answer.TheVariants.{Value, Error, Exit}
+use Rattle.alpha_pal.specs.declared.serve.Answer.TheVariants.{Read, Wrote, Error, Exit}
 use Rattle.alpha_pal.specs.Call.{Outside, outside, Called, goes, exits}
 
 -- the system calls, by R0
@@ -51,7 +51,7 @@ abbrev pub serve_read : Request → List Block → Outside → Served
 serve_read r mem o =
     if not (r.a0 == input_descriptor) then served (Error bad_descriptor) mem o else
     if not (within (shapes mem) Store r.a1 r.a2) then served (Error bad_range) mem o else
-    served (Value (length (take r.a2 o.input)))
+    served (Read (length (take r.a2 o.input)))
     (write_bytes mem r.a1 (take r.a2 o.input))
     (outside o.unique (drop r.a2 o.input) o.output)
 
@@ -60,7 +60,7 @@ abbrev pub serve_write : Request → List Block → Outside → Served
 serve_write r mem o =
     if not (r.a0 == output_descriptor) then served (Error bad_descriptor) mem o else
     if not (within (shapes mem) Load r.a1 r.a2) then served (Error bad_range) mem o else
-    served (Value r.a2) mem (outside o.unique o.input (o.output ++ bytes_at mem r.a1 r.a2))
+    served (Wrote r.a2) mem (outside o.unique o.input (o.output ++ bytes_at mem r.a1 r.a2))
 
 -- a number that is none of the three is no system call
 unfoldable pub serve : Request → List Block → Outside → Served
@@ -74,15 +74,17 @@ serve r mem o =
 abbrev pub request_of : List ℕ → Request
 request_of regs = record { number = reg regs 0; a0 = reg regs 16; a1 = reg regs 17; a2 = reg regs 18 }
 
--- success leaves the value in R0 and 0 in R19, an error its number in R0 and 1 in R19
+-- success leaves the count in R0 and 0 in R19, an error its number in R0 and 1 in R19
 abbrev pub answered : Answer → List ℕ → List ℕ
-answered (Value v) regs = put (put regs 0 v) 19 0
+answered (Read n) regs = put (put regs 0 n) 19 0
+answered (Wrote n) regs = put (put regs 0 n) 19 0
 answered (Error n) regs = put (put regs 0 n) 19 1
 answered (Exit v) regs = regs
 
 -- a system call's answer in the registers
 abbrev pub called : Answer → List ℕ → List Block → Outside → Called
-called (Value v) regs mem o = goes (answered (Value v) regs) mem o
+called (Read n) regs mem o = goes (answered (Read n) regs) mem o
+called (Wrote n) regs mem o = goes (answered (Wrote n) regs) mem o
 called (Error n) regs mem o = goes (answered (Error n) regs) mem o
 called (Exit v) regs mem o = exits v
 

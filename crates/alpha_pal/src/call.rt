@@ -3,10 +3,11 @@ ghost use Rattle.alpha_mem.specs.Block.{shapes};
 ghost use Rattle.alpha_pal.specs.CallEffect.{CallEffect, InputCause, SinkCause, kernel_after, seen};
 ghost use Rattle.alpha_words.specs.declared.PalCall.TheVariants.{Callsys};
 
+use crate::fault::Fault;
 use crate::frame::Frame;
 use crate::kernel::{Kernel, USER_STATUS};
 use crate::named::{A0, GP, V0, reg};
-use crate::pal_end::PalEnd;
+use crate::pal_end::{PalEnd, Passed};
 use crate::serve::{Request, finish};
 use alpha_io::{Sink, Source};
 use alpha_mem::Memory;
@@ -15,10 +16,11 @@ use alpha_words::{PalCall, RegFile};
 impl Kernel {
     /// Makes the PAL call (Reference Manual, OSF/1 PALcode instructions). `next` is the PC after
     /// the call. The mode is user again after every answer, and a callsys leaves its frame: the
-    /// user's status, `next`, GP and three zeros. An end changes nothing else. `InputFault` comes
-    /// only where the input failed in this call, and leaves the bytes taken so far in memory;
-    /// `SinkFault` only where the output failed, which got a prefix of the bytes. Both leave the
-    /// registers and the unique value as they were.
+    /// user's status, `next`, GP and three zeros. What a read took and what a write put then stand in
+    /// memory where `Goes` says. An end changes nothing else. `Input` comes only where the input
+    /// failed in this call, and leaves the bytes taken so far in memory; `Output` only where the
+    /// output failed, which got a prefix of the bytes. Both leave the registers and the unique value
+    /// as they were. `Notes` never comes.
     pub fn call<S: Source, K: Sink>(
         &mut self,
         function: PalCall,
@@ -28,7 +30,7 @@ impl Kernel {
         mem: &mut Memory,
         input: &mut S,
         out: &mut K,
-    ) -> PalEnd
+    ) -> Result<PalEnd, Fault>
         requires { IsTrue self.old.user }
         ensures effect { CallEffect function result
             (seen regs.old mem.old unique.old (S.left input.old) (K.written out.old))
@@ -39,17 +41,17 @@ impl Kernel {
         ensures sink { SinkCause result (K.faults out.old) (K.faults out.new) }
     {
         match function {
-            PalCall::Bpt => PalEnd::Signal(0),
-            PalCall::Bugchk => PalEnd::Signal(1),
-            PalCall::Gentrap => PalEnd::Signal(2),
-            PalCall::Imb => PalEnd::Goes,
+            PalCall::Bpt => Ok(PalEnd::Signal(0)),
+            PalCall::Bugchk => Ok(PalEnd::Signal(1)),
+            PalCall::Gentrap => Ok(PalEnd::Signal(2)),
+            PalCall::Imb => Ok(PalEnd::Goes(Passed::Nothing)),
             PalCall::Rdunique => {
                 regs.set(reg(V0), *unique);
-                PalEnd::Goes
+                Ok(PalEnd::Goes(Passed::Nothing))
             }
             PalCall::Wrunique => {
                 *unique = regs.get(reg(A0));
-                PalEnd::Goes
+                Ok(PalEnd::Goes(Passed::Nothing))
             }
             PalCall::Callsys => self.callsys(next, regs, mem, input, out),
         }
@@ -63,7 +65,7 @@ impl Kernel {
         mem: &mut Memory,
         input: &mut S,
         out: &mut K,
-    ) -> PalEnd
+    ) -> Result<PalEnd, Fault>
         ensures effect { (unique : ℕ) → CallEffect Callsys result
             (seen regs.old mem.old unique (S.left input.old) (K.written out.old))
             (seen regs.new mem.new unique (S.left input.new) (K.written out.new)) }
@@ -83,7 +85,7 @@ impl Kernel {
         };
         self.enter(regs, frame);
         let served = request.serve(mem, input, out);
-        let end = finish(served, regs);
+        let end = finish(request, served, regs);
         self.retsys(regs);
         end
     }

@@ -4,6 +4,7 @@ ghost use Rattle.alpha_words.specs.declared.PalCall.TheVariants.{Callsys};
 ghost use Rattle.alpha_mem.specs.Block.{Block, shapes};
 ghost use Rattle.alpha_pal.specs.Call.{Outside, goes, call};
 ghost use Rattle.alpha_pal.specs.Serve.{serve, request_of, after_serve};
+ghost use Rattle.alpha_pal.specs.declared.pal_end.Passed.{Passed};
 ghost use Rattle.alpha_pal.specs.CallEffect.{Seen, GoesOn, GoesOnTold};
 
 /// The laws of calls: a call that goes on leaves where the blocks of memory lie and how many registers
@@ -18,6 +19,7 @@ pub fn laws_of_calls()
         → length regs' ≡ length regs }
     ensures served { (regs : List ℕ) (mem : List Block) (o : Outside)
         → call Callsys regs mem o ≡ after_serve regs (serve (request_of regs) mem o) }
-    ensures told { (function : PalCall) (old new : Seen) (left : List ℕ) → old.left ≡ Some left
-        → GoesOn function old new → GoesOnTold function old new left }
+    ensures told { (function : PalCall) (passed : Passed) (old new : Seen) (left : List ℕ)
+        → old.left ≡ Some left → GoesOn function passed old new
+        → GoesOnTold function old new left }
 {}

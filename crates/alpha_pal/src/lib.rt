@@ -14,19 +14,22 @@
 //!   write, 14 for a range that has bytes and doesn't lie within one region that may be written for
 //!   read, or read for write. Success leaves its value in R0 and 0 in R19. A read goes on until it
 //!   has as many bytes as asked for, or the input has ended.
-//! - [`PalEnd`] is how a call ended, [`Summary`] the exception summary of an arithmetic trap.
+//! - [`PalEnd`] is how a call ended, [`Passed`] what it took or put, [`Fault`] the device that failed
+//!   in it, and [`Summary`] the exception summary of an arithmetic trap.
 //! - [`laws_of_calls`] does nothing: its contract is the laws of calls.
 //!
 //! `specs/Frame.antt` says what the bytes of a frame are, `specs/Kernel.antt` what a clause sees of
 //! the kernel and what the user's registers are, `specs/Call.antt` what each call does,
 //! `specs/Serve.antt` a system call in the parts in which the code makes it, `specs/Taken.antt` what
-//! a read takes, and `specs/CallEffect.antt` how the code's answer stands to that, for devices that
+//! a read takes, `specs/Passed.antt` where that and what a write puts stand in memory, and
+//! `specs/CallEffect.antt` how the code's answer stands to that, for devices that
 //! tell their bytes and for others. `src/frame.rt` has the frame, `src/kernel.rt` entries and
 //! returns, `src/call.rt` the PAL calls, `src/serve.rt` the system calls, and `src/take.rt` the loop
 //! of a read.
 #![tactic(auto)]
 
 mod call;
+mod fault;
 mod frame;
 mod kernel;
 mod laws;
@@ -36,7 +39,8 @@ mod serve;
 mod summary;
 mod take;
 
+pub use fault::Fault;
 pub use kernel::Kernel;
 pub use laws::laws_of_calls;
-pub use pal_end::PalEnd;
+pub use pal_end::{PalEnd, Passed};
 pub use summary::Summary;

@@ -4,8 +4,9 @@ ghost use Rattle.alpha_mem.specs.Block.{shapes};
 ghost use Rattle.alpha_pal.specs.Serve.{request_of};
 ghost use Rattle.alpha_pal.specs.CallEffect.{ServeEffect, InputCause, SinkCause, end_of, regs_after};
 
+use crate::fault::Fault;
 use crate::named::{A0, A1, A2, A3, V0, reg};
-use crate::pal_end::PalEnd;
+use crate::pal_end::{PalEnd, Passed};
 use crate::take::take_into;
 use alpha_io::{Failed, Sink, Source, write_whole};
 use alpha_mem::Memory;
@@ -42,16 +43,12 @@ pub(crate) struct Request {
 /// What a system call answers.
 #[derive(Clone, Copy, Debug)]
 pub(crate) enum Answer {
-    Value(u64),
+    /// A read took this many bytes.
+    Read(u64),
+    /// A write put this many bytes.
+    Wrote(u64),
     Error(u64),
     Exit(u64),
-}
-
-/// The device that failed in a system call.
-#[derive(Clone, Copy, Debug)]
-pub(crate) enum Fault {
-    Input,
-    Sink,
 }
 
 impl Request {
@@ -78,8 +75,8 @@ impl Request {
         ensures effect { ServeEffect self result mem.old mem.new
             (S.left input.old) (S.left input.new) (K.written out.old) (K.written out.new) }
         ensures shapes { shapes mem.new ≡ shapes mem.old }
-        ensures input { InputCause (end_of result) (S.faults input.old) (S.faults input.new) }
-        ensures sink { SinkCause (end_of result) (K.faults out.old) (K.faults out.new) }
+        ensures input { InputCause result (S.faults input.old) (S.faults input.new) }
+        ensures sink { SinkCause result (K.faults out.old) (K.faults out.new) }
     {
         match self.number {
             EXIT => Ok(Answer::Exit(self.a0)),
@@ -96,8 +93,8 @@ impl Request {
         ensures effect { (written : Option (List ℕ)) → ServeEffect self result mem.old mem.new
             (S.left input.old) (S.left input.new) written written }
         ensures shapes { shapes mem.new ≡ shapes mem.old }
-        ensures input { InputCause (end_of result) (S.faults input.old) (S.faults input.new) }
-        ensures sink { (count : ℕ) → SinkCause (end_of result) count count }
+        ensures input { InputCause result (S.faults input.old) (S.faults input.new) }
+        ensures sink { (count : ℕ) → SinkCause result count count }
     {
         if self.a0 != INPUT {
             return Ok(Answer::Error(BAD_DESCRIPTOR));
@@ -106,7 +103,7 @@ impl Request {
             return Ok(Answer::Error(BAD_RANGE));
         }
         match take_into(mem, self.a1, self.a2, input) {
-            Ok(count) => Ok(Answer::Value(count)),
+            Ok(count) => Ok(Answer::Read(count)),
             Err(Failed) => Err(Fault::Input),
         }
     }
@@ -116,8 +113,8 @@ impl Request {
         requires { self.number ≡ WRITE }
         ensures effect { (left : Option (List ℕ)) → ServeEffect self result mem.now mem.now
             left left (K.written out.old) (K.written out.new) }
-        ensures sink { SinkCause (end_of result) (K.faults out.old) (K.faults out.new) }
-        ensures input { (count : ℕ) → InputCause (end_of result) count count }
+        ensures sink { SinkCause result (K.faults out.old) (K.faults out.new) }
+        ensures input { (count : ℕ) → InputCause result count count }
     {
         if self.a0 != OUTPUT {
             return Ok(Answer::Error(BAD_DESCRIPTOR));
@@ -125,26 +122,30 @@ impl Request {
         match mem.bytes(self.a1, self.a2) {
             None => Ok(Answer::Error(BAD_RANGE)),
             Some(bytes) => match write_whole(out, bytes) {
-                Ok(()) => Ok(Answer::Value(self.a2)),
-                Err(Failed) => Err(Fault::Sink),
+                Ok(()) => Ok(Answer::Wrote(self.a2)),
+                Err(Failed) => Err(Fault::Output),
             },
         }
     }
 }
 
 // How the call ends, with the answer in the registers.
-pub(crate) fn finish(served: Result<Answer, Fault>, regs: &mut RegFile) -> PalEnd
-    ensures end { result ≡ end_of served }
+pub(crate) fn finish(
+    request: Request,
+    served: Result<Answer, Fault>,
+    regs: &mut RegFile,
+) -> Result<PalEnd, Fault>
+    ensures end { result ≡ end_of request served }
     ensures regs { regs.new ≡ regs_after served regs.old }
 {
-    let (value, error) = match served {
-        Ok(Answer::Value(value)) => (value, 0),
-        Ok(Answer::Error(number)) => (number, 1),
-        Ok(Answer::Exit(value)) => return PalEnd::Exit(value),
-        Err(Fault::Input) => return PalEnd::InputFault,
-        Err(Fault::Sink) => return PalEnd::SinkFault,
+    let addr = request.a1;
+    let (value, error, passed) = match served? {
+        Answer::Read(len) => (len, 0, Passed::Took { addr, len }),
+        Answer::Wrote(len) => (len, 0, Passed::Put { addr, len }),
+        Answer::Error(number) => (number, 1, Passed::Nothing),
+        Answer::Exit(value) => return Ok(PalEnd::Exit(value)),
     };
     regs.set(reg(V0), value);
     regs.set(reg(A3), error);
-    PalEnd::Goes
+    Ok(PalEnd::Goes(passed))
 }

@@ -24,7 +24,8 @@ use Rattle.alpha_replay.specs.Compared.{Sees, first_difference}
 use Rattle.alpha_replay.specs.Items.{units_of}
 use Rattle.alpha_replay.specs.Journal.{Parts, parts}
 use Rattle.alpha_replay.specs.Listed.{Played, listed_from, listed, unplayed}
-use Rattle.alpha_replay.specs.Playing.{happened_of, Begins, Place, place, first_stand, standing, Plays, StopsAt}
+use Rattle.alpha_replay.specs.Events.{happened_of}
+use Rattle.alpha_replay.specs.Playing.{Begins, Place, place, first_stand, standing, Plays, StopsAt}
 use Rattle.alpha_replay.specs.Replay.{ends_by, reports_of, program_by, run_fault, answer_by, answered, replayed, Replays}
 use Rattle.alpha_replay.proofs.Listing.{listed_units}
 

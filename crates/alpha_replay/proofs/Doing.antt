@@ -1,14 +1,16 @@
 -- Moves that the code made, and rows of them.
-use Rattle.std.specs.Prelude.{is_some}
-use Rattle.std.proofs.Common.{◌≡◌, ◌<◌, ◌+◌, ◌-◌, ◌&&◌, not, ℕ, zero, suc, Bool, true, false, cond, List, [], ◌∷◌, ◌++◌, drop, Option, Some, None, Result, refl, sym, ap, subst, ◌∙◌, append_assoc, append-nil, option_and_then, arith, add-one}
-use Rattle.alpha_seq.specs.State.{Program, State}
-use Rattle.alpha_seq.specs.Run.{Mark}
+use Rattle.std.proofs.Common.{◌≡◌, ◌<◌, ◌+◌, ◌-◌, ◌&&◌, not, ℕ, zero, suc, Bool, true, false, cond, List, [], ◌∷◌, ◌++◌, length, drop, Option, Some, None, Result, refl, sym, ap, subst, ◌∙◌, append_assoc, append-nil, length-append, option_and_then, arith, add-one}
+use Rattle.alpha_seq.specs.declared.event.Event.{Event}
+use Rattle.alpha_seq.specs.declared.machine.Machine.{Machine}
+use Rattle.alpha_seq.specs.State.{Program, State, Event as Happened, Went, Barriered, Overflowed, Ends}
+use Rattle.alpha_seq.specs.Run.{Mark, marks_of}
 use Rattle.alpha_seq.specs.Machine.{program_of, state_of, class_here}
-use Rattle.alpha_imprecise.specs.declared.end.WildEnd.{WildEnd}
-use Rattle.alpha_imprecise.specs.Moment.{Moment, moment}
+use Rattle.alpha_seq.specs.Print.{Print}
+use Rattle.alpha_imprecise.specs.Moment.{Choice, Happening, Precisely, Triggered, Waited, Reported, Lost, Moment, moment}
 use Rattle.alpha_imprecise.specs.Step.{wild}
 use Rattle.alpha_imprecise.specs.Run.{wild_marks, finished, unit_of}
-use Rattle.alpha_imprecise.specs.Chosen.{draw_at, waited_after}
+use Rattle.alpha_imprecise.specs.Chosen.{waited_after}
+use Rattle.alpha_imprecise.specs.Picks.{asked}
 use Rattle.alpha_imprecise.specs.Wild.{WildState, bare, trap_in, waited_in}
 use Rattle.alpha_replay.specs.declared.compare.Seen.{Seen}
 use Rattle.alpha_replay.specs.declared.item.Item.{Item}
@@ -16,30 +18,37 @@ use Rattle.alpha_replay.specs.declared.moves.Move.{Move}
 use Rattle.alpha_replay.specs.declared.moves.Move.TheVariants.{One}
 use Rattle.alpha_replay.specs.declared.play.Stand.{Stand}
 use Rattle.alpha_replay.specs.Compared.{Sees}
-use Rattle.alpha_replay.specs.Moves.{choice_of, fits, may_add}
+use Rattle.alpha_replay.specs.Events.{move_of, happened_of, put_by}
+use Rattle.alpha_replay.specs.Given.{given_choice}
+use Rattle.alpha_replay.specs.Moves.{choice_of, suits}
 use Rattle.alpha_replay.specs.Listed.{Played, played_by, move, units, item, listed_then, listed_from}
-use Rattle.alpha_replay.specs.Playing.{happened_of, Place, place, program_at, standing, Did, Fails, Plays, StopsAt, accords, first_given, second_given, Moved}
-use Rattle.alpha_replay.specs.Puts.{puts_at}
-use Rattle.alpha_replay.proofs.Moving.{by_given, is_move, marks_told}
-use Rattle.alpha_replay.proofs.Putting.{wild_puts, puts_told}
+use Rattle.alpha_replay.specs.Playing.{Place, place, program_at, standing, Did, Fails, Plays, StopsAt, Moved}
+use Rattle.alpha_replay.proofs.Moving.{Fits, given-fits, shown-happened}
+use Rattle.alpha_replay.proofs.Passing.{passed-took}
+
+-- what is noted of a step shows the PC and the registers alone
+precise_marks : (event : Happened) (m : Machine) (input output : List ℕ) → marks_of event (state_of m input output) ≡ marks_of event (bare m)
+precise_marks Went m input output = refl
+precise_marks Barriered m input output = refl
+precise_marks (Overflowed at) m input output = refl
+precise_marks (Ends end) m input output = refl
+
+marks-same : (h : Happening) (m : Machine) (input output : List ℕ) → wild_marks h (state_of m input output) ≡ wild_marks h (bare m)
+marks-same (Precisely event) m input output = precise_marks event m input output
+marks-same Triggered m input output = refl
+marks-same Waited m input output = refl
+marks-same (Reported at) m input output = refl
+marks-same (Lost pc mask) m input output = refl
 
 -- ---- one move
 
 -- the next move, by the tests that it must pass
-abbrev tested : Bool → Bool → Bool → Played → Option Played
-tested over adds fit p = cond (not over && (adds && fit)) (Some p) None
+abbrev tested : Bool → Bool → Played → Option Played
+tested over suit p = cond (not over && suit) (Some p) None
 
-tested_over : (adds fit : Bool) (p : Played) → tested true adds fit p ≡ None
-tested_over adds fit p = refl
-
-tested_adds : (over fit : Bool) (p : Played) → tested over false fit p ≡ None
-tested_adds true fit p = refl
-tested_adds false fit p = refl
-
-tested_fits : (over adds : Bool) (p : Played) → tested over adds false p ≡ None
-tested_fits true adds p = refl
-tested_fits false true p = refl
-tested_fits false false p = refl
+tested_suits : (over : Bool) (p : Played) → tested over false p ≡ None
+tested_suits true p = refl
+tested_suits false p = refl
 
 module _ (m : Move) (old : WildState) (input : List ℕ) (from : Stand) where
   abbrev g : Program
@@ -51,80 +60,84 @@ module _ (m : Move) (old : WildState) (input : List ℕ) (from : Stand) where
   abbrev here : List ℕ → State
   here output = state_of old.machine input output
 
-  abbrev fits_here : List ℕ → Bool
-  fits_here output = fits (class_here old.machine) (here output) (trap_in old.pending) (waited_in old.pending) m
+  abbrev suits_here : List ℕ → Bool
+  suits_here output = suits (class_here old.machine) (here output) (trap_in old.pending) (waited_in old.pending) m
 
   abbrev moved_here : ℕ → List Mark → List ℕ → Played
   moved_here n trace output = played_by (standing from_place n trace output) (wild g (here output) (trap_in old.pending) (choice_of m))
 
   pub fails_over : finished (happened_of from.last) ≡ true → Fails (λ g p. move g p m) from_place
-  fails_over e = λ n trace output.
-      ap (λ (b : Bool). tested b (may_add (class_here old.machine) m) (fits_here output) (moved_here n trace output)) e
+  fails_over e = λ n trace output. ap (λ (b : Bool). tested b (suits_here output) (moved_here n trace output)) e
 
-  pub fails_adding : may_add (class_here old.machine) m ≡ false → Fails (λ g p. move g p m) from_place
-  fails_adding e = λ n trace output.
-      ap (λ (b : Bool). tested (finished (happened_of from.last)) b (fits_here output) (moved_here n trace output)) e
-      ∙ tested_adds (finished (happened_of from.last)) (fits_here output) (moved_here n trace output)
+  module _ (new : WildState) (left : List ℕ) (last : Event) (moved : Moved m last old new input left) where
+    abbrev c : Choice
+    c = given_choice m (asked old)
 
-  module _ (new : WildState) (left : List ℕ) (last : WildEnd) (pending : Bool) (moved : Moved m (happened_of last) old new input left)
-      (waits : pending ≡ is_some (trap_in old.pending)) where
+    abbrev p : Print
+    p = moved.print
+
+    abbrev h : Happening
+    h = happened_of last
+
+    -- whether the step that was made is this move
+    fits_as : (output : List ℕ) → Fits g (class_here old.machine) (here output) (trap_in old.pending) (waited_in old.pending) c m (move_of p.event)
+    fits_as output = given-fits old p new m moved.is input output
+
+    pub fails_fitting : (move_of last ≡ m → ⊥) → Fails (λ g p. move g p m) from_place
+    fails_fitting other = λ n trace output.
+        ap (λ (b : Bool). tested (finished (happened_of from.last)) b (moved_here n trace output))
+        ((fits_as output).other (λ (is : move_of p.event ≡ m). other (ap move_of (sym moved.event_is) ∙ is)))
+        ∙ tested_suits (finished (happened_of from.last)) (moved_here n trace output)
+
+    went_so : moved.is.happened ≡ h
+    went_so =
+        sym (shown-happened (class_here old.machine) c moved.is.passed moved.is.happened) ∙ ap happened_of (sym moved.is.event ∙ moved.event_is)
+
+    -- the step of the definition
+    steps_so : (output : List ℕ) → wild g (here output) (trap_in old.pending) c ≡ moment (state_of new.machine left (output ++ p.bytes)) (trap_in new.pending) h
+    steps_so output =
+        ap (λ (l : List ℕ). wild g (state_of old.machine l output) (trap_in old.pending) c) moved.found
+        ∙ (moved.is.is output
+        ∙ (ap (λ (l : List ℕ). moment (state_of new.machine l (output ++ p.bytes)) (trap_in new.pending) moved.is.happened) (sym moved.left_is)
+        ∙ ap (moment (state_of new.machine left (output ++ p.bytes)) (trap_in new.pending)) went_so))
+
+    -- what was put stands in memory
+    bytes_are : p.bytes ≡ put_by last new.machine.memory
+    bytes_are =
+        (passed-took p.event p.core.memory p.taken p.bytes moved.is.passes).1
+        ∙ (ap (λ (e : Event). put_by e p.core.memory) moved.event_is ∙ ap (λ core. put_by last core.memory) moved.is.core)
+
     abbrev played : ℕ → List Mark → List ℕ → ℕ → Played
     played n trace output waited = record {
-      run = record { units = n; state = state_of new.machine left output; pending = trap_in new.pending; trace = trace; last = happened_of last };
+      run = record { units = n; state = state_of new.machine left output; pending = trap_in new.pending; trace = trace; last = h };
       waited = waited;
     }
 
-    accords_as : (output : List ℕ)
-        → accords (is_some (trap_in old.pending)) m (by_given g (class_here old.machine) (here output) (trap_in old.pending) (waited_in old.pending) m).happened
-        ≡ accords pending m (happened_of last)
-    accords_as output =
-        ap (λ (t : Moment). accords (is_some (trap_in old.pending)) m t.happened) (moved.is output)
-        ∙ ap (λ (b : Bool). accords b m (happened_of last)) (sym waits)
-
-    fits_as : (output : List ℕ) → fits_here output ≡ accords pending m (happened_of last)
-    fits_as output = (is_move g (class_here old.machine) (here output) (trap_in old.pending) (waited_in old.pending) m).fit ∙ accords_as output
-
-    pub fails_fitting : accords pending m (happened_of last) ≡ false → Fails (λ g p. move g p m) from_place
-    fails_fitting e = λ n trace output.
-        ap (λ (b : Bool). tested (finished (happened_of from.last)) (may_add (class_here old.machine) m) b (moved_here n trace output)) (fits_as output ∙ e)
-        ∙ tested_fits (finished (happened_of from.last)) (may_add (class_here old.machine) m) (moved_here n trace output)
-
-    -- what was put stood in memory
-    pub bytes_are : moved.bytes ≡ puts_at (class_here old.machine) (bare old.machine) (trap_in old.pending)
-    bytes_are =
-        let o = class_here old.machine in
-        let p = trap_in old.pending in
-        sym (ap (λ (t : Moment). t.state.outside.output) (moved.is []))
-        ∙ (wild_puts g o (here []) p (draw_at o (here []) p (waited_in old.pending) (first_given m ∷ second_given m ∷ [])).choice
-        ∙ puts_told o p old.machine input [])
-
-    pub did_move : (expected : List ℕ) (seen : Seen)
-        → finished (happened_of from.last) ≡ false → may_add (class_here old.machine) m ≡ true → accords pending m (happened_of last) ≡ true
-        → ((output : List ℕ) → Sees expected from.seen output → Sees expected seen (output ++ puts_at (class_here old.machine) (bare old.machine) (trap_in old.pending)))
+    pub did_move : (expected : List ℕ) (seen : Seen) → finished (happened_of from.last) ≡ false → move_of last ≡ m
+        → ((output : List ℕ) → Sees expected from.seen output → Sees expected seen (output ++ put_by last new.machine.memory))
         → Did expected (λ g p. move g p m) from_place (place new left (record { last = last; seen = seen }))
-    did_move expected seen goes adds accord sees = record {
+    did_move expected seen goes same sees = record {
       used = unit_of (trap_in old.pending);
-      marks = wild_marks (happened_of last) (bare new.machine);
-      bytes = moved.bytes;
-      program = moved.program;
-      fewer = moved.fewer;
+      marks = wild_marks h (bare new.machine);
+      bytes = p.bytes;
+      program = moved.is.program;
+      fewer =
+          let found = ap (λ (l : List ℕ). length l) moved.found in
+          let rest = ap (λ (l : List ℕ). length l) moved.left_is in
+          omega (arith, found, rest, length-append p.taken p.rest);
       is = λ n trace output.
-          let h = happened_of last in
-          let after = output ++ moved.bytes in
-          let same : wild g (here output) (trap_in old.pending) (choice_of m) ≡ moment (state_of new.machine left after) (trap_in new.pending) h =
-          (is_move g (class_here old.machine) (here output) (trap_in old.pending) (waited_in old.pending) m).same (accords_as output ∙ accord) ∙ moved.is output in
-          ap (λ (b : Bool). tested b (may_add (class_here old.machine) m) (fits_here output) (moved_here n trace output)) goes
-          ∙ (ap (λ (b : Bool). tested false b (fits_here output) (moved_here n trace output)) adds
-          ∙ (ap (λ (b : Bool). tested false true b (moved_here n trace output)) (fits_as output ∙ accord)
-          ∙ (ap (λ (t : Moment). Some (played_by (standing from_place n trace output) t)) same
+          let after = output ++ p.bytes in
+          let suit = (fits_as output).same (ap move_of moved.event_is ∙ same) in
+          ap (λ (b : Bool). tested b (suits_here output) (moved_here n trace output)) goes
+          ∙ (ap (λ (b : Bool). tested false b (moved_here n trace output)) suit.0
+          ∙ (ap (λ (t : Moment). Some (played_by (standing from_place n trace output) t)) (suit.1 ∙ steps_so output)
           ∙ (ap
           (λ (l : List Mark). Some (played (n + unit_of (trap_in old.pending)) (trace ++ l) after (waited_after h (waited_in old.pending))))
-          (marks_told h new.machine left after)
+          (marks-same h new.machine left after)
           ∙ ap
           (λ (w : ℕ). Some (played (n + unit_of (trap_in old.pending)) (trace ++ wild_marks h (bare new.machine)) after w))
-          (sym moved.waited)))));
-      sees = λ output before.
-          subst (λ (l : List ℕ). Sees expected seen (output ++ l)) (sym bytes_are) (sees output before);
+          (ap (λ (x : Happening). waited_after x (waited_in old.pending)) (sym went_so) ∙ sym moved.is.waited))));
+      sees = λ output before. subst (λ (l : List ℕ). Sees expected seen (output ++ l)) (sym bytes_are) (sees output before);
     }
 
 -- ---- steps in a row

@@ -1,18 +1,22 @@
 -- What a step, a move and items do over an input, they do over its front that they took; and where more follows they leave that.
-use Rattle.std.proofs.Common.{◌≡◌, ◌+◌, ◌&&◌, ◌||◌, not, nat_le, ℕ, zero, suc, Bool, true, false, cond, List, [], ◌∷◌, ◌++◌, length, take, drop, Option, Some, None, Ok, refl, sym, ap, ◌∙◌, append_assoc}
+use Rattle.std.proofs.Common.{◌≡◌, ◌+◌, ◌&&◌, ◌||◌, not, nat_le, ℕ, zero, suc, Bool, true, false, cond, eqb, List, [], ◌∷◌, ◌++◌, length, take, drop, Option, Some, None, Ok, refl, sym, ap, ◌∙◌, append_assoc}
 use Rattle.std.proofs.Common.{take-append-drop}
+use Rattle.std.proofs.lemmas.Bool.{eqb-true}
 use Rattle.std.specs.Option.{option_and_then}
+use Rattle.alpha_words.specs.declared.PalCall.TheVariants.{Bpt, Bugchk, Callsys, Imb, Rdunique, Wrunique, Gentrap}
 use Rattle.alpha_words.specs.Regs.{reg, put}
 use Rattle.alpha_table.specs.declared.columns.MemAccess.{MemAccess}
 use Rattle.alpha_table.specs.Class.{Class, operate, trigger, address, load, store, load_locked, store_conditional, branch, jump, barrier, idle}
 use Rattle.alpha_values.specs.TrapOp.{stops}
+use Rattle.alpha_mem.specs.Block.{shapes, within}
+use Rattle.alpha_mem.specs.Intent.{Store}
 use Rattle.alpha_mem.specs.Memory.{write_bytes}
-use Rattle.alpha_pal.specs.Call.{outside}
+use Rattle.alpha_pal.specs.Call.{outside, call}
 use Rattle.alpha_trap.specs.Scan.{scan}
 use Rattle.alpha_seq.specs.State.{Program, State, Event, Went, Barriered, Overflowed, Ends, stepped}
 use Rattle.alpha_seq.specs.Step.{next_pc, next_class, step, matches, lock_block}
 use Rattle.alpha_seq.specs.Run.{Mark, marks_of}
-use Rattle.alpha_seq.specs.Inputs.{over_input}
+use Rattle.alpha_seq.specs.Inputs.{over_input, takes_input}
 use Rattle.alpha_seq.proofs.Unread.{step_over}
 use Rattle.alpha_imprecise.specs.Moment.{Trap, Choice, Happening, Precisely, Triggered, Waited, Reported, Lost, Moment, moment}
 use Rattle.alpha_imprecise.specs.Step.{triggers, triggered, precisely, landed, report, can_wait, spoilt_conditional, spoilt, waited, wild_at}
@@ -24,12 +28,15 @@ use Rattle.alpha_replay.specs.declared.item.Item.{Item}
 use Rattle.alpha_replay.specs.declared.item.Item.TheVariants as items
 use Rattle.alpha_replay.specs.declared.moves.Move.{Move}
 use Rattle.alpha_replay.specs.declared.moves.Move.TheVariants.{One, Trips, Waits, Reports}
-use Rattle.alpha_replay.specs.Looks.{takes_at}
 use Rattle.alpha_replay.specs.Moves.{choice_of, may_add, fits, suits}
 use Rattle.alpha_replay.specs.Listed.{Played, played_by, played_over, move, units, item, listed_then, listed_from}
-use Rattle.alpha_replay.proofs.Taking.{wild_leaves, Asks, asks, read_state, read_is}
 
 -- ---- what doesn't look at the input
+
+-- while a trap is pending no input is taken
+abbrev takes_at : Option Class → State → Option Trap → Bool
+takes_at o s None = takes_input o s
+takes_at o s (Some t) = false
 
 abbrev over_moment : List ℕ → Moment → Moment
 over_moment i m = record m { state = over_input i m.state }
@@ -108,7 +115,65 @@ quiet_over g o s (Some t) c i quiet =
     by true = report_over g s t (scan g.image s.pc t.mask) i
     by false = ap (λ (x : State). moment x (Some (record t { mask = mask_after o t.mask c.adds })) Waited) (spoilt_over o s c i)
 
--- ---- a read
+-- a step that takes nothing leaves its input
+quiet_leaves : (g : Program) (o : Option Class) (s : State) (p : Option Trap) (c : Choice) → takes_at o s p ≡ false → (wild_at g o s p c).state.outside.input ≡ s.outside.input
+quiet_leaves g o s p c quiet = ap (λ (m : Moment). m.state.outside.input) (quiet_over g o s p c s.outside.input quiet)
+
+-- ---- a good read
+
+-- the system call asks for a good read
+record Asks (o : Option Class) (s : State) : Type 0 where
+  class : o ≡ Some (barrier (Some Callsys))
+  number : reg s.regs 0 ≡ 3
+  descriptor : reg s.regs 16 ≡ 0
+  range : within (shapes s.mem) Store (reg s.regs 17) (reg s.regs 18) ≡ true
+
+three : (a b c : Bool) → (a && b && c) ≡ true → (a ≡ true) × (b ≡ true) × (c ≡ true)
+three true true true e = (refl, refl, refl)
+three true true false e = absurd cc
+three true false c e = absurd cc
+three false b c e = absurd cc
+
+asks : (o : Option Class) (s : State) → takes_input o s ≡ true → Asks o s
+asks None s e = absurd cc
+asks (Some (operate op ra src rc)) s e = absurd cc
+asks (Some (trigger op ra src rc)) s e = absurd cc
+asks (Some (address op ra rb disp)) s e = absurd cc
+asks (Some (load extension at ra)) s e = absurd cc
+asks (Some (store at ra)) s e = absurd cc
+asks (Some (load_locked extension at ra)) s e = absurd cc
+asks (Some (store_conditional at ra)) s e = absurd cc
+asks (Some (branch condition ra disp)) s e = absurd cc
+asks (Some (jump ra rb)) s e = absurd cc
+asks (Some (barrier None)) s e = absurd cc
+asks (Some (barrier (Some Bpt))) s e = absurd cc
+asks (Some (barrier (Some Bugchk))) s e = absurd cc
+asks (Some (barrier (Some Callsys))) s e =
+    let t = three (eqb (reg s.regs 0) 3) (eqb (reg s.regs 16) 0) (within (shapes s.mem) Store (reg s.regs 17) (reg s.regs 18)) e in
+    record { class = refl; number = eqb-true (reg s.regs 0) 3 t.0; descriptor = eqb-true (reg s.regs 16) 0 t.1; range = t.2 }
+asks (Some (barrier (Some Imb))) s e = absurd cc
+asks (Some (barrier (Some Rdunique))) s e = absurd cc
+asks (Some (barrier (Some Wrunique))) s e = absurd cc
+asks (Some (barrier (Some Gentrap))) s e = absurd cc
+asks (Some idle) s e = absurd cc
+
+-- the bytes that it takes
+abbrev taken_of : State → List ℕ
+taken_of s = take (reg s.regs 18) s.outside.input
+
+-- the state behind it
+abbrev read_state : State → State
+read_state s = record s {
+  regs = put (put s.regs 0 (length (taken_of s))) 19 0;
+  pc = next_pc s;
+  mem = write_bytes s.mem (reg s.regs 17) (taken_of s);
+  lock = None;
+  outside = outside s.outside.unique (drop (reg s.regs 18) s.outside.input) s.outside.output;
+}
+
+read_is : (g : Program) (o : Option Class) (s : State) → Asks o s → step g o s ≡ stepped (read_state s) Barriered
+unfolding call
+read_is g o s a = rw (a.class, a.number, a.descriptor, a.range) refl
 
 take_front : (m : ℕ) (xs b r : List ℕ) → drop m xs ≡ b ++ r → take m (take m xs ++ b) ≡ take m xs
 take_front zero xs b r e = refl
@@ -162,7 +227,7 @@ feed : (g : Program) (o : Option Class) (s : State) (p : Option Trap) (c : Choic
 feed g o s p c b r left = by p (takes_at o s p) refl left
   where
     by : (q : Option Trap) (x : Bool) → takes_at o s q ≡ x → (wild_at g o s q c).state.outside.input ≡ b ++ r → Fed g o s q c b r
-    by q false e is = record { front = b; is = sym (wild_leaves g o s q c e) ∙ is; same = quiet_over g o s q c b e }
+    by q false e is = record { front = b; is = sym (quiet_leaves g o s q c e) ∙ is; same = quiet_over g o s q c b e }
     by None true e is = feed_read g o s c b r (asks o s e) is
     by (Some t) true e is = cc
 

@@ -21,7 +21,7 @@ use Rattle.alpha_replay.specs.Listed.{played_over, unplayed, listed}
 use Rattle.alpha_replay.specs.Replay.{ending_of, same_ending, ends_as, reports_of, run_fault, answer_by, answered, replayed}
 use Rattle.alpha_replay.proofs.JournaledRuns.{played_in, Lists, lists_closed, steps_list}
 use Rattle.alpha_replay.proofs.Feeding.{list_feeds}
-use Rattle.alpha_replay.proofs.Recorded.{taken_is}
+use Rattle.alpha_replay.proofs.Recording.{taken_is}
 
 -- the input that there was at the beginning stays
 pub input_stays : (n : ℕ) (g : Program) (from : Journaled) (m : ℕ) → (steps_journaled n g from m).input ≡ from.input

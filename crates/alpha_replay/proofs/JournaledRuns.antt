@@ -8,7 +8,7 @@ use Rattle.alpha_table.specs.Class.{Class, operate, trigger, address, load, stor
 use Rattle.alpha_seq.specs.State.{Program, State}
 use Rattle.alpha_seq.specs.Step.{matches, lock_block, next_class}
 use Rattle.alpha_imprecise.specs.Moment.{Trap, Choice, Waited, Moment, moment}
-use Rattle.alpha_imprecise.specs.Step.{triggers, destination, can_wait, report, spoilt_conditional, spoilt, wild_at}
+use Rattle.alpha_imprecise.specs.Step.{triggers, destination, can_wait, report, spoilt_conditional, spoilt, wild_at, adds_here}
 use Rattle.alpha_imprecise.specs.Wild.{mask_after}
 use Rattle.alpha_imprecise.specs.Run.{finished}
 use Rattle.alpha_imprecise.specs.Chosen.{first_word, must_report, reporting, triggering, executing, draw_at, draw, chosen}
@@ -18,7 +18,7 @@ use Rattle.alpha_replay.specs.declared.item.Item.{Item}
 use Rattle.alpha_replay.specs.declared.item.Item.TheVariants as items
 use Rattle.alpha_replay.specs.declared.moves.Move.{Move}
 use Rattle.alpha_replay.specs.declared.moves.Move.TheVariants.{One, Trips, Waits, Reports}
-use Rattle.alpha_replay.specs.Moves.{choice_of, adds_here, may_add, suits}
+use Rattle.alpha_replay.specs.Moves.{choice_of, may_add, suits}
 use Rattle.alpha_replay.specs.Listed.{Played, played_by, move, units, item, listed_then, listed_from}
 use Rattle.alpha_replay.specs.Gathered.{Gathered, closed_by, closed, with_item, gathered_by, noted_at, noted}
 use Rattle.alpha_replay.specs.Journaled.{Journaled, has_stopped, journaled_more, advance_journaled, steps_journaled, IsJournaled}

@@ -1,249 +1,307 @@
--- The step by a move's two words is that move, exactly where it accords with it.
-use Rattle.std.specs.Prelude.{slice_index, is_some, nat_le}
-use Rattle.std.proofs.Common.{◌≡◌, ◌%◌, ◌&&◌, ◌||◌, not, ℕ, Bool, true, false, cond, eqb, List, [], ◌∷◌, ◌++◌, length, drop, Option, Some, None, refl, sym, ap, ◌∙◌, ⊎_elim, arith}
-use Rattle.alpha_io.specs.Faults.{Rose}
-use Rattle.alpha_seq.specs.RunEffect.{HasOutputFault, HasNotesFault}
-use Rattle.std.proofs.lemmas.List.{length-append}
+-- The move that a step was: by the words that chose it, and by the move that was asked for.
+use Rattle.std.specs.Prelude.{nat_le}
+use Rattle.std.proofs.Common.{◌≡◌, ◌==◌, ◌/◌, ◌%◌, ◌&&◌, ◌||◌, not, ℕ, Bool, true, false, cond, eqb, List, ◌++◌, drop, Option, Some, None, refl, sym, ap, ◌∙◌}
+use Rattle.alpha_pal.specs.declared.pal_end.Passed.{Passed}
 use Rattle.alpha_table.specs.Class.{Class}
-use Rattle.alpha_values.specs.TrapOp.{stops}
-use Rattle.alpha_trap.specs.Scan.{scan}
-use Rattle.alpha_io.specs.Sunk.{Sunk}
-use Rattle.alpha_seq.specs.declared.end.End.TheVariants.{Overflow}
+use Rattle.alpha_seq.specs.declared.end.End.{End}
+use Rattle.alpha_seq.specs.declared.end.End.TheVariants as ends
+use Rattle.alpha_seq.specs.declared.event.Event.{Event as Seen}
+use Rattle.alpha_seq.specs.declared.event.Event.TheVariants as events
 use Rattle.alpha_seq.specs.declared.machine.Machine.{Machine}
 use Rattle.alpha_seq.specs.State.{Program, State, Event, Went, Barriered, Overflowed, Ends}
-use Rattle.alpha_seq.specs.Step.{step}
-use Rattle.alpha_seq.specs.Run.{marks_of}
-use Rattle.alpha_seq.specs.Machine.{program_of, state_of}
-use Rattle.alpha_seq.specs.Devices.{Drawn}
-use Rattle.alpha_imprecise.specs.declared.end.WildEnd.{WildEnd}
-use Rattle.alpha_imprecise.specs.declared.end.WildEnd.TheVariants as ends
-use Rattle.alpha_imprecise.specs.Moment.{Trap, Choice, Happening, Precisely, Triggered, Waited, Reported, Lost, Moment, moment}
-use Rattle.alpha_imprecise.specs.Step.{triggers, triggered, precisely, can_wait, address_at, completed, landed, report, waited, wild_at}
-use Rattle.alpha_imprecise.proofs.Landed.{report_at}
-use Rattle.alpha_imprecise.specs.Run.{wild_marks}
-use Rattle.alpha_imprecise.specs.Chosen.{first_word, most_waited, reporting, triggering, executing, must_report, draw_at, chosen}
-use Rattle.alpha_imprecise.specs.Telling.{Telling, Goes}
-use Rattle.alpha_imprecise.specs.Wild.{WildState, bare, trap_in, waited_in}
-use Rattle.alpha_imprecise.specs.WildEffect.{WildSteps, WildEffect, WildCause}
+use Rattle.alpha_seq.specs.Machine.{program_of, state_of, class_here}
+use Rattle.alpha_seq.specs.Print.{Print, is_over, found_by}
+use Rattle.alpha_imprecise.specs.declared.pending.Pending.{Pending}
+use Rattle.alpha_imprecise.specs.Moment.{Trap, Choice, Happening, Precisely, Triggered, Waited, Reported, Lost}
+use Rattle.alpha_imprecise.specs.Step.{triggers, adds_here, wild_at}
+use Rattle.alpha_imprecise.specs.Run.{finished}
+use Rattle.alpha_imprecise.specs.Chosen.{most_waited, Draw, first_word, reporting, triggering, executing, must_report, draw_at}
+use Rattle.alpha_imprecise.specs.Picks.{Asked, Unasked, ValueAsked, PickAsked, choice_by, asked_at, asked}
+use Rattle.alpha_imprecise.specs.Wild.{WildState, trap_of, trap_in, waited_in, bare}
+use Rattle.alpha_imprecise.specs.WildEffect.{shown_as, GoesBy, WildGoes}
+use Rattle.alpha_imprecise.proofs.Choosing.{triggers-told, can_wait-told}
+use Rattle.alpha_imprecise.proofs.EventKinds.{is_precise, is_report, precise-event, triggered-event, reported-event, waited-event}
 use Rattle.alpha_replay.specs.declared.moves.Move.{Move}
 use Rattle.alpha_replay.specs.declared.moves.Move.TheVariants.{One, Trips, Waits, Reports}
-use Rattle.alpha_replay.specs.Moves.{choice_of, fits}
-use Rattle.alpha_replay.specs.Playing.{happened_of, first_given, second_given, is_triggered, is_waited, accords, Moved}
+use Rattle.alpha_replay.specs.Events.{move_of, happened_of}
+use Rattle.alpha_replay.specs.Gathered.{noted_at}
+use Rattle.alpha_replay.specs.Given.{pick_of, value_of, given_choice}
+use Rattle.alpha_replay.specs.Moves.{choice_of, may_add, suits}
 
--- ---- a report executes no word
+-- ---- how a step went, by its event
 
-landed_calm : (g : Program) (s : State) (at : ℕ) → is_waited (landed g s at).happened ≡ false
-landed_calm g s at = by (stops g.how)
-  where
-    by : (b : Bool) → is_waited (cond b (moment (record s { pc = address_at g.image at }) None (Precisely (Ends (Overflow (address_at g.image at)))))
-        (moment (completed g s at) None (Reported (address_at g.image at)))).happened ≡ false
-    by true = refl
-    by false = refl
+seen-happened : (o : Option Class) (c : Choice) (passed : Passed) (event : Event) → happened_of (shown_as o c passed (Precisely event)) ≡ Precisely event
+seen-happened o c passed Went = refl
+seen-happened o c passed Barriered = refl
+seen-happened o c passed (Overflowed at) = refl
+seen-happened o c passed (Ends end) = refl
 
-report_calm : (g : Program) (s : State) (t : Trap) → is_waited (report g s t).happened ≡ false
-report_calm g s t = by (scan g.image s.pc t.mask)
-  where
-    by : (o : Option ℕ) → is_waited (report_at g s t o).happened ≡ false
-    by None = refl
-    by (Some at) = landed_calm g s at
+pub shown-happened : (o : Option Class) (c : Choice) (passed : Passed) (h : Happening) → happened_of (shown_as o c passed h) ≡ h
+shown-happened o c passed (Precisely event) = seen-happened o c passed event
+shown-happened o c passed Triggered = refl
+shown-happened o c passed Waited = refl
+shown-happened o c passed (Reported at) = refl
+shown-happened o c passed (Lost pc mask) = refl
 
--- ---- the step by two words
+pub over-finished : (event : Seen) → finished (happened_of event) ≡ is_over event
+over-finished events.Went = refl
+over-finished (events.Barrier passed) = refl
+over-finished (events.Overflowed at) = refl
+over-finished (events.Triggered value) = refl
+over-finished (events.Waited w) = refl
+over-finished (events.Reported at) = refl
+over-finished (events.Ended end) = refl
+over-finished (events.Lost pc mask) = refl
 
-abbrev given : Move → List ℕ
-given m = first_given m ∷ second_given m ∷ []
+-- ---- the move of a kind of step
 
-abbrev pub by_given : Program → Option Class → State → Option Trap → ℕ → Move → Moment
-by_given g o s p n m = wild_at g o s p (draw_at o s p n (given m)).choice
+precise_end : (end : End) → is_precise (events.Ended end) ≡ true → move_of (events.Ended end) ≡ One
+precise_end (ends.Exit value) e = refl
+precise_end (ends.Signal code pc) e = refl
+precise_end (ends.Fetch pc) e = refl
+precise_end (ends.Access pc addr) e = refl
+precise_end (ends.Align pc addr) e = refl
+precise_end (ends.Overflow pc) e = cc
 
--- it fits where it accords, and then it is the move's step
-pub record IsMove (g : Program) (o : Option Class) (s : State) (p : Option Trap) (n : ℕ) (m : Move) : Type 0 where
-  pub fit : fits o s p n m ≡ accords (is_some p) m (by_given g o s p n m).happened
-  pub same : accords (is_some p) m (by_given g o s p n m).happened ≡ true → wild_at g o s p (choice_of m) ≡ by_given g o s p n m
+one_by : (event : Seen) → is_precise event ≡ true → move_of event ≡ One
+one_by events.Went e = refl
+one_by (events.Barrier passed) e = refl
+one_by (events.Overflowed at) e = refl
+one_by (events.Triggered value) e = cc
+one_by (events.Waited w) e = cc
+one_by (events.Reported at) e = cc
+one_by (events.Ended end) e = precise_end end e
+one_by (events.Lost pc mask) e = cc
 
-never : {X : Type 0} → false ≡ true → X
-never e = absurd cc
+report_end : (end : End) → is_report (events.Ended end) ≡ true → move_of (events.Ended end) ≡ Reports
+report_end (ends.Exit value) e = cc
+report_end (ends.Signal code pc) e = cc
+report_end (ends.Fetch pc) e = cc
+report_end (ends.Access pc addr) e = cc
+report_end (ends.Align pc addr) e = cc
+report_end (ends.Overflow pc) e = refl
+
+report_by : (event : Seen) → is_report event ≡ true → move_of event ≡ Reports
+report_by events.Went e = cc
+report_by (events.Barrier passed) e = cc
+report_by (events.Overflowed at) e = cc
+report_by (events.Triggered value) e = cc
+report_by (events.Waited w) e = cc
+report_by (events.Reported at) e = refl
+report_by (events.Ended end) e = report_end end e
+report_by (events.Lost pc mask) e = refl
+
+must-told : (o : Option Class) (m : Machine) (input output : List ℕ) (n : ℕ) → must_report o (state_of m input output) n ≡ must_report o (bare m) n
+must-told o m input output n = ap (λ (b : Bool). not b || nat_le most_waited n) (can_wait-told o m input output)
+
+-- ---- by the words that chose it
+
+module _ (old : WildState) (p : Print) (new : WildState) (is : WildGoes old p new) (coming output : List ℕ) where
+  abbrev o : Option Class
+  o = class_here old.machine
+
+  abbrev s : State
+  s = state_of old.machine (found_by p) output
+
+  abbrev words : List ℕ
+  words = p.words ++ coming
+
+  -- the draw, by what was pending
+  drawn_at : (pending : Option Pending) → old.pending ≡ pending → (draw_at o s (trap_in pending) (waited_in pending) words).choice ≡ is.choice
+  drawn_at pending e = ap (λ (q : Option Pending). (draw_at o s (trap_in q) (waited_in q) words).choice) (sym e) ∙ ap (λ (d : Draw). d.choice) (is.draws coming output)
+
+  with_none : old.pending ≡ None → noted_at o s None 0 words ≡ move_of p.event
+  with_none calm = by (triggers o (bare old.machine)) refl
+    where
+      same : triggers o s ≡ triggers o (bare old.machine)
+      same = triggers-told o old.machine (found_by p) output
+
+      drawn : (cond (triggers o s) (triggering (first_word words)) (reporting 0)).choice ≡ is.choice
+      drawn = drawn_at None calm
+
+      by : (b : Bool) → triggers o (bare old.machine) ≡ b → cond (triggers o s) (Trips (first_word words)) One ≡ move_of p.event
+      by true e =
+          let here = same ∙ e in
+          ap (λ (b : Bool). cond b (Trips (first_word words)) One) here
+          ∙ (ap (λ (c : Choice). Trips c.value) (ap (λ (b : Bool). (cond b (triggering (first_word words)) (reporting 0)).choice) (sym here) ∙ drawn)
+          ∙ sym (ap move_of (triggered-event is.choice old new p is.by calm e)))
+      by false e =
+          ap (λ (b : Bool). cond b (Trips (first_word words)) One) (same ∙ e)
+          ∙ sym (one_by p.event (precise-event is.choice old new p is.by calm e))
+
+  module _ (trap : Pending) (some : old.pending ≡ Some trap) where
+    same : must_report o s trap.waited ≡ must_report o (bare old.machine) trap.waited
+    same = must-told o old.machine (found_by p) output trap.waited
+
+    abbrev first : ℕ
+    first = first_word words
+
+    abbrev second : ℕ
+    second = first_word (drop 1 words)
+
+    abbrev noted_by : Bool → Bool → Move
+    noted_by must reports = cond must Reports (cond reports Reports (Waits (first / 4 % 2 == 1 && adds_here o) second))
+
+    abbrev drawn_by : Bool → Bool → Choice
+    drawn_by must reports = (cond must (reporting 0) (cond reports (reporting 1) (executing first second))).choice
+
+    -- what the words chose, by the tests
+    drawn : (must reports : Bool) → must_report o s trap.waited ≡ must → eqb (first % 4) 0 ≡ reports → drawn_by must reports ≡ is.choice
+    drawn must reports e f =
+        ap (λ (b : Bool). drawn_by b reports) (sym e)
+        ∙ (ap (λ (b : Bool). drawn_by (must_report o s trap.waited) b) (sym f) ∙ drawn_at (Some trap) some)
+
+    noted_is : (must reports : Bool) → must_report o s trap.waited ≡ must → eqb (first % 4) 0 ≡ reports → noted_by must reports ≡ move_of p.event
+        → noted_at o s (Some (trap_of trap)) trap.waited words ≡ move_of p.event
+    noted_is must reports e f h = ap (λ (b : Bool). noted_by b (eqb (first % 4) 0)) e ∙ (ap (λ (b : Bool). noted_by must b) f ∙ h)
+
+    reported : (must reports : Bool) → must_report o s trap.waited ≡ must → eqb (first % 4) 0 ≡ reports → (drawn_by must reports).report ≡ true
+        → noted_by must reports ≡ Reports → noted_at o s (Some (trap_of trap)) trap.waited words ≡ move_of p.event
+    reported must reports e f chosen h =
+        noted_is must reports e f
+        (h ∙ sym (report_by p.event (reported-event is.choice old new p trap is.by some (sym (ap (λ (x : Choice). x.report) (drawn must reports e f)) ∙ chosen))))
+
+    waits : (reports : Bool) → must_report o (bare old.machine) trap.waited ≡ false → eqb (first % 4) 0 ≡ reports → noted_at o s (Some (trap_of trap)) trap.waited words ≡ move_of p.event
+    waits true e f = reported false true (same ∙ e) f refl refl
+    waits false e f =
+        let chosen = drawn false false (same ∙ e) f in
+        noted_is false false (same ∙ e) f
+        (ap (λ (x : Choice). Waits (x.adds && adds_here o) x.value) chosen
+        ∙ sym (ap move_of (waited-event is.choice old new p trap is.by some (sym (ap (λ (x : Choice). x.report) chosen)) e)))
+
+    with_some : noted_at o s (Some (trap_of trap)) trap.waited words ≡ move_of p.event
+    with_some = by (must_report o (bare old.machine) trap.waited) refl
+      where
+        by : (b : Bool) → must_report o (bare old.machine) trap.waited ≡ b → noted_at o s (Some (trap_of trap)) trap.waited words ≡ move_of p.event
+        by true e = reported true (eqb (first % 4) 0) (same ∙ e) refl refl refl
+        by false e = waits (eqb (first % 4) 0) e refl
+
+  pub noted-event : noted_at o s (trap_in old.pending) (waited_in old.pending) words ≡ move_of p.event
+  noted-event = by old.pending refl
+    where
+      by : (pending : Option Pending) → old.pending ≡ pending → noted_at o s (trap_in pending) (waited_in pending) words ≡ move_of p.event
+      by None e = with_none e
+      by (Some trap) e = with_some trap e
+
+-- ---- by the move that was asked for
+
+-- whether it is that move, by the tests and by the choice
+pub record Fits (g : Program) (o : Option Class) (s : State) (t : Option Trap) (n : ℕ) (c : Choice) (m was : Move) : Type 0 where
+  pub same : was ≡ m → (suits o s t n m ≡ true) × (wild_at g o s t (choice_of m) ≡ wild_at g o s t c)
+  pub other : (was ≡ m → ⊥) → suits o s t n m ≡ false
+
+never : (a : Bool) → (a && false) ≡ false
+never true = refl
+never false = refl
+
+both : (a b : Bool) → a ≡ true → b ≡ true → (a && b) ≡ true
+both a b e f = rw (e, f) refl
+
+adds_not : (a b : Bool) → a ≡ b → (c : Bool) → (a ≡ true → ⊥) → (a && c) ≡ false
+adds_not a true e c apart = absurd (apart e)
+adds_not a false e c apart = ap (λ (x : Bool). x && c) e
 
 module _ (g : Program) (o : Option Class) (s : State) where
-  abbrev with : Bool → Choice → Moment
-  with b c = cond b (triggered g o s c) (precisely (step g o s))
+  -- it overflowed
+  trips_fit : (n : ℕ) (m : Move) → triggers o s ≡ true → Fits g o s None n (triggering (value_of m)).choice m (Trips (value_of m))
+  trips_fit n One e = record { same = λ is. absurd cc; other = λ no. ap (λ (b : Bool). not b) e }
+  trips_fit n (Trips value) e = record { same = λ is. (e, refl); other = λ no. absurd (no refl) }
+  trips_fit n (Waits adds value) e = record { same = λ is. absurd cc; other = λ no. never (may_add o (Waits adds value)) }
+  trips_fit n Reports e = record { same = λ is. absurd cc; other = λ no. refl }
 
-  abbrev words_for : Bool → ℕ → Choice
-  words_for b value = (cond b (triggering value) (reporting 0)).choice
+  -- with nothing pending, it didn't
+  one_fits : (n : ℕ) (m : Move) → triggers o s ≡ false → Fits g o s None n (reporting 0).choice m One
+  one_fits n One e = record { same = λ is. (ap (λ (b : Bool). not b) e, refl); other = λ no. absurd (no refl) }
+  one_fits n (Trips value) e = record { same = λ is. absurd cc; other = λ no. e }
+  one_fits n (Waits adds value) e = record { same = λ is. absurd cc; other = λ no. never (may_add o (Waits adds value)) }
+  one_fits n Reports e = record { same = λ is. absurd cc; other = λ no. refl }
 
-  one : (n : ℕ) → IsMove g o s None n One
-  one n = record { fit = fit (triggers o s); same = same (triggers o s) }
+  -- a report that had to be
+  forced_fits : (t : Trap) (n : ℕ) (m : Move) → must_report o s n ≡ true → Fits g o s (Some t) n (reporting 0).choice m Reports
+  forced_fits t n One e = record { same = λ is. absurd cc; other = λ no. refl }
+  forced_fits t n (Trips value) e = record { same = λ is. absurd cc; other = λ no. refl }
+  forced_fits t n (Waits adds value) e = record {
+    same = λ is. absurd cc;
+    other = λ no. ap (λ (b : Bool). may_add o (Waits adds value) && not b) e ∙ never (may_add o (Waits adds value));
+  }
+  forced_fits t n Reports e = record { same = λ is. (refl, refl); other = λ no. absurd (no refl) }
+
+  -- where a word can be executed, the move of a report and of a wait
+  abbrev picked : Move → Move
+  picked (Waits adds value) = Waits (adds && adds_here o) value
+  picked _ = Reports
+
+  picked_fits : (t : Trap) (n : ℕ) (m : Move) → must_report o s n ≡ false → Fits g o s (Some t) n (choice_by (pick_of m)) m (picked m)
+  picked_fits t n One e = record { same = λ is. absurd cc; other = λ no. refl }
+  picked_fits t n (Trips value) e = record { same = λ is. absurd cc; other = λ no. refl }
+  picked_fits t n (Waits false value) e = record { same = λ is. (ap (λ (b : Bool). not b) e, refl); other = λ no. absurd (no refl) }
+  picked_fits t n (Waits true value) e = record {
+    same = λ is. (let adds : adds_here o ≡ true = cc in (both (adds_here o) (not (must_report o s n)) adds (ap (λ (b : Bool). not b) e), refl));
+    other = λ no. adds_not (adds_here o) (adds_here o) refl (not (must_report o s n)) (λ adds. no (ap (λ (b : Bool). Waits b value) adds));
+  }
+  picked_fits t n Reports e = record { same = λ is. (refl, refl); other = λ no. absurd (no refl) }
+
+module _ (old : WildState) (p : Print) (new : WildState) (m : Move) (is : GoesBy (given_choice m (asked old)) old p new) (input output : List ℕ) where
+  abbrev here : Option Class
+  here = class_here old.machine
+
+  abbrev at : State
+  at = state_of old.machine input output
+
+  abbrev FitsBy : Option Pending → Choice → Move → Type 0
+  FitsBy pending c was = Fits (program_of old.machine) here at (trap_in pending) (waited_in pending) c m was
+
+  -- the choice, by what was asked
+  given_at : (pending : Option Pending) (a : Asked) → old.pending ≡ pending → asked_at here (bare old.machine) (trap_in pending) (waited_in pending) ≡ a
+      → given_choice m (asked old) ≡ given_choice m a
+  given_at pending a e f = ap (λ (q : Option Pending). given_choice m (asked_at here (bare old.machine) (trap_in q) (waited_in q))) e ∙ ap (given_choice m) f
+
+  fits_none : old.pending ≡ None → FitsBy None (given_choice m (asked old)) (move_of p.event)
+  fits_none calm = by (triggers here (bare old.machine)) refl
     where
-      fit : (b : Bool) → not b ≡ (not false && not (is_triggered (with b (words_for b 0)).happened))
-      fit true = refl
-      fit false = refl
+      same : triggers here at ≡ triggers here (bare old.machine)
+      same = triggers-told here old.machine input output
 
-      same : (b : Bool) → (not false && not (is_triggered (with b (words_for b 0)).happened)) ≡ true → with b (choice_of One) ≡ with b (words_for b 0)
-      same true e = never e
-      same false e = refl
+      by : (b : Bool) → triggers here (bare old.machine) ≡ b → FitsBy None (given_choice m (asked old)) (move_of p.event)
+      by true e =
+          let given = given_at None ValueAsked calm (ap (λ (b : Bool). cond b ValueAsked Unasked) e) in
+          let was : move_of p.event ≡ Trips (value_of m) =
+          ap move_of (triggered-event (given_choice m (asked old)) old new p is calm e) ∙ ap (λ (c : Choice). Trips c.value) given in
+          rw (given, was) (trips_fit (program_of old.machine) here at 0 m (same ∙ e))
+      by false e =
+          let given = given_at None Unasked calm (ap (λ (b : Bool). cond b ValueAsked Unasked) e) in
+          let was = one_by p.event (precise-event (given_choice m (asked old)) old new p is calm e) in
+          rw (given, was) (one_fits (program_of old.machine) here at 0 m (same ∙ e))
 
-  trips : (n value : ℕ) → IsMove g o s None n (Trips value)
-  trips n value = record { fit = fit (triggers o s); same = same (triggers o s) }
+  fits_some : (trap : Pending) → old.pending ≡ Some trap → FitsBy (Some trap) (given_choice m (asked old)) (move_of p.event)
+  fits_some trap some = by (must_report here (bare old.machine) trap.waited) refl
     where
-      fit : (b : Bool) → b ≡ (not false && is_triggered (with b (words_for b value)).happened)
-      fit true = refl
-      fit false = refl
+      same : must_report here at trap.waited ≡ must_report here (bare old.machine) trap.waited
+      same = must-told here old.machine input output trap.waited
 
-      same : (b : Bool) → (not false && is_triggered (with b (words_for b value)).happened) ≡ true → with b (choice_of (Trips value)) ≡ with b (words_for b value)
-      same true e = refl
-      same false e = never e
+      chosen : (c : Choice) → given_choice m (asked old) ≡ c → c.report ≡ true → move_of p.event ≡ Reports
+      chosen c given reports = report_by p.event (reported-event (given_choice m (asked old)) old new p trap is some (ap (λ (x : Choice). x.report) given ∙ reports))
 
-  -- while a trap is pending
+      waited : (n : Move) → choice_by (pick_of m) ≡ choice_by (pick_of n) → given_choice m (asked old) ≡ choice_by (pick_of n) → must_report here (bare old.machine) trap.waited ≡ false
+          → move_of p.event ≡ picked (program_of old.machine) here at n
+      waited One e given may = chosen (choice_by None) given refl
+      waited (Trips value) e given may = chosen (choice_by None) given refl
+      waited Reports e given may = chosen (choice_by None) given refl
+      waited (Waits adds value) e given may =
+          ap move_of (waited-event (given_choice m (asked old)) old new p trap is some (ap (λ (x : Choice). x.report) given) may)
+          ∙ ap (λ (x : Choice). Waits (x.adds && adds_here here) x.value) given
 
-  abbrev drawn_for : Bool → ℕ → ℕ → Choice
-  drawn_for b c value = (cond b (reporting 0) (cond (eqb (c % 4) 0) (reporting 1) (executing c value))).choice
+      by : (b : Bool) → must_report here (bare old.machine) trap.waited ≡ b → FitsBy (Some trap) (given_choice m (asked old)) (move_of p.event)
+      by true e =
+          let given = given_at (Some trap) Unasked some (ap (λ (b : Bool). cond b Unasked PickAsked) e) in
+          rw (given, chosen (reporting 0).choice given refl) (forced_fits (program_of old.machine) here at (trap_of trap) trap.waited m (same ∙ e))
+      by false e =
+          let given = given_at (Some trap) PickAsked some (ap (λ (b : Bool). cond b Unasked PickAsked) e) in
+          rw (given, waited m refl given e) (picked_fits (program_of old.machine) here at (trap_of trap) trap.waited m (same ∙ e))
 
-  reports : (t : Trap) (n : ℕ) → IsMove g o s (Some t) n Reports
-  reports t n = record { fit = fit (must_report o s n); same = same (must_report o s n) }
+  pub given-fits : FitsBy old.pending (given_choice m (asked old)) (move_of p.event)
+  given-fits = by old.pending refl
     where
-      fit : (b : Bool) → true ≡ (true && not (is_waited (wild_at g o s (Some t) (drawn_for b 0 0)).happened))
-      fit true = ap not (sym (report_calm g s t))
-      fit false = ap not (sym (report_calm g s t))
-
-      same : (b : Bool) → (true && not (is_waited (wild_at g o s (Some t) (drawn_for b 0 0)).happened)) ≡ true → wild_at g o s (Some t) (choice_of Reports) ≡ wild_at g o s (Some t) (drawn_for b 0 0)
-      same true e = refl
-      same false e = refl
-
-  -- what is executed, by whether it can be
-  abbrev tried : Trap → Bool → Choice → Moment
-  tried t b c = cond b (report g s t) (waited o s t c)
-
-  can_by : (n : ℕ) → must_report o s n ≡ false → not (can_wait o s) ≡ false
-  can_by n e = by (not (can_wait o s)) e
-    where
-      by : (b : Bool) → (b || nat_le most_waited n) ≡ false → b ≡ false
-      by true f = absurd cc
-      by false f = refl
-
-  waits : (t : Trap) (n : ℕ) (adds : Bool) (value : ℕ) → IsMove g o s (Some t) n (Waits adds value)
-  waits t n true value = record { fit = fit (must_report o s n) refl; same = same (must_report o s n) }
-    where
-      fit : (b : Bool) → must_report o s n ≡ b → not b ≡ (true && is_waited (wild_at g o s (Some t) (drawn_for b 5 value)).happened)
-      fit true e = sym (report_calm g s t)
-      fit false e = ap (λ (b : Bool). is_waited (tried t b (drawn_for false 5 value)).happened) (sym (can_by n e))
-
-      same : (b : Bool) → (true && is_waited (wild_at g o s (Some t) (drawn_for b 5 value)).happened) ≡ true → wild_at g o s (Some t) (choice_of (Waits true value)) ≡ wild_at g o s (Some t) (drawn_for b 5 value)
-      same true e = never (sym (report_calm g s t) ∙ e)
-      same false e = refl
-  waits t n false value = record { fit = fit (must_report o s n) refl; same = same (must_report o s n) }
-    where
-      fit : (b : Bool) → must_report o s n ≡ b → not b ≡ (true && is_waited (wild_at g o s (Some t) (drawn_for b 1 value)).happened)
-      fit true e = sym (report_calm g s t)
-      fit false e = ap (λ (b : Bool). is_waited (tried t b (drawn_for false 1 value)).happened) (sym (can_by n e))
-
-      same : (b : Bool) → (true && is_waited (wild_at g o s (Some t) (drawn_for b 1 value)).happened) ≡ true → wild_at g o s (Some t) (choice_of (Waits false value)) ≡ wild_at g o s (Some t) (drawn_for b 1 value)
-      same true e = never (sym (report_calm g s t) ∙ e)
-      same false e = refl
-
-pub is_move : (g : Program) (o : Option Class) (s : State) (p : Option Trap) (n : ℕ) (m : Move) → IsMove g o s p n m
-is_move g o s None n One = one g o s n
-is_move g o s None n (Trips value) = trips g o s n value
-is_move g o s None n (Waits adds value) = record { fit = refl; same = λ e. never e }
-is_move g o s None n Reports = record { fit = refl; same = λ e. never e }
-is_move g o s (Some t) n One = record { fit = refl; same = λ e. never e }
-is_move g o s (Some t) n (Trips value) = record { fit = refl; same = λ e. never e }
-is_move g o s (Some t) n (Waits adds value) = waits g o s t n adds value
-is_move g o s (Some t) n Reports = reports g o s t n
-
--- ---- a step draws two words at most
-
-chosen_two : (g : Program) (s : State) (p : Option Trap) (n : ℕ) (words : List ℕ)
-    → chosen g s p n words ≡ chosen g s p n (first_word words ∷ first_word (drop 1 words) ∷ [])
-chosen_two g s None n words = refl
-chosen_two g s (Some t) n words = refl
-
--- what comes behind the words that a chooser of two words went on by
-abbrev coming_of : ℕ → ℕ → List ℕ → List ℕ
-coming_of a b [] = a ∷ b ∷ []
-coming_of a b (x ∷ []) = b ∷ []
-coming_of a b (x ∷ y ∷ words) = []
-
-begins : (a b : ℕ) (after : Option (ℕ → ℕ)) (words : List ℕ) → Goes (Some (λ k. slice_index (a ∷ b ∷ []) k)) after words
-    → (first_word (words ++ coming_of a b words) ≡ a) × (first_word (drop 1 (words ++ coming_of a b words)) ≡ b)
-begins a b None words went = absurd went
-begins a b (Some rest) [] went = (refl, refl)
-begins a b (Some rest) (x ∷ []) went = (sym (went.0 0 (omega arith)), refl)
-begins a b (Some rest) (x ∷ (y ∷ words)) went = (sym (went.0 0 (omega arith)), sym (went.0 1 (omega arith)))
-
--- ---- the code's step
-
-abbrev pub by_two : ℕ → ℕ → Telling
-by_two a b = record { ahead = Some (λ k. slice_index (a ∷ b ∷ []) k); count = None }
-
--- the step of the definition by these words, over an input that is told
-steps_moved : (m : Move) (a b : ℕ) → a ≡ first_given m → b ≡ second_given m
-    → (h : Happening) (old new : WildState) (after : Telling) (xs ys : List ℕ) (out : Sunk)
-    → WildSteps h old new (by_two a b) after (record { old = Some xs; new = Some ys; before = 0; now = 0 }) out
-    → Moved m h old new xs ys
-steps_moved m a b first second h old new after xs ys out steps =
-    let g = program_of old.machine in
-    let coming = coming_of a b steps.words in
-    let words = steps.words ++ coming in
-    let two = begins a b after.ahead steps.words steps.drew.went in
-    let left : steps.rest ≡ ys = (let e = steps.took.took.1 in cc) in
-    record {
-      bytes = steps.bytes;
-      is = λ output.
-          let s = state_of old.machine xs output in
-          ap (λ (l : List ℕ). chosen g s (trap_in old.pending) (waited_in old.pending) l)
-          (ap (λ (c : ℕ). c ∷ second_given m ∷ []) (sym first ∙ sym two.0) ∙ ap (λ (c : ℕ). first_word words ∷ c ∷ []) (sym second ∙ sym two.1))
-          ∙ (sym (chosen_two g s (trap_in old.pending) (waited_in old.pending) words)
-          ∙ (ap (λ (l : List ℕ). chosen g (state_of old.machine l output) (trap_in old.pending) (waited_in old.pending) words) steps.took.took.0
-          ∙ ((steps.is coming output).step
-          ∙ ap (λ (l : List ℕ). moment (state_of new.machine l (output ++ steps.bytes)) (trap_in new.pending) h) left)));
-      waited = steps.waited;
-      program = steps.program;
-      fewer =
-          let size = length-append steps.taken steps.rest in
-          let whole = ap (λ (l : List ℕ). length l) steps.took.took.0 in
-          let rest = ap (λ (l : List ℕ). length l) left in
-          omega (arith, size, whole, rest);
-    }
-
-abbrev sure : List ℕ → List ℕ → Drawn
-sure xs ys = record { old = Some xs; new = Some ys; before = 0; now = 0 }
-
-abbrev null : Sunk
-null = record { old = None; new = None; before = 0; now = 0 }
-
-never_rose : Rose 0 0 → ⊥
-never_rose rose = omega arith
-
-pub moved_by : (end : WildEnd) (m : Move) (a b : ℕ) → a ≡ first_given m → b ≡ second_given m
-    → (old new : WildState) (after : Telling) (xs ys : List ℕ)
-    → WildEffect end old new (by_two a b) after (sure xs ys) null null
-    → WildCause end (sure xs ys) null null
-    → Moved m (happened_of end) old new xs ys
-moved_by ends.Went m a b first second old new after xs ys effect cause = steps_moved m a b first second (Precisely Went) old new after xs ys null effect.0
-moved_by ends.Barrier m a b first second old new after xs ys effect cause = steps_moved m a b first second (Precisely Barriered) old new after xs ys null effect.0
-moved_by ends.Triggered m a b first second old new after xs ys effect cause = steps_moved m a b first second Triggered old new after xs ys null effect.0
-moved_by ends.Waited m a b first second old new after xs ys effect cause = steps_moved m a b first second Waited old new after xs ys null effect.0
-moved_by (ends.Reported at) m a b first second old new after xs ys effect cause = steps_moved m a b first second (Reported at) old new after xs ys null effect.0
-moved_by (ends.Ended end) m a b first second old new after xs ys effect cause = steps_moved m a b first second (Precisely (Ends end)) old new after xs ys null effect.0
-moved_by (ends.Lost pc mask) m a b first second old new after xs ys effect cause = steps_moved m a b first second (Lost pc mask) old new after xs ys null effect.0
-moved_by ends.InputFault m a b first second old new after xs ys effect cause = absurd (never_rose cause.source)
-moved_by ends.SinkFault m a b first second old new after xs ys effect cause =
-    absurd
-    (⊎_elim
-    (λ (failed : HasOutputFault (sure xs ys) null null). never_rose failed.sink)
-    (λ (failed : HasNotesFault (sure xs ys) null null). never_rose failed.lines)
-    cause)
-
--- ---- what is noted of a step shows the PC and the registers alone
-
-precise_marks : (event : Event) (m : Machine) (input output : List ℕ) → marks_of event (state_of m input output) ≡ marks_of event (bare m)
-precise_marks Went m input output = refl
-precise_marks Barriered m input output = refl
-precise_marks (Overflowed at) m input output = refl
-precise_marks (Ends end) m input output = refl
-
-pub marks_told : (h : Happening) (m : Machine) (input output : List ℕ) → wild_marks h (state_of m input output) ≡ wild_marks h (bare m)
-marks_told (Precisely event) m input output = precise_marks event m input output
-marks_told Triggered m input output = refl
-marks_told Waited m input output = refl
-marks_told (Reported at) m input output = refl
-marks_told (Lost pc mask) m input output = refl
+      by : (pending : Option Pending) → old.pending ≡ pending → FitsBy pending (given_choice m (asked old)) (move_of p.event)
+      by None e = fits_none e
+      by (Some trap) e = fits_some trap e

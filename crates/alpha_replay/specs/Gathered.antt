@@ -4,14 +4,13 @@ use Rattle.alpha_table.specs.Class.{Class}
 use Rattle.alpha_seq.specs.State.{Program, State}
 use Rattle.alpha_seq.specs.Step.{next_class}
 use Rattle.alpha_imprecise.specs.Moment.{Trap}
-use Rattle.alpha_imprecise.specs.Step.{triggers}
+use Rattle.alpha_imprecise.specs.Step.{triggers, adds_here}
 use Rattle.alpha_imprecise.specs.Chosen.{first_word, must_report}
 use Rattle.alpha_imprecise.specs.Made.{Making}
 use Rattle.alpha_replay.specs.declared.item.Item.{Item}
 use Rattle.alpha_replay.specs.declared.item.Item.TheVariants.{Units, Trigger, Wait, Report}
 use Rattle.alpha_replay.specs.declared.moves.Move.{Move}
 use Rattle.alpha_replay.specs.declared.moves.Move.TheVariants.{One, Trips, Waits, Reports}
-use Rattle.alpha_replay.specs.Moves.{adds_here}
 
 -- The move that coming words make of a step. A trigger has its word as its value. A word that is executed while a trap is
 -- pending has the second of its two words as its value, and adds to the mask where the first one says so and the word may.

@@ -1,9 +1,9 @@
 -- The moves of a journal: what each is, and where it is possible.
-use Rattle.std.specs.Prelude.{ℕ, Bool, true, false, ◌==◌, not, ◌&&◌, Option, Some, None}
+use Rattle.std.specs.Prelude.{ℕ, Bool, true, false, not, ◌&&◌, Option, Some, None}
 use Rattle.alpha_table.specs.Class.{Class}
 use Rattle.alpha_seq.specs.State.{State}
 use Rattle.alpha_imprecise.specs.Moment.{Trap, Choice}
-use Rattle.alpha_imprecise.specs.Step.{triggers, destination}
+use Rattle.alpha_imprecise.specs.Step.{triggers, adds_here}
 use Rattle.alpha_imprecise.specs.Chosen.{must_report, reporting, triggering}
 use Rattle.alpha_replay.specs.declared.moves.Move.{Move}
 use Rattle.alpha_replay.specs.declared.moves.Move.TheVariants.{One, Trips, Waits, Reports}
@@ -14,10 +14,6 @@ choice_of One = (reporting 0).choice
 choice_of (Trips value) = (triggering value).choice
 choice_of (Waits adds value) = record { report = false; value = value; bytes = value; adds = adds }
 choice_of Reports = (reporting 0).choice
-
--- whether a word may add to the mask: it may trap, and its destination is not R31
-abbrev pub adds_here : Option Class → Bool
-adds_here o = not (destination o == 31)
 
 -- a move that adds stands only at such a word
 abbrev pub may_add : Option Class → Move → Bool

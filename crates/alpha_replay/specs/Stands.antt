@@ -1,6 +1,6 @@
 -- How the last step went, behind steps that only go on.
 use Rattle.std.specs.Prelude.{ℕ, zero, suc}
-use Rattle.alpha_imprecise.specs.declared.end.WildEnd.TheVariants.{Went}
+use Rattle.alpha_seq.specs.declared.event.Event.TheVariants.{Went}
 use Rattle.alpha_replay.specs.declared.play.Stand.{Stand}
 
 -- the stand behind so many of them, which put nothing

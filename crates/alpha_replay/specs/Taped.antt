@@ -1,11 +1,14 @@
--- What is gathered of a run so far.
-use Rattle.std.specs.Prelude.{◌≡◌, ℕ, ◌≤◌, ◌&&◌, Bool, false, nat_le, List, [], ◌∷◌, ◌++◌, length, vec_capacity, All}
+-- What is gathered of a run so far, and what a step adds to it.
+use Rattle.std.specs.Prelude.{◌≡◌, ℕ, ◌+◌, ◌-◌, ◌==◌, ◌≤◌, ◌&&◌, Bool, false, nat_le, if◌then◌else◌, List, [], ◌∷◌, ◌++◌, length, vec_capacity, All}
 use Rattle.alpha_image.specs.Parts.{IsByte}
+use Rattle.alpha_seq.specs.declared.machine.Machine.{Machine}
+use Rattle.alpha_seq.specs.declared.event.Event.{Event}
 use Rattle.alpha_replay.specs.declared.item.Item.TheVariants.{Units}
 use Rattle.alpha_replay.specs.declared.tape.Tape.TheInside.{Inside}
 use Rattle.alpha_replay.specs.Items.{units_of, FitsItem, AreMerged}
 use Rattle.alpha_replay.specs.Journal.{most_bytes, most_items, most_units}
-use Rattle.alpha_replay.specs.Gathered.{Gathered, closed}
+use Rattle.alpha_replay.specs.Events.{move_of, took_by, put_by}
+use Rattle.alpha_replay.specs.Gathered.{Gathered, closed, gathered_by}
 
 -- the bytes taken, the bytes put, and the moves
 pub record Taped : Type 0 where
@@ -19,6 +22,45 @@ taped taken put gathered = record { taken = taken; put = put; gathered = gathere
 -- whether moves have no more items and units than a journal may have
 abbrev pub has_room : Gathered → Bool
 has_room k = nat_le (length (closed k)) most_items && nat_le (units_of (closed k)) most_units
+
+-- whether all is no more than a journal may have
+abbrev pub tape_fits : Taped → Bool
+tape_fits t = nat_le (length t.taken) most_bytes && nat_le (length t.put) most_bytes && has_room t.gathered
+
+-- ---- one step more
+
+-- with what a step took, what it put and its move
+abbrev pub taped_by : Taped → Event → Machine → Taped
+taped_by t event m =
+    taped (t.taken ++ took_by event m.memory) (t.put ++ put_by event m.memory) (gathered_by t.gathered (move_of event))
+
+-- bytes more, where they are no more than a journal may have
+abbrev pub bytes_kept : List ℕ → List ℕ → List ℕ
+bytes_kept l more = if nat_le (length (l ++ more)) most_bytes then l ++ more else l
+
+-- and moves
+abbrev pub kept : Gathered → Gathered → Gathered
+kept k more = if has_room more then more else k
+
+-- the same, but for what doesn't fit
+abbrev pub tape_after : Taped → Event → Machine → Taped
+tape_after t event m =
+    taped (bytes_kept t.taken (took_by event m.memory)) (bytes_kept t.put (put_by event m.memory)) (kept t.gathered (gathered_by t.gathered (move_of event)))
+
+-- so many more steps with nothing pending that don't overflow
+abbrev pub with_ones : Gathered → ℕ → Gathered
+with_ones k n = record k { ones = k.ones + n }
+
+abbrev pub taped_ones : Taped → ℕ → Taped
+taped_ones t n = record t { gathered = with_ones t.gathered n }
+
+-- how many more there may be
+abbrev pub room_of : Taped → ℕ
+room_of t =
+    if t.gathered.ones == 0 && length t.gathered.items == most_items then 0
+    else most_units - units_of (closed t.gathered)
+
+-- ---- in the code
 
 abbrev pub taped_in : Inside → Taped
 taped_in t = taped t.input.items t.output.items (record { items = t.items.items; ones = t.ones })

@@ -1,17 +1,7 @@
 //! The output of a replay, held against the journal's while it grows.
 
 ghost use Rattle.std.specs.Prelude.{◌≡◌, ◌<◌, ◌≤◌, ◌+◌, ℕ, List, ◌++◌, drop, length, Some};
-ghost use Rattle.alpha_imprecise.specs.Wild.{bare, trap_in};
-ghost use Rattle.alpha_table.specs.ClassOf.{class_of};
-ghost use Rattle.alpha_seq.specs.Machine.{class_here};
 ghost use Rattle.alpha_replay.specs.Compared.{Sees, first_difference};
-ghost use Rattle.alpha_replay.specs.Puts.{is_callsys, puts, puts_at};
-
-use crate::look::{OUTPUT, WRITE, register};
-use alpha_imprecise::Wild;
-use alpha_seq::Machine;
-use alpha_table::{Form, Insn};
-use alpha_words::PalCall;
 
 /// What was seen of an output so far.
 #[derive(Clone, Copy, Debug, PartialEq, Eq)]
@@ -86,57 +76,4 @@ fn same_front(bytes: &[u8], expected: &[u8]) -> usize
         count += 1;
     }
     count
-}
-
-/// The bytes that the next step puts.
-#[inline(always)]
-pub(crate) fn put_here(wild: &Wild) -> &[u8]
-    ensures { result.now ≡ puts_at (class_here wild.now.machine) (bare wild.now.machine)
-        (trap_in wild.now.pending) }
-{
-    match wild.pending() {
-        None => written_here(wild.machine()),
-        Some(_) => &[],
-    }
-}
-
-// Whether an instruction is a system call.
-fn is_callsys(insn: &Insn) -> bool
-    ensures { result ≡ is_callsys (Some (class_of insn.now)) }
-{
-    matches!(insn.form(), Form::Pal(PalCall::Callsys))
-}
-
-// Whether the word at the PC is a system call.
-fn calls_here(machine: &Machine) -> bool
-    ensures { result ≡ is_callsys (class_here machine.now) }
-{
-    match machine.insn() {
-        Some(insn) => is_callsys(&insn),
-        None => false,
-    }
-}
-
-// The bytes that the word at the PC puts. The registers are looked at first, since few words put any.
-#[inline(always)]
-fn written_here(machine: &Machine) -> &[u8]
-    ensures { result.now ≡ puts (class_here machine.now) (bare machine.now) }
-{
-    let regs = &machine.regs;
-    if regs.get(register(0)) != WRITE {
-        return &[];
-    }
-    if regs.get(register(16)) != OUTPUT {
-        return &[];
-    }
-    if !calls_here(machine) {
-        return &[];
-    }
-    match machine
-        .memory
-        .bytes(regs.get(register(17)), regs.get(register(18)))
-    {
-        Some(bytes) => bytes,
-        None => &[],
-    }
 }

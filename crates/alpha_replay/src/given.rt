@@ -1,22 +1,36 @@
-//! The words of a replay's steps.
-
-ghost use Rattle.std.specs.Prelude.{◌≡◌};
-ghost use Rattle.alpha_replay.specs.Playing.{first_given, second_given};
+//! The choices of a replay's steps.
 
 use crate::Move;
-use crate::words::TwoWords;
+use alpha_imprecise::Picks;
+use alpha_seq::Wait;
 
-/// The words by which the machine makes this move, where it can.
-#[inline(always)]
-pub(crate) fn words_of(m: &Move) -> TwoWords
-    ensures first { result.first ≡ first_given m.now }
-    ensures second { result.second ≡ second_given m.now }
-{
-    let (first, second) = match *m {
-        Move::One | Move::Reports => (0, 0),
-        Move::Trips(value) => (value, 0),
-        Move::Waits { adds: true, value } => (5, value),
-        Move::Waits { adds: false, value } => (1, value),
-    };
-    TwoWords::new(first, second)
+/// Who chooses as a move says, where the step asks for what the move has; else it has a report, or a value of 0.
+#[derive(Clone, Copy, Debug)]
+pub(crate) struct Given {
+    /// The move.
+    pub(crate) step: Move,
+}
+
+impl Picks for Given {
+    ghost use Rattle.alpha_replay.specs.Given.{gives_pick, gives_value};
+
+    ghost picks = { gives_pick };
+
+    ghost values = { gives_value };
+
+    #[inline(always)]
+    fn pick(&mut self) -> Option<Wait> {
+        match self.step {
+            Move::Waits { adds, value } => Some(Wait { adds, value }),
+            Move::One | Move::Trips(_) | Move::Reports => None,
+        }
+    }
+
+    #[inline(always)]
+    fn value(&mut self) -> u64 {
+        match self.step {
+            Move::Trips(value) => value,
+            Move::One | Move::Waits { .. } | Move::Reports => 0,
+        }
+    }
 }

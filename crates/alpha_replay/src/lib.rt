@@ -36,24 +36,24 @@
 //! `src/front.rt` reads what stands before the input, `src/items.rt` the items; `src/read.rt` and
 //! `src/write.rt` are the ways in and out. All tests of bytes come before the first memory is taken.
 //!
-//! `src/replaying.rt` has the replay: `src/play.rt` plays the items, each move by a step of the machine with two
-//! words (`src/given.rt`), and `src/compare.rt` compares what a step puts, where it stands in memory before the step.
+//! `src/replaying.rt` has the replay: `src/play.rt` plays the items, each move by a step of the machine that chooses as
+//! the move says (`src/given.rt`): a move is impossible where the step's event is of another one (`src/moves.rt`). What a
+//! step put stands in memory behind it (`src/passed.rt`), and `src/compare.rt` holds it against the journal's output.
 //!
 //! `specs/Journal.antt` has what a journal is and its spelling, over the `specs/Items.antt` and the
 //! `specs/Endings.antt`; `specs/Reading.antt` what bytes say of a journal, and `specs/JournalFault.antt` their first
 //! fault. `specs/Inside.antt`, `specs/Front.antt` and `specs/Scanned.antt` say what the code has of them.
 //! `specs/Moves.antt` has what a move chooses and where it is possible, `specs/Listed.antt` the steps that items
 //! list, or the first item that is impossible, and `specs/Replay.antt` what a replay answers, over the outputs of
-//! `specs/Compared.antt`. `specs/Puts.antt` says what a step puts, and `specs/Playing.antt` what the code did that
-//! plays items, `specs/Stands.antt` how the last step went behind steps that only go on. `specs/Gathered.antt` has
-//! the items of the moves that words make, `specs/Journaled.antt` the journal of a run by them, which stops where it
-//! passes a limit.
+//! `specs/Compared.antt`. `specs/Events.antt` has the move of a step and its bytes, by its event, `specs/Given.antt` the
+//! choice that a move makes, `specs/Playing.antt` what the code did that plays items, and `specs/Stands.antt` how the last
+//! step went behind steps that only go on. `specs/Gathered.antt` has the items of the moves that words make,
+//! `specs/Journaled.antt` the journal of a run by them, which stops where it passes a limit, and `specs/Recorded.antt`
+//! that of a run in which each step finds an input of its own.
 //!
-//! Most words only go on: `src/rush.rt` makes their steps, many at a time, and counts their units on the
-//! `src/tape.rt` (`specs/Ones.antt`). `src/turn.rt` makes any other step, and notes it there. Of each `src/look.rt`
-//! says before the step what it draws, puts and takes, and `src/words.rt` draws its words. `specs/Looks.antt`,
-//! `specs/Puts.antt`, `specs/Taped.antt` and `specs/Turned.antt` are what they say. `src/make.rt` has the loop over
-//! such steps, and `specs/JournalEnd.antt` what is answered of a run.
+//! `src/make.rt` makes a run by the loop of `alpha_run`: `src/recorder.rt` is what looks at its steps there, and notes on
+//! the `src/tape.rt` the move of each and the bytes that it took and put (`specs/Taped.antt`, `specs/Recorder.antt`).
+//! It stops the run behind a step that doesn't fit. `specs/JournalEnd.antt` is what is answered of a run.
 #![tactic(auto)]
 
 mod compare;
@@ -66,17 +66,15 @@ mod items;
 mod journal;
 mod journal_end;
 mod laws;
-mod look;
 mod make;
 mod moves;
+mod passed;
 mod play;
 mod read;
+mod recorder;
 mod replay_fault;
 mod replaying;
-mod rush;
 mod tape;
-mod turn;
-mod words;
 mod write;
 
 pub use ending::Ending;

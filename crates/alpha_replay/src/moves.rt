@@ -1,5 +1,10 @@
 //! The moves of a run.
 
+ghost use Rattle.std.specs.Prelude.{◌≡◌};
+ghost use Rattle.alpha_replay.specs.Events.{move_of};
+
+use alpha_seq::{End, Event, Wait};
+
 /// One step of the imprecise machine, as the items of a journal have it.
 #[derive(Clone, Copy, Debug, PartialEq, Eq)]
 pub enum Move {
@@ -16,4 +21,21 @@ pub enum Move {
     },
     /// A report of the pending trap.
     Reports,
+}
+
+impl Move {
+    /// The move that a step was, by how it went. Only a report stops the program at an overflow.
+    #[inline(always)]
+    pub(crate) fn of(event: &Event) -> Move
+        ensures { result ≡ move_of event.now }
+    {
+        match *event {
+            Event::Triggered(value) => Move::Trips(value),
+            Event::Waited(Wait { adds, value }) => Move::Waits { adds, value },
+            Event::Reported(_) | Event::Ended(End::Overflow { .. }) | Event::Lost(..) => {
+                Move::Reports
+            }
+            Event::Went | Event::Barrier(_) | Event::Overflowed(_) | Event::Ended(_) => Move::One,
+        }
+    }
 }

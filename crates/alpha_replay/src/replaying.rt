@@ -8,15 +8,16 @@ ghost use Rattle.alpha_seq.specs.Machine.{program_of};
 ghost use Rattle.alpha_replay.specs.Endings.{FitsEnding};
 ghost use Rattle.alpha_replay.specs.Items.{units_of};
 ghost use Rattle.alpha_replay.specs.Journal.{most_items, parts};
-ghost use Rattle.alpha_replay.specs.Playing.{happened_of, Begins};
+ghost use Rattle.alpha_replay.specs.Events.{happened_of};
+ghost use Rattle.alpha_replay.specs.Playing.{Begins};
 ghost use Rattle.alpha_replay.specs.Replay.{ending_by, ending_of, same_ending, ends_by, item_reports, reports_of, replayed, Replays};
 
-use crate::play::{is_finished, play_items};
+use crate::play::play_items;
 use crate::{Ending, Item, Journal, ReplayFault};
 use alpha_image::Image;
-use alpha_imprecise::{Wild, WildEnd};
+use alpha_imprecise::Wild;
 use alpha_io::SureSource;
-use alpha_seq::{End, Machine};
+use alpha_seq::{End, Event, Machine};
 use alpha_words::{Completion, RegSet};
 use std::alloc::Global;
 
@@ -30,8 +31,25 @@ pub struct Replayed {
 }
 
 impl Ending {
+    // How a run ends, by its last step.
+    pub(crate) fn of_event(event: &Event) -> Ending
+        ensures value { result ≡ ending_of (happened_of event.now) }
+        ensures fits { FitsEnding result }
+    {
+        match *event {
+            Event::Ended(end) => Ending::of_end(end),
+            Event::Lost(pc, mask) => Ending::of_lost(pc, mask),
+            Event::Went
+            | Event::Barrier(_)
+            | Event::Overflowed(_)
+            | Event::Triggered(_)
+            | Event::Waited(_)
+            | Event::Reported(_) => Ending::Spent,
+        }
+    }
+
     // How a program ends.
-    pub(crate) fn of_end(end: End) -> Ending
+    fn of_end(end: End) -> Ending
         ensures value { result ≡ ending_by end }
         ensures fits { FitsEnding result }
     {
@@ -50,30 +68,13 @@ impl Ending {
 
     // A trap that is lost.
     #[inline(always)]
-    pub(crate) fn of_lost(pc: u64, mask: RegSet) -> Ending
+    fn of_lost(pc: u64, mask: RegSet) -> Ending
         ensures value { result ≡ Ending.Lost pc mask }
         ensures fits { FitsEnding result }
     {
         Ending::Lost {
             pc,
             mask: u64::from(mask.bits()),
-        }
-    }
-
-    // How a run ends, by its last step.
-    fn of_step(step: &WildEnd) -> Ending
-        ensures { result ≡ ending_of (happened_of step.now) }
-    {
-        match *step {
-            WildEnd::Ended(end) => Ending::of_end(end),
-            WildEnd::Lost(pc, mask) => Ending::of_lost(pc, mask),
-            WildEnd::Went
-            | WildEnd::Barrier
-            | WildEnd::Triggered
-            | WildEnd::Waited
-            | WildEnd::Reported(_)
-            | WildEnd::InputFault
-            | WildEnd::SinkFault => Ending::Spent,
         }
     }
 
@@ -88,11 +89,11 @@ impl Ending {
 }
 
 // Whether a run ends so, by its last step and by whether nothing is pending.
-fn ends_as(ending: &Ending, last: &WildEnd, calm: bool) -> bool
+fn ends_as(ending: &Ending, last: &Event, calm: bool) -> bool
     ensures { result ≡ ends_by ending.now (happened_of last.now) calm }
 {
-    let settled = is_finished(last) || calm;
-    ending.is_same(&Ending::of_step(last)) && settled
+    let settled = last.is_over() || calm;
+    ending.is_same(&Ending::of_event(last)) && settled
 }
 
 // Whether nothing is pending.

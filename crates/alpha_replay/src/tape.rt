@@ -5,12 +5,13 @@ ghost use Rattle.alpha_replay.specs.Journal.{most_bytes, most_units, parts};
 ghost use Rattle.alpha_replay.specs.Endings.{FitsEnding};
 ghost use Rattle.alpha_replay.specs.Items.{FitsItem, is_units};
 ghost use Rattle.alpha_replay.specs.Gathered.{no_moves, closed, closed_by, with_item, gathered_by};
-ghost use Rattle.alpha_replay.specs.Taped.{Taped, taped, has_room};
-ghost use Rattle.alpha_replay.specs.Ones.{HasRoom, taped_ones};
+ghost use Rattle.alpha_replay.specs.Taped.{bytes_kept, has_room, kept, room_of, tape_after, tape_fits, taped, taped_by, taped_ones};
 
 use crate::front::{MOST_BYTES, MOST_ITEMS};
+use crate::passed::{bytes_put, bytes_taken};
 use crate::read::MOST_UNITS;
 use crate::{Ending, Item, Journal, Move};
+use alpha_seq::{Event, Machine};
 use alpha_words::{Completion, NoMemory};
 use std::alloc::Global;
 use std::marker::Model;
@@ -55,13 +56,25 @@ impl Tape {
         })
     }
 
-    /// Notes bytes that were taken, and answers whether it did. Where that would be too many it notes
-    /// none of them.
+    /// Notes a step, by how it went and the machine behind it, and answers whether all of it fits. What doesn't is
+    /// not noted.
     #[inline(always)]
-    pub fn take(&mut self, bytes: &[u8]) -> bool
+    pub fn note_step(&mut self, event: &Event, machine: &Machine) -> bool
+        ensures value { result ≡ tape_fits (taped_by self.old event.now machine.now) }
+        ensures state { self.new ≡ tape_after self.old event.now machine.now }
+    {
+        let taken = self.take(bytes_taken(event, machine));
+        let put = self.put(bytes_put(event, machine));
+        let noted = self.note(Move::of(event));
+        taken && put && noted
+    }
+
+    // Notes bytes that were taken, and answers whether it did. Where that would be too many it notes
+    // none of them.
+    #[inline(always)]
+    fn take(&mut self, bytes: &[u8]) -> bool
         ensures value { result ≡ nat_le (length (self.old.taken ++ bytes.now)) most_bytes }
-        ensures state { result ≡ true
-            → self.new ≡ record self.old { taken = self.old.taken ++ bytes.now } }
+        ensures state { self.new ≡ record self.old { taken = bytes_kept self.old.taken bytes.now } }
     {
         if MOST_BYTES as usize - self.input.len() < bytes.len() {
             return false;
@@ -69,13 +82,12 @@ impl Tape {
         self.input.extend_from_slice(bytes).is_ok()
     }
 
-    /// Notes bytes that are put, and answers whether it did. Where that would be too many it notes none
-    /// of them.
+    // Notes bytes that were put, and answers whether it did. Where that would be too many it notes none
+    // of them.
     #[inline(always)]
-    pub fn put(&mut self, bytes: &[u8]) -> bool
+    fn put(&mut self, bytes: &[u8]) -> bool
         ensures value { result ≡ nat_le (length (self.old.put ++ bytes.now)) most_bytes }
-        ensures state { result ≡ true
-            → self.new ≡ record self.old { put = self.old.put ++ bytes.now } }
+        ensures state { self.new ≡ record self.old { put = bytes_kept self.old.put bytes.now } }
     {
         if MOST_BYTES as usize - self.output.len() < bytes.len() {
             return false;
@@ -83,13 +95,12 @@ impl Tape {
         self.output.extend_from_slice(bytes).is_ok()
     }
 
-    /// Notes a move, and answers whether it did. Where that would be too many items or units it notes
-    /// nothing of it.
+    // Notes a move, and answers whether it did. Where that would be too many items or units it notes
+    // nothing of it.
     #[inline(always)]
-    pub fn note(&mut self, step: Move) -> bool
+    fn note(&mut self, step: Move) -> bool
         ensures value { result ≡ has_room (gathered_by self.old.gathered step) }
-        ensures state { result ≡ true
-            → self.new ≡ record self.old { gathered = gathered_by self.old.gathered step } }
+        ensures state { self.new ≡ record self.old { gathered = kept self.old.gathered (gathered_by self.old.gathered step) } }
     {
         match step {
             Move::One => self.note_one(),
@@ -99,15 +110,12 @@ impl Tape {
         }
     }
 
-    /// Notes a step with nothing pending that doesn't overflow, and answers whether it did. It doesn't
-    /// where that would be too many items or units.
+    // Notes a step with nothing pending that doesn't overflow, and answers whether it did. It doesn't
+    // where that would be too many items or units.
     #[inline(always)]
-    pub fn note_one(&mut self) -> bool
-        ensures taken { length self.old.taken ≤ most_bytes }
-        ensures put { length self.old.put ≤ most_bytes }
+    fn note_one(&mut self) -> bool
         ensures value { result ≡ has_room (gathered_by self.old.gathered Move.One) }
-        ensures state { result ≡ true
-            → self.new ≡ record self.old { gathered = gathered_by self.old.gathered Move.One } }
+        ensures state { self.new ≡ record self.old { gathered = kept self.old.gathered (gathered_by self.old.gathered Move.One) } }
     {
         let full = self.ones == 0 && self.items.len() == MOST_ITEMS as usize;
         if full || self.units == MOST_UNITS {
@@ -118,13 +126,10 @@ impl Tape {
         true
     }
 
-    /// So many such steps can be noted.
+    /// How many steps with nothing pending that don't overflow can be noted.
     #[inline(always)]
     pub fn room(&self) -> u64
-        ensures value { HasRoom self.now result }
-        ensures bound { result ≤ most_units }
-        ensures taken { length self.now.taken ≤ most_bytes }
-        ensures put { length self.now.put ≤ most_bytes }
+        ensures { result ≡ room_of self.now }
     {
         if self.ones == 0 && self.items.len() == MOST_ITEMS as usize {
             return 0;
@@ -134,12 +139,14 @@ impl Tape {
 
     /// Notes so many such steps.
     #[inline(always)]
-    pub fn note_ones(&mut self, made: u32)
-        requires { HasRoom self.old made }
-        ensures { self.new ≡ taped_ones self.old made }
+    pub fn note_ones(&mut self, count: u64)
+        requires { count ≤ room_of self.old }
+        ensures value { self.new ≡ taped_ones self.old count }
+        ensures within { tape_fits self.old ≡ true }
     {
-        self.ones += made;
-        self.units += made;
+        let count = count as u32;
+        self.ones += count;
+        self.units += count;
     }
 }
 
@@ -150,8 +157,7 @@ impl Tape {
         requires fits { FitsItem item }
         requires other { is_units item ≡ false }
         ensures value { result ≡ has_room (with_item self.old.gathered item) }
-        ensures state { result ≡ true
-            → self.new ≡ record self.old { gathered = with_item self.old.gathered item } }
+        ensures state { self.new ≡ record self.old { gathered = kept self.old.gathered (with_item self.old.gathered item) } }
     {
         let closed = closed_len(&self.items, self.ones);
         if closed == MOST_ITEMS as usize || MOST_UNITS - self.units < item.units() {

@@ -1,24 +1,31 @@
 -- The step of a PAL call, by its end.
-use Rattle.std.proofs.Common.{◌≡◌, ℕ, List, [], Option, Some, refl, sym, ap, subst, ◌∙◌, append-nil}
+use Rattle.std.proofs.Common.{◌≡◌, ℕ, List, [], ◌++◌, Option, Some, Ok, Err, refl, sym, ap, subst, ◌∙◌, append-nil}
 use Rattle.std.specs.Io.KnownBytes.{Appends}
 use Rattle.std.proofs.KnownBytes.{Appends-nil}
 use Rattle.alpha_io.specs.Sunk.{Sunk}
 use Rattle.alpha_words.specs.declared.PalCall.{PalCall}
 use Rattle.alpha_mem.specs.Block.{Block}
 use Rattle.alpha_table.specs.Class.{barrier}
+use Rattle.alpha_pal.specs.declared.fault.Fault.{Fault}
+use Rattle.alpha_pal.specs.declared.fault.Fault.TheVariants as broken
+use Rattle.alpha_pal.specs.declared.pal_end.PalEnd.{PalEnd}
 use Rattle.alpha_pal.specs.declared.pal_end.PalEnd.TheVariants as pals
+use Rattle.alpha_pal.specs.declared.pal_end.Passed.{Passed}
+use Rattle.alpha_pal.specs.declared.pal_end.Passed.TheVariants.{Nothing}
+use Rattle.alpha_pal.specs.Passed.{IsPassed}
 use Rattle.alpha_pal.specs.Kernel.{KernelState}
 use Rattle.alpha_pal.specs.Call.{Called, Outside, outside, exits, signals, call}
-use Rattle.alpha_pal.specs.CallEffect.{Takes, CallEffect, Seen, seen}
+use Rattle.alpha_pal.specs.CallEffect.{Takes, CallEffect, InputCause, SinkCause, Seen, seen}
 use Rattle.alpha_pal.proofs.Serving.{rest_of, Takes-nothing}
 use Rattle.alpha_seq.specs.declared.end.End.{End}
 use Rattle.alpha_seq.specs.declared.end.End.TheVariants as ends
 use Rattle.alpha_seq.specs.declared.machine.Machine.{Machine}
-use Rattle.alpha_seq.specs.State.{State, Ends, stepped}
-use Rattle.alpha_seq.specs.Step.{ended, returned, step}
+use Rattle.alpha_seq.specs.State.{State, Barriered, Ends, stepped}
+use Rattle.alpha_seq.specs.Step.{next_pc, ended, lock_after, returned, step}
 use Rattle.alpha_seq.specs.Machine.{program_of, state_of, class_here}
 use Rattle.alpha_seq.specs.Devices.{Drawn}
-use Rattle.alpha_seq.specs.StepEffect.{Steps}
+use Rattle.alpha_seq.specs.Sequential.{SeqBreaks}
+use Rattle.alpha_seq.proofs.Making.{Steps, input_breaks, output_breaks}
 
 -- the machine after a call, before the program counter moves
 abbrev pub called_machine : Machine → KernelState → List ℕ → List Block → ℕ → Machine
@@ -40,7 +47,8 @@ module _ (function : PalCall) (m : Machine) (k : KernelState) (regs : List ℕ) 
   ends_here : (end : End) (c : Called) → ((o : Outside) → call function m.regs m.memory o ≡ c) → ((s : State) → s.pc ≡ m.pc → returned function c s ≡ ended s end)
       → seen regs mem unique left' written' ≡ seen m.regs m.memory m.unique left written
       → faults' ≡ faults → count' ≡ count
-      → Steps (Ends end) m (called_machine m k regs mem unique) (drawn_by left left' faults faults') (sunk_by written written' count count')
+      → Steps (Ends end) Nothing m (called_machine m k regs mem unique) (drawn_by left left' faults faults')
+      (sunk_by written written' count count')
   ends_here end c does end_is e calm_input calm_sink =
       let rest : List ℕ = rest_of left left in
       record {
@@ -55,15 +63,62 @@ module _ (function : PalCall) (m : Machine) (k : KernelState) (regs : List ℕ) 
             ∙ (end_is (state_of m rest output) refl
             ∙ (ap (λ (s : Seen). stepped (state_of (called_machine m k s.regs s.mem s.unique) rest output) (Ends end)) (sym e)
             ∙ ap (λ l. stepped (state_of (called_machine m k regs mem unique) rest l) (Ends end)) (sym (append-nil output)))));
+        passes = (refl, refl);
       }
 
-  pub call-exits : (v : ℕ) → CallEffect function (pals.Exit v) (seen m.regs m.memory m.unique left written) (seen regs mem unique left' written')
+  pub call-exits : (v : ℕ)
+      → CallEffect function (Ok (pals.Exit v)) (seen m.regs m.memory m.unique left written)
+      (seen regs mem unique left' written')
       → faults' ≡ faults → count' ≡ count
-      → Steps (Ends (ends.Exit v)) m (called_machine m k regs mem unique) (drawn_by left left' faults faults') (sunk_by written written' count count')
+      → Steps (Ends (ends.Exit v)) Nothing m (called_machine m k regs mem unique) (drawn_by left left' faults faults')
+      (sunk_by written written' count count')
   call-exits v h calm_input calm_sink = ends_here (ends.Exit v) (exits v) h.0 (λ s e. refl) h.1 calm_input calm_sink
 
-  pub call-signals : (code : ℕ) → CallEffect function (pals.Signal code) (seen m.regs m.memory m.unique left written) (seen regs mem unique left' written')
+  pub call-signals : (code : ℕ)
+      → CallEffect function (Ok (pals.Signal code)) (seen m.regs m.memory m.unique left written)
+      (seen regs mem unique left' written')
       → faults' ≡ faults → count' ≡ count
-      → Steps (Ends (ends.Signal code m.pc)) m (called_machine m k regs mem unique) (drawn_by left left' faults faults') (sunk_by written written' count count')
+      → Steps (Ends (ends.Signal code m.pc)) Nothing m (called_machine m k regs mem unique)
+      (drawn_by left left' faults faults') (sunk_by written written' count count')
   call-signals code h calm_input calm_sink =
       ends_here (ends.Signal code m.pc) (signals code) h.0 (λ s e. ap (λ pc. ended s (ends.Signal code pc)) e) h.1 calm_input calm_sink
+
+  -- a call behind which the program goes on
+  pub call-goes : (passed : Passed) (new : Machine)
+      → CallEffect function (Ok (pals.Goes passed)) (seen m.regs m.memory m.unique left written)
+      (seen regs mem unique left' written')
+      → faults' ≡ faults → count' ≡ count
+      → new ≡ record (called_machine m k regs mem unique) { pc = next_pc (state_of m [] []); lock = lock_after function m.lock }
+      → Steps Barriered passed m new (drawn_by left left' faults faults') (sunk_by written written' count count')
+  call-goes passed new h calm_input calm_sink is = record {
+    taken = h.taken;
+    rest = h.rest;
+    bytes = h.bytes;
+    took = record { took = h.took; same = calm_input };
+    wrote = record { written = h.wrote; same = calm_sink };
+    is = λ output.
+        step_here (h.taken ++ h.rest) output
+        ∙ (ap (λ (d : Called). returned function d (state_of m (h.taken ++ h.rest) output)) (h.is output)
+        ∙ ap (λ (n : Machine). stepped (state_of n h.rest (output ++ h.bytes)) Barriered) (sym is));
+    passes = subst (λ (n : Machine). IsPassed passed n.memory h.taken h.bytes) (sym is) h.passes;
+  }
+
+  -- a call in which a device failed
+  pub call-breaks : (fault : Fault)
+      → CallEffect function (Err fault) (seen m.regs m.memory m.unique left written)
+      (seen regs mem unique left' written')
+      → InputCause {A = PalEnd} (Err fault) faults faults' → SinkCause {A = PalEnd} (Err fault) count count'
+      → SeqBreaks fault m (called_machine m k regs mem unique) (drawn_by left left' faults faults')
+      (sunk_by written written' count count')
+  call-breaks broken.Input h source sink =
+      input_breaks m (called_machine m k regs mem unique) (drawn_by left left' faults faults')
+      (sunk_by written written' count count')
+      (here ∙ ap (λ (f : PalCall). Some (barrier (Some f))) h.0) h.1 source.0 source.1
+      (record { written = ap (λ (s : Seen). s.written) h.2; same = sink })
+  call-breaks broken.Output h source sink =
+      output_breaks m (called_machine m k regs mem unique) (drawn_by left left' faults faults')
+      (sunk_by written written' count count')
+      (here ∙ ap (λ (f : PalCall). Some (barrier (Some f))) h.0) h.1
+      (ap (λ (s : Seen). called_machine m k s.regs s.mem s.unique) h.2) sink.0 sink.1
+      (record { left = ap (λ (s : Seen). s.left) h.2; same = source })
+  call-breaks broken.Notes h source sink = absurd h

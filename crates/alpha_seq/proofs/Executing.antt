@@ -2,10 +2,13 @@
 use Rattle.std.proofs.Common.{◌≡◌, ◌≢◌, ℕ, ◌+◌, ◌%◌, ◌^◌, Bool, true, false, cond, List, [], Option, None, Some, Result, Ok, Err, refl, sym, ap, subst, ◌∙◌, append-nil}
 use Rattle.std.specs.Prelude.{slice_get, is_ok, IfErr}
 use Rattle.std.specs.Option.{option_map, option_and_then}
+use Rattle.alpha_io.specs.Sunk.{Sunk}
 use Rattle.alpha_io.proofs.Sinks.{Puts-none}
 use Rattle.alpha_words.specs.Regs.{reg}
 use Rattle.alpha_words.specs.declared.Completion.{Completion}
 use Rattle.alpha_words.specs.declared.PalCall.{PalCall}
+use Rattle.alpha_words.specs.declared.PalCall.TheVariants.{Callsys}
+use Rattle.alpha_pal.specs.declared.pal_end.Passed.TheVariants.{Nothing}
 use Rattle.alpha_pal.specs.Kernel.{KernelState}
 use Rattle.alpha_pal.specs.Call.{Called, goes, exits, signals, call}
 use Rattle.alpha_pal.specs.CallEffect.{kernel_after}
@@ -28,19 +31,24 @@ use Rattle.alpha_table.specs.Columns.{kind_of}
 use Rattle.alpha_table.specs.Code.{class_kind, class_at}
 use Rattle.alpha_table.specs.Decoded.{decoded}
 use Rattle.alpha_table.proofs.Classes.{class_at-decoded}
-use Rattle.alpha_mem.specs.Block.{shapes}
+use Rattle.alpha_mem.specs.Block.{Block, shapes}
 use Rattle.alpha_mem.specs.declared.access.MemFault.{MemFault}
 use Rattle.alpha_values.specs.Source.{source_value}
 use Rattle.alpha_values.specs.TrapOp.{overflow_of, completed_of, stops}
 use Rattle.alpha_image.specs.Parts.{place_of}
 use Rattle.alpha_seq.specs.declared.end.End.TheVariants as ends
+use Rattle.alpha_seq.specs.declared.event.Event.{Event as Seen}
+use Rattle.alpha_seq.specs.declared.event.Event.TheVariants as events
 use Rattle.alpha_seq.specs.declared.machine.Machine.{Machine}
 use Rattle.alpha_seq.specs.State.{State, Event, Went, Barriered, Overflowed, Ends, Stepped, stepped}
 use Rattle.alpha_seq.specs.Step.{next_pc, setting, fault_end, accessed, ended, went, logging, overflowed, returned, step}
 use Rattle.alpha_seq.specs.Next.{next_insn}
 use Rattle.alpha_seq.specs.Machine.{program_of, state_of, class_here, kernel_left}
-use Rattle.alpha_seq.specs.StepEffect.{Steps}
-use Rattle.alpha_seq.specs.Executed.{Does, GoesOn, FaultEffect, NeverGoes}
+use Rattle.alpha_seq.specs.Devices.{Drawn}
+use Rattle.alpha_seq.specs.Print.{Passes}
+use Rattle.alpha_seq.specs.Sequential.{seen_as, SeqMakes}
+use Rattle.alpha_seq.proofs.Making.{Steps, makes}
+use Rattle.alpha_seq.specs.Executed.{Does, ExecuteEffect, GoesOn, FaultEffect, NeverGoes}
 use Rattle.alpha_seq.proofs.Stepping.{Leaves-step}
 
 -- the class of a place's word is that of its instruction
@@ -61,10 +69,30 @@ pub Does-kernel : (event : Event) (class : Class) (old new : Machine) → class_
 Does-kernel event class old new here does =
     does.kernel ∙ ap (λ (c : Option Class). kernel_left c (next_pc (state_of old [] [])) old.regs old.kernel) (sym here)
 
+kernel-user : (class : Option Class) (next : ℕ) (regs : List ℕ) (k : KernelState) → k.user ≡ true
+    → (kernel_left class next regs k).user ≡ true
+kernel-user (Some (barrier (Some Callsys))) next regs k user = refl
+kernel-user _ next regs k user = user
+
+-- which stays in user mode
+pub Does-user : (event : Event) (class : Class) (old new : Machine) → old.kernel.user ≡ true → Does event class old new
+    → new.kernel.user ≡ true
+Does-user event class old new user does =
+    ap (λ (k : KernelState). k.user) does.kernel
+    ∙ kernel-user (Some class) (next_pc (state_of old [] [])) old.regs old.kernel user
+
+-- what passes in a step that takes and puts nothing
+passes_nothing : (event : Event) (mem : List Block) → Passes (seen_as event Nothing) mem [] []
+passes_nothing Went mem = (refl, refl)
+passes_nothing Barriered mem = (refl, refl)
+passes_nothing (Overflowed at) mem = (refl, refl)
+passes_nothing (Ends end) mem = (refl, refl)
+
 -- a step that leaves its devices alone
 pub Steps-quiet : (event : Event) (class : Option Class) (old new : Machine) (left written : Option (List ℕ)) (faults count : ℕ) → class_here old ≡ class
     → ((input output : List ℕ) → step (program_of old) class (state_of old input output) ≡ stepped (state_of new input output) event)
-    → Steps event old new (record { old = left; new = left; before = faults; now = faults }) (record { old = written; new = written; before = count; now = count })
+    → Steps event Nothing old new (record { old = left; new = left; before = faults; now = faults })
+    (record { old = written; new = written; before = count; now = count })
 Steps-quiet event class old new left written faults count here does = record {
   taken = [];
   rest = rest_of left left;
@@ -75,15 +103,24 @@ Steps-quiet event class old new left written faults count here does = record {
       ap (λ c. step (program_of old) c (state_of old (rest_of left left) output)) here
       ∙ (does (rest_of left left) output
       ∙ ap (λ l. stepped (state_of new (rest_of left left) l) event) (sym (append-nil output)));
+  passes = passes_nothing event new.memory;
 }
 
 -- a step that only went on leaves its devices alone, the kernel, and where the blocks lie
 pub GoesOn-steps : (old new : Machine) (left written : Option (List ℕ)) (faults count : ℕ) → GoesOn old new
-    → Steps Went old new (record { old = left; new = left; before = faults; now = faults }) (record { old = written; new = written; before = count; now = count })
+    → Steps Went Nothing old new (record { old = left; new = left; before = faults; now = faults })
+    (record { old = written; new = written; before = count; now = count })
 GoesOn-steps old new left written faults count h = Steps-quiet Went (Some h.class) old new left written faults count h.here h.does.is
 
 pub GoesOn-kernel : (old new : Machine) → GoesOn old new → new.kernel ≡ kernel_left (class_here old) (next_pc (state_of old [] [])) old.regs old.kernel
 GoesOn-kernel old new h = Does-kernel Went h.class old new h.here h.does
+
+pub GoesOn-makes : (old new : Machine) (left written : Option (List ℕ)) (faults count : ℕ) → GoesOn old new
+    → SeqMakes events.Went old new (record { old = left; new = left; before = faults; now = faults }) (record { old = written; new = written; before = count; now = count })
+GoesOn-makes old new left written faults count h =
+    makes Went Nothing old new (record { old = left; new = left; before = faults; now = faults })
+    (record { old = written; new = written; before = count; now = count })
+    (GoesOn-steps old new left written faults count h) (GoesOn-kernel old new h) h.does.program
 
 pub GoesOn-shapes : (old new : Machine) → GoesOn old new → shapes new.memory ≡ shapes old.memory
 GoesOn-shapes old new h = Does-shapes Went h.class old new h.does
@@ -99,12 +136,34 @@ pub Does-plain : (op : Op) (ra : ℕ) (src : Src) (rc : ℕ) (i : Form) (old new
 Does-plain op ra src rc i old new never is does =
     subst (λ (class : Class). Does Went class old new) (sym (plain_class (op_row op).role op ra src rc never) ∙ ap class_of is) does
 
--- a barrier that is no PAL call
-pub Does-passed : (class : Class) (old mid new : Machine) → class ≡ barrier None → mid ≡ old → new ≡ record mid { pc = (mid.pc + 4) % 2 ^ 64 } → Does Barriered class old new
-Does-passed class old mid new is same moved =
-    let all : new ≡ record old { pc = (old.pc + 4) % 2 ^ 64 } = moved ∙ ap (λ (m : Machine). record m { pc = (m.pc + 4) % 2 ^ 64 }) same in
-    let passed : Does Barriered (barrier None) old (record old { pc = (old.pc + 4) % 2 ^ 64 }) = record { is = λ input output. refl; program = refl; kernel = refl } in
-    subst (λ c. Does Barriered c old new) (sym is) (subst (λ n. Does Barriered (barrier None) old n) (sym all) passed)
+-- a barrier that is no PAL call, and the words beside it
+misc_barrier : (op : MiscOp) → kind_of (Misc op) ≡ kinds.Barrier → class_of (Misc op) ≡ barrier None
+misc_barrier op e = by (misc_row op).reports e
+  where
+    by : (b : Bool) → class_kind (cond b (barrier None) idle) ≡ kinds.Barrier → cond b (barrier None) idle ≡ barrier None
+    by true e = refl
+    by false e = cc
+
+misc_idle : (op : MiscOp) → kind_of (Misc op) ≢ kinds.Barrier → class_of (Misc op) ≡ idle
+misc_idle op e = by (misc_row op).reports e
+  where
+    by : (b : Bool) → class_kind (cond b (barrier None) idle) ≢ kinds.Barrier → cond b (barrier None) idle ≡ idle
+    by true e = absurd (e refl)
+    by false e = refl
+
+pub Does-barrier : (op : MiscOp) (i : Form) (old new : Machine) → Misc op ≡ i → kind_of i ≡ kinds.Barrier
+    → new ≡ record old { pc = (old.pc + 4) % 2 ^ 64 } → Does Barriered (class_of i) old new
+Does-barrier op i old new is kind moved =
+    let passed : Does Barriered (barrier None) old (record old { pc = (old.pc + 4) % 2 ^ 64 }) =
+    record { is = λ input output. refl; program = refl; kernel = refl } in
+    subst (λ (class : Class). Does Barriered class old new) (sym (misc_barrier op (ap kind_of is ∙ kind)) ∙ ap class_of is)
+    (subst (λ n. Does Barriered (barrier None) old n) (sym moved) passed)
+
+pub Does-idle : (op : MiscOp) (i : Form) (old new : Machine) → Misc op ≡ i → kind_of i ≢ kinds.Barrier
+    → Does Went idle old new → Does Went (class_of i) old new
+Does-idle op i old new is kind does =
+    subst (λ (class : Class). Does Went class old new)
+    (sym (misc_idle op (λ e. kind (sym (ap kind_of is) ∙ e))) ∙ ap class_of is) does
 
 -- the kernel after a PAL call, which is made from the state as it was
 pub called-kernel : (function : PalCall) (old mid : Machine) (kernel : KernelState) → class_here old ≡ Some (barrier (Some function)) → mid ≡ old
@@ -114,6 +173,38 @@ called-kernel function old mid kernel here same e =
     e
     ∙ (ap (λ (m : Machine). kernel_after function (next_pc (state_of m [] [])) m.regs m.kernel) same
     ∙ ap (λ (c : Option Class). kernel_left c (next_pc (state_of old [] [])) old.regs old.kernel) (sym here))
+
+-- what the execution of a word that is no PAL call did, as the step of the definition
+pub record Executes (event : Seen) (class : Class) (old new : Machine) : Type 0 where
+  pub happened : Event
+  pub seen : event ≡ seen_as happened Nothing
+  pub does : Does happened class old new
+
+pub executes : (event : Seen) (class : Class) (old new : Machine) → ExecuteEffect event class old new
+    → Executes event class old new
+executes events.Went class old new did = record { happened = Went; seen = refl; does = did }
+executes (events.Barrier passed) class old new did =
+    record { happened = Barriered; seen = ap events.Barrier did.0; does = did.1 }
+executes (events.Overflowed at) class old new did = record { happened = Overflowed at; seen = refl; does = did }
+executes (events.Triggered value) class old new did = absurd did
+executes (events.Waited wait) class old new did = absurd did
+executes (events.Reported at) class old new did = absurd did
+executes (events.Ended end) class old new did = record { happened = Ends end; seen = refl; does = did }
+executes (events.Lost pc mask) class old new did = absurd did
+
+pub executes-makes : (event : Seen) (class : Class) (old new : Machine) (left written : Option (List ℕ))
+    (faults count : ℕ) → class_here old ≡ Some class
+    → ExecuteEffect event class old new
+    → SeqMakes event old new (record { old = left; new = left; before = faults; now = faults })
+    (record { old = written; new = written; before = count; now = count })
+executes-makes event class old new left written faults count here did =
+    let input : Drawn = record { old = left; new = left; before = faults; now = faults } in
+    let out : Sunk = record { old = written; new = written; before = count; now = count } in
+    let x = executes event class old new did in
+    subst (λ (e : Seen). SeqMakes e old new input out) (sym x.seen)
+    (makes x.happened Nothing old new input out
+    (Steps-quiet x.happened (Some class) old new left written faults count here x.does.is)
+    (Does-kernel x.happened class old new here x.does) x.does.program)
 
 -- ---- words that never only go on
 
@@ -153,13 +244,6 @@ barrier-never None m = λ input output e. cc
 barrier-never (Some function) m = λ input output.
     let s = state_of m input output in
     returned-never function (call function s.regs s.mem s.outside) s
-
-misc_barrier : (op : MiscOp) → kind_of (Misc op) ≡ kinds.Barrier → class_of (Misc op) ≡ barrier None
-misc_barrier op e = by (misc_row op).reports e
-  where
-    by : (b : Bool) → class_kind (cond b (barrier None) idle) ≡ kinds.Barrier → cond b (barrier None) idle ≡ barrier None
-    by true e = refl
-    by false e = cc
 
 pub misc-never : (op : MiscOp) (i : Form) (m : Machine) → Misc op ≡ i → kind_of i ≡ kinds.Barrier → NeverGoes (Some (class_of i)) m
 misc-never op i m is kind =

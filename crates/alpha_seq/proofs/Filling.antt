@@ -1,19 +1,15 @@
 -- A run that goes on to its last step.
-use Rattle.std.proofs.Common.{◌≡◌, ◌≤◌, ◌+◌, ◌-◌, ℕ, zero, suc, Bool, true, false, cond, List, [], ◌∷◌, ◌++◌, Option, None, refl, sym, ap, subst, ◌∙◌, ⊎_elim, arith}
+use Rattle.std.proofs.Common.{◌≡◌, ◌≤◌, ◌+◌, ℕ, zero, suc, Bool, true, false, cond, List, [], ◌∷◌, ◌++◌, Option, None, refl, sym, ap, subst, ◌∙◌, ⊎_elim, arith}
 use Rattle.std.proofs.lemmas.Bool.{cases_Bool}
-use Rattle.alpha_io.specs.Sunk.{Sunk}
 use Rattle.alpha_io.specs.Written.{WritesPrefix}
 use Rattle.alpha_io.proofs.Writes.{WritesPrefix-more}
-use Rattle.alpha_seq.specs.declared.machine.Machine.{Machine}
 use Rattle.alpha_seq.specs.State.{Program, Event, Went, Barriered, Overflowed, Ends, Stepped}
 use Rattle.alpha_seq.specs.Step.{next_class, step_from}
-use Rattle.alpha_seq.specs.Run.{Run, Mark, started, end_of, is_over, extended_by, notes_of}
-use Rattle.alpha_seq.specs.Machine.{program_of, state_of}
-use Rattle.alpha_seq.specs.Devices.{Drawn}
-use Rattle.alpha_seq.specs.Inputs.{over_input, advance_over, run_over, HasMade, run_from, WritesBetween, IsCutAt, IsFront}
+use Rattle.alpha_seq.specs.Run.{Run, Mark, end_of, is_over, extended_by, notes_of}
+use Rattle.alpha_seq.specs.Inputs.{over_input, advance_over, run_over, HasMade, WritesBetween}
 use Rattle.alpha_seq.proofs.Growing.{Grows, Grows-same, Grows-by, Grows-trans, Begins, step-grows}
 use Rattle.alpha_seq.proofs.RunSteps.{notes-more}
-use Rattle.alpha_seq.proofs.Inputs.{run_over-last, advance_over-going}
+use Rattle.alpha_seq.proofs.Inputs.{advance_over-going}
 
 Begins-same : (r : Run) → Begins r r
 Begins-same r = record { output = Grows-same r.state.outside.output; trace = Grows-same r.trace }
@@ -69,13 +65,9 @@ filled g n (suc k) r e =
     })
     (cases_Bool (is_over r.last))
 
-run_over-append : (g : Program) (xs ys : List (List ℕ)) (r : Run) → run_over g (xs ++ ys) r ≡ run_over g ys (run_over g xs r)
+pub run_over-append : (g : Program) (xs ys : List (List ℕ)) (r : Run) → run_over g (xs ++ ys) r ≡ run_over g ys (run_over g xs r)
 run_over-append g [] ys r = refl
 run_over-append g (x ∷ xs) ys r = run_over-append g xs ys (advance_over g r x)
-
--- a run that has made fewer steps goes on to one that has made them
-pub fill : (n : ℕ) (m : Machine) (inputs : List (List ℕ)) → (run_from m inputs).steps ≤ n → Filled n (program_of m) (run_from m inputs)
-fill n m inputs most = filled (program_of m) n (n - (run_from m inputs).steps) (run_from m inputs) (omega arith)
 
 -- ---- a run that a fault cut short
 
@@ -89,24 +81,3 @@ notes-grow watch xs ys more = record {
   tail = notes_of watch more.tail;
   is = ap (notes_of watch) more.is ∙ notes-more watch xs more.tail;
 }
-
-pub cut_front : (n : ℕ) (watch : Bool) (old : Machine) (input : Drawn) (out notes : Sunk) → IsCutAt n watch old input out notes → IsFront n watch old out notes
-cut_front n watch old input out notes cut =
-    let g = program_of old in
-    let start = started (state_of old [] []) in
-    let run = run_from old cut.inputs in
-    let next = advance_over g run cut.next in
-    let one : run_from old (cut.inputs ++ cut.next ∷ []) ≡ next = run_over-last g cut.inputs cut.next start in
-    let steps : next.steps ≡ run.steps + 1 = ap (λ (q : Run). q.steps) (advance_over-going g run cut.next cut.going) in
-    let rest = filled g n (n - next.steps) next (omega (arith, steps, cut.less)) in
-    let all : run_from old ((cut.inputs ++ cut.next ∷ []) ++ rest.inputs) ≡ run_over g rest.inputs next =
-    run_over-append g (cut.inputs ++ cut.next ∷ []) rest.inputs start ∙ ap (run_over g rest.inputs) one in
-    record {
-      inputs = (cut.inputs ++ cut.next ∷ []) ++ rest.inputs;
-      made = subst (HasMade n) (sym all) rest.made;
-      bytes = subst (λ (r : Run). WritesPrefix out.old out.new r.state.outside.output) (sym all)
-          (front out.old out.new run.state.outside.output next.state.outside.output (run_over g rest.inputs next).state.outside.output cut.output rest.begins.output);
-      lines = subst (λ (r : Run). WritesPrefix notes.old notes.new (notes_of watch r.trace)) (sym all)
-          (front notes.old notes.new (notes_of watch run.trace) (notes_of watch next.trace) (notes_of watch (run_over g rest.inputs next).trace) cut.lines
-          (notes-grow watch next.trace (run_over g rest.inputs next).trace rest.begins.trace));
-    }

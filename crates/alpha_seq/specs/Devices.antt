@@ -1,8 +1,8 @@
 -- What a step or a run did to its devices, which may tell nothing.
-use Rattle.std.specs.Prelude.{◌≡◌, ℕ, List, Option}
+use Rattle.std.specs.Prelude.{◌≡◌, ◌≤◌, ℕ, List, Option}
 use Rattle.alpha_io.specs.declared.source.Source.{Ghosts}
-use Rattle.alpha_io.specs.Faults.{Calm}
-use Rattle.alpha_io.specs.Sunk.{Sunk, IsCalm}
+use Rattle.alpha_io.specs.Faults.{Calm, Rose}
+use Rattle.alpha_io.specs.Sunk.{Sunk, IsCalm, HasFailed}
 
 -- What a call did to a source: its bytes still to come and its count of faults, before the call and after it.
 pub record Drawn : Type 0 where
@@ -47,3 +47,30 @@ pub record AreCalm (input : Drawn) (out notes : Sunk) : Type 0 where
   pub source : Calm input.before input.now
   pub sink : IsCalm out
   pub lines : IsCalm notes
+
+-- no count of faults rose
+pub record HasNoFault (input : Drawn) (out notes : Sunk) : Type 0 where
+  pub source : input.now ≡ input.before
+  pub sink : out.now ≡ out.before
+  pub lines : notes.now ≡ notes.before
+
+-- the input's count alone rose
+pub record HasInputFault (input : Drawn) (out notes : Sunk) : Type 0 where
+  pub later : input.before ≤ input.now
+  pub source : Rose input.before input.now
+  pub sink : out.now ≡ out.before
+  pub lines : notes.now ≡ notes.before
+
+-- the output's count alone rose
+pub record HasOutputFault (input : Drawn) (out notes : Sunk) : Type 0 where
+  pub source : input.now ≡ input.before
+  pub later : out.before ≤ out.now
+  pub sink : HasFailed out
+  pub lines : notes.now ≡ notes.before
+
+-- the notes' count alone rose
+pub record HasNotesFault (input : Drawn) (out notes : Sunk) : Type 0 where
+  pub source : input.now ≡ input.before
+  pub sink : out.now ≡ out.before
+  pub later : notes.before ≤ notes.now
+  pub lines : HasFailed notes

@@ -7,17 +7,18 @@ use Rattle.alpha_table.specs.declared.rows.Extension.TheVariants.{Zero, Sign}
 use Rattle.alpha_table.specs.declared.rows.MemOp.{MemOp}
 use Rattle.alpha_table.specs.declared.columns.MemAccess.{MemAccess}
 use Rattle.alpha_table.specs.declared.form.Form.{Form}
-use Rattle.alpha_table.specs.Class.{Class, barrier}
+use Rattle.alpha_table.specs.Class.{Class}
 use Rattle.alpha_table.specs.Rows.{mem_row}
 use Rattle.alpha_values.specs.Numbers.{signed, register_of}
 use Rattle.alpha_mem.specs.declared.access.MemFault.{MemFault}
+use Rattle.alpha_pal.specs.declared.pal_end.Passed.TheVariants.{Nothing}
 use Rattle.alpha_seq.specs.declared.end.End.{End}
 use Rattle.alpha_seq.specs.declared.end.Next.{Next}
 use Rattle.alpha_seq.specs.declared.end.Next.TheVariants as nexts
-use Rattle.alpha_seq.specs.declared.execute.Executed.{Executed}
-use Rattle.alpha_seq.specs.declared.execute.Executed.TheVariants as answers
+use Rattle.alpha_seq.specs.declared.event.Event.{Event as Seen}
+use Rattle.alpha_seq.specs.declared.event.Event.TheVariants as events
 use Rattle.alpha_seq.specs.declared.machine.Machine.{Machine}
-use Rattle.alpha_seq.specs.State.{Event, Went, Overflowed, Ends, stepped}
+use Rattle.alpha_seq.specs.State.{Event, Went, Barriered, Overflowed, Ends, stepped}
 use Rattle.alpha_seq.specs.Step.{next_pc, fault_end, accessed, step}
 use Rattle.alpha_seq.specs.Machine.{program_of, state_of, class_here, kernel_left}
 
@@ -33,12 +34,16 @@ abbrev pub filled : Extension → ℕ → ℕ
 filled Zero n = n
 filled Sign n = register_of (signed w32 n)
 
--- what the execution of a word did, by its answer: nothing at a barrier
-abbrev pub ExecuteEffect : Executed → Class → Machine → Machine → Type 0
-ExecuteEffect answers.Went class old new = Does Went class old new
-ExecuteEffect (answers.Overflowed at) class old new = Does (Overflowed at) class old new
-ExecuteEffect (answers.Ended end) class old new = Does (Ends end) class old new
-ExecuteEffect (answers.Barrier call) class old new = (class ≡ barrier call) × (new ≡ old)
+-- what the execution of a word that is no PAL call did, by its answer
+abbrev pub ExecuteEffect : Seen → Class → Machine → Machine → Type 0
+ExecuteEffect events.Went class old new = Does Went class old new
+ExecuteEffect (events.Barrier passed) class old new = (passed ≡ Nothing) × Does Barriered class old new
+ExecuteEffect (events.Overflowed at) class old new = Does (Overflowed at) class old new
+ExecuteEffect (events.Triggered value) class old new = ⊥
+ExecuteEffect (events.Waited wait) class old new = ⊥
+ExecuteEffect (events.Reported at) class old new = ⊥
+ExecuteEffect (events.Ended end) class old new = Does (Ends end) class old new
+ExecuteEffect (events.Lost pc mask) class old new = ⊥
 
 -- an access of a word that faults ends the program, and all is as before
 abbrev pub FaultEffect : MemFault → Class → MemAccess → Machine → Machine → Type 0

@@ -1,11 +1,11 @@
 -- Runs in which each step finds an input of its own. A source that tells nothing may answer any bytes at each read, and a
 -- terminal may end one read and give more to the next: so what a run over such a source does is said by one input a step. A
 -- read takes bytes of its input, and no other step looks at it.
-use Rattle.std.specs.Prelude.{◌≡◌, ◌≤◌, ◌<◌, ℕ, zero, suc, ◌==◌, ◌&&◌, Bool, false, if◌then◌else◌, List, [], ◌∷◌, ◌++◌, length, Option, Some, None}
+use Rattle.std.specs.Prelude.{◌≡◌, ◌≤◌, ◌<◌, ℕ, zero, suc, ◌==◌, ◌&&◌, Bool, false, if◌then◌else◌, List, [], ◌∷◌, ◌++◌, Option, Some, None}
 use Rattle.std.specs.Io.KnownBytes.{Appends}
 use Rattle.alpha_words.specs.declared.PalCall.TheVariants.{Callsys}
 use Rattle.alpha_words.specs.Regs.{reg}
-use Rattle.alpha_io.specs.Sunk.{Sunk, Puts}
+use Rattle.alpha_io.specs.Sunk.{Sunk}
 use Rattle.alpha_io.specs.Written.{WritesPrefix}
 use Rattle.alpha_table.specs.Class.{Class, barrier}
 use Rattle.alpha_mem.specs.Intent.{Store}
@@ -13,15 +13,11 @@ use Rattle.alpha_mem.specs.Block.{shapes, within}
 use Rattle.alpha_pal.specs.Kernel.{KernelState}
 use Rattle.alpha_pal.specs.Call.{outside}
 use Rattle.alpha_pal.specs.Serve.{read_call, input_descriptor}
-use Rattle.alpha_seq.specs.declared.end.End.{End}
-use Rattle.alpha_seq.specs.declared.end.RunEnd.{RunEnd}
-use Rattle.alpha_seq.specs.declared.end.RunEnd.TheVariants as runs
 use Rattle.alpha_seq.specs.declared.machine.Machine.{Machine}
 use Rattle.alpha_seq.specs.State.{Program, State}
 use Rattle.alpha_seq.specs.Step.{next_pc, next_class, step_from}
 use Rattle.alpha_seq.specs.Run.{Run, started, end_of, is_over, extended_by, after, notes_of}
 use Rattle.alpha_seq.specs.Machine.{program_of, state_of, kernel_left}
-use Rattle.alpha_seq.specs.Devices.{Drawn}
 
 -- ---- runs over an input a step
 
@@ -63,62 +59,12 @@ lefts g s (suc n) = lefts g s n ++ (after g s n).state.outside.input ∷ []
 abbrev pub run_from : Machine → List (List ℕ) → Run
 run_from m inputs = run_over (program_of m) inputs (started (state_of m [] []))
 
--- Where the input was told, each step found what was left of it there.
-abbrev pub AreFed : Machine → Option (List ℕ) → List (List ℕ) → Type 0
-AreFed m old inputs = (bytes : List ℕ) → old ≡ Some bytes → inputs ≡ lefts (program_of m) (state_of m bytes []) (length inputs)
-
--- Where the input was told, this is left of it: what a run of so many steps leaves.
-abbrev pub AreLeft : Machine → Drawn → ℕ → Type 0
-AreLeft m input n = (bytes : List ℕ) → input.old ≡ Some bytes
-    → input.new ≡ Some (after (program_of m) (state_of m bytes []) n).state.outside.input
-
--- The run of so many steps, or to the program's end, over some inputs, one a step: state, kernel, output and notes are its
--- own.
-pub record IsRun (n : ℕ) (watch : Bool) (end : Option End) (old new : Machine) (input : Drawn) (out notes : Sunk) : Type 0 where
-  pub inputs : List (List ℕ)
-  pub left : List ℕ
-  pub put : List ℕ
-  pub each : length inputs ≡ (run_from old inputs).steps
-  pub made : HasMade n (run_from old inputs)
-  pub end_is : end_of (run_from old inputs).last ≡ end
-  pub state : (run_from old inputs).state ≡ state_of new left put
-  pub kernel : new.kernel ≡ kernel_over (program_of old) inputs (started (state_of old [] [])) old.kernel
-  pub fed : AreFed old input.old inputs
-  pub rest : AreLeft old input (length inputs)
-  pub wrote : Puts out put
-  pub lines : Puts notes (notes_of watch (run_from old inputs).trace)
-
 -- All of xs was written, and of what follows it in ys a front.
 pub record WritesBetween (old new : Option (List ℕ)) (xs ys : List ℕ) : Type 0 where
   pub more : List ℕ
   pub rest : List ℕ
   pub whole : (xs ++ more) ++ rest ≡ ys
   pub written : Appends old new (xs ++ more)
-
--- A run that a device's fault cut short within a step: fewer steps were made over some inputs, and the output and the notes
--- have all that these steps show, and of what the step within shows a front. Where the input is told, a rest of what was
--- left before that step is left.
-pub record IsCutAt (n : ℕ) (watch : Bool) (old : Machine) (input : Drawn) (out notes : Sunk) : Type 0 where
-  pub inputs : List (List ℕ)
-  pub next : List ℕ
-  pub going : is_over (run_from old inputs).last ≡ false
-  pub each : length inputs ≡ (run_from old inputs).steps
-  pub less : (run_from old inputs).steps < n
-  pub fed : AreFed old input.old (inputs ++ next ∷ [])
-  pub rest : (bytes : List ℕ) → input.old ≡ Some bytes
-      → (taken : List ℕ) × (left : List ℕ) × (next ≡ taken ++ left) × (input.new ≡ Some left)
-  pub output : WritesBetween out.old out.new (run_from old inputs).state.outside.output
-      (advance_over (program_of old) (run_from old inputs) next).state.outside.output
-  pub lines : WritesBetween notes.old notes.new (notes_of watch (run_from old inputs).trace)
-      (notes_of watch (advance_over (program_of old) (run_from old inputs) next).trace)
-
--- what a run did over any source, by its answer
-abbrev pub OverEffect : RunEnd → ℕ → Bool → Machine → Machine → Drawn → Sunk → Sunk → Type 0
-OverEffect (runs.Ended end) n watch old new input out notes = IsRun n watch (Some end) old new input out notes
-OverEffect runs.Spent n watch old new input out notes = IsRun n watch None old new input out notes
-OverEffect (runs.Lost pc mask) n watch old new input out notes = ⊥
-OverEffect runs.InputFault n watch old new input out notes = IsCutAt n watch old input out notes
-OverEffect runs.SinkFault n watch old new input out notes = IsCutAt n watch old input out notes
 
 -- ---- what such runs are to one another
 

@@ -8,9 +8,9 @@ pub mod Next
 pub mod Machine
 pub mod Devices
 pub mod Draws
+pub mod Print
 pub mod StepEffect
-pub mod Turn
-pub mod RunEffect
+pub mod Sequential
 pub mod Executed
 pub mod Inputs
 pub mod Rushed

@@ -1,63 +1,53 @@
--- What the machine's step did, by its answer.
-use Rattle.std.specs.Prelude.{◌≡◌, ◌⊎◌, ℕ, ◌≤◌, List, ◌++◌, Some}
-use Rattle.alpha_words.specs.declared.PalCall.TheVariants.{Callsys}
-use Rattle.alpha_table.specs.Class.{barrier}
-use Rattle.alpha_io.specs.Faults.{Rose}
-use Rattle.alpha_io.specs.Sunk.{Sunk, Puts, Partly, HasFailed}
-use Rattle.alpha_pal.specs.Serve.{request_of}
-use Rattle.alpha_pal.specs.CallEffect.{TakesPart, PutsPart}
-use Rattle.alpha_seq.specs.declared.end.StepEnd.{StepEnd}
-use Rattle.alpha_seq.specs.declared.end.StepEnd.TheVariants as steps
+-- What a step of a machine did, by its answer.
+use Rattle.std.specs.Prelude.{◌≡◌, ℕ, List, ◌++◌, Option, Some}
+use Rattle.alpha_io.specs.Sunk.{Sunk, Puts}
+use Rattle.alpha_io.specs.Written.{WritesPrefix}
+use Rattle.alpha_pal.specs.declared.fault.Fault.{Fault}
+use Rattle.alpha_pal.specs.declared.fault.Fault.TheVariants as faults
 use Rattle.alpha_seq.specs.declared.machine.Machine.{Machine}
-use Rattle.alpha_seq.specs.State.{Event, Went, Barriered, Overflowed, Ends, stepped}
-use Rattle.alpha_seq.specs.Step.{step_from}
-use Rattle.alpha_seq.specs.Notes.{overflow_line}
-use Rattle.alpha_seq.specs.Machine.{program_of, state_of, class_here}
-use Rattle.alpha_seq.specs.Devices.{Drawn, Rests, Idles}
-use Rattle.alpha_seq.specs.Draws.{Draws}
+use Rattle.alpha_seq.specs.declared.event.Event.{Event}
+use Rattle.alpha_seq.specs.Devices.{Drawn, HasInputFault, HasOutputFault, HasNotesFault}
+use Rattle.alpha_seq.specs.Print.{Print, found_by}
 
--- The step of the definition, at an input of what was taken and the rest; what was put is the output's growth.
-pub record Steps (event : Event) (old new : Machine) (input : Drawn) (out : Sunk) : Type 0 where
-  pub taken : List ℕ
-  pub rest : List ℕ
-  pub bytes : List ℕ
-  pub took : Draws input taken rest
-  pub wrote : Puts out bytes
-  pub is : (output : List ℕ)
-      → step_from (program_of old) (state_of old (taken ++ rest) output)
-      ≡ stepped (state_of new rest (output ++ bytes)) event
+-- where the input is told, the step found what was left of it, and left this
+abbrev pub Finds : Option (List ℕ) → Option (List ℕ) → Print → Type 0
+Finds old new p = (left : List ℕ) → old ≡ Some left → (left ≡ found_by p) × (new ≡ Some p.rest)
 
--- A read whose source failed: the bytes taken so far are in memory, and all else is as before but for the kernel.
-pub record InputFails (old new : Machine) (input : Drawn) (out : Sunk) : Type 0 where
-  pub class : class_here old ≡ Some (barrier (Some Callsys))
-  pub part : TakesPart (request_of old.regs) old.memory new.memory input.old input.new
-  pub same : new ≡ record old { memory = new.memory; kernel = new.kernel }
-  pub later : input.before ≤ input.now
-  pub cause : Rose input.before input.now
-  pub output : Idles out
+-- where the input is told, the step found what was left of it, and a rest of that is left
+abbrev pub FindsPart : Option (List ℕ) → Option (List ℕ) → Print → Type 0
+FindsPart old new p = (left : List ℕ) → old ≡ Some left
+    → (left ≡ found_by p) × ((taken : List ℕ) × (rest : List ℕ) × (left ≡ taken ++ rest) × (new ≡ Some rest))
 
--- A write whose sink failed: a prefix of its bytes was put, and all else is as before but for the kernel.
-pub record OutputFails (old new : Machine) (input : Drawn) (out : Sunk) : Type 0 where
-  pub class : class_here old ≡ Some (barrier (Some Callsys))
-  pub part : PutsPart (request_of old.regs) old.memory out.old out.new
-  pub same : new ≡ record old { kernel = new.kernel }
-  pub later : out.before ≤ out.now
-  pub cause : HasFailed out
-  pub left : Rests input
+-- The step of the definition, with all that it puts. A machine says by `goes` what its step is, by `uses` how many units it
+-- uses, by `core` where its registers, memory and PC are, and by `draws` which words a chooser went on by.
+pub record Makes {M : Type 0} (goes : M → Print → M → Type 0) (uses : M → ℕ) (core : M → Machine) (draws : List ℕ → Type 0)
+    (event : Event) (old new : M) (input : Drawn) (out : Sunk) : Type 0 where
+  pub print : Print
+  pub is : goes old print new
+  pub units : print.units ≡ uses old
+  pub event_is : print.event ≡ event
+  pub core_is : print.core ≡ core new
+  pub drew : draws print.words
+  pub found : Finds input.old input.new print
+  pub same : input.now ≡ input.before
+  pub wrote : Puts out print.bytes
 
--- An overflow whose line failed: the step was made, and a prefix of the line was written.
-pub record LineFails (old new : Machine) (input : Drawn) (out notes : Sunk) : Type 0 where
-  pub at : ℕ
-  pub made : Steps (Overflowed at) old new input out
-  pub part : Partly notes (overflow_line at)
-  pub cause : HasFailed notes
+-- which count of faults rose, by the device that failed
+abbrev pub Causes : Fault → Drawn → Sunk → Sunk → Type 0
+Causes faults.Input input out notes = HasInputFault input out notes
+Causes faults.Output input out notes = HasOutputFault input out notes
+Causes faults.Notes input out notes = HasNotesFault input out notes
 
--- what a step did, by its answer
-abbrev pub StepEffect : StepEnd → Machine → Machine → Drawn → Sunk → Sunk → Type 0
-StepEffect steps.Went old new input out notes = Steps Went old new input out × Idles notes
-StepEffect steps.Barrier old new input out notes = Steps Barriered old new input out × Idles notes
-StepEffect (steps.Overflow at) old new input out notes = Steps (Overflowed at) old new input out × Puts notes (overflow_line at)
-StepEffect (steps.Ended end) old new input out notes = Steps (Ends end) old new input out × Idles notes
-StepEffect steps.InputFault old new input out notes = InputFails old new input out × Idles notes
-StepEffect steps.SinkFault old new input out notes =
-    (OutputFails old new input out × Idles notes) ⊎ LineFails old new input out notes
+-- The step of the definition that a device's fault cut short: it leads to a machine that isn't there, and of what it puts a
+-- front was put.
+pub record Breaks {M : Type 0} (goes : M → Print → M → Type 0) (uses : M → ℕ) (core : M → Machine) (draws : List ℕ → Type 0)
+    (fault : Fault) (old : M) (input : Drawn) (out : Sunk) : Type 0 where
+  pub would : M
+  pub print : Print
+  pub is : goes old print would
+  pub units : print.units ≡ uses old
+  pub core_is : print.core ≡ core would
+  pub drew : draws print.words
+  pub found : FindsPart input.old input.new print
+  pub wrote : WritesPrefix out.old out.new print.bytes
+  pub cause : (notes : Sunk) → notes.now ≡ notes.before → Causes fault input out notes

@@ -1,14 +1,14 @@
-ghost use Rattle.std.specs.Prelude.{◌≡◌, [], Some, IsTrue};
-ghost use Rattle.alpha_io.specs.Sunk.{Sunk, sunk};
+ghost use Rattle.std.specs.Prelude.{◌≡◌, [], Some, IsTrue, IfOk, IfErr};
+ghost use Rattle.alpha_io.specs.Sunk.{sunk};
 ghost use Rattle.alpha_table.specs.Class.{barrier};
 ghost use Rattle.alpha_pal.specs.CallEffect.{kernel_after};
 ghost use Rattle.alpha_mem.specs.Block.{shapes};
 ghost use Rattle.alpha_seq.specs.Step.{next_pc, lock_after};
 ghost use Rattle.alpha_seq.specs.Machine.{program_of, state_of, class_here};
-ghost use Rattle.alpha_seq.specs.Devices.{drawn, Idles};
-ghost use Rattle.alpha_seq.specs.StepEffect.{StepEffect};
+ghost use Rattle.alpha_seq.specs.Devices.{drawn};
+ghost use Rattle.alpha_seq.specs.Sequential.{SeqMakes, SeqBreaks};
 
-use crate::{End, Machine, StepEnd};
+use crate::{End, Event, Fault, Machine};
 use alpha_io::{Sink, Source};
 use alpha_pal::PalEnd;
 use alpha_words::PalCall;
@@ -21,12 +21,15 @@ impl Machine {
         function: PalCall,
         input: &mut S,
         out: &mut K,
-    ) -> StepEnd
+    ) -> Result<Event, Fault>
         requires user { IsTrue self.old.kernel.user }
         requires class { class_here self.old ≡ Some (barrier (Some function)) }
-        ensures effect { (notes : Sunk) → Idles notes → StepEffect result self.old self.new
+        ensures made { IfOk result (λ event. SeqMakes event self.old self.new
             (drawn S.Source input.old input.new)
-            (sunk K.Sink out.old out.new) notes }
+            (sunk K.Sink out.old out.new)) }
+        ensures broken { IfErr result (λ fault. SeqBreaks fault self.old self.new
+            (drawn S.Source input.old input.new)
+            (sunk K.Sink out.old out.new)) }
         ensures kernel { self.new.kernel ≡ kernel_after function
             (next_pc (state_of self.old [] [])) self.old.regs self.old.kernel }
         ensures shapes { shapes self.new.memory ≡ shapes self.old.memory }
@@ -41,16 +44,14 @@ impl Machine {
             &mut self.memory,
             input,
             out,
-        );
+        )?;
         match end {
-            PalEnd::Goes => {
+            PalEnd::Goes(passed) => {
                 self.go_on(function, next);
-                StepEnd::Barrier
+                Ok(Event::Barrier(passed))
             }
-            PalEnd::Exit(value) => StepEnd::Ended(End::Exit(value)),
-            PalEnd::Signal(code) => StepEnd::Ended(End::Signal { code, pc: self.pc }),
-            PalEnd::InputFault => StepEnd::InputFault,
-            PalEnd::SinkFault => StepEnd::SinkFault,
+            PalEnd::Exit(value) => Ok(Event::Ended(End::Exit(value))),
+            PalEnd::Signal(code) => Ok(Event::Ended(End::Signal { code, pc: self.pc })),
         }
     }
 

@@ -1,5 +1,4 @@
 use alpha_table::Insn;
-use alpha_words::RegSet;
 
 /// How a program ends. A `pc` is the address of the word that ends it.
 #[derive(Clone, Copy, Debug, PartialEq, Eq)]
@@ -52,37 +51,4 @@ pub enum Next {
     Overflows(Insn),
     /// Any other instruction.
     Plain(Insn),
-}
-
-/// How a step went.
-#[derive(Clone, Copy, Debug, PartialEq, Eq)]
-pub enum StepEnd {
-    /// An instruction was executed.
-    Went,
-    /// A barrier was executed.
-    Barrier,
-    /// The instruction at this address overflowed, and was completed and logged.
-    Overflow(u64),
-    /// The program ended, and the state is as before.
-    Ended(End),
-    /// The input failed in a read.
-    InputFault,
-    /// The output failed in a write, or the notes failed at the line of an overflow.
-    SinkFault,
-}
-
-/// How a run went.
-#[derive(Clone, Copy, Debug, PartialEq, Eq)]
-pub enum RunEnd {
-    /// The program ended.
-    Ended(End),
-    /// All units were used, and the program hasn't ended.
-    Spent,
-    /// A trap was reported that belongs to no instruction, with its PC and its register mask. A sequential run has
-    /// no such trap.
-    Lost(u64, RegSet),
-    /// The input failed in a read.
-    InputFault,
-    /// The output failed in a write, or the notes failed at a line.
-    SinkFault,
 }

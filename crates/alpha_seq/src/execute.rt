@@ -1,31 +1,20 @@
-ghost use Rattle.std.specs.Prelude.{◌≡◌, false, Some, IsTrue};
+ghost use Rattle.std.specs.Prelude.{◌≡◌, ◌≢◌, false, Some, IsTrue};
+ghost use Rattle.alpha_words.specs.declared.PalCall.{PalCall};
+ghost use Rattle.alpha_table.specs.declared.form.Form.TheVariants.{Pal};
 ghost use Rattle.alpha_table.specs.ClassOf.{class_of};
 ghost use Rattle.alpha_seq.specs.State.{Went};
 ghost use Rattle.alpha_seq.specs.Machine.{class_here};
 ghost use Rattle.alpha_seq.specs.Executed.{Does, ExecuteEffect, GoesOn, NeverGoes};
 
 use crate::access::{fault_end, memory_access};
-use crate::{End, Machine};
+use crate::{Event, Machine, Passed};
 use alpha_table::{Form, Insn, InsnKind, kind};
-use alpha_words::PalCall;
-
-/// How the execution of a word went.
-#[derive(Clone, Copy, Debug)]
-pub(crate) enum Executed {
-    /// It was executed.
-    Went,
-    /// It is at this address, overflowed, and was completed and logged.
-    Overflowed(u64),
-    /// It ended the program, and all is as before.
-    Ended(End),
-    /// It is a barrier, with its PAL call if it is one, and was not executed.
-    Barrier(Option<PalCall>),
-}
 
 impl Machine {
-    // Executes an instruction, if it is no barrier. The loops of the runs call it for what is rare.
+    // Executes an instruction that is no PAL call. The loops of the runs call it for what is rare.
     #[inline(never)]
-    pub(crate) fn execute(&mut self, insn: &Insn) -> Executed
+    pub(crate) fn execute(&mut self, insn: &Insn) -> Event
+        requires { (function : PalCall) → insn.now ≢ Pal function }
         ensures { ExecuteEffect result (class_of insn.now) self.old self.new }
     {
         match insn.form() {
@@ -37,19 +26,22 @@ impl Machine {
                 let addr = self.accessed(&memory_access(op, rb, disp));
                 let pc = self.pc;
                 if let Err(fault) = self.memory_word(op, ra, rb, disp) {
-                    return Executed::Ended(fault_end(fault, pc, addr));
+                    return Event::Ended(fault_end(fault, pc, addr));
                 }
             }
             Form::Branch { op, ra, disp } => self.branch(op, ra, disp),
             Form::Jump { ra, rb, .. } => self.jump(ra, rb),
             Form::Misc(_) => match kind(insn) {
-                InsnKind::Barrier => return Executed::Barrier(None),
+                InsnKind::Barrier => {
+                    self.advance();
+                    return Event::Barrier(Passed::Nothing);
+                }
                 _ => self.idle(),
             },
             Form::Fetch { .. } => self.idle(),
-            Form::Pal(call) => return Executed::Barrier(Some(call)),
+            Form::Pal(_) => unreachable!(),
         }
-        Executed::Went
+        Event::Went
     }
 
     // Executes an instruction, if it goes on to a next word without an overflow and is no barrier.

@@ -1,14 +1,11 @@
-ghost use Rattle.std.specs.Prelude.{◌≡◌, ◌≤◌, ℕ, Bool, true, false, List, length, Option};
-ghost use Rattle.alpha_io.specs.Sunk.{Sunk};
+ghost use Rattle.std.specs.Prelude.{◌≡◌, ◌≤◌, ℕ, true, false, List, length, Option};
 ghost use Rattle.alpha_table.specs.Class.{Class};
 ghost use Rattle.alpha_mem.specs.Block.{shapes};
 ghost use Rattle.alpha_seq.specs.declared.end.End.{End};
-ghost use Rattle.alpha_seq.specs.declared.machine.Machine.{Machine};
 ghost use Rattle.alpha_seq.specs.State.{Program, State, Ends};
 ghost use Rattle.alpha_seq.specs.Step.{step};
 ghost use Rattle.alpha_seq.specs.Run.{started, after, is_over};
-ghost use Rattle.alpha_seq.specs.Devices.{Drawn};
-ghost use Rattle.alpha_seq.specs.Inputs.{run_over, lefts, IsUnread, SameButInput, IsCutAt, IsFront};
+ghost use Rattle.alpha_seq.specs.Inputs.{run_over, lefts, IsUnread, SameButInput};
 
 /// The laws of steps: a step leaves how many registers there are and where the blocks of memory lie, and where it
 /// ends the program it leaves all.
@@ -30,14 +27,11 @@ pub fn laws_of_runs()
 {}
 
 /// The laws of runs in which each step finds an input of its own. The run over one input is such a run, in which each
-/// step finds what is left of it. A run of steps that don't look at the input is the same over every input. What a
-/// run has shown that a device's fault cut short is a front of what a whole run shows over some inputs.
+/// step finds what is left of it. A run of steps that don't look at the input is the same over every input.
 pub fn laws_of_inputs()
     ensures told { (g : Program) (s : State) (n : ℕ)
         → run_over g (lefts g s n) (started s) ≡ after g s n }
     ensures unread { (g : Program) (s : State) (inputs : List (List ℕ))
         → IsUnread g s (length inputs)
         → SameButInput (run_over g inputs (started s)) (after g s (length inputs)) }
-    ensures cut { (n : ℕ) (watch : Bool) (m : Machine) (input : Drawn) (out notes : Sunk)
-        → IsCutAt n watch m input out notes → IsFront n watch m out notes }
 {}

@@ -2,10 +2,10 @@
 //!
 //! - [`Machine`] is the machine, all parts of which are open. [`Machine::new`] makes it in the state at the start.
 //! - [`Machine::step`] makes one step, [`Machine::step_by`] the same for a caller that has looked at the instruction,
-//!   and [`Machine::next`] says what that step would do, as a [`Next`]. [`run`] makes
-//!   steps until the program ends or a number of them is used up.
+//!   and [`Machine::next`] says what that step would do, as a [`Next`].
 //! - [`Machine::rush`] makes steps as long as each only goes on, many at a time: the loop of a run, of either machine.
-//! - [`StepEnd`] is how a step went, [`RunEnd`] how a run went, [`End`] how a program ends.
+//! - [`Event`] is how a step went, with [`Passed`] what a barrier took or put and [`Wait`] what an instruction did
+//!   while a trap was pending; [`Fault`] is the device that failed in a step, [`End`] how a program ends.
 //! - [`Machine::goes_on`], [`Machine::insn`], [`Machine::source`], [`Machine::accessed`], [`Machine::set`] and
 //!   [`Machine::advance`] are the parts of a step that other machines share, with [`memory_access`], [`size`] and
 //!   [`branch_target`].
@@ -19,41 +19,41 @@
 //! `specs/State.antt` says what a program and a state are and what comes of a step, `specs/Start.antt` what the state
 //! at the start is, `specs/Step.antt` what each class of words does, `specs/Run.antt` what a run is and what one sees
 //! of it, `specs/Notes.antt` what its lines are, and `specs/Next.antt` what a word would do. `specs/Machine.antt` says
-//! how the code's machine stands to programs and states, `specs/StepEffect.antt` and `specs/RunEffect.antt` what its
-//! step and its run did, `specs/Devices.antt` what they did to devices that tell their bytes and to others, and
-//! `specs/Draws.antt` what they took of a source.
-//! `specs/Inputs.antt` says what a run does over a source that tells nothing: each step finds some input of its own.
-//! `specs/StartMemory.antt`, `specs/Executed.antt` and `specs/Turn.antt` say what the helpers of the start, of the step
-//! and of the run do, `specs/Rushed.antt` what steps are that only go on behind one another.
+//! how the code's machine stands to programs and states. `specs/Print.antt` says what a step of a machine was,
+//! `specs/StepEffect.antt` what the code's step did by its answer, for each machine, `specs/Sequential.antt` the same for
+//! this one, and `specs/Devices.antt` what it did to devices that tell their bytes and to others. `specs/Inputs.antt` says
+//! what a run does over a source that tells nothing: each step finds some input of its own. `specs/StartMemory.antt` and
+//! `specs/Executed.antt` say what the helpers of the start and of the step do, `specs/Rushed.antt` what steps are that
+//! only go on behind one another.
 //!
-//! `src/machine.rt` has the machine and `src/end.rt` its answers; `src/step.rt` has the step. Its layers are
+//! `src/machine.rt` has the machine, `src/event.rt` and `src/end.rt` its answers; `src/step.rt` has the step. Its layers are
 //! `src/execute.rt`, which executes each word that is no barrier, `src/words.rt` and `src/access.rt` with the
 //! families of these words, the second with those that have a displacement from a base register, `src/barrier.rt`
 //! with the PAL calls, and `src/parts.rt` with what they share. `src/look.rt` says what a word would do.
-//! `src/start.rt` makes the machine, `src/rush.rt` executes words that only go on, `src/runs.rt` runs the machine,
-//! `src/lines.rt` writes the lines, `src/laws.rt` has the laws, and `proofs/Examples.antt` has programs whose runs
-//! the definitions compute.
+//! `src/start.rt` makes the machine, `src/rush.rt` executes words that only go on, `src/lines.rt` writes the lines,
+//! `src/laws.rt` has the laws, and `proofs/Examples.antt` has programs whose runs the definitions compute.
 #![tactic(auto)]
 
 mod access;
 mod barrier;
 mod end;
+mod event;
 mod execute;
 mod laws;
 mod lines;
 mod look;
 mod machine;
 mod parts;
-mod runs;
 mod rush;
 mod start;
 mod step;
 mod words;
 
 pub use access::{memory_access, size};
-pub use end::{End, Next, RunEnd, StepEnd};
+pub use alpha_pal::{Fault, Passed};
+pub use end::{End, Next};
+pub use event::{Event, Wait};
 pub use laws::{laws_of_inputs, laws_of_runs, laws_of_steps};
 pub use lines::{line_of_end, write_barrier, write_end, write_overflow, write_registers};
 pub use machine::Machine;
-pub use runs::run;
 pub use words::branch_target;

@@ -9,8 +9,7 @@ ghost use Rattle.alpha_seq.specs.State.{Went};
 ghost use Rattle.alpha_seq.specs.Step.{computed};
 ghost use Rattle.alpha_seq.specs.Executed.{Does, ExecuteEffect, logged_machine};
 
-use crate::execute::Executed;
-use crate::{End, Machine};
+use crate::{End, Event, Machine};
 use alpha_table::{BranchOp, MemOp, Op, Src, TrapOp};
 use alpha_values::{completed, high_address, operate_at, overflows, taken};
 use alpha_words::{Completion, Reg};
@@ -29,20 +28,20 @@ impl Machine {
     }
 
     #[inline(always)]
-    pub(crate) fn trigger(&mut self, op: TrapOp, ra: Reg, src: &Src, rc: Reg) -> Executed
+    pub(crate) fn trigger(&mut self, op: TrapOp, ra: Reg, src: &Src, rc: Reg) -> Event
         ensures { ExecuteEffect result (trigger op ra src.now rc) self.old self.new }
     {
         if self.exactly(op, ra, src, rc) {
-            return Executed::Went;
+            return Event::Went;
         }
         let at = self.pc;
         if self.how == Completion::Stop {
-            return Executed::Ended(End::Overflow { pc: at });
+            return Event::Ended(End::Overflow { pc: at });
         }
         let a = self.regs.get(ra);
         let b = self.source(src);
         self.complete(op, a, b, rc);
-        Executed::Overflowed(at)
+        Event::Overflowed(at)
     }
 
     // Executes an instruction that may trap, if it doesn't overflow.

@@ -1,7 +1,7 @@
 use crate::common::reg;
 use alpha_io::{MemorySource, NullSink, Sink, Source, TrickleSink};
 use alpha_mem::Memory;
-use alpha_pal::{Kernel, PalEnd, Summary};
+use alpha_pal::{Fault, Kernel, PalEnd, Passed, Summary};
 use alpha_words::{NoMemory, PalCall, RegFile, RegSet};
 use bitflags::Flags;
 use std::alloc::Global;
@@ -36,10 +36,10 @@ impl Bench {
         request: [u64; 4],
         input: &mut S,
         out: &mut K,
-    ) -> (PalEnd, u64, u64) {
+    ) -> (Result<PalEnd, Fault>, u64, u64) {
         let mut regs = asking(request);
         if !self.kernel.is_user() {
-            return (PalEnd::Signal(9), 0, 0);
+            return (Ok(PalEnd::Signal(9)), 0, 0);
         }
         let end = self.kernel.call(
             function,
@@ -55,6 +55,14 @@ impl Bench {
 
     fn at(&self, addr: u64, len: u64) -> &[u8] {
         self.mem.bytes(addr, len).unwrap_or(&[])
+    }
+}
+
+// What a read has taken that began at the bytes that may be written.
+fn took(len: u64) -> Passed {
+    Passed::Took {
+        addr: 0x1_0010,
+        len,
     }
 }
 
@@ -123,7 +131,7 @@ fn a_read_goes_on_over_short_takes(rt: HostRuntime) -> Result<(), Fail> {
     for want in [4, 1, 0] {
         let request = [3, 0, 0x1_0010, 4];
         let got = bench.call(PalCall::Callsys, request, &mut input, &mut NullSink::new());
-        assert_eq!(rt; got, (PalEnd::Goes, want, 0));
+        assert_eq!(rt; got, (Ok(PalEnd::Goes(took(want))), want, 0));
     }
     assert_eq!(rt; bench.at(0x1_0010, 4), b"zwxy".as_slice());
     Ok(())
@@ -136,10 +144,10 @@ fn a_take_that_fails_leaves_what_was_taken(rt: HostRuntime) -> Result<(), Fail> 
     let mut input = MemorySource::new(b"vwxyz".to_vec(alloc)?, 2, [1].to_vec(alloc)?);
     let request = [3, 0, 0x1_0010, 4];
     let got = bench.call(PalCall::Callsys, request, &mut input, &mut NullSink::new());
-    assert_eq!(rt; got, (PalEnd::InputFault, 3, 0));
+    assert_eq!(rt; got, (Err(Fault::Input), 3, 0));
     assert_eq!(rt; bench.at(0x1_0010, 4), b"vwcd".as_slice());
     let got = bench.call(PalCall::Callsys, request, &mut input, &mut NullSink::new());
-    assert_eq!(rt; got, (PalEnd::Goes, 3, 0));
+    assert_eq!(rt; got, (Ok(PalEnd::Goes(took(3))), 3, 0));
     assert_eq!(rt; bench.at(0x1_0010, 4), b"xyzd".as_slice());
     Ok(())
 }
@@ -152,9 +160,13 @@ fn a_write_goes_on_over_short_puts(rt: HostRuntime) -> Result<(), Fail> {
     let mut out = TrickleSink::new(alloc, 9, [5].to_vec(alloc)?)?;
     let request = [4, 1, 0x1_0000, 4];
     let got = bench.call(PalCall::Callsys, request, &mut input, &mut out);
-    assert_eq!(rt; got, (PalEnd::Goes, 4, 0));
+    let put = Passed::Put {
+        addr: 0x1_0000,
+        len: 4,
+    };
+    assert_eq!(rt; got, (Ok(PalEnd::Goes(put)), 4, 0));
     let got = bench.call(PalCall::Callsys, request, &mut input, &mut out);
-    assert_eq!(rt; got, (PalEnd::SinkFault, 4, 0));
+    assert_eq!(rt; got, (Err(Fault::Output), 4, 0));
     assert_eq!(rt; out.bytes(), b"01230".as_slice());
     Ok(())
 }
@@ -164,22 +176,27 @@ fn errors_come_in_order(rt: HostRuntime) -> Result<(), Fail> {
     let alloc = rt.alloc();
     let mut bench = Bench::new(alloc)?;
     let mut input = MemorySource::new(b"vwxyz".to_vec(alloc)?, 2, Vec::new(alloc));
-    for (request, value, error) in [
-        ([0, 0, 0x1_0010, 4], 78, 1),
-        ([2, 7, 0, 4], 78, 1),
-        ([3, 1, 0x1_0010, 4], 9, 1),
-        ([4, 0, 0x1_0010, 4], 9, 1),
-        ([3, 2, 0, 4], 9, 1),
-        ([4, 2, 0, 4], 9, 1),
-        ([3, 0, 0x1_0000, 4], 14, 1),
-        ([4, 1, 0x1_0014, 5], 14, 1),
-        ([4, 1, 0x1_000c, 8], 14, 1),
-        ([3, 0, u64::MAX, u64::MAX], 14, 1),
-        ([3, 0, 0, 0], 0, 0),
-        ([4, 1, 0, 0], 0, 0),
+    for (request, value) in [
+        ([0, 0, 0x1_0010, 4], 78),
+        ([2, 7, 0, 4], 78),
+        ([3, 1, 0x1_0010, 4], 9),
+        ([4, 0, 0x1_0010, 4], 9),
+        ([3, 2, 0, 4], 9),
+        ([4, 2, 0, 4], 9),
+        ([3, 0, 0x1_0000, 4], 14),
+        ([4, 1, 0x1_0014, 5], 14),
+        ([4, 1, 0x1_000c, 8], 14),
+        ([3, 0, u64::MAX, u64::MAX], 14),
     ] {
         let got = bench.call(PalCall::Callsys, request, &mut input, &mut NullSink::new());
-        assert_eq!(rt; got, (PalEnd::Goes, value, error), "at {:?}", request);
+        let end = Ok(PalEnd::Goes(Passed::Nothing));
+        assert_eq!(rt; got, (end, value, 1), "at {:?}", request);
+    }
+    let taken = Passed::Took { addr: 0, len: 0 };
+    let put = Passed::Put { addr: 0, len: 0 };
+    for (request, passed) in [([3, 0, 0, 0], taken), ([4, 1, 0, 0], put)] {
+        let got = bench.call(PalCall::Callsys, request, &mut input, &mut NullSink::new());
+        assert_eq!(rt; got, (Ok(PalEnd::Goes(passed)), 0, 0), "at {:?}", request);
     }
     Ok(())
 }
@@ -190,17 +207,17 @@ fn the_calls_without_devices(rt: HostRuntime) -> Result<(), Fail> {
     let mut bench = Bench::new(alloc)?;
     let mut input = MemorySource::new(Vec::new(alloc), 1, Vec::new(alloc));
     for (function, end, value) in [
-        (PalCall::Imb, PalEnd::Goes, 1),
+        (PalCall::Imb, PalEnd::Goes(Passed::Nothing), 1),
         (PalCall::Callsys, PalEnd::Exit(6), 1),
         (PalCall::Bpt, PalEnd::Signal(0), 1),
         (PalCall::Bugchk, PalEnd::Signal(1), 1),
         (PalCall::Gentrap, PalEnd::Signal(2), 1),
-        (PalCall::Rdunique, PalEnd::Goes, 5),
-        (PalCall::Wrunique, PalEnd::Goes, 1),
-        (PalCall::Rdunique, PalEnd::Goes, 6),
+        (PalCall::Rdunique, PalEnd::Goes(Passed::Nothing), 5),
+        (PalCall::Wrunique, PalEnd::Goes(Passed::Nothing), 1),
+        (PalCall::Rdunique, PalEnd::Goes(Passed::Nothing), 6),
     ] {
         let got = bench.call(function, [1, 6, 0, 0], &mut input, &mut NullSink::new());
-        assert_eq!(rt; got, (end, value, 0));
+        assert_eq!(rt; got, (Ok(end), value, 0));
     }
     Ok(())
 }

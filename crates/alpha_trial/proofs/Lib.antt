@@ -3,9 +3,6 @@ pub mod Decoding
 pub mod Shadows
 pub mod Counting
 pub mod Good
-pub mod Stepping
-pub mod Joining
-pub mod Making
 pub mod Tallying
 pub mod Logging
 pub mod Buffer

@@ -1,18 +1,55 @@
 -- What is counted in the code's runs is what the definition's runs show.
-use Rattle.std.proofs.Common.{◌≡◌, ◌≤◌, ◌<◌, ◌^◌, ℕ, List, [], Option, None, sym, ap, ◌∙◌, arith}
+use Rattle.std.proofs.Common.{◌≡◌, ◌≤◌, ◌<◌, ◌-◌, ◌++◌, ◌^◌, ℕ, false, List, [], length, Option, Some, None, sym, ap, ◌∙◌, arith}
+use Rattle.std.specs.Io.KnownBytes.{Appends}
+use Rattle.alpha_io.specs.Sunk.{Sunk}
 use Rattle.alpha_image.specs.Parts.{Parts}
 use Rattle.alpha_seq.specs.declared.machine.Machine.{Machine}
+use Rattle.alpha_seq.specs.declared.event.Event.{Event}
 use Rattle.alpha_seq.specs.State.{Program, State}
 use Rattle.alpha_seq.specs.Start.{start}
 use Rattle.alpha_seq.specs.Run.{after}
 use Rattle.alpha_seq.specs.Machine.{program_of, state_of}
+use Rattle.alpha_seq.specs.Devices.{Drawn}
 use Rattle.alpha_imprecise.specs.declared.pending.Pending.{Pending}
 use Rattle.alpha_imprecise.specs.Pcg.{pcg_word, seeded}
 use Rattle.alpha_imprecise.specs.Made.{Making, begun, made, first_words, most_words}
-use Rattle.alpha_imprecise.specs.Wild.{WildState, trap_in, waited_in}
-use Rattle.alpha_imprecise.specs.WildRunEffect.{begun_at}
+use Rattle.alpha_imprecise.specs.Telling.{Telling}
+use Rattle.alpha_imprecise.specs.Wild.{WildState, trap_in, waited_in, begun_at}
+use Rattle.alpha_imprecise.proofs.Fresh.{told_starts}
+use Rattle.alpha_run.specs.SeqRun.{run_from, SeqRan}
+use Rattle.alpha_run.specs.WildRan.{WildRanAs}
+use Rattle.alpha_run.proofs.SeqShown as sequential
+use Rattle.alpha_run.proofs.WildShown as imprecise
 use Rattle.alpha_trial.specs.Report.{run_tally, making_tally, wrapping, sequential_run, imprecise_run}
 use Rattle.alpha_trial.specs.Counted.{RunsTo, MakesTo}
+
+-- all that a sink has that had nothing before
+all_written : (old new : Option (List ℕ)) (put bytes : List ℕ) → old ≡ Some [] → new ≡ Some bytes → Appends old new put → put ≡ bytes
+all_written None new put bytes from to more = cc
+all_written (Some xs) None put bytes from to more = cc
+all_written (Some xs) (Some ys) put bytes from to more =
+    let none : xs ≡ [] = cc in
+    let all : ys ≡ bytes = cc in
+    sym (ap (λ (l : List ℕ). l ++ put) none) ∙ (sym more ∙ all)
+
+-- ---- the sequential run
+
+pub runs_to : (last : Option Event) (units left : ℕ) (old new : Machine) (input : Drawn) (out notes : Sunk) (bytes : List ℕ)
+    → SeqRan last units left false old new input out notes → input.old ≡ Some [] → out.old ≡ Some [] → out.new ≡ Some bytes
+    → RunsTo units old new bytes (units - left)
+runs_to last units left old new input out notes bytes ran told from to =
+    let stands = ran.is [] in
+    let used = ran.used in
+    let many : ran.steps ≡ units - left = omega arith in
+    record {
+      is =
+          ap run_tally (sym (sequential.told_all last units left false old new input out notes ran [] told))
+          ∙ (ap (λ (s : State). record { overflows = s.count; steps = (run_from old [] ran.inputs).steps; output = s.outside.output; drawn = 0 }) stands.state
+          ∙ (ap (λ (n : ℕ). record { overflows = new.overflows; steps = n; output = ran.put; drawn = 0 }) (stands.steps ∙ many)
+          ∙ ap (λ (l : List ℕ). record { overflows = new.overflows; steps = units - left; output = l; drawn = 0 })
+          (all_written out.old out.new ran.put bytes from to ran.wrote.written)));
+      program = stands.program;
+    }
 
 pub sequential_counted : (units : ℕ) (image : Parts) (old new : Machine) (bytes : List ℕ) (steps : ℕ)
     → program_of old ≡ wrapping image → ((input : List ℕ) → state_of old input [] ≡ start (program_of old) input) → RunsTo units old new bytes steps
@@ -20,8 +57,36 @@ pub sequential_counted : (units : ℕ) (image : Parts) (old new : Machine) (byte
 unfolding sequential_run
 sequential_counted units image old new bytes steps program begins r =
     ap run_tally (ap (λ (g : Program). after g (start g []) units) (sym program)
-    ∙ (ap (λ (s : State). after (program_of old) s units) (sym (begins [])) ∙ r.is))
-    ∙ ap (λ (n : ℕ). record { overflows = new.overflows; steps = n; output = bytes; drawn = 0 }) r.steps_are
+    ∙ ap (λ (s : State). after (program_of old) s units) (sym (begins [])))
+    ∙ r.is
+
+-- ---- the imprecise run
+
+pub makes_to : (last : Option Event) (units left : ℕ) (old new : WildState) (before after : Telling) (input : Drawn) (out notes : Sunk) (bytes : List ℕ) (count : ℕ) (ahead : ℕ → ℕ)
+    → WildRanAs last units left false old new before after input out notes → old.pending ≡ None
+    → input.old ≡ Some [] → out.old ≡ Some [] → out.new ≡ Some bytes
+    → before.ahead ≡ Some ahead → before.count ≡ Some 0 → after.count ≡ Some count
+    → MakesTo units ahead old new bytes (units - left) count
+makes_to last units left old new before after input out notes bytes count ahead ran calm told from to tells zero now =
+    let whole = imprecise.whole last units left false old new before after input out notes ran in
+    let words = whole.ran.words in
+    let few = imprecise.few_drawn last units left false old new before after input out notes whole calm in
+    let s = told_starts before after ahead words (most_words units) tells whole.ran.drew few in
+    let stands = whole.ran.is [] s.coming in
+    let uses = whole.used in
+    let many : whole.units ≡ units - left = omega arith in
+    record {
+      drawn = length words;
+      is =
+          ap (λ (l : List ℕ). making_tally (made (program_of old.machine) (begun_at old [] [] l) units)) s.is
+          ∙ (ap making_tally (sym (imprecise.told_all last units left false old new before after input out notes whole calm [] s.coming told) ∙ stands.is)
+          ∙ (ap (λ (n : ℕ). record { overflows = new.machine.overflows; steps = n; output = whole.ran.put; drawn = length words }) (stands.units ∙ many)
+          ∙ ap (λ (l : List ℕ). record { overflows = new.machine.overflows; steps = units - left; output = l; drawn = length words })
+          (all_written out.old out.new whole.ran.put bytes from to whole.ran.wrote.written)));
+      few = few;
+      counted = imprecise.drawn_from_none before.count after.count count (length words) zero now whole.ran.drew.counted;
+      program = stands.program;
+    }
 
 pub imprecise_counted : (units : ℕ) (image : Parts) (seed : ℕ) (old new : WildState) (bytes : List ℕ) (used count : ℕ)
     → program_of old.machine ≡ wrapping image → ((input : List ℕ) → state_of old.machine input [] ≡ start (program_of old.machine) input) → old.pending ≡ None
@@ -36,6 +101,5 @@ imprecise_counted units image seed old new bytes used count program begins calm 
     let modulo = r.counted in
     let drawn : r.drawn ≡ count = omega arith in
     ap making_tally (ap (λ (g : Program). made g (begun (start g []) None 0 words) units) (sym program)
-    ∙ (ap (λ (k : Making). made (program_of old.machine) k units) (sym begin) ∙ r.is))
-    ∙ (ap (λ (n : ℕ). record { overflows = new.machine.overflows; steps = n; output = bytes; drawn = r.drawn }) r.units_are
-    ∙ ap (λ (n : ℕ). record { overflows = new.machine.overflows; steps = used; output = bytes; drawn = n }) drawn)
+    ∙ ap (λ (k : Making). made (program_of old.machine) k units) (sym begin))
+    ∙ (r.is ∙ ap (λ (n : ℕ). record { overflows = new.machine.overflows; steps = used; output = bytes; drawn = n }) drawn)

@@ -11,14 +11,14 @@
 //! `specs/Program.antt` has the program by its instructions, `specs/Words.antt` the same by words and the image,
 //! `specs/Report.antt` the lines, from the runs of both machines, `specs/Lines.antt` what the two have in common, and
 //! `specs/Counted.antt` what the code's runs did.
-//! `src/program.rt` makes the program, `src/runs.rt` runs it unit by unit and counts the units, `src/report.rt` writes
+//! `src/program.rt` makes the program, `src/runs.rt` runs it and says how many units were used, `src/report.rt` writes
 //! the lines, and `src/trials.rt` puts them together.
 //!
 //! In `proofs/`, `Decoding.antt` ties words to instructions, `Shadows.antt` shows that the program is accepted,
-//! `Counting.antt` and `Good.antt` the other laws; `Stepping.antt` follows the sequential run, `Joining.antt` and
-//! `Making.antt` the imprecise one, and `Tallying.antt` says what was counted in them. `Stages.antt` says where the
-//! sequential run stands after so many steps, `Quiet.antt` takes it through the blocks, `Buffer.antt` and `Ending.antt`
-//! through the words behind them; `Logging.antt` counts what an imprecise run draws, and `Alike.antt` has both runs.
+//! `Counting.antt` and `Good.antt` the other laws, and `Tallying.antt` says what was counted in the code's runs.
+//! `Stages.antt` says where the sequential run stands after so many steps, `Quiet.antt` takes it through the blocks,
+//! `Buffer.antt` and `Ending.antt` through the words behind them; `Logging.antt` counts what an imprecise run draws, and
+//! `Alike.antt` has both runs.
 #![tactic(auto)]
 
 mod laws;

@@ -1,15 +1,16 @@
-//! The runs of a trial, unit by unit, so that units are counted.
+//! The runs of a trial, and how many units they used.
 
 ghost use Rattle.std.specs.Prelude.{◌≡◌, [], None, IsTrue, IfOk};
 ghost use Rattle.alpha_imprecise.specs.Pcg.{pcg_word};
-ghost use Rattle.alpha_trial.specs.Counted.{RunsTo, MakesTo, over_by_step, over_by_run};
+ghost use Rattle.alpha_trial.specs.Counted.{RunsTo, MakesTo};
 
-use alpha_imprecise::{CountingChooser, PcgChooser, Wild, run};
+use alpha_imprecise::{CountingChooser, PcgChooser, Wild};
 use alpha_io::{MemorySink, NullSink, SureSource};
-use alpha_seq::{Machine, RunEnd, StepEnd};
+use alpha_seq::Machine;
 use alpha_words::NoMemory;
 
-/// Runs a machine, in user mode, for so many steps at most, and answers how many it made.
+/// Runs a machine, in user mode, for so many steps at most, and answers how many it made. `NoMemory` where the output had
+/// no room.
 pub(crate) fn run_sequential(
     machine: &mut Machine,
     input: &mut SureSource,
@@ -22,30 +23,16 @@ pub(crate) fn run_sequential(
     ensures counts { IfOk result
         (λ steps. RunsTo units machine.old machine.new out.new.written steps) }
 {
-    for made in 0..units {
-        let step = machine.step(input, out, &mut NullSink::new());
-        let Some(over) = over_by_step(step) else {
-            return Err(NoMemory);
-        };
-        if over {
-            return Ok(made + 1);
-        }
-    }
-    Ok(units)
-}
-
-// Whether the program is over after a step, `None` where the output had no room.
-fn over_by_step(step: StepEnd) -> Option<bool>
-    ensures { result ≡ over_by_step step }
-{
-    match step {
-        StepEnd::Went | StepEnd::Barrier | StepEnd::Overflow(_) => Some(false),
-        StepEnd::Ended(_) => Some(true),
-        StepEnd::InputFault | StepEnd::SinkFault => None,
+    let mut left = units;
+    let mut notes = NullSink::new();
+    match alpha_run::run_sequential(machine, input, out, &mut notes, &mut left, false) {
+        Ok(_) => Ok(units - left),
+        Err(_) => Err(NoMemory),
     }
 }
 
-/// Runs a machine with nothing pending for so many units at most, and answers how many it used.
+/// Runs a machine with nothing pending for so many units at most, and answers how many it used. `NoMemory` where the
+/// output had no room.
 pub(crate) fn run_imprecise(
     wild: &mut Wild,
     chooser: &mut CountingChooser<PcgChooser>,
@@ -60,25 +47,10 @@ pub(crate) fn run_imprecise(
     ensures counts { IfOk result (λ used. MakesTo units (pcg_word chooser.old.chooser)
         wild.old wild.new out.new.written used chooser.new.drawn) }
 {
-    for made in 0..units {
-        let end = run(wild, chooser, input, out, &mut NullSink::new(), 1, false);
-        let Some(over) = over_by_run(end) else {
-            return Err(NoMemory);
-        };
-        if over {
-            return Ok(made + 1);
-        }
-    }
-    Ok(units)
-}
-
-// Whether the program is over after a run of one unit, `None` where the output had no room.
-fn over_by_run(end: RunEnd) -> Option<bool>
-    ensures { result ≡ over_by_run end }
-{
-    match end {
-        RunEnd::Spent => Some(false),
-        RunEnd::Ended(_) | RunEnd::Lost(..) => Some(true),
-        RunEnd::InputFault | RunEnd::SinkFault => None,
+    let mut left = units;
+    let mut notes = NullSink::new();
+    match alpha_run::run_imprecise(wild, chooser, input, out, &mut notes, &mut left, false) {
+        Ok(_) => Ok(units - left),
+        Err(_) => Err(NoMemory),
     }
 }

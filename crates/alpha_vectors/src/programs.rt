@@ -2,7 +2,8 @@
 
 use alpha_image::read_image;
 use alpha_io::{MemorySink, MemorySource};
-use alpha_seq::{Machine, RunEnd, write_end};
+use alpha_run::run_sequential;
+use alpha_seq::{Event, Machine, write_end};
 use alpha_words::Completion;
 use anyhow::{anyhow, bail};
 use std::alloc::Global;
@@ -17,10 +18,10 @@ const ROOM: usize = 65_536;
 // How many bytes of the input one call gives at most.
 const PIECE: usize = 7;
 
-/// How a run went, and what it wrote.
+/// What a run wrote, and whether all its steps were made before the program ended.
 #[derive(Drop)]
 struct Ran {
-    end: RunEnd,
+    spent: bool,
     output: MemorySink,
     notes: MemorySink,
 }
@@ -52,13 +53,13 @@ pub fn run(rt: &HostRuntime, text: &str) -> anyhow::Result<()> {
         } else if !ends_with(ran.notes.bytes(), end.as_bytes()) {
             println!(rt; "{image}: another end")?;
         } else if let Some(steps) = steps
-            && run_image(
+            && !run_image(
                 rt.alloc(),
                 bytes.as_slice(),
                 fs::read(rt, input)?,
                 steps.saturating_sub(1),
             )?
-            .end != RunEnd::Spent
+            .spent
         {
             println!(rt; "{image}: fewer steps")?;
         } else {
@@ -80,20 +81,26 @@ fn run_image(alloc: Global, image: &[u8], input: Vec<u8>, steps: u64) -> anyhow:
     let mut input = MemorySource::new(input, PIECE, Vec::new(alloc));
     let mut output = sink(alloc)?;
     let mut notes = sink(alloc)?;
-    let end = alpha_seq::run(
+    let mut left = steps;
+    let last = run_sequential(
         &mut machine,
         &mut input,
         &mut output,
         &mut notes,
-        steps,
+        &mut left,
         false,
     );
-    if let RunEnd::Ended(end) = &end
+    let spent = matches!(last, Ok(None));
+    if let Ok(Some(Event::Ended(end))) = &last
         && write_end(end, &mut notes).is_err()
     {
         bail!("no room for the notes");
     }
-    Ok(Ran { end, output, notes })
+    Ok(Ran {
+        spent,
+        output,
+        notes,
+    })
 }
 
 // A sink with room for what a program writes.

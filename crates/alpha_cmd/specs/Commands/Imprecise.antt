@@ -8,8 +8,8 @@ use Rattle.alpha_request.specs.Origin.{Origin}
 use Rattle.alpha_request.specs.Origin as choices_of
 use Rattle.alpha_seq.specs.declared.end.End.{End}
 use Rattle.alpha_seq.specs.declared.end.End.TheVariants as ends
-use Rattle.alpha_seq.specs.declared.end.RunEnd.{RunEnd}
-use Rattle.alpha_seq.specs.declared.end.RunEnd.TheVariants as runs
+use Rattle.alpha_seq.specs.declared.event.Event.{Event}
+use Rattle.alpha_seq.specs.declared.event.Event.TheVariants as events
 use Rattle.alpha_seq.specs.Notes.{end_line}
 use Rattle.alpha_seq.specs.State.{Program}
 use Rattle.alpha_seq.specs.Start.{start}
@@ -18,7 +18,7 @@ use Rattle.alpha_imprecise.specs.Used.{HasUsed}
 use Rattle.alpha_imprecise.specs.Made.{Making, begun, first_words, LostTrap, ShownWild, shown_making, imprecise_by}
 use Rattle.alpha_imprecise.specs.Free.{run_making_over}
 use Rattle.alpha_cmd.specs.declared.status.Status.{Status}
-use Rattle.alpha_cmd.specs.declared.status.Status.TheVariants.{Done, Stopped, StepsSpent, Lost, InputFault, SinkFault}
+use Rattle.alpha_cmd.specs.declared.status.Status.TheVariants.{Done, Stopped, StepsSpent, Lost}
 use Rattle.alpha_cmd.specs.Status.{status_line}
 use Rattle.alpha_cmd.specs.Outcome.{Outcome, Either, Never, Then, Gives}
 use Rattle.alpha_cmd.specs.Image.{ImageOf, Judges}
@@ -107,20 +107,17 @@ wild_line (Some end) lost = end_line end
 wild_line None (Some t) = status_line (Lost (record { trap_pc = t.pc; mask = t.mask }))
 wild_line None None = status_line StepsSpent
 
--- the same by the answer of the run
-abbrev pub answer_status : RunEnd → ℕ → Status
-answer_status (runs.Ended end) n = drawn_status n end
-answer_status runs.Spent n = StepsSpent
-answer_status (runs.Lost pc mask) n = Lost (record { trap_pc = pc; mask = mask })
-answer_status runs.InputFault n = InputFault
-answer_status runs.SinkFault n = SinkFault
+-- the same by the step behind which a run is over, none where all units were used: the program ended there, or the trap was
+-- lost
+abbrev pub answer_status : Option Event → ℕ → Status
+answer_status (Some (events.Ended end)) n = drawn_status n end
+answer_status (Some (events.Lost pc mask)) n = Lost (record { trap_pc = pc; mask = mask })
+answer_status _ n = StepsSpent
 
-abbrev pub answer_line : RunEnd → List ℕ
-answer_line (runs.Ended end) = end_line end
-answer_line runs.Spent = status_line StepsSpent
-answer_line (runs.Lost pc mask) = status_line (Lost (record { trap_pc = pc; mask = mask }))
-answer_line runs.InputFault = status_line InputFault
-answer_line runs.SinkFault = status_line SinkFault
+abbrev pub answer_line : Option Event → List ℕ
+answer_line (Some (events.Ended end)) = end_line end
+answer_line (Some (events.Lost pc mask)) = status_line (Lost (record { trap_pc = pc; mask = mask }))
+answer_line _ = status_line StepsSpent
 
 -- ---- the command
 

@@ -1,6 +1,6 @@
 use Rattle.std.proofs.Common.{◌≡◌, ◌∙◌, ℕ, List, [], take, IfOk, sym, ap, subst}
 use Rattle.alpha_io.specs.Sunk.{sunk, Puts}
-use Rattle.alpha_debug.specs.declared.travel.Moved.{Moved}
+use Rattle.alpha_seq.specs.declared.event.Event.{Event}
 use Rattle.alpha_debug.specs.Gathered.{gathered, Stops}
 use Rattle.alpha_debug.specs.Effects.{event_of, Moves}
 use Rattle.alpha_debug.proofs.Sinks.{OnErr-any, IfOk-map, OnErr-map}
@@ -27,9 +27,12 @@ returns-in_ok-flush-in-Err-clause-ok g c =
     let back : c.cut.new.self ≡ waited =
     c.cut.ensures ∙ (ap (λ (n : ℕ). take n c.step_into.new.out) c.len-waiting.ensures.value ∙ cut-back waited c.step_into.new.out breaks.bytes breaks.stops.part.prefix) in
     let first : Puts (sunk g.K.Sink out c.flush.new.out) waited = subst (Puts (sunk g.K.Sink out c.flush.new.out)) back c.in_ok-flush-in-Err.ensures.ok in
-    subst (λ (l : List ℕ). IfOk c.step_into-in-Err.result (λ (moved : Moved). Moves (event_of moved) c.args.machine.now c.step_into-in-Err.new.machine (gathered g.K.Sink out waited end l))) (sym c.in_ok-flush-in-Err.ensures.empty)
+    subst (λ (l : List ℕ). IfOk c.step_into-in-Err.result
+    (λ (event : Event). Moves (event_of event) c.args.machine.now c.step_into-in-Err.new.machine
+    (gathered g.K.Sink out waited end l))) (sym c.in_ok-flush-in-Err.ensures.empty)
     (IfOk-map c.step_into-in-Err.result
-    (λ (moved : Moved). moved_past g.K.Sink out c.flush.new.out end waited c.args.machine.now c.step_into.new.machine c.in-Err.ensures.unmade first (event_of moved) c.step_into-in-Err.new.machine)
+    (λ (event : Event). moved_past g.K.Sink out c.flush.new.out end waited c.args.machine.now c.step_into.new.machine
+    c.in-Err.ensures.unmade first (event_of event) c.step_into-in-Err.new.machine)
     c.step_into-in-Err.ensures.ok)
 
 pub returns-in_ok-flush-in-Err-clause-refused : goal.returns-in_ok-flush-in-Err-clause-refused

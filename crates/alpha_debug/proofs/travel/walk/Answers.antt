@@ -13,15 +13,15 @@ loop-init g c = record {
       (Gathers-none g.K.Sink c.args.out.now c.args.block.now);
 }
 
-pub returns-in_err-moved-clause-refused : goal.returns-in_err-moved-clause-refused
-returns-in_err-moved-clause-refused g c =
+pub returns-in_err-event-clause-refused : goal.returns-in_err-event-clause-refused
+returns-in_err-event-clause-refused g c =
     let left : ℕ = c.args.most - (c.loop.counter + 1) in
     let next : c.args.most - c.loop.counter ≡ suc left = omega arith in
     let walking : Walking c.args.until c.args.points.now c.args.most (suc left) c.args.machine.now c.loop.machine (gathered g.K.Sink c.args.out.now c.args.block.now c.loop.out c.loop.block) =
     subst (λ (n : ℕ). Walking c.args.until c.args.points.now c.args.most n c.args.machine.now c.loop.machine (gathered g.K.Sink c.args.out.now c.args.block.now c.loop.out c.loop.block)) next c.loop.invariant.walking in
     OnErr-any c.from_residual.result
     (walking_breaks g.K.Sink.written g.K.Sink.faults (c.args.out.now, c.args.block.now) (c.loop.out, c.loop.block) (c.step.new.out, c.step.new.block) c.args.until c.args.points.now c.args.most left c.args.machine.now c.loop.machine
-    c.loop.invariant.same walking c.in_err-moved.ensures.refused)
+    c.loop.invariant.same walking c.in_err-event.ensures.refused)
 
 pub returns-then-is_last-clause-ok : goal.returns-then-is_last-clause-ok
 returns-then-is_last-clause-ok g c =
@@ -30,8 +30,10 @@ returns-then-is_last-clause-ok g c =
     let walking : Walking c.args.until c.args.points.now c.args.most (suc left) c.args.machine.now c.loop.machine (gathered g.K.Sink c.args.out.now c.args.block.now c.loop.out c.loop.block) =
     subst (λ (n : ℕ). Walking c.args.until c.args.points.now c.args.most n c.args.machine.now c.loop.machine (gathered g.K.Sink c.args.out.now c.args.block.now c.loop.out c.loop.block)) next c.loop.invariant.walking in
     subst (λ (end : Option End). Walks c.args.until c.args.points.now c.args.most end c.args.machine.now c.step.new.machine (gathered g.K.Sink c.args.out.now c.args.block.now c.step.new.out c.step.new.block)) (sym c.end_of.ensures)
-    (walking_ends g.K.Sink.written g.K.Sink.faults (c.args.out.now, c.args.block.now) (c.loop.out, c.loop.block) (c.step.new.out, c.step.new.block) c.args.until c.args.points.now c.args.most left c.args.machine.now c.loop.machine c.step.new.machine (event_of c.in_ok-moved.moved)
-    c.loop.invariant.same walking c.in_ok-moved.ensures.ok (sym c.is_last.ensures ∙ c.if-is_last.true))
+    (walking_ends g.K.Sink.written g.K.Sink.faults (c.args.out.now, c.args.block.now) (c.loop.out, c.loop.block)
+    (c.step.new.out, c.step.new.block) c.args.until c.args.points.now c.args.most left c.args.machine.now c.loop.machine
+    c.step.new.machine (event_of c.in_ok-event.event)
+    c.loop.invariant.same walking c.in_ok-event.ensures.ok (sym c.is_last.ensures ∙ c.if-is_last.true))
 
 pub returns-clause-ok : goal.returns-clause-ok
 returns-clause-ok g c =
@@ -46,6 +48,8 @@ loop-preserved g c =
     let same = c.step.ensures.same in
     record {
       same = record { program = same.program ∙ c.loop.invariant.same.program; mode = same.mode ∙ c.loop.invariant.same.mode };
-      walking = walking_on g.K.Sink.written g.K.Sink.faults (c.args.out.now, c.args.block.now) (c.loop.out, c.loop.block) (c.step.new.out, c.step.new.block) c.args.until c.args.points.now c.args.most left c.args.machine.now c.loop.machine c.step.new.machine (event_of c.in_ok-moved.moved)
-          c.loop.invariant.same walking c.in_ok-moved.ensures.ok (sym c.is_last.ensures ∙ c.if-is_last.false);
+      walking = walking_on g.K.Sink.written g.K.Sink.faults (c.args.out.now, c.args.block.now)
+          (c.loop.out, c.loop.block) (c.step.new.out, c.step.new.block) c.args.until c.args.points.now c.args.most left
+          c.args.machine.now c.loop.machine c.step.new.machine (event_of c.in_ok-event.event)
+          c.loop.invariant.same walking c.in_ok-event.ensures.ok (sym c.is_last.ensures ∙ c.if-is_last.false);
     }

@@ -1,5 +1,4 @@
 use Rattle.alpha_imprecise.proofs.Freely.{told_making}
-use Rattle.alpha_imprecise.proofs.FreeFilling.{cut_free}
 use Rattle.alpha_imprecise.proofs.FreeDrawing.{free_draws}
 use Rattle.alpha_imprecise.proofs.laws.laws_of_free_runs.Goals as goal
 
@@ -8,6 +7,3 @@ returns-clause-told c = told_making
 
 pub returns-clause-words : goal.returns-clause-words
 returns-clause-words c = free_draws
-
-pub returns-clause-cut : goal.returns-clause-cut
-returns-clause-cut c n watch w before after input out notes = cut_free n watch w before after input out notes

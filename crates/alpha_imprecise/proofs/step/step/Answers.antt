@@ -1,6 +1,13 @@
+use Rattle.alpha_imprecise.specs.Wild.{wild_state}
 use Rattle.alpha_imprecise.proofs.Joining.{alone}
 use Rattle.alpha_imprecise.proofs.step.step.Goals as goal
 
-pub returns-in-Some-clause-effect : goal.returns-in-Some-clause-effect
-returns-in-Some-clause-effect g c =
-    alone c.with_trap.result _ _ _ _ _ (g.S.Source.left c.args.input.now) (g.K.Sink.written c.args.out.now) (g.S.Source.faults c.args.input.now) (g.K.Sink.faults c.args.out.now) c.with_trap.ensures.effect
+pub returns-in-Some-clause-made : goal.returns-in-Some-clause-made
+returns-in-Some-clause-made g c =
+    let chose = c.with_trap.ensures.made in
+    record {
+      choice = chose.choice;
+      did = alone c.with_trap.result (wild_state c.args.machine.now c.args.pending.now) (wild_state c.with_trap.new.machine c.with_trap.new.pending) chose.choice
+          (g.S.Source.left c.args.input.now) (g.K.Sink.written c.args.out.now) (g.S.Source.faults c.args.input.now) (g.K.Sink.faults c.args.out.now) chose.did;
+      picked = chose.picked;
+    }

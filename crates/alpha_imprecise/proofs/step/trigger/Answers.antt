@@ -1,9 +1,10 @@
-use Rattle.std.proofs.Common.{Option, Some, ◌∷◌, [], sym, ap, subst, ◌∙◌}
+use Rattle.std.proofs.Common.{Option, Some, sym, ap, subst, ◌∙◌}
 use Rattle.alpha_imprecise.specs.declared.pending.Pending.{Pending}
+use Rattle.alpha_imprecise.specs.Chosen.{triggering}
 use Rattle.alpha_imprecise.specs.Moment.{Triggered, with_register}
 use Rattle.alpha_imprecise.specs.Wild.{wild_state}
-use Rattle.alpha_imprecise.specs.WildEffect.{Chooses}
-use Rattle.alpha_imprecise.proofs.Choosing.{trigger-chooses}
+use Rattle.alpha_imprecise.specs.WildEffect.{StepsBy}
+use Rattle.alpha_imprecise.proofs.Choosing.{trigger-steps}
 use Rattle.alpha_imprecise.proofs.step.trigger.Goals as goal
 
 pub returns-clause-step : goal.returns-clause-step
@@ -11,6 +12,6 @@ returns-clause-step c =
     let m = c.args.machine.now in
     let o = c.args.overflow.now in
     let left : Option Pending = Some (record { trigger = o.place; mask = c.mask_with.result; waited = 0 }) in
-    subst (λ (p : Option Pending). Chooses Triggered (wild_state m p) (wild_state c.set.new.self left) (c.args.value ∷ [])) (sym c.requires.none)
-    (trigger-chooses m c.set.new.self o.place o.rc c.args.value c.mask_with.result c.requires.overflows c.set.ensures
+    subst (λ (p : Option Pending). StepsBy Triggered (triggering c.args.value).choice (wild_state m p) (wild_state c.set.new.self left)) (sym c.requires.none)
+    (trigger-steps m c.set.new.self o.place o.rc c.args.value c.mask_with.result c.requires.overflows c.set.ensures
     (c.mask_with.ensures ∙ ap (λ n. with_register n o.rc) c.empty.ensures.value))

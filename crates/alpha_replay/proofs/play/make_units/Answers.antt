@@ -4,7 +4,7 @@ use Rattle.alpha_replay.specs.declared.play.Stand.{Stand}
 use Rattle.alpha_replay.specs.Listed.{units}
 use Rattle.alpha_replay.specs.Playing.{place, Did}
 use Rattle.alpha_replay.proofs.Doing.{did_none, did_next, fails_next}
-use Rattle.alpha_replay.proofs.Rushed.{did-any, seen_after}
+use Rattle.alpha_replay.proofs.Rushing.{did-any, seen_after}
 use Rattle.alpha_replay.proofs.play.make_units.Goals as goal
 
 pub moves-init : goal.moves-init
@@ -19,7 +19,7 @@ moves-init c =
       did =
           subst (λ (k : ℕ). Did a.expected.now (λ g p. units g k p) start (place c.rush.new.wild a.input.now c.rush.new.stand)) made
           (subst (λ (s : Stand). Did a.expected.now (λ g p. units g (0 + n) p) start (place c.rush.new.wild a.input.now s)) (sym c.rush.ensures.stand)
-          (did-any a.expected.now n 0 start a.wild.now c.rush.new.wild a.input.now a.from.now c.rush.ensures.finished (did_none a.expected.now start) c.rush.ensures.went));
+          (did-any a.expected.now n 0 start a.wild.now c.rush.new.wild a.input.now a.from.now c.rush.ensures.over (did_none a.expected.now start) c.rush.ensures.went));
       seen =
           subst (λ (s : Seen). s.at ≤ length a.expected.now) (sym (ap (λ (s : Stand). s.seen) c.rush.ensures.stand ∙ seen_after a.from.now n)) c.requires;
     }
@@ -52,7 +52,7 @@ moves-preserved c =
       did =
           subst (λ (k : ℕ). Did a.expected.now (λ g p. units g k p) start (place c.rush-left.new.wild c.make.new.input c.rush-left.new.stand)) more
           (subst (λ (s : Stand). Did a.expected.now (λ g p. units g (a.units - left + 1 + n) p) start (place c.rush-left.new.wild c.make.new.input s)) (sym c.rush-left.ensures.stand)
-          (did-any a.expected.now n (a.units - left + 1) start c.make.new.wild c.rush-left.new.wild c.make.new.input c.in-Some.to c.rush-left.ensures.finished next c.rush-left.ensures.went));
+          (did-any a.expected.now n (a.units - left + 1) start c.make.new.wild c.rush-left.new.wild c.make.new.input c.in-Some.to c.rush-left.ensures.over next c.rush-left.ensures.went));
       seen =
           subst (λ (s : Seen). s.at ≤ length a.expected.now) (sym (ap (λ (s : Stand). s.seen) c.rush-left.ensures.stand ∙ seen_after c.in-Some.to n)) c.in-Some.ensures.bound;
     }

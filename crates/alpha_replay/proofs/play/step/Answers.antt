@@ -1,9 +1,11 @@
-use Rattle.alpha_replay.proofs.Moving.{moved_by, by_two}
+use Rattle.std.proofs.Common.{refl}
+use Rattle.alpha_replay.proofs.Stepping.{moved_by, never_breaks}
 use Rattle.alpha_replay.proofs.play.step.Goals as goal
+
+pub unreachable-requires : goal.unreachable-requires
+unreachable-requires c =
+    never_breaks c.in-Err.field-0 c.args.wild.now (record { step = c.args.m.now }) c.step_by.new.picks c.args.input.now c.step_by.new.input c.in-Err.ensures.broken
 
 pub returns : goal.returns
 returns c =
-    moved_by c.step.result c.args.m.now c.words_of-given.result.first c.words_of-given.result.second
-    c.words_of-given.ensures.first c.words_of-given.ensures.second
-    c.args.wild.now c.step.new.self (by_two c.step.new.chooser.first c.step.new.chooser.second)
-    c.args.input.now c.step.new.input c.step.ensures.effect c.step.ensures.cause
+    moved_by c.in-Ok.event c.args.m.now c.args.wild.now c.step_by.new.self (record { step = c.args.m.now }) c.step_by.new.picks c.args.input.now c.step_by.new.input refl c.in-Ok.ensures.made

@@ -2,7 +2,8 @@ use Rattle.std.proofs.Common.{◌≡◌, Bool, Ok, Err, length, sym, ap, ◌∙�
 use Rattle.alpha_replay.specs.declared.replay_fault.ReplayFault.TheVariants as faults
 use Rattle.alpha_replay.specs.Items.{units_of}
 use Rattle.alpha_replay.specs.Journal.{parts}
-use Rattle.alpha_replay.specs.Playing.{happened_of, place}
+use Rattle.alpha_replay.specs.Events.{happened_of}
+use Rattle.alpha_replay.specs.Playing.{place}
 use Rattle.alpha_replay.specs.Replay.{ends_by}
 use Rattle.alpha_replay.proofs.Answering.{stands_by, stops_by, item_fault, output_fault, end_fault, input_fault, no_fault, left_some, left_none}
 use Rattle.alpha_replay.proofs.replaying.play_all.Goals as goal

@@ -1,6 +1,5 @@
 use Rattle.alpha_seq.proofs.Inputs.{told}
 use Rattle.alpha_seq.proofs.Unread.{unread}
-use Rattle.alpha_seq.proofs.Filling.{cut_front}
 use Rattle.alpha_seq.proofs.laws.laws_of_inputs.Goals as goal
 
 pub returns-clause-told : goal.returns-clause-told
@@ -8,6 +7,3 @@ returns-clause-told c = told
 
 pub returns-clause-unread : goal.returns-clause-unread
 returns-clause-unread c = unread
-
-pub returns-clause-cut : goal.returns-clause-cut
-returns-clause-cut c n watch m input out notes = cut_front n watch m input out notes

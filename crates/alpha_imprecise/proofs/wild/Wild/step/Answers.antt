@@ -1,27 +1,29 @@
-use Rattle.std.proofs.Common.{◌∙◌, sym, ap}
+use Rattle.std.proofs.lemmas.Result.{IfOk-weaker, IfErr-weaker}
 use Rattle.alpha_io.specs.Sunk.{sunk}
 use Rattle.alpha_seq.specs.Devices.{drawn}
-use Rattle.alpha_seq.specs.Machine.{program_of}
-use Rattle.alpha_imprecise.specs.Wild.{WildState}
-use Rattle.alpha_imprecise.proofs.Causes.{step_cause, step_program}
+use Rattle.alpha_imprecise.specs.Telling.{telling}
+use Rattle.alpha_imprecise.proofs.ByWords.{words-make, words-break}
+use Rattle.alpha_imprecise.proofs.Shortening.{nearer}
 use Rattle.alpha_imprecise.proofs.wild.Wild.step.Goals as goal
 
-pub returns-clause-cause : goal.returns-clause-cause
-returns-clause-cause g c =
-    step_cause c.step.result _ _ _ _
-    (drawn g.S.Source c.args.input.now c.step.new.input)
-    (sunk g.K.Sink c.args.out.now c.step.new.out)
-    (sunk g.N.Sink c.args.notes.now c.step.new.notes)
-    c.step.ensures.effect
+pub returns-clause-made : goal.returns-clause-made
+returns-clause-made g c =
+    IfOk-weaker c.step_by.result _ _
+    (λ event made. words-make g.C.Chooser.ahead g.C.Chooser.drawn event c.args.self.now c.step_by.new.self c.args.chooser.now c.step_by.new.picks
+    (drawn g.S.Source c.args.input.now c.step_by.new.input) (sunk g.K.Sink c.args.out.now c.step_by.new.out) made)
+    c.step_by.ensures.made
 
-pub returns-clause-same : goal.returns-clause-same
-returns-clause-same g c = record {
-  program =
-      step_program c.step.result _ _ _ _
-      (drawn g.S.Source c.args.input.now c.step.new.input)
-      (sunk g.K.Sink c.args.out.now c.step.new.out)
-      (sunk g.N.Sink c.args.notes.now c.step.new.notes)
-      c.step.ensures.effect
-      ∙ ap (λ (w : WildState). program_of w.machine) c.self.view_is;
-  mode = c.step.ensures.user ∙ (sym c.self.invariant.0 ∙ ap (λ (w : WildState). w.machine.kernel.user) c.self.view_is);
-}
+pub returns-clause-nearer : goal.returns-clause-nearer
+returns-clause-nearer g c =
+    IfOk-weaker c.step_by.result _ _
+    (λ event made. nearer event c.args.self.now c.step_by.new.self
+    (telling g.C.Chooser.ahead g.C.Chooser.drawn c.args.chooser.now) (telling g.C.Chooser.ahead g.C.Chooser.drawn c.step_by.new.picks)
+    (drawn g.S.Source c.args.input.now c.step_by.new.input) (sunk g.K.Sink c.args.out.now c.step_by.new.out) made)
+    (returns-clause-made g c)
+
+pub returns-clause-broken : goal.returns-clause-broken
+returns-clause-broken g c =
+    IfErr-weaker c.step_by.result _ _
+    (λ fault broken. words-break g.C.Chooser.ahead g.C.Chooser.drawn fault c.args.self.now c.args.chooser.now c.step_by.new.picks
+    (drawn g.S.Source c.args.input.now c.step_by.new.input) (sunk g.K.Sink c.args.out.now c.step_by.new.out) broken)
+    c.step_by.ensures.broken

@@ -12,8 +12,16 @@ returns-then-not-can_write-clause-effect g c =
 
 pub returns-in-Ok-clause-effect : goal.returns-in-Ok-clause-effect
 returns-in-Ok-clause-effect g c =
-    λ written. read_done c.args.self c.args.mem.now c.take_into.new.mem (g.S.Source.left c.args.input.now) (g.S.Source.left c.take_into.new.input) written c.in-Ok.count c.requires c.if-self-ne-INPUT.false (c.can_write.ensures.value.0 c.if-not-can_write.false) c.in-Ok.ensures.ok c.in-Ok.ensures.bound c.in-Ok.ensures.ends
+    λ written. read_done c.args.self c.args.mem.now c.take_into.new.mem (g.S.Source.left c.args.input.now)
+    (g.S.Source.left c.take_into.new.input) written c.in-Ok.count c.can_write.ensures.good.layout c.requires
+    c.if-self-ne-INPUT.false (c.can_write.ensures.value.0 c.if-not-can_write.false) c.in-Ok.ensures.ok
+    c.in-Ok.ensures.bound c.in-Ok.ensures.ends
 
 pub returns-in-Err-clause-effect : goal.returns-in-Err-clause-effect
 returns-in-Err-clause-effect g c =
-    λ written. (read_failed c.args.self c.args.mem.now c.take_into.new.mem (g.S.Source.left c.args.input.now) (g.S.Source.left c.take_into.new.input) c.requires c.if-self-ne-INPUT.false (c.can_write.ensures.value.0 c.if-not-can_write.false) c.in-Err.ensures.refused, refl)
+    λ written. (
+      read_failed c.args.self c.args.mem.now c.take_into.new.mem (g.S.Source.left c.args.input.now)
+          (g.S.Source.left c.take_into.new.input) c.can_write.ensures.good.layout c.requires c.if-self-ne-INPUT.false
+          (c.can_write.ensures.value.0 c.if-not-can_write.false) c.in-Err.ensures.refused,
+      refl,
+    )

@@ -1,14 +1,72 @@
-use Rattle.alpha_seq.proofs.Calls.{call-exits, call-signals}
+use Rattle.std.proofs.Common.{ℕ, refl, ap, ◌∙◌}
+use Rattle.std.proofs.lemmas.Result.{err_from_is_err_and}
+use Rattle.alpha_io.specs.Sunk.{sunk}
+use Rattle.alpha_pal.specs.declared.pal_end.Passed.TheVariants.{Nothing}
+use Rattle.alpha_pal.specs.CallEffect.{kernel_after}
+use Rattle.alpha_seq.specs.declared.end.End.TheVariants as ends
+use Rattle.alpha_seq.specs.declared.machine.Machine.{Machine}
+use Rattle.alpha_seq.specs.State.{Barriered, Ends}
+use Rattle.alpha_seq.specs.Step.{lock_after}
+use Rattle.alpha_seq.specs.Devices.{drawn}
+use Rattle.alpha_seq.specs.Machine.{program_of}
+use Rattle.alpha_seq.proofs.Calls.{called_machine, call-goes, call-exits, call-signals, call-breaks}
+use Rattle.alpha_seq.proofs.Executing.{called-kernel}
+use Rattle.alpha_seq.proofs.Making.{makes}
 use Rattle.alpha_seq.proofs.machine.Machine.call.Goals as goal
 
-pub returns-in-Exit-clause-effect : goal.returns-in-Exit-clause-effect
-returns-in-Exit-clause-effect g c = λ notes idles.
+pub returns-in-Goes-clause-made : goal.returns-in-Goes-clause-made
+returns-in-Goes-clause-made g c =
+    let did = rw c.in-Goes.is at c.in_ok-end.ensures in
     let m = c.args.self.now in
-    let n = c.call-end.new in
-    (call-exits c.args.function m n.self n.regs n.mem n.unique (g.S.Source.left c.args.input.now) (g.S.Source.left n.input) (g.K.Sink.written c.args.out.now) (g.K.Sink.written n.out) (g.S.Source.faults c.args.input.now) (g.S.Source.faults n.input) (g.K.Sink.faults c.args.out.now) (g.K.Sink.faults n.out) c.requires.class c.in-Exit.value c.in-Exit.ensures.effect c.in-Exit.ensures.input c.in-Exit.ensures.sink, idles)
+    let n = c.call.new in
+    let called = called_machine m n.self n.regs n.mem n.unique in
+    makes Barriered c.in-Goes.passed m c.go_on.new.self (drawn g.S.Source c.args.input.now n.input)
+    (sunk g.K.Sink c.args.out.now n.out)
+    (call-goes c.args.function m n.self n.regs n.mem n.unique (g.S.Source.left c.args.input.now) (g.S.Source.left n.input) (g.K.Sink.written c.args.out.now) (g.K.Sink.written n.out) (g.S.Source.faults c.args.input.now) (g.S.Source.faults n.input) (g.K.Sink.faults c.args.out.now) (g.K.Sink.faults n.out)
+    c.requires.class c.in-Goes.passed c.go_on.new.self did.effect did.input did.sink
+    (c.go_on.ensures ∙ ap (λ (next : ℕ). record called { pc = next; lock = lock_after c.args.function m.lock }) c.next_pc-next.ensures))
+    (ap (λ (k : Machine). k.kernel) c.go_on.ensures ∙ called-kernel c.args.function m m n.self c.requires.class refl
+    (c.call.ensures.kernel
+    ∙ ap (λ (next : ℕ). kernel_after c.args.function next m.regs m.kernel) c.next_pc-next.ensures))
+    (ap program_of c.go_on.ensures)
 
-pub returns-in-Signal-clause-effect : goal.returns-in-Signal-clause-effect
-returns-in-Signal-clause-effect g c = λ notes idles.
+pub returns-in-Exit-clause-made : goal.returns-in-Exit-clause-made
+returns-in-Exit-clause-made g c =
+    let did = rw c.in-Exit.is at c.in_ok-end.ensures in
     let m = c.args.self.now in
-    let n = c.call-end.new in
-    (call-signals c.args.function m n.self n.regs n.mem n.unique (g.S.Source.left c.args.input.now) (g.S.Source.left n.input) (g.K.Sink.written c.args.out.now) (g.K.Sink.written n.out) (g.S.Source.faults c.args.input.now) (g.S.Source.faults n.input) (g.K.Sink.faults c.args.out.now) (g.K.Sink.faults n.out) c.requires.class c.in-Signal.code c.in-Signal.ensures.effect c.in-Signal.ensures.input c.in-Signal.ensures.sink, idles)
+    let n = c.call.new in
+    makes (Ends (ends.Exit c.in-Exit.value)) Nothing m (called_machine m n.self n.regs n.mem n.unique)
+    (drawn g.S.Source c.args.input.now n.input) (sunk g.K.Sink c.args.out.now n.out)
+    (call-exits c.args.function m n.self n.regs n.mem n.unique (g.S.Source.left c.args.input.now) (g.S.Source.left n.input) (g.K.Sink.written c.args.out.now) (g.K.Sink.written n.out) (g.S.Source.faults c.args.input.now) (g.S.Source.faults n.input) (g.K.Sink.faults c.args.out.now) (g.K.Sink.faults n.out)
+    c.requires.class c.in-Exit.value did.effect did.input did.sink)
+    (called-kernel c.args.function m m n.self c.requires.class refl
+    (c.call.ensures.kernel
+    ∙ ap (λ (next : ℕ). kernel_after c.args.function next m.regs m.kernel) c.next_pc-next.ensures))
+    refl
+
+pub returns-in-Signal-clause-made : goal.returns-in-Signal-clause-made
+returns-in-Signal-clause-made g c =
+    let did = rw c.in-Signal.is at c.in_ok-end.ensures in
+    let m = c.args.self.now in
+    let n = c.call.new in
+    makes (Ends (ends.Signal c.in-Signal.code m.pc)) Nothing m (called_machine m n.self n.regs n.mem n.unique)
+    (drawn g.S.Source c.args.input.now n.input) (sunk g.K.Sink c.args.out.now n.out)
+    (call-signals c.args.function m n.self n.regs n.mem n.unique (g.S.Source.left c.args.input.now) (g.S.Source.left n.input) (g.K.Sink.written c.args.out.now) (g.K.Sink.written n.out) (g.S.Source.faults c.args.input.now) (g.S.Source.faults n.input) (g.K.Sink.faults c.args.out.now) (g.K.Sink.faults n.out)
+    c.requires.class c.in-Signal.code did.effect did.input did.sink)
+    (called-kernel c.args.function m m n.self c.requires.class refl
+    (c.call.ensures.kernel
+    ∙ ap (λ (next : ℕ). kernel_after c.args.function next m.regs m.kernel) c.next_pc-next.ensures))
+    refl
+
+pub returns-in_err-end-clause-broken : goal.returns-in_err-end-clause-broken
+returns-in_err-end-clause-broken g c =
+    let m = c.args.self.now in
+    let n = c.call.new in
+    let did = c.in_err-end.ensures in
+    let p = err_from_is_err_and c.from_residual.result c.from_residual.ensures.1 in
+    rw (p.1, p.2)
+    (call-breaks c.args.function m n.self n.regs n.mem n.unique (g.S.Source.left c.args.input.now)
+    (g.S.Source.left n.input) (g.K.Sink.written c.args.out.now) (g.K.Sink.written n.out)
+    (g.S.Source.faults c.args.input.now) (g.S.Source.faults n.input) (g.K.Sink.faults c.args.out.now)
+    (g.K.Sink.faults n.out)
+    c.requires.class c.in_err-end.field-0.0 did.effect did.input did.sink)

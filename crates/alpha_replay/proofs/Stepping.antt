@@ -1,0 +1,52 @@
+-- The step that the code made where a move was asked for, over devices that don't fail.
+use Rattle.std.proofs.Common.{◌≡◌, ℕ, List, Some, None, refl, ap, subst, ◌∙◌, arith}
+use Rattle.alpha_io.specs.Sunk.{Sunk}
+use Rattle.alpha_pal.specs.declared.fault.Fault.{Fault}
+use Rattle.alpha_pal.specs.declared.fault.Fault.TheVariants.{Input, Output, Notes}
+use Rattle.alpha_seq.specs.declared.event.Event.{Event}
+use Rattle.alpha_seq.specs.Devices.{Drawn}
+use Rattle.alpha_seq.specs.StepEffect.{Causes}
+use Rattle.alpha_imprecise.specs.Moment.{Choice}
+use Rattle.alpha_imprecise.specs.Chosen.{triggering}
+use Rattle.alpha_imprecise.specs.Picks.{Asked, Unasked, ValueAsked, PickAsked, choice_by, Picked, asked}
+use Rattle.alpha_imprecise.specs.Wild.{WildState}
+use Rattle.alpha_imprecise.specs.WildEffect.{MakesBy, BreaksBy, GoesBy}
+use Rattle.alpha_replay.specs.declared.given.Given.{Given}
+use Rattle.alpha_replay.specs.declared.moves.Move.{Move}
+use Rattle.alpha_replay.specs.Given.{gives_pick, gives_value, given_choice}
+use Rattle.alpha_replay.specs.Playing.{Moved}
+
+-- the choice is the one that is given
+chosen : (a : Asked) (choice : Choice) (before after : Given) → Picked gives_pick gives_value a choice before after → choice ≡ given_choice before.step a
+chosen Unasked choice before after picked = picked.0
+chosen ValueAsked choice before after picked = picked.1 ∙ ap (λ (n : ℕ). (triggering n).choice) picked.2.0
+chosen PickAsked choice before after picked = picked.1 ∙ ap choice_by picked.2.0
+
+abbrev sure : List ℕ → List ℕ → Drawn
+sure xs ys = record { old = Some xs; new = Some ys; before = 0; now = 0 }
+
+abbrev null : Sunk
+null = record { old = None; new = None; before = 0; now = 0 }
+
+pub moved_by : (event : Event) (m : Move) (old new : WildState) (before after : Given) (xs ys : List ℕ) → before.step ≡ m
+    → MakesBy gives_pick gives_value event old new before after (sure xs ys) null → Moved m event old new xs ys
+moved_by event m old new before after xs ys same made =
+    let did = made.did in
+    let given = chosen (asked old) made.choice before after made.picked ∙ ap (λ (x : Move). given_choice x (asked old)) same in
+    let found = did.found xs refl in
+    record {
+      print = did.print;
+      is = subst (λ (c : Choice). GoesBy c old did.print new) given did.is;
+      event_is = did.event_is;
+      found = found.0;
+      left_is = (let rest = found.1 in cc);
+    }
+
+-- no device fails
+never : (fault : Fault) (xs ys : List ℕ) → Causes fault (sure xs ys) null null → ⊥
+never Input xs ys cause = absurd (let rose = cause.source in omega arith)
+never Output xs ys cause = absurd (let rose = cause.sink in omega arith)
+never Notes xs ys cause = absurd (let rose = cause.lines in omega arith)
+
+pub never_breaks : (fault : Fault) (old : WildState) (before after : Given) (xs ys : List ℕ) → BreaksBy gives_pick gives_value fault old before after (sure xs ys) null → ⊥
+never_breaks fault old before after xs ys broken = never fault xs ys (broken.did.cause null refl)

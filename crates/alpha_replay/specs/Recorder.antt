@@ -1,0 +1,47 @@
+-- What looks at the steps of a run, and notes them on a tape.
+use Rattle.std.specs.Prelude.{ℕ, Bool, false, not, ◌||◌, if◌then◌else◌, List, Option, Some, None}
+use Rattle.alpha_words.specs.declared.Completion.{Completion}
+use Rattle.alpha_seq.specs.declared.machine.Machine.{Machine}
+use Rattle.alpha_seq.specs.declared.event.Event.{Event}
+use Rattle.alpha_run.specs.Noted.{noted}
+use Rattle.alpha_run.specs.Ran.{Watching, watching}
+use Rattle.alpha_replay.specs.declared.ending.Ending.{Ending}
+use Rattle.alpha_replay.specs.declared.ending.Ending.TheVariants.{Spent}
+use Rattle.alpha_replay.specs.declared.journal_end.JournalEnd.{JournalEnd}
+use Rattle.alpha_replay.specs.declared.journal_end.JournalEnd.TheVariants as made
+use Rattle.alpha_replay.specs.declared.recorder.Recorder.{Recorder}
+use Rattle.alpha_replay.specs.Events.{happened_of}
+use Rattle.alpha_replay.specs.Gathered.{closed}
+use Rattle.alpha_replay.specs.Journal.{parts}
+use Rattle.alpha_replay.specs.Replay.{ending_of}
+use Rattle.alpha_replay.specs.Taped.{taped_by, tape_fits, tape_after, room_of}
+
+-- the lines of overflows alone
+abbrev pub lines_recorded : Recorder → Event → Machine → List ℕ
+lines_recorded r event m = noted false event m
+
+-- a step that doesn't fit stops the run
+abbrev pub is_past : Recorder → Event → Machine → Bool
+is_past r event m = not (tape_fits (taped_by r.tape event m))
+
+abbrev pub recorded_after : Recorder → Event → Machine → Recorder
+recorded_after r event m = record { tape = tape_after r.tape event m; full = r.full || is_past r event m }
+
+abbrev pub room_left : Recorder → ℕ
+room_left r = room_of r.tape
+
+abbrev pub recording : Watching Recorder
+recording = watching recorded_after lines_recorded is_past
+
+-- ---- what was made
+
+-- the ending that a journal has of a run with this last step
+abbrev pub last_ending : Option Event → Ending
+last_ending None = Spent
+last_ending (Some event) = ending_of (happened_of event)
+
+-- what was made of a run, by its last step
+abbrev pub outcome : Option Event → Completion → Recorder → JournalEnd
+outcome last how r =
+    if r.full then made.Full
+    else made.Made last (parts how (last_ending last) r.tape.taken r.tape.put (closed r.tape.gathered))

@@ -1,0 +1,10 @@
+pub mod Rows
+pub mod Noting
+pub mod Rushing
+pub mod Turning
+pub mod SeqRuns
+pub mod SeqShown
+pub mod WildRuns
+pub mod WildUsed
+pub mod WildShown
+pub mod Restarted

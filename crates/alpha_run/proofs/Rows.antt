@@ -1,0 +1,284 @@
+-- Rows of steps, and one more.
+use Rattle.std.proofs.Common.{◌≡◌, ◌≤◌, ◌+◌, ◌-◌, ℕ, ◌||◌, Bool, true, false, List, [], ◌∷◌, ◌++◌, length, Option, Some, None, Result, IfErr, refl, sym, ap, subst, ◌∙◌, append_assoc, append-nil, arith}
+use Rattle.std.specs.Prelude.{IsErr, IsErrAnd}
+use Rattle.std.proofs.lemmas.Result.{err_from_is_err_and}
+use Rattle.std.specs.List.{flat_map}
+use Rattle.std.proofs.lemmas.Grind.{flat_map-append}
+use Rattle.alpha_io.specs.Faults.{Rose}
+use Rattle.alpha_io.specs.Sunk.{Sunk, Puts}
+use Rattle.alpha_io.proofs.Sinks.{Puts-none, Puts-then}
+use Rattle.alpha_seq.specs.declared.machine.Machine.{Machine}
+use Rattle.alpha_seq.specs.Devices.{Drawn}
+use Rattle.alpha_seq.proofs.RunSteps.{Times, drawn_before, drawn_after, drawn_over, sunk_before, sunk_after, sunk_over}
+use Rattle.alpha_seq.proofs.RunSteps.{between}
+use Rattle.alpha_imprecise.specs.Telling.{Telling, Moves}
+use Rattle.alpha_imprecise.proofs.Choosing.{Moves-none}
+use Rattle.alpha_imprecise.proofs.Joining.{resting, idle_sink}
+use Rattle.alpha_imprecise.proofs.RunSteps.{Moves-then}
+use Rattle.alpha_seq.specs.declared.event.Event.{Event}
+use Rattle.alpha_pal.specs.declared.fault.Fault.{Fault}
+use Rattle.alpha_pal.specs.declared.fault.Fault.TheVariants as faults
+use Rattle.alpha_seq.specs.Print.{Print, is_over}
+use Rattle.alpha_run.specs.Row.{Row, AreGoing, AreWent, words_of, bytes_of, units_of, Feeds, lines_by, seen_by, Unstopped}
+use Rattle.alpha_seq.specs.StepEffect.{Causes}
+use Rattle.alpha_run.specs.Ran.{Watching, ends_at, Did, Turns, Slips, Hastens, Goes, Stops, IsCut}
+
+-- ---- lists
+
+pub Row-append : {M : Type 0} (goes : M → Print → M → Type 0) (ps qs : List Print) (old mid new : M) → Row goes old ps mid → Row goes mid qs new → Row goes old (ps ++ qs) new
+Row-append goes [] qs old mid new row more = subst (λ m. Row goes m qs new) (sym row) more
+Row-append goes (p ∷ ps) qs old mid new row more = (row.0, row.1, Row-append goes ps qs row.0 mid new row.2 more)
+
+pub AreGoing-append : (ps qs : List Print) → AreGoing ps → AreGoing qs → AreGoing (ps ++ qs)
+AreGoing-append [] qs going more = more
+AreGoing-append (p ∷ ps) qs going more = (going.0, AreGoing-append ps qs going.1 more)
+
+pub neither : (a b : Bool) → (a || b) ≡ false → (a ≡ false) × (b ≡ false)
+neither true b e = absurd cc
+neither false b e = (refl, e)
+
+pub Unstopped-append : {O : Type 0} (after : O → Event → Machine → O) (stops : O → Event → Machine → Bool) (o : O) (ps qs : List Print)
+    → Unstopped after stops o ps → Unstopped after stops (seen_by after o ps) qs → Unstopped after stops o (ps ++ qs)
+Unstopped-append after stops o [] qs un more = more
+Unstopped-append after stops o (p ∷ ps) qs un more = (un.0, Unstopped-append after stops (after o p.event p.core) ps qs un.1 more)
+
+pub units-append : (ps qs : List Print) → units_of (ps ++ qs) ≡ units_of ps + units_of qs
+units-append [] qs = omega arith
+units-append (p ∷ ps) qs = let e = units-append ps qs in omega arith
+
+pub lines-append : {O : Type 0} (after : O → Event → Machine → O) (lines : O → Event → Machine → List ℕ) (o : O) (ps qs : List Print)
+    → lines_by after lines o (ps ++ qs) ≡ lines_by after lines o ps ++ lines_by after lines (seen_by after o ps) qs
+lines-append after lines o [] qs = refl
+lines-append after lines o (p ∷ ps) qs =
+    ap (λ l. lines o p.event p.core ++ l) (lines-append after lines (after o p.event p.core) ps qs)
+    ∙ sym (append_assoc (lines o p.event p.core) (lines_by after lines (after o p.event p.core) ps) _)
+
+pub seen-append : {O : Type 0} (after : O → Event → Machine → O) (o : O) (ps qs : List Print) → seen_by after o (ps ++ qs) ≡ seen_by after (seen_by after o ps) qs
+seen-append after o [] qs = refl
+seen-append after o (p ∷ ps) qs = seen-append after (after o p.event p.core) ps qs
+
+pub Feeds-append : (first mid last : Option (List ℕ)) (ps qs : List Print) → Feeds first ps mid → Feeds mid qs last → Feeds first (ps ++ qs) last
+Feeds-append None mid last ps qs fed found = tt
+Feeds-append (Some left) mid last [] qs fed found = subst (λ m. Feeds m qs last) fed found
+Feeds-append (Some left) mid last (p ∷ ps) qs fed found = (fed.0, Feeds-append (Some p.rest) mid last ps qs fed.1 found)
+
+-- ---- no step yet
+
+pub Goes-none : {M O : Type 0} (goes : M → Print → M → Type 0) (w : Watching O) (units : ℕ) (m : M) (o : O) (told : Telling) (left out notes : Option (List ℕ)) (a b c : ℕ)
+    → Goes goes w units units m m o o told told (resting left a) (idle_sink out b) (idle_sink notes c)
+Goes-none goes w units m o told left out notes a b c = record {
+  prints = [];
+  row = refl;
+  going = tt;
+  unstopped = tt;
+  used = omega arith;
+  did = record {
+    seen = refl;
+    drew = Moves-none told;
+    fed = feeds left;
+    same = refl;
+    wrote = Puts-none out b;
+    lines = Puts-none notes c;
+  };
+}
+  where
+    feeds : (left : Option (List ℕ)) → Feeds left [] left
+    feeds None = tt
+    feeds (Some l) = refl
+
+-- ---- steps that only went on
+
+-- the input that they find, any where it isn't told
+abbrev told_by : Option (List ℕ) → List ℕ
+told_by None = []
+told_by (Some left) = left
+
+went-going : (found : List ℕ) (ps : List Print) → AreWent found ps → AreGoing ps
+went-going found [] went = tt
+went-going found (p ∷ ps) went = (ap is_over went.0.event, went-going found ps went.1)
+
+went-units : (found : List ℕ) (ps : List Print) → AreWent found ps → units_of ps ≡ length ps
+went-units found [] went = refl
+went-units found (p ∷ ps) went = omega (arith, went.0.units, went-units found ps went.1)
+
+went-words : (found : List ℕ) (ps : List Print) → AreWent found ps → flat_map words_of ps ≡ []
+went-words found [] went = refl
+went-words found (p ∷ ps) went = ap (λ l. l ++ flat_map words_of ps) went.0.words ∙ went-words found ps went.1
+
+went-bytes : (found : List ℕ) (ps : List Print) → AreWent found ps → flat_map bytes_of ps ≡ []
+went-bytes found [] went = refl
+went-bytes found (p ∷ ps) went = ap (λ l. l ++ flat_map bytes_of ps) went.0.bytes ∙ went-bytes found ps went.1
+
+-- each found the whole input, and left it
+fed-went : (left : List ℕ) (ps : List Print) → AreWent left ps → Feeds (Some left) ps (Some left)
+fed-went left [] went = refl
+fed-went left (p ∷ ps) went = (
+  sym (ap (λ l. l ++ p.rest) went.0.taken ∙ went.0.rest),
+  subst (λ l. Feeds (Some l) ps (Some left)) (sym went.0.rest) (fed-went left ps went.1),
+)
+
+went-feeds : (input : Option (List ℕ)) (ps : List Print) → AreWent (told_by input) ps → Feeds input ps input
+went-feeds None ps went = tt
+went-feeds (Some left) ps went = fed-went left ps went
+
+-- ---- steps behind one another
+
+pub Did-append : {O : Type 0} (w : Watching O) (from via to : O) (ps qs : List Print) (before told after : Telling) (input out notes : Times)
+    → Did w from via ps before told (drawn_before input) (sunk_before out) (sunk_before notes)
+    → Did w via to qs told after (drawn_after input) (sunk_after out) (sunk_after notes)
+    → Did w from to (ps ++ qs) before after (drawn_over input) (sunk_over out) (sunk_over notes)
+Did-append w from via to ps qs before told after input out notes one two = record {
+  seen = two.seen ∙ (ap (λ o. seen_by w.after o qs) one.seen ∙ sym (seen-append w.after from ps qs));
+  drew = subst (Moves before after) (sym (flat_map-append words_of ps qs)) (Moves-then before told after (flat_map words_of ps) (flat_map words_of qs) one.drew two.drew);
+  fed = Feeds-append input.first input.mid input.last ps qs one.fed two.fed;
+  same = two.same ∙ one.same;
+  wrote = subst (Puts (sunk_over out)) (sym (flat_map-append bytes_of ps qs))
+      (Puts-then out.first out.mid out.last out.faults_first out.faults_mid out.faults_last (flat_map bytes_of ps) (flat_map bytes_of qs) one.wrote two.wrote);
+  lines = subst (Puts (sunk_over notes)) (sym (lines-append w.after w.lines from ps qs))
+      (Puts-then notes.first notes.mid notes.last notes.faults_first notes.faults_mid notes.faults_last (lines_by w.after w.lines from ps) (lines_by w.after w.lines (seen_by w.after from ps) qs) one.lines
+      (subst (λ o. Puts (sunk_after notes) (lines_by w.after w.lines o qs)) one.seen two.lines));
+}
+
+pub Goes-append : {M O : Type 0} (goes : M → Print → M → Type 0) (w : Watching O) (units some left : ℕ) (old mid new : M) (from via to : O) (before told after : Telling) (input out notes : Times)
+    → Goes goes w units some old mid from via before told (drawn_before input) (sunk_before out) (sunk_before notes)
+    → Goes goes w some left mid new via to told after (drawn_after input) (sunk_after out) (sunk_after notes)
+    → Goes goes w units left old new from to before after (drawn_over input) (sunk_over out) (sunk_over notes)
+Goes-append goes w units some left old mid new from via to before told after input out notes one two = record {
+  prints = one.prints ++ two.prints;
+  row = Row-append goes one.prints two.prints old mid new one.row two.row;
+  going = AreGoing-append one.prints two.prints one.going two.going;
+  unstopped = Unstopped-append w.after w.stops from one.prints two.prints one.unstopped (subst (λ o. Unstopped w.after w.stops o two.prints) one.did.seen two.unstopped);
+  used = omega (arith, units-append one.prints two.prints, one.used, two.used);
+  did = Did-append w from via to one.prints two.prints before told after input out notes one.did two.did;
+}
+
+-- one step
+pub Goes-turn : {M O : Type 0} (goes : M → Print → M → Type 0) (uses : M → ℕ) (w : Watching O) (units left : ℕ) (event : Event) (last : Bool) (old new : M) (from to : O) (before after : Telling) (input : Drawn) (out notes : Sunk)
+    → left + uses old ≡ units → last ≡ false
+    → Turns goes uses w event last old new from to before after input out notes
+    → Goes goes w units left old new from to before after input out notes
+Goes-turn goes uses w units left event last old new from to before after input out notes some on one =
+    let p = one.print in
+    let both = neither (w.stops from p.event p.core) (is_over p.event) (sym one.last_is ∙ on) in
+    record {
+      prints = p ∷ [];
+      row = (new, one.is, refl);
+      going = (both.1, tt);
+      unstopped = (both.0, tt);
+      used = omega (arith, one.units, some);
+      did = one.did;
+    }
+
+-- steps that only went on
+pub Goes-hasten : {M O : Type 0} (goes : M → Print → M → Type 0) (w : Watching O) (units left : ℕ) (old new : M) (from to : O) (told : Telling) (input out notes : Option (List ℕ)) (a b c : ℕ)
+    → Hastens goes w units left old new from to
+    → Goes goes w units left old new from to told told (resting input a) (idle_sink out b) (idle_sink notes c)
+Goes-hasten goes w units left old new from to told input out notes a b c one =
+    let found = told_by input in
+    let rushed = one.rushed found in
+    let ps = rushed.0 in
+    let went = rushed.2 in
+    let passed = one.passed found ps went rushed.3 in
+    record {
+      prints = ps;
+      row = rushed.1;
+      going = went-going found ps went;
+      unstopped = passed.2;
+      used = omega (arith, went-units found ps went, rushed.3, one.used);
+      did = record {
+        seen = passed.0;
+        drew = subst (Moves told told) (sym (went-words found ps went)) (Moves-none told);
+        fed = went-feeds input ps went;
+        same = refl;
+        wrote = subst (Puts (idle_sink out b)) (sym (went-bytes found ps went)) (Puts-none out b);
+        lines = subst (Puts (idle_sink notes c)) (sym passed.1) (Puts-none notes c);
+      };
+    }
+
+pub Stops-last : {M O : Type 0} (goes : M → Print → M → Type 0) (uses : M → ℕ) (w : Watching O) (units some left : ℕ) (event : Event) (last : Bool) (old mid new : M) (from via to : O) (before told after : Telling) (input out notes : Times)
+    → left + uses mid ≡ some → last ≡ true
+    → Goes goes w units some old mid from via before told (drawn_before input) (sunk_before out) (sunk_before notes)
+    → Turns goes uses w event last mid new via to told after (drawn_after input) (sunk_after out) (sunk_after notes)
+    → Stops goes w units left event old new from to before after (drawn_over input) (sunk_over out) (sunk_over notes)
+Stops-last goes uses w units some left event last old mid new from via to before told after input out notes room off one two = record {
+  prints = one.prints;
+  mid = mid;
+  print = two.print;
+  row = one.row;
+  going = one.going;
+  unstopped = one.unstopped;
+  is = two.is;
+  event_is = two.event_is;
+  ends = subst (λ o. ends_at w o two.print.event two.print.core ≡ true) one.did.seen (sym two.last_is ∙ off);
+  used = omega (arith, one.used, two.units, room);
+  did = Did-append w from via to one.prints (two.print ∷ []) before told after input out notes one.did two.did;
+}
+
+-- ---- a step that a fault cuts short
+
+-- no fault, and then the cause of the last step
+causes-after : (fault : Fault) (input out notes : Times) → input.faults_mid ≡ input.faults_first → out.faults_mid ≡ out.faults_first → notes.faults_mid ≡ notes.faults_first
+    → Causes fault (drawn_after input) (sunk_after out) (sunk_after notes) → Causes fault (drawn_over input) (sunk_over out) (sunk_over notes)
+causes-after faults.Input input out notes a b c two = record {
+  later = subst (λ k. k ≤ input.faults_last) a two.later;
+  source = subst (λ k. Rose k input.faults_last) a two.source;
+  sink = two.sink ∙ b;
+  lines = two.lines ∙ c;
+}
+causes-after faults.Output input out notes a b c two = record {
+  source = two.source ∙ a;
+  later = subst (λ k. k ≤ out.faults_last) b two.later;
+  sink = subst (λ k. Rose k out.faults_last) b two.sink;
+  lines = two.lines ∙ c;
+}
+causes-after faults.Notes input out notes a b c two = record {
+  source = two.source ∙ a;
+  sink = two.sink ∙ b;
+  later = subst (λ k. k ≤ notes.faults_last) c two.later;
+  lines = subst (λ k. Rose k notes.faults_last) c two.lines;
+}
+
+pub cut : {M O : Type 0} (fault : Fault) (goes : M → Print → M → Type 0) (uses : M → ℕ) (w : Watching O) (units some left : ℕ) (old mid : M) (from via : O) (before told after : Telling) (input out notes : Times)
+    → left + uses mid ≡ some
+    → Goes goes w units some old mid from via before told (drawn_before input) (sunk_before out) (sunk_before notes)
+    → Slips goes uses w fault mid via told after (drawn_after input) (sunk_after out) (sunk_after notes)
+    → IsCut fault goes w units left old from before after (drawn_over input) (sunk_over out) (sunk_over notes)
+cut fault goes uses w units some left old mid from via before told after input out notes room one two =
+    let ps = one.prints in
+    let p = two.print in
+    record {
+      prints = ps;
+      mid = mid;
+      print = p;
+      would = two.would;
+      row = one.row;
+      going = one.going;
+      unstopped = one.unstopped;
+      is = two.is;
+      used = omega (arith, one.used, two.units, room);
+      did = record {
+        drew = subst (Moves before after) (sym (flat_map-append words_of ps (p ∷ [])))
+            (Moves-then before told after (flat_map words_of ps) (flat_map words_of (p ∷ [])) one.did.drew (subst (Moves told after) (sym (append-nil p.words)) two.drew));
+        left = input.mid;
+        fed = one.did.fed;
+        found = two.found;
+        output = between out.first out.mid out.last (flat_map bytes_of ps) p.bytes (flat_map bytes_of (ps ++ p ∷ [])) one.did.wrote.written two.output
+            (flat_map-append bytes_of ps (p ∷ []) ∙ ap (λ l. flat_map bytes_of ps ++ l) (append-nil p.bytes));
+        lines = between notes.first notes.mid notes.last (lines_by w.after w.lines from ps) (w.lines via p.event p.core) (lines_by w.after w.lines from (ps ++ p ∷ [])) one.did.lines.written two.lines
+            (lines-append w.after w.lines from ps (p ∷ []) ∙ ap (λ l. lines_by w.after w.lines from ps ++ l)
+            (append-nil (w.lines (seen_by w.after from ps) p.event p.core) ∙ ap (λ o. w.lines o p.event p.core) (sym one.did.seen)));
+      };
+      cause = causes-after fault input out notes one.did.same one.did.wrote.same one.did.lines.same two.cause;
+    }
+
+-- ---- an error that is handed on
+
+pub if_err : {T E : Type 0} (P : E → Type 0) (r : Result T E) (e : E) → IsErr r × IsErrAnd r (λ x. x ≡ e) → P e → IfErr r P
+if_err P r e did holds =
+    let p = err_from_is_err_and r did.1 in
+    subst (λ q. IfErr q P) (sym p.1) (subst P (sym p.2) holds)
+
+-- ---- units
+
+pub left_after : (left test unit uses : ℕ) → test ≡ uses → unit ≡ uses → test ≤ left → left - unit + uses ≡ left
+left_after left test unit uses tested same some = omega arith

@@ -1,0 +1,130 @@
+-- A step and what the observer writes of it.
+use Rattle.std.proofs.Common.{◌≡◌, ◌<◌, ◌+◌, ◌*◌, ℕ, ◌||◌, Bool, false, List, [], ◌∷◌, Option, Some, None, Result, Ok, Err, IfOk, refl, sym, ap, subst, ◌∙◌, append-nil, arith}
+use Rattle.alpha_io.specs.Sunk.{Sunk, Puts, Partly, HasFailed}
+use Rattle.alpha_io.specs.Written.{WritesPrefix}
+use Rattle.alpha_io.proofs.Writes.{WritesPrefix-all}
+use Rattle.alpha_seq.specs.declared.machine.Machine.{Machine}
+use Rattle.alpha_seq.specs.Devices.{Drawn}
+use Rattle.alpha_seq.proofs.RunSteps.{idle-part}
+use Rattle.alpha_imprecise.specs.Telling.{Telling, Moves}
+use Rattle.alpha_seq.specs.declared.event.Event.{Event}
+use Rattle.alpha_pal.specs.declared.fault.Fault.{Fault}
+use Rattle.alpha_pal.specs.declared.fault.Fault.TheVariants as faults
+use Rattle.alpha_seq.specs.Print.{Print, is_over}
+use Rattle.alpha_seq.specs.Sequential.{SeqGoes, one_unit, no_wait, itself, SeqMakes, SeqBreaks}
+use Rattle.alpha_imprecise.proofs.Choosing.{Moves-none}
+use Rattle.alpha_run.specs.Row.{Feeds}
+use Rattle.alpha_seq.specs.StepEffect.{Finds, FindsPart, Makes, Breaks}
+use Rattle.alpha_run.specs.Ran.{watching, Turns, Slips}
+
+feeds : (old new : Option (List ℕ)) (p : Print) → Finds old new p → Feeds old (p ∷ []) new
+feeds None new p found = tt
+feeds (Some left) new p found = found left refl
+
+-- the step was made, and all of its lines are written
+pub turned : {M O : Type 0} (goes : M → Print → M → Type 0) (uses : M → ℕ) (core : M → Machine) (next : O → Event → Machine → O) (lines : O → Event → Machine → List ℕ) (stops : O → Event → Machine → Bool)
+    (event : Event) (stop last : Bool) (old new : M) (m : Machine) (from to : O) (before after : Telling) (input : Drawn) (out notes : Sunk)
+    → Makes goes uses core (Moves before after) event old new input out → m ≡ core new → to ≡ next from event m → Puts notes (lines from event m)
+    → stop ≡ stops from event m → last ≡ (stop || is_over event)
+    → Turns goes uses (watching next lines stops) event last old new from to before after input out notes
+turned goes uses core next lines stops event stop last old new m from to before after input out notes one here seen wrote stop_is last_is =
+    let p = one.print in
+    let same : core new ≡ p.core = sym one.core_is in
+    record {
+      print = p;
+      is = one.is;
+      units = one.units;
+      event_is = one.event_is;
+      last_is =
+          last_is
+          ∙ (ap (λ (b : Bool). b || is_over event) stop_is
+          ∙ (ap (λ (x : Machine). stops from event x || is_over event) (here ∙ same)
+          ∙ ap (λ (e : Event). stops from e p.core || is_over e) (sym one.event_is)));
+      did = record {
+        seen = seen ∙ (ap (next from event) (here ∙ same) ∙ ap (λ e. next from e p.core) (sym one.event_is));
+        drew = subst (Moves before after) (sym (append-nil p.words)) one.drew;
+        fed = feeds input.old input.new p one.found;
+        same = one.same;
+        wrote = subst (Puts out) (sym (append-nil p.bytes)) one.wrote;
+        lines = subst (Puts notes) (ap (lines from event) (here ∙ same) ∙ (ap (λ e. lines from e p.core) (sym one.event_is) ∙ sym (append-nil (lines from p.event p.core)))) wrote;
+      };
+    }
+
+part-of : (old new : Option (List ℕ)) (p : Print) → Finds old new p → FindsPart old new p
+part-of old new p found = λ left is. let f = found left is in (f.0, (p.taken, p.rest, f.0, f.1))
+
+-- the step was made, and its lines failed
+pub unnoted : {M O : Type 0} (goes : M → Print → M → Type 0) (uses : M → ℕ) (core : M → Machine) (next : O → Event → Machine → O) (lines : O → Event → Machine → List ℕ) (stops : O → Event → Machine → Bool)
+    (event : Event) (old new : M) (m : Machine) (from : O) (before after : Telling) (input : Drawn) (out notes : Sunk)
+    → Makes goes uses core (Moves before after) event old new input out → m ≡ core new → Partly notes (lines from event m) → HasFailed notes
+    → Slips goes uses (watching next lines stops) faults.Notes old from before after input out notes
+unnoted goes uses core next lines stops event old new m from before after input out notes one here wrote failed =
+    let p = one.print in
+    record {
+      would = new;
+      print = p;
+      is = one.is;
+      units = one.units;
+      drew = one.drew;
+      found = part-of input.old input.new p one.found;
+      output = WritesPrefix-all out.old out.new p.bytes one.wrote.written;
+      lines = subst (WritesPrefix notes.old notes.new) (ap (lines from event) (here ∙ sym one.core_is) ∙ ap (λ e. lines from e p.core) (sym one.event_is)) wrote.prefix;
+      cause = record { source = one.same; sink = one.wrote.same; later = wrote.later; lines = failed };
+    }
+
+-- the step was cut short
+pub broken : {M O : Type 0} (goes : M → Print → M → Type 0) (uses : M → ℕ) (core : M → Machine) (next : O → Event → Machine → O) (lines : O → Event → Machine → List ℕ) (stops : O → Event → Machine → Bool)
+    (fault : Fault) (old : M) (from : O) (before after : Telling) (input : Drawn) (out : Sunk) (told : Option (List ℕ)) (count : ℕ)
+    → Breaks goes uses core (Moves before after) fault old input out
+    → let notes : Sunk = record { old = told; new = told; before = count; now = count } in
+    Slips goes uses (watching next lines stops) fault old from before after input out notes
+broken goes uses core next lines stops fault old from before after input out told count one =
+    let notes : Sunk = record { old = told; new = told; before = count; now = count } in
+    let p = one.print in
+    record {
+      would = one.would;
+      print = p;
+      is = one.is;
+      units = one.units;
+      drew = one.drew;
+      found = one.found;
+      output = one.wrote;
+      lines = idle-part notes (lines from p.event p.core) (record { written = refl; same = refl });
+      cause = one.cause notes refl;
+    }
+
+-- ---- the sequential machine asks no chooser
+
+pub told_makes : (event : Event) (old new : Machine) (t : Telling) (input : Drawn) (out : Sunk) → SeqMakes event old new input out
+    → Makes SeqGoes one_unit itself (Moves t t) event old new input out
+told_makes event old new t input out made = record {
+  print = made.print;
+  is = made.is;
+  units = made.units;
+  event_is = made.event_is;
+  core_is = made.core_is;
+  drew = subst (Moves t t) (sym made.drew) (Moves-none t);
+  found = made.found;
+  same = made.same;
+  wrote = made.wrote;
+}
+
+pub told_breaks : (fault : Fault) (old new : Machine) (t : Telling) (input : Drawn) (out : Sunk) → SeqBreaks fault old new input out
+    → Breaks SeqGoes one_unit itself (Moves t t) fault old input out
+told_breaks fault old new t input out breaks =
+    let b = breaks.step in
+    record {
+      would = b.would;
+      print = b.print;
+      is = b.is;
+      units = b.units;
+      core_is = b.core_is;
+      drew = subst (Moves t t) (sym b.drew) (Moves-none t);
+      found = b.found;
+      wrote = b.wrote;
+      cause = b.cause;
+    }
+
+pub near_made : (r : Result Event Fault) (old new : Machine) → IfOk r (λ event. is_over event ≡ false → no_wait new < no_wait old + 1026 * one_unit old)
+near_made (Ok event) old new = λ going. omega arith
+near_made (Err fault) old new = tt

@@ -1,0 +1,34 @@
+use Rattle.std.proofs.Common.{sym, ◌∙◌}
+use Rattle.alpha_io.specs.Sunk.{sunk}
+use Rattle.alpha_seq.specs.Devices.{drawn}
+use Rattle.alpha_seq.specs.Print.{is_over}
+use Rattle.alpha_imprecise.specs.Telling.{telling}
+use Rattle.alpha_run.proofs.Rows.{neither, if_err}
+use Rattle.alpha_run.proofs.Turning.{turned, unnoted, broken}
+use Rattle.alpha_run.proofs.turn.turn.Goals as goal
+
+pub returns-in_err-event-clause-broken : goal.returns-in_err-event-clause-broken
+returns-in_err-event-clause-broken g c =
+    if_err _ c.from_residual.result c.in_err-event.field-0.0 c.from_residual.ensures
+    (broken g.M.Steps.goes g.M.Steps.uses g.M.Steps.core g.O.Observer.after g.O.Observer.lines g.O.Observer.stops _ c.args.machine.now c.args.observer.now
+    (telling g.C.Chooser.ahead g.C.Chooser.drawn c.args.chooser.now) (telling g.C.Chooser.ahead g.C.Chooser.drawn c.step.new.chooser)
+    (drawn g.S.Source c.args.input.now c.step.new.input) (sunk g.K.Sink c.args.out.now c.step.new.out)
+    (g.N.Sink.written c.args.notes.now) (g.N.Sink.faults c.args.notes.now) c.in_err-event.ensures.broken)
+
+pub returns-in-Ok-clause-made : goal.returns-in-Ok-clause-made
+returns-in-Ok-clause-made g c =
+    turned g.M.Steps.goes g.M.Steps.uses g.M.Steps.core g.O.Observer.after g.O.Observer.lines g.O.Observer.stops c.in_ok-event.event c.in-Ok.stop c.is_last-last.result c.args.machine.now c.step.new.self c.machine.result.now c.args.observer.now c.see.new.self
+    (telling g.C.Chooser.ahead g.C.Chooser.drawn c.args.chooser.now) (telling g.C.Chooser.ahead g.C.Chooser.drawn c.step.new.chooser)
+    (drawn g.S.Source c.args.input.now c.step.new.input) (sunk g.K.Sink c.args.out.now c.step.new.out) (sunk g.N.Sink c.args.notes.now c.see.new.notes)
+    c.in_ok-event.ensures.made c.machine.ensures c.in-Ok.ensures.after c.in-Ok.ensures.lines c.in-Ok.ensures.stops c.is_last-last.ensures
+
+pub returns-in-Err-clause-broken : goal.returns-in-Err-clause-broken
+returns-in-Err-clause-broken g c =
+    unnoted g.M.Steps.goes g.M.Steps.uses g.M.Steps.core g.O.Observer.after g.O.Observer.lines g.O.Observer.stops c.in_ok-event.event c.args.machine.now c.step.new.self c.machine.result.now c.args.observer.now
+    (telling g.C.Chooser.ahead g.C.Chooser.drawn c.args.chooser.now) (telling g.C.Chooser.ahead g.C.Chooser.drawn c.step.new.chooser)
+    (drawn g.S.Source c.args.input.now c.step.new.input) (sunk g.K.Sink c.args.out.now c.step.new.out) (sunk g.N.Sink c.args.notes.now c.see.new.notes)
+    c.in_ok-event.ensures.made c.machine.ensures c.in-Err.ensures.part c.in-Err.ensures.cause
+
+pub returns-in-Ok-clause-nearer : goal.returns-in-Ok-clause-nearer
+returns-in-Ok-clause-nearer g c = λ on.
+    c.in_ok-event.ensures.nearer (neither c.in-Ok.stop (is_over c.in_ok-event.event) (sym c.is_last-last.ensures ∙ on)).1

@@ -1,0 +1,132 @@
+-- What a run did, by its answer.
+use Rattle.std.specs.Prelude.{◌≡◌, ◌<◌, ℕ, ◌+◌, ◌||◌, Bool, true, List, [], ◌∷◌, ◌++◌, length, Option, Some, None}
+use Rattle.std.specs.List.{flat_map}
+use Rattle.alpha_io.specs.Sunk.{Sunk, Puts}
+use Rattle.alpha_io.specs.Written.{WritesPrefix}
+use Rattle.alpha_seq.specs.declared.machine.Machine.{Machine}
+use Rattle.alpha_seq.specs.Devices.{Drawn}
+use Rattle.alpha_seq.specs.Inputs.{WritesBetween}
+use Rattle.alpha_imprecise.specs.Telling.{Telling, Moves}
+use Rattle.alpha_seq.specs.declared.event.Event.{Event}
+use Rattle.alpha_pal.specs.declared.fault.Fault.{Fault}
+use Rattle.alpha_seq.specs.Print.{Print, is_over}
+use Rattle.alpha_run.specs.Row.{Row, AreGoing, AreWent, Rushed, words_of, bytes_of, units_of, Feeds, lines_by, seen_by, Unstopped}
+use Rattle.alpha_seq.specs.StepEffect.{FindsPart, Causes}
+
+-- How an observer goes on, what it writes, and where it stops the run.
+pub record Watching (O : Type 0) : Type 0 where
+  pub after : O → Event → Machine → O
+  pub lines : O → Event → Machine → List ℕ
+  pub stops : O → Event → Machine → Bool
+
+abbrev pub watching : {O : Type 0} → (O → Event → Machine → O) → (O → Event → Machine → List ℕ) → (O → Event → Machine → Bool) → Watching O
+watching after lines stops = record { after = after; lines = lines; stops = stops }
+
+-- whether the run ends behind a step: the observer stops it, or it is over
+abbrev pub ends_at : {O : Type 0} → Watching O → O → Event → Machine → Bool
+ends_at w o event m = w.stops o event m || is_over event
+
+-- An observer that has passed over so many steps that only went on is as if it had seen each: it writes no line of them, and
+-- stops behind none.
+abbrev pub PassesOver : {O : Type 0} → Watching O → ℕ → O → O → Type 0
+PassesOver w n old new = (left : List ℕ) (prints : List Print) → AreWent left prints → length prints ≡ n
+    → (new ≡ seen_by w.after old prints) × (lines_by w.after w.lines old prints ≡ []) × Unstopped w.after w.stops old prints
+
+-- What steps did to the devices: each word drawn, each byte put and each line, and where the input is told, each step found
+-- what was left of it.
+pub record Did {O : Type 0} (w : Watching O) (from to : O) (ps : List Print) (before after : Telling) (input : Drawn) (out notes : Sunk) : Type 0 where
+  pub seen : to ≡ seen_by w.after from ps
+  pub drew : Moves before after (flat_map words_of ps)
+  pub fed : Feeds input.old ps input.new
+  pub same : input.now ≡ input.before
+  pub wrote : Puts out (flat_map bytes_of ps)
+  pub lines : Puts notes (lines_by w.after w.lines from ps)
+
+-- What they did where a device's fault cut the last one short: all of the first, and of the last a front.
+pub record DidPart {O : Type 0} (w : Watching O) (from : O) (ps : List Print) (p : Print) (before after : Telling) (input : Drawn) (out notes : Sunk) : Type 0 where
+  pub drew : Moves before after (flat_map words_of (ps ++ p ∷ []))
+  pub left : Option (List ℕ)
+  pub fed : Feeds input.old ps left
+  pub found : FindsPart left input.new p
+  pub output : WritesBetween out.old out.new (flat_map bytes_of ps) (flat_map bytes_of (ps ++ p ∷ []))
+  pub lines : WritesBetween notes.old notes.new (lines_by w.after w.lines from ps) (lines_by w.after w.lines from (ps ++ p ∷ []))
+
+-- ---- a step and what the observer wrote of it
+
+pub record Turns {M O : Type 0} (goes : M → Print → M → Type 0) (uses : M → ℕ) (w : Watching O) (event : Event) (last : Bool) (old new : M) (from to : O)
+    (before after : Telling) (input : Drawn) (out notes : Sunk) : Type 0 where
+  pub print : Print
+  pub is : goes old print new
+  pub units : print.units ≡ uses old
+  pub event_is : print.event ≡ event
+  pub last_is : last ≡ ends_at w from print.event print.core
+  pub did : Did w from to (print ∷ []) before after input out notes
+
+-- one that a device's fault cut short
+pub record Slips {M O : Type 0} (goes : M → Print → M → Type 0) (uses : M → ℕ) (w : Watching O) (fault : Fault) (old : M) (from : O)
+    (before after : Telling) (input : Drawn) (out notes : Sunk) : Type 0 where
+  pub would : M
+  pub print : Print
+  pub is : goes old print would
+  pub units : print.units ≡ uses old
+  pub drew : Moves before after print.words
+  pub found : FindsPart input.old input.new print
+  pub output : WritesPrefix out.old out.new print.bytes
+  pub lines : WritesPrefix notes.old notes.new (w.lines from print.event print.core)
+  pub cause : Causes fault input out notes
+
+-- Steps that only went on, a unit each, and that the observer has passed over.
+pub record Hastens {M O : Type 0} (goes : M → Print → M → Type 0) (w : Watching O) (units left : ℕ) (old new : M) (from to : O) : Type 0 where
+  pub count : ℕ
+  pub used : count + left ≡ units
+  pub rushed : Rushed goes count old new
+  pub passed : PassesOver w count from to
+
+-- ---- a run
+
+-- steps behind each of which the run goes on, which leave so many of the units
+pub record Goes {M O : Type 0} (goes : M → Print → M → Type 0) (w : Watching O) (units left : ℕ) (old new : M) (from to : O)
+    (before after : Telling) (input : Drawn) (out notes : Sunk) : Type 0 where
+  pub prints : List Print
+  pub row : Row goes old prints new
+  pub going : AreGoing prints
+  pub unstopped : Unstopped w.after w.stops from prints
+  pub used : units_of prints + left ≡ units
+  pub did : Did w from to prints before after input out notes
+
+-- such steps, and one more, behind which it ends
+pub record Stops {M O : Type 0} (goes : M → Print → M → Type 0) (w : Watching O) (units left : ℕ) (event : Event) (old new : M) (from to : O)
+    (before after : Telling) (input : Drawn) (out notes : Sunk) : Type 0 where
+  pub prints : List Print
+  pub mid : M
+  pub print : Print
+  pub row : Row goes old prints mid
+  pub going : AreGoing prints
+  pub unstopped : Unstopped w.after w.stops from prints
+  pub is : goes mid print new
+  pub event_is : print.event ≡ event
+  pub ends : ends_at w (seen_by w.after from prints) print.event print.core ≡ true
+  pub used : units_of prints + print.units + left ≡ units
+  pub did : Did w from to (prints ++ print ∷ []) before after input out notes
+
+-- the run to its last step, or until the units that are left are fewer than the next step uses
+abbrev pub RunsTo : {M O : Type 0} → Option Event → (M → Print → M → Type 0) → (M → ℕ) → Watching O → ℕ → ℕ → M → M → O → O → Telling → Telling → Drawn → Sunk → Sunk → Type 0
+RunsTo None goes uses w units left old new from to before after input out notes =
+    (left < uses new) × Goes goes w units left old new from to before after input out notes
+RunsTo (Some event) goes uses w units left old new from to before after input out notes =
+    Stops goes w units left event old new from to before after input out notes
+
+-- such steps, and one more that a device's fault cut short
+pub record IsCut {M O : Type 0} (fault : Fault) (goes : M → Print → M → Type 0) (w : Watching O) (units left : ℕ) (old : M) (from : O)
+    (before after : Telling) (input : Drawn) (out notes : Sunk) : Type 0 where
+  pub prints : List Print
+  pub mid : M
+  pub print : Print
+  pub would : M
+  pub row : Row goes old prints mid
+  pub going : AreGoing prints
+  pub unstopped : Unstopped w.after w.stops from prints
+  pub is : goes mid print would
+  pub used : units_of prints + print.units + left ≡ units
+  pub did : DidPart w from prints print before after input out notes
+  pub cause : Causes fault input out notes

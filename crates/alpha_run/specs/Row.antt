@@ -1,0 +1,64 @@
+-- Steps in a row, and what an observer writes of them.
+use Rattle.std.specs.Prelude.{◌≡◌, ⊤, ℕ, ◌+◌, Bool, false, List, [], ◌∷◌, ◌++◌, length, Option, Some, None}
+use Rattle.alpha_seq.specs.declared.machine.Machine.{Machine}
+use Rattle.alpha_seq.specs.declared.event.Event.{Event}
+use Rattle.alpha_seq.specs.declared.event.Event.TheVariants as events
+use Rattle.alpha_seq.specs.Print.{Print, is_over, found_by}
+
+-- from one machine to another by these steps
+abbrev pub Row : {M : Type 0} → (M → Print → M → Type 0) → M → List Print → M → Type 0
+Row goes old [] new = old ≡ new
+Row goes old (p ∷ ps) new = (mid : _) × goes old p mid × Row goes mid ps new
+
+-- the program goes on behind each of them
+abbrev pub AreGoing : List Print → Type 0
+AreGoing [] = ⊤
+AreGoing (p ∷ ps) = (is_over p.event ≡ false) × AreGoing ps
+
+-- a step that only went on over this input: it used a unit, and drew, took and put nothing
+pub record OnlyWent (left : List ℕ) (p : Print) : Type 0 where
+  pub event : p.event ≡ events.Went
+  pub units : p.units ≡ 1
+  pub words : p.words ≡ []
+  pub taken : p.taken ≡ []
+  pub rest : p.rest ≡ left
+  pub bytes : p.bytes ≡ []
+
+abbrev pub AreWent : List ℕ → List Print → Type 0
+AreWent left [] = ⊤
+AreWent left (p ∷ ps) = OnlyWent left p × AreWent left ps
+
+-- from one machine to another by so many steps that only went on, over any input
+abbrev pub Rushed : {M : Type 0} → (M → Print → M → Type 0) → ℕ → M → M → Type 0
+Rushed goes n old new = (left : List ℕ) → (prints : List Print) × Row goes old prints new × AreWent left prints × (length prints ≡ n)
+
+abbrev pub words_of : Print → List ℕ
+words_of p = p.words
+
+abbrev pub bytes_of : Print → List ℕ
+bytes_of p = p.bytes
+
+-- the units that they used
+abbrev pub units_of : List Print → ℕ
+units_of [] = 0
+units_of (p ∷ ps) = p.units + units_of ps
+
+-- Where the input is told, each step found what was left of it, and this is left.
+abbrev pub Feeds : Option (List ℕ) → List Print → Option (List ℕ) → Type 0
+Feeds None ps new = ⊤
+Feeds (Some left) [] new = new ≡ Some left
+Feeds (Some left) (p ∷ ps) new = (left ≡ found_by p) × Feeds (Some p.rest) ps new
+
+-- the lines that an observer writes of them, and what it is behind them
+abbrev pub lines_by : {O : Type 0} → (O → Event → Machine → O) → (O → Event → Machine → List ℕ) → O → List Print → List ℕ
+lines_by after lines o [] = []
+lines_by after lines o (p ∷ ps) = lines o p.event p.core ++ lines_by after lines (after o p.event p.core) ps
+
+abbrev pub seen_by : {O : Type 0} → (O → Event → Machine → O) → O → List Print → O
+seen_by after o [] = o
+seen_by after o (p ∷ ps) = seen_by after (after o p.event p.core) ps
+
+-- it stops behind none of them
+abbrev pub Unstopped : {O : Type 0} → (O → Event → Machine → O) → (O → Event → Machine → Bool) → O → List Print → Type 0
+Unstopped after stops o [] = ⊤
+Unstopped after stops o (p ∷ ps) = (stops o p.event p.core ≡ false) × Unstopped after stops (after o p.event p.core) ps

@@ -1,0 +1,55 @@
+//! The sequential machine, as one that makes steps.
+
+use crate::Steps;
+use alpha_imprecise::Chooser;
+use alpha_io::{Sink, Source};
+use alpha_seq::{Event, Fault, Machine};
+
+impl Steps for Machine {
+    ghost use Rattle.std.specs.Prelude.{IsTrue};
+    ghost use Rattle.alpha_seq.specs.Sequential.{SeqGoes, one_unit, no_wait, itself};
+    ghost use Rattle.alpha_run.specs.Stays.{SeqStays, seq_own, seq_on};
+
+    ghost goes = { SeqGoes };
+
+    ghost ready = { λ m. IsTrue m.kernel.user };
+
+    ghost uses = { one_unit };
+
+    ghost waits = { no_wait };
+
+    ghost core = { itself };
+
+    ghost stays = { SeqStays };
+
+    ghost stays_own = { seq_own };
+
+    ghost stays_on = { seq_on };
+
+    #[inline(always)]
+    fn unit(&self) -> u64 {
+        1
+    }
+
+    #[inline(always)]
+    fn machine(&self) -> &Machine {
+        self
+    }
+
+    #[inline(always)]
+    fn rush(&mut self, units: u64) -> u64 {
+        Machine::rush(self, units)
+    }
+
+    // A run has made most steps that only go on by `rush`, so that this one doesn't try that first.
+    #[inline(always)]
+    fn step<C: Chooser, S: Source, K: Sink>(
+        &mut self,
+        _chooser: &mut C,
+        input: &mut S,
+        out: &mut K,
+    ) -> Result<Event, Fault> {
+        let insn = self.insn();
+        self.step_by(insn, input, out)
+    }
+}

@@ -1,0 +1,46 @@
+//! The run of the sequential machine.
+
+ghost use Rattle.std.specs.Prelude.{◌≡◌, IsTrue, IfOk, IfErr};
+ghost use Rattle.alpha_io.specs.Sunk.{sunk};
+ghost use Rattle.alpha_mem.specs.Block.{shapes};
+ghost use Rattle.alpha_seq.specs.Machine.{Stays};
+ghost use Rattle.alpha_seq.specs.Devices.{drawn};
+ghost use Rattle.alpha_run.specs.SeqRun.{SeqRan, SeqCut};
+
+use crate::{NoWords, Notes, run};
+use alpha_io::{Sink, Source};
+use alpha_seq::{Event, Fault, Machine};
+
+/// Makes steps, in user mode and a unit each, until the program ends or no unit is left, and writes their lines to the
+/// notes.
+#[inline(never)]
+pub fn run_sequential<S: Source, K: Sink, N: Sink>(
+    machine: &mut Machine,
+    input: &mut S,
+    out: &mut K,
+    notes: &mut N,
+    left: &mut u64,
+    watch: bool,
+) -> Result<Option<Event>, Fault>
+    requires { IsTrue machine.old.kernel.user }
+    ensures made { IfOk result (λ last. SeqRan last left.old left.new watch machine.old machine.new
+        (drawn S.Source input.old input.new)
+        (sunk K.Sink out.old out.new)
+        (sunk N.Sink notes.old notes.new)) }
+    ensures broken { IfErr result (λ fault. SeqCut fault left.old watch machine.old
+        (drawn S.Source input.old input.new)
+        (sunk K.Sink out.old out.new)
+        (sunk N.Sink notes.old notes.new)) }
+    ensures shapes { shapes machine.new.memory ≡ shapes machine.old.memory }
+    ensures same { Stays machine.old machine.new }
+{
+    run(
+        machine,
+        &mut Notes { watch },
+        &mut NoWords,
+        input,
+        out,
+        notes,
+        left,
+    )
+}
