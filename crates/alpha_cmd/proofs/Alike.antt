@@ -1,10 +1,10 @@
 -- On an image that `check` accepts, a run of the imprecise machine has the answer of the sequential run, but for the number
 -- of words that it draws.
-use Rattle.std.proofs.Common.{◌≡◌, ◌⊎◌, ◌∙◌, ℕ, Bool, true, false, List, Option, None, Some, IsSome, refl, sym, ap, subst}
+use Rattle.std.proofs.Common.{◌≡◌, ◌∙◌, ℕ, Bool, true, false, List, Option, None, Some, IsSome, refl, sym, ap, subst}
 use Rattle.alpha_io.specs.Files.{Files, HasFile}
 use Rattle.alpha_image.specs.Parts.{Parts, IsImage, spelling}
 use Rattle.alpha_shadow.specs.Broken.{IsAccepted}
-use Rattle.alpha_request.specs.Command.{check, run, imprecise}
+use Rattle.alpha_request.specs.Command.{check, run}
 use Rattle.alpha_request.specs.declared.options.RunOptions.{RunOptions}
 use Rattle.alpha_request.specs.Origin.{Origin}
 use Rattle.alpha_restart.proofs.Agreeing.{accepted_restarts}
@@ -18,13 +18,12 @@ use Rattle.alpha_imprecise.specs.Free.{FreeAlike}
 use Rattle.alpha_imprecise.specs.Restart.{IsRestartable}
 use Rattle.alpha_imprecise.specs.Shown.{ShowsSame}
 use Rattle.alpha_imprecise.proofs.Showing.{runs_alike}
-use Rattle.alpha_cmd.specs.declared.status.Status.{Status}
-use Rattle.alpha_cmd.specs.declared.status.Status.TheVariants.{Done, NoMemory}
+use Rattle.alpha_cmd.specs.declared.status.Status.TheVariants.{Done}
 use Rattle.alpha_cmd.specs.Status.{class_of}
 use Rattle.alpha_cmd.specs.Outcome.{Outcome, goes, stops, Then}
 use Rattle.alpha_cmd.specs.Image.{ImageOf}
 use Rattle.alpha_cmd.specs.Asks.{Asks}
-use Rattle.alpha_cmd.specs.Answer.{Answer, IsAnswered}
+use Rattle.alpha_cmd.specs.Answer.{Answer}
 use Rattle.alpha_cmd.specs.AnswerBy.{World, AnswerBy, answer_of}
 use Rattle.alpha_cmd.specs.Commands.Check as checks
 use Rattle.alpha_cmd.specs.Commands.Run as runs
@@ -32,14 +31,14 @@ use Rattle.alpha_cmd.specs.Commands.Run.{run_by_reads, MayShow}
 use Rattle.alpha_cmd.specs.RunAnswer.{program_by, answer_shown}
 use Rattle.alpha_cmd.specs.Commands.Imprecise as wilds
 use Rattle.alpha_cmd.specs.Commands.Imprecise.{Plan, plan_by, PlanOf, Passes, with_drawn, run_by, MayShowWild, answer_wild, RunsWild}
-use Rattle.alpha_cmd.specs.Tried.{TriedBy, IsGiven}
+use Rattle.alpha_cmd.specs.Tried.{TriedBy}
 use Rattle.alpha_cmd.specs.AlikeByAnswers.{undrawn, IsChecked, HasWords}
 use Rattle.alpha_cmd.proofs.Forms.{done_goes}
 use Rattle.alpha_cmd.proofs.Commands.Check.{lawful}
 use Rattle.alpha_cmd.proofs.Commands.Run.{shown_answer}
 use Rattle.alpha_cmd.proofs.Commands.Imprecise.{Planned-lawful, passed, some_shown, wild_answer}
 use Rattle.alpha_cmd.proofs.Lawful.{Then-found}
-use Rattle.alpha_cmd.proofs.Tried.{AnswerOf-single, asked_answer, done_tried}
+use Rattle.alpha_cmd.proofs.Tried.{AnswerOf-single, done_tried}
 use Rattle.alpha_cmd.proofs.Untold.{made_same, same_may}
 
 -- ---- an accepted file

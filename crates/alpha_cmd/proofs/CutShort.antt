@@ -1,5 +1,5 @@
 -- From a run that a device's fault cut short to what a command tries then.
-use Rattle.std.proofs.Common.{◌≡◌, ◌≢◌, ◌⊎◌, ◌++◌, ℕ, List, Option, None, Result, Ok, Err, IfOk, IsTrue, IsSome, ◌∙◌, refl, sym, ap, subst, inl, inr, ⊎_elim, append-nil, arith}
+use Rattle.std.proofs.Common.{◌≡◌, ◌≢◌, ◌⊎◌, None, Result, Ok, Err, IfOk, IsTrue, IsSome, ◌∙◌, refl, sym, ap, subst, inl, inr, ⊎_elim, append-nil, arith}
 use Rattle.alpha_io.specs.declared.Failed.{Failed}
 use Rattle.alpha_io.specs.Faults.{Rose}
 use Rattle.alpha_io.specs.Files.{KeepsFiles}
@@ -18,7 +18,7 @@ use Rattle.alpha_cmd.specs.Kept.{Kept, nothing, HasKept}
 use Rattle.alpha_cmd.specs.Answer.{Answer}
 use Rattle.alpha_cmd.specs.AnswerBy.{World, AnswerBy, said}
 use Rattle.alpha_cmd.specs.Form.{Form, Kind, MayTakeBy}
-use Rattle.alpha_cmd.specs.Decision.{answer_in, IsCutShort}
+use Rattle.alpha_cmd.specs.Decision.{IsCutShort}
 use Rattle.alpha_cmd.specs.Ends.{EndsPart, Leaves, Decides, status_in}
 use Rattle.alpha_cmd.specs.Tries.{TriesBy, CountStays}
 

@@ -1,5 +1,5 @@
 -- From what a run with its journal did to what the command `record` tries.
-use Rattle.std.proofs.Common.{◌≡◌, ◌⊎◌, ◌++◌, ◌∙◌, ◌≤◌, ◌-◌, length, ℕ, ◌%◌, ◌^◌, Bool, false, List, [], Option, None, Some, IfSome, IsSome, option_map, Result, refl, sym, ap, subst, inl, inr, append-nil, arith}
+use Rattle.std.proofs.Common.{◌≡◌, ◌⊎◌, ◌++◌, ◌∷◌, ◌∙◌, ◌<◌, ◌≤◌, ◌+◌, ◌-◌, length, ℕ, ◌^◌, Bool, true, false, List, [], Option, None, Some, IfSome, option_map, unwrap_or, Result, refl, sym, ap, subst, inl, inr, append-nil, arith}
 use Rattle.std.specs.Io.KnownBytes.{Appends}
 use Rattle.std.proofs.KnownBytes.{Appends-nil}
 use Rattle.alpha_io.specs.declared.Failed.{Failed}
@@ -11,25 +11,31 @@ use Rattle.alpha_request.specs.declared.options.RunOptions.{RunOptions}
 use Rattle.alpha_request.specs.Origin as choices
 use Rattle.alpha_seq.specs.declared.event.Event.{Event as Seen}
 use Rattle.alpha_seq.specs.State.{Program}
+use Rattle.alpha_seq.specs.Start.{start}
 use Rattle.alpha_seq.specs.Run.{notes_of}
 use Rattle.alpha_seq.specs.Machine.{program_of}
 use Rattle.alpha_seq.specs.Devices.{Drawn, Rests, Idles}
-use Rattle.alpha_imprecise.specs.Moment.{Happening}
-use Rattle.alpha_imprecise.specs.Made.{Making, shown_making, first_words, most_words}
+use Rattle.alpha_seq.proofs.Growing.{Grows}
+use Rattle.alpha_seq.proofs.Filling.{front, notes-grow}
+use Rattle.alpha_pal.specs.declared.fault.Fault.{Fault}
+use Rattle.alpha_imprecise.specs.Made.{Making, begun, shown_making, first_words, most_words}
+use Rattle.alpha_imprecise.specs.Free.{FreeAlike}
 use Rattle.alpha_imprecise.specs.Telling.{Telling}
-use Rattle.alpha_imprecise.specs.Wild.{WildState, IsFresh}
-use Rattle.alpha_imprecise.proofs.Fresh.{told_starts}
+use Rattle.alpha_imprecise.specs.Wild.{WildState, IsFresh, begun_at}
+use Rattle.alpha_imprecise.proofs.Fresh.{begun_fresh, told_starts}
 use Rattle.alpha_run.specs.WildRan.{making_from}
-use Rattle.alpha_run.proofs.WildShown.{Whole}
-use Rattle.alpha_words.specs.declared.Completion.TheVariants.{Wrap}
-use Rattle.alpha_replay.specs.declared.ending.Ending.TheVariants.{Spent}
-use Rattle.alpha_replay.specs.Journal.{Parts, parts, spelling}
-use Rattle.alpha_replay.specs.Journaled.{Journaled}
-use Rattle.alpha_replay.specs.JournalEnd.{Stops, Records, StopsAt, ShowsWildPart, IsRecorded, IsPast, Shows}
+use Rattle.alpha_run.proofs.WildShown.{few_drawn, few_cut}
+use Rattle.alpha_words.specs.declared.Completion.{Completion}
+use Rattle.alpha_replay.specs.Journal.{Parts, spelling}
+use Rattle.alpha_replay.specs.Journaled.{Journaled, is_within}
+use Rattle.alpha_replay.specs.JournalEnd.{Records, IsFull, IsShort, StopsAt, ShowsWildPart, IsRecorded, IsPast, Shows}
+use Rattle.alpha_replay.specs.Recorded.{Recorded, unrecorded, recorded_over, recorded_from, journal_in, stops_at, GoesOver, GoesFrom}
+use Rattle.alpha_replay.proofs.Making.{whole_of}
+use Rattle.alpha_replay.proofs.Recording.{recorded-making}
+use Rattle.alpha_replay.proofs.Untold.{units_over, begins_over, ends, recorded-append, goes-append}
 use Rattle.alpha_cmd.specs.declared.decision.Decision.{Decision}
-use Rattle.alpha_cmd.specs.declared.record.Recorded.{Recorded}
-use Rattle.alpha_cmd.specs.declared.record.Recorded.TheVariants as ends
-use Rattle.alpha_cmd.specs.declared.status.Status.{Status}
+use Rattle.alpha_cmd.specs.declared.record.Recorded.{Recorded as Ran}
+use Rattle.alpha_cmd.specs.declared.record.Recorded.TheVariants as outcomes
 use Rattle.alpha_cmd.specs.declared.status.Status.TheVariants.{NoMemory, JournalFull}
 use Rattle.alpha_cmd.specs.Answer.{Answer}
 use Rattle.alpha_cmd.specs.AnswerBy.{World, said}
@@ -39,12 +45,12 @@ use Rattle.alpha_cmd.specs.Outcome.{goes}
 use Rattle.alpha_cmd.specs.Status.{status_line}
 use Rattle.alpha_cmd.specs.Tries.{TriesBy}
 use Rattle.alpha_cmd.specs.RunAnswer.{program_by}
-use Rattle.alpha_cmd.specs.Commands.Imprecise.{Plan, plan_by, PlanOf, Passes, answer_wild, answer_status, answer_line}
-use Rattle.alpha_cmd.specs.Commands.Record.{unwatched, HasJournal, MomentByReads, IsStopped, KeepsBehind, IsKeptRun, full_answer, IsFullRun, form, RunsOn, WhenMade, WhenOver}
+use Rattle.alpha_cmd.specs.Commands.Imprecise.{Plan, plan_by, PlanOf, Passes, MayShowWild, answer_wild, answer_status, answer_line}
+use Rattle.alpha_cmd.specs.Commands.Record.{unwatched, RecordedByReads, ShowsMaking, HasItsJournal, IsStopped, KeepsBehind, IsKeptRun, full_answer, IsFullRun, form, RunsOn, WhenMade, WhenOver}
 use Rattle.alpha_cmd.proofs.CutShort.{Fronts}
 use Rattle.alpha_cmd.proofs.Endings.{IsLeft-own}
-use Rattle.alpha_cmd.proofs.Commands.Record.{keeps_some, some_journal, recorded_answer}
-use Rattle.alpha_cmd.proofs.WildRan.{Shows as ShowsRun, Begins, same_program, reads_as, draws_most}
+use Rattle.alpha_cmd.proofs.Commands.Record.{keeps_some, some_end, journals, recorded_answer}
+use Rattle.alpha_cmd.proofs.WildRan.{RunsAlone, ShowsOf, ran_shows_of, Begins, same_program, draws_most}
 
 -- the answer of a run but for its keep
 same_output : (w : World) (out bytes : List ℕ) (a b : Answer) → KeepsBehind w out bytes a b → b.output ≡ a.output
@@ -57,28 +63,13 @@ same_trace w out bytes a b (inr h) = ap (λ (x : Answer). x.trace) h.1
 
 -- ---- by whether a run was made
 
-pub made_map : (r : Recorded) (P Q : Decision → Parts → Type 0) → ((d : Decision) (p : Parts) → P d p → Q d p) → WhenMade r P → WhenMade r Q
-made_map (ends.Made d journal) P Q f h = f d journal h
-made_map (ends.Over r) P Q f h = tt
+pub made_map : (r : Ran) (P Q : Decision → Parts → Type 0) → ((d : Decision) (p : Parts) → P d p → Q d p) → WhenMade r P → WhenMade r Q
+made_map (outcomes.Made d journal) P Q f h = f d journal h
+made_map (outcomes.Over r) P Q f h = tt
 
-pub over_map : (r : Recorded) (P Q : Result Decision Failed → Type 0) → ((x : Result Decision Failed) → P x → Q x) → WhenOver r P → WhenOver r Q
-over_map (ends.Made d journal) P Q f h = tt
-over_map (ends.Over r) P Q f h = f r h
-
--- a run that has a journal was made for all its units, or to its end
-pub recorded_whole : (n : ℕ) (last : Option Seen) (journal : Parts) (old new : WildState) (before after : Telling) (d : Drawn) (out notes : Sunk)
-    → (r : Records n last journal old new before after d out notes) → Whole last n (n - r.stops.units) false old new before after d out notes
-recorded_whole n last journal old new before after d out notes r =
-    let most = r.stops.most in
-    record {
-      happened = r.happened;
-      units = r.stops.units;
-      ran = r.stops.ran;
-      last_is = r.last_is;
-      settled = r.settled;
-      used = omega arith;
-      full = λ going. (let all = r.full going in omega arith);
-    }
+pub over_map : (r : Ran) (P Q : Result Decision Failed → Type 0) → ((x : Result Decision Failed) → P x → Q x) → WhenOver r P → WhenOver r Q
+over_map (outcomes.Made d journal) P Q f h = tt
+over_map (outcomes.Over r) P Q f h = f r h
 
 -- a sink that wasn't called
 idle_puts : (s : Sunk) → Idles s → Puts s []
@@ -105,35 +96,105 @@ unbegun_tried P w rest d s out notes is same told rests put noted e =
     })
 
 module _ (options : RunOptions) (m : WildState) (ahead : ℕ → ℕ) (how : m.machine.how ≡ options.complete) (fresh : IsFresh m) where
+  -- ---- the run by the words that are told, over inputs of its own
+
+  begun_as : (words list : List ℕ) → list ≡ words
+      → unrecorded (begun (start (program_by options m.machine.image) []) None 0 list) ≡ unrecorded (begun_at m [] [] words)
+  begun_as words list same =
+      ap (λ (g : Program). unrecorded (begun (start g []) None 0 list)) (sym (same_program (unwatched options) m ahead how fresh))
+      ∙ (ap (λ (l : List ℕ). unrecorded (begun (start (program_of m.machine) []) None 0 l)) same
+      ∙ sym (ap (λ (k : Making). unrecorded k) (begun_fresh m [] words fresh)))
+
+  by_reads : (reads : List (List ℕ)) (words coming : List ℕ) → first_words (most_words options.steps) ahead ≡ words ++ coming
+      → GoesFrom options.steps m [] (words ++ coming) reads
+      → stops_at options.steps m.machine.how (recorded_from m [] (words ++ coming) reads) ≡ true
+      → RecordedByReads options (plan_by m.machine.image ahead) (recorded_from m [] (words ++ coming) reads)
+  by_reads reads words coming same went stopped =
+      let n = options.steps in
+      let g = program_of m.machine in
+      let program = same_program (unwatched options) m ahead how fresh in
+      let list = first_words (most_words n) ahead in
+      let from = unrecorded (begun_at m [] [] (words ++ coming)) in
+      let r = recorded_over g reads from in
+      let begins = begun_as (words ++ coming) list same in
+      let making = recorded-making g reads from in
+      let most = units_over n g reads from (omega arith) went in
+      let draws = draws_most (unwatched options) m ahead how fresh reads (words ++ coming) in
+      let count = ap (λ (k : Making). k.count) making in
+      let units = ap (λ (k : Making). k.run.units) making in
+      record {
+        reads = reads;
+        given = most_words n;
+        goes = subst (λ (h : Program). GoesOver n h reads (unrecorded (begun (start (program_by options m.machine.image) []) None 0 list))) program
+            (subst (λ (x : Recorded). GoesOver n g reads x) (sym begins) went);
+        is = ap (λ (h : Program). recorded_over h reads (unrecorded (begun (start (program_by options m.machine.image) []) None 0 list))) (sym program) ∙ ap (recorded_over g reads) begins;
+        stopped = subst (λ (c : Completion). stops_at n c r ≡ true) how stopped;
+        most = most;
+        enough = omega (arith, draws, count, units, most);
+      }
+
   -- ---- a run that was made
 
-  has_journal : (old : Option (List ℕ)) (p : Parts) → ((bytes : List ℕ) → old ≡ Some bytes → IsRecorded options.steps (program_of m.machine) bytes ahead p)
-      → HasJournal options old (plan_by m.machine.image ahead) p
-  has_journal None p told = tt
-  has_journal (Some bytes) p told =
-      subst (λ (g : Program). IsRecorded options.steps g bytes ahead p) (same_program (unwatched options) m ahead how fresh) (told bytes refl)
+  has_journal : (force : Bool) (last : Option Seen) (count : ℕ) (journal : Parts) (to : WildState) (before after : Telling) (d : Drawn) (out notes : Sunk)
+      → (r : Records options.steps last journal m to before after d out notes) (coming : List ℕ) → first_words (most_words options.steps) ahead ≡ r.stops.ran.words ++ coming
+      → (told : Option (List ℕ)) → ((bytes : List ℕ) → told ≡ Some bytes → IsRecorded options.steps (program_of m.machine) bytes ahead journal)
+      → (s : ShowsOf (unwatched options) m ahead how fresh force last count d.old d.new out notes (making_from m (unwrap_or told []) (r.stops.ran.words ++ coming) r.stops.ran.inputs))
+      → HasItsJournal options told (plan_by m.machine.image ahead) s.shows.what journal
+  has_journal force last count journal to before after d out notes r coming same None told s =
+      let words = r.stops.ran.words in
+      let inputs = r.stops.ran.inputs in
+      let at = recorded_from m [] (words ++ coming) inputs in
+      let making : making_from m [] (words ++ coming) inputs ≡ at.making = sym (recorded-making (program_of m.machine) inputs (unrecorded (begun_at m [] [] (words ++ coming)))) in (
+        at,
+        record {
+          by = by_reads inputs words coming same (r.stops.goes [] coming) (r.stops.stopped [] coming);
+          within = r.within;
+          is = r.is [] coming ∙ ap (λ (c : Completion). journal_in c at) how;
+        },
+        subst (λ (k : Making). ShowsMaking s.shows.what k) making
+            (record { end = s.end; lost = s.lost; output = s.output; notes = s.notes_are; drawn = s.count }),
+      )
+  has_journal force last count journal to before after d out notes r coming same (Some bytes) told s =
+      subst (λ (g : Program). IsRecorded options.steps g bytes ahead journal) (same_program (unwatched options) m ahead how fresh) (told bytes refl)
 
-  pub runs_on : (force : Bool) (last : Option Seen) (count : ℕ) (d : Drawn) (p : Parts) (decision : Decision) (out notes : Sunk)
-      → ((bytes : List ℕ) → d.old ≡ Some bytes → IsRecorded options.steps (program_of m.machine) bytes ahead p)
+  pub runs_on : (force : Bool) (last : Option Seen) (count : ℕ) (journal : Parts) (decision : Decision) (to : WildState) (before after : Telling) (d : Drawn) (out notes : Sunk)
+      → Records options.steps last journal m to before after d out notes
+      → ((bytes : List ℕ) → d.old ≡ Some bytes → IsRecorded options.steps (program_of m.machine) bytes ahead journal)
       → answer_in d.new decision ≡ said d.new (answer_status last count) (answer_line last)
-      → ShowsRun (unwatched options) m ahead how fresh force last count d.old d.new out notes
-      → RunsOn options force d.old (plan_by m.machine.image ahead) p decision d.new out notes
-  runs_on force last count d p decision out notes told says did = record {
-    shown = did.what;
-    may = did.may;
-    has = has_journal d.old p told;
-    says = says ∙ λ i. said d.new (did.status_is i) (did.line_is i);
-    put = did.bytes;
-    noted = did.lines;
-    left_is = did.left;
-  }
+      → before.ahead ≡ Some ahead → before.count ≡ Some 0 → after.count ≡ Some count → count < 2 ^ 64 → (force ≡ false → RunsAlone m.machine.image)
+      → RunsOn options force d.old (plan_by m.machine.image ahead) journal decision d.new out notes
+  unfolding whole_of
+  runs_on force last count journal decision to before after d out notes r told says tells none now low alone =
+      let n = options.steps in
+      let w = whole_of n last journal m to before after d out notes r in
+      let words = r.stops.ran.words in
+      let few = few_drawn last n (n - r.stops.units) false m to before after d out notes w fresh.calm in
+      let list = told_starts before after ahead words (most_words n) tells r.stops.ran.drew few in
+      let s = ran_shows_of (unwatched options) m ahead how fresh force last (n - r.stops.units) count to before after d out notes w list.coming list.is none now low alone in
+      record {
+        shown = s.shows.what;
+        may = s.shows.may;
+        has = has_journal force last count journal to before after d out notes r list.coming list.is d.old told s;
+        says = says ∙ λ i. said d.new (s.shows.status_is i) (s.shows.line_is i);
+        put = s.shows.bytes;
+        noted = s.shows.lines;
+        left_is = s.shows.left;
+      }
 
   -- ---- one that was stopped
 
-  pub moment : (last : Happening) (to : WildState) (before after : Telling) (d : Drawn) (out notes : Sunk) → before.ahead ≡ Some ahead
-      → Stops options.steps last m to before after d out notes
-      → (k : Making) × MomentByReads options (plan_by m.machine.image ahead) k × Puts out k.run.state.outside.output × Puts notes (notes_of false k.run.trace)
-  moment last to before after d out notes tells r =
+  -- where it was, over inputs of its own
+  pub record StoppedAt (out notes : Sunk) : Type 0 where
+    pub at : Recorded
+    pub by : RecordedByReads options (plan_by m.machine.image ahead) at
+    pub past : is_within (journal_in options.complete at) ≡ false
+    pub put : Puts out at.making.run.state.outside.output
+    pub noted : Puts notes (notes_of false at.making.run.trace)
+
+  pub moment : (to : WildState) (before after : Telling) (d : Drawn) (out notes : Sunk) → before.ahead ≡ Some ahead
+      → IsFull options.steps m to before after d out notes → StoppedAt out notes
+  moment to before after d out notes tells f =
+      let r = f.stops in
       let words = r.ran.words in
       let one = r.ran.is [] [] in
       let draws = draws_most (unwatched options) m ahead how fresh r.ran.inputs (words ++ []) in
@@ -143,19 +204,15 @@ module _ (options : RunOptions) (m : WildState) (ahead : ℕ → ℕ) (how : m.m
       let few : length words ≤ most_words options.steps = omega (arith, draws, count, units, most) in
       let s = told_starts before after ahead words (most_words options.steps) tells r.ran.drew few in
       let there = r.ran.is [] s.coming in
-      let used : (making_from m [] (words ++ s.coming) r.ran.inputs).run.units ≡ r.units = ap (λ (k : Making). k.run.units) there.is ∙ there.units in
-      let drawn : (making_from m [] (words ++ s.coming) r.ran.inputs).count ≡ length words = ap (λ (k : Making). k.count) there.is in (
-        making_from m [] (words ++ s.coming) r.ran.inputs,
-        record {
-          reads = r.ran.inputs;
-          given = most_words options.steps;
-          is = reads_as (unwatched options) m ahead how fresh r.ran.inputs (words ++ s.coming) (first_words (most_words options.steps) ahead) s.is;
-          most = omega (arith, used, most);
-          enough = omega (arith, drawn, few);
-        },
-        subst (Puts out) (sym (ap (λ (k : Making). k.run.state.outside.output) there.is)) r.ran.wrote,
-        subst (Puts notes) (sym (ap (λ (k : Making). notes_of false k.run.trace) there.is ∙ there.notes)) r.ran.noted,
-      )
+      let at = recorded_from m [] (words ++ s.coming) r.ran.inputs in
+      let making = recorded-making (program_of m.machine) r.ran.inputs (unrecorded (begun_at m [] [] (words ++ s.coming))) ∙ there.is in
+      record {
+        at = at;
+        by = by_reads r.ran.inputs words s.coming s.is (r.goes [] s.coming) (r.stopped [] s.coming);
+        past = ap (λ (c : Completion). is_within (journal_in c at)) (sym how) ∙ f.past [] s.coming;
+        put = subst (Puts out) (sym (ap (λ (k : Making). k.run.state.outside.output) making)) r.ran.wrote;
+        noted = subst (Puts notes) (sym (ap (λ (k : Making). notes_of false k.run.trace) making ∙ there.notes)) r.ran.noted;
+      }
 
   -- what the command has then, by whether the input is told
   pub record Stopped (old new : Option (List ℕ)) (out notes : Sunk) : Type 0 where
@@ -168,9 +225,10 @@ module _ (options : RunOptions) (m : WildState) (ahead : ℕ → ℕ) (how : m.m
   pub stopped_by : (old new : Option (List ℕ)) (a b : ℕ) (out notes : Sunk)
       → ((bytes : List ℕ) → old ≡ Some bytes
       → (k : Making) × IsPast options.steps (program_of m.machine) bytes ahead k × Shows k (record { old = old; new = new; before = a; now = b }) out notes)
-      → (k : Making) × MomentByReads options (plan_by m.machine.image ahead) k × Puts out k.run.state.outside.output × Puts notes (notes_of false k.run.trace)
+      → StoppedAt out notes
       → Stopped old new out notes
-  stopped_by None new a b out notes told h = record { making = h.0; stopped = h.1; put = h.2; noted = h.3; left = tt }
+  stopped_by None new a b out notes told h =
+      record { making = h.at.making; stopped = (h.at, h.by, h.past, refl); put = h.put; noted = h.noted; left = tt }
   stopped_by (Some bytes) new a b out notes told h =
       let k = told bytes refl in
       record {
@@ -190,32 +248,95 @@ module _ (options : RunOptions) (m : WildState) (ahead : ℕ → ℕ) (how : m.m
     pub bytes : WritesPrefix out.old out.new answer.output
     pub lines : WritesPrefix notes.old notes.new answer.trace
 
-  pub fronts_by : (force : Bool) (name : List ℕ) (w : World) (out notes : Sunk)
-      → ((bytes : List ℕ) → w.input ≡ Some bytes → (k : Journaled) → StopsAt options.steps (program_of m.machine) bytes ahead k → ShowsWildPart (shown_making false k.making) out notes)
-      → Begins (unwatched options) m ahead how fresh force w.input out notes → RunFronts force name w out notes
-  fronts_by force name w out notes told b = by w.input refl (some_journal options w.input plan)
+  -- where the run goes on over inputs of its own to where it stops
+  untold_fronts : (force : Bool) (name : List ℕ) (w : World) (out notes : Sunk) → w.input ≡ None → (force ≡ false → FreeAlike m.machine.image)
+      → (r : Recorded) → RecordedByReads options (plan_by m.machine.image ahead) r
+      → WritesPrefix out.old out.new r.making.run.state.outside.output → WritesPrefix notes.old notes.new (notes_of false r.making.run.trace)
+      → RunFronts force name w out notes
+  untold_fronts force name w out notes untold alone r by bytes lines = at (is_within (journal_in options.complete r)) refl
     where
       plan : Plan
       plan = plan_by m.machine.image ahead
 
+      at : (b : Bool) → is_within (journal_in options.complete r) ≡ b → RunFronts force name w out notes
+      at true within =
+          let j = journals options force (plan_by m.machine.image ahead) r by within alone in
+          let p = journal_in options.complete r in
+          let a = keeps_some w name (spelling p) (answer_wild w.input j.what) in
+          record {
+            answer = a.0;
+            run = inl (record {
+              shown = j.what;
+              may = subst (λ (o : Option (List ℕ)). MayShowWild (unwatched options) force o (plan_by m.machine.image ahead) j.what) (sym untold) j.may;
+              journal = p;
+              has = subst (λ (o : Option (List ℕ)). HasItsJournal options o (plan_by m.machine.image ahead) j.what p) (sym untold) (r, j.has, j.shows);
+              keeps = a.1;
+            });
+            bytes = subst (WritesPrefix out.old out.new) (sym (same_output w name (spelling p) (answer_wild w.input j.what) a.0 a.1 ∙ j.shows.output)) bytes;
+            lines = subst (WritesPrefix notes.old notes.new) (sym (same_trace w name (spelling p) (answer_wild w.input j.what) a.0 a.1 ∙ j.shows.notes)) lines;
+          }
+      at false past = record {
+        answer = full_answer w.input r.making;
+        run = inr (record {
+          making = r.making;
+          stopped = subst (λ (o : Option (List ℕ)). IsStopped options o (plan_by m.machine.image ahead) r.making) (sym untold) (r, by, past, refl);
+          is = refl;
+        });
+        bytes = bytes;
+        lines = lines;
+      }
+
+  cut_untold : (force : Bool) (name : List ℕ) (fault : Fault) (w : World) (before after : Telling) (d : Drawn) (out notes : Sunk) → w.input ≡ None → (force ≡ false → FreeAlike m.machine.image)
+      → before.ahead ≡ Some ahead → IsShort options.steps fault m before after d out notes → RunFronts force name w out notes
+  cut_untold force name fault w before after d out notes untold alone tells short =
+      let n = options.steps in
+      let g = program_of m.machine in
+      let cut = short.cut in
+      let s = told_starts before after ahead cut.drawn (most_words n) tells cut.drew (few_cut fault n false m before after d out notes cut fresh.calm) in
+      let words = cut.drawn ++ s.coming in
+      let inputs = cut.inputs ++ cut.next ∷ [] in
+      let from = unrecorded (begun_at m [] [] words) in
+      let mid = recorded_over g inputs from in
+      let stands = cut.then [] s.coming in
+      let making = recorded-making g inputs from ∙ stands.is in
+      let units : mid.making.run.units ≡ cut.units + cut.more = ap (λ (k : Making). k.run.units) making ∙ stands.units in
+      let room = cut.room in
+      let end = ends n g mid (omega (arith, units, room)) in
+      let r = recorded_over g end.inputs mid in
+      let whole = recorded-append n g inputs end.inputs from in
+      let begins = begins_over n g end.inputs mid in
+      let by = by_reads (inputs ++ end.inputs) cut.drawn s.coming s.is (goes-append n g inputs end.inputs from (short.goes [] s.coming) end.goes)
+      (ap (stops_at n g.how) whole ∙ end.stopped) in
+      untold_fronts force name w out notes untold alone r (subst (λ (x : Recorded). RecordedByReads options (plan_by m.machine.image ahead) x) whole by)
+      (front out.old out.new cut.put cut.put' r.making.run.state.outside.output cut.output
+      (subst (λ (l : List ℕ). Grows l r.making.run.state.outside.output) (ap (λ (k : Making). k.run.state.outside.output) making) begins.output))
+      (front notes.old notes.new cut.lines cut.lines' (notes_of false r.making.run.trace) cut.noted
+      (subst (λ (l : List ℕ). Grows l (notes_of false r.making.run.trace)) (ap (λ (k : Making). notes_of false k.run.trace) making ∙ stands.notes)
+      (notes-grow false mid.making.run.trace r.making.run.trace begins.trace)))
+
+  pub fronts_by : (force : Bool) (name : List ℕ) (fault : Fault) (w : World) (before after : Telling) (d : Drawn) (out notes : Sunk) → (force ≡ false → FreeAlike m.machine.image)
+      → before.ahead ≡ Some ahead → IsShort options.steps fault m before after d out notes
+      → ((bytes : List ℕ) → w.input ≡ Some bytes → (k : Journaled) → StopsAt options.steps (program_of m.machine) bytes ahead k → ShowsWildPart (shown_making false k.making) out notes)
+      → Begins (unwatched options) m ahead how fresh force w.input out notes → RunFronts force name w out notes
+  fronts_by force name fault w before after d out notes alone tells short told b = by w.input refl
+    where
       past : (bytes : List ℕ) → w.input ≡ Some bytes → (k : Making) → IsPast options.steps (program_by options m.machine.image) bytes ahead k → ShowsWildPart (shown_making false k) out notes
       past bytes is k h =
           subst (λ (j : Making). ShowsWildPart (shown_making false j) out notes) (sym h.is)
           (told bytes is h.place (subst (λ (g : Program). StopsAt options.steps g bytes ahead h.place) (sym (same_program (unwatched options) m ahead how fresh)) h.stops))
 
-      kept : (p : Parts) → HasJournal options w.input (plan_by m.machine.image ahead) p → RunFronts force name w out notes
-      kept p has =
+      at : (bytes : List ℕ) → w.input ≡ Some bytes
+          → ((p : Parts) × IsRecorded options.steps (program_by options m.machine.image) bytes ahead p) ⊎ ((k : Making) × IsPast options.steps (program_by options m.machine.image) bytes ahead k)
+          → RunFronts force name w out notes
+      at bytes is (inl (p, has)) =
           let a = keeps_some w name (spelling p) (answer_wild w.input b.what) in
           record {
             answer = a.0;
-            run = inl (record { shown = b.what; may = b.may; journal = p; has = has; keeps = a.1 });
+            run = inl (record { shown = b.what; may = b.may; journal = p; has = subst (λ (o : Option (List ℕ)). HasItsJournal options o (plan_by m.machine.image ahead) b.what p) (sym is) has; keeps = a.1 });
             bytes = subst (WritesPrefix out.old out.new) (sym (same_output w name (spelling p) (answer_wild w.input b.what) a.0 a.1)) b.bytes;
             lines = subst (WritesPrefix notes.old notes.new) (sym (same_trace w name (spelling p) (answer_wild w.input b.what) a.0 a.1)) b.lines;
           }
-
-      stopped : (input : Option (List ℕ)) → w.input ≡ input → (k : Making) → IsStopped options input (plan_by m.machine.image ahead) k → IsSome input → RunFronts force name w out notes
-      stopped None is k h some = cc
-      stopped (Some bytes) is k h some =
+      at bytes is (inr (k, h)) =
           let shows = past bytes is k h in
           record {
             answer = full_answer w.input k;
@@ -224,13 +345,9 @@ module _ (options : RunOptions) (m : WildState) (ahead : ℕ → ℕ) (how : m.m
             lines = shows.lines;
           }
 
-      by : (input : Option (List ℕ)) → w.input ≡ input → ((p : Parts) × HasJournal options w.input (plan_by m.machine.image ahead) p) ⊎ ((k : Making) × IsStopped options w.input (plan_by m.machine.image ahead) k)
-          → RunFronts force name w out notes
-      by input is (inl h) = kept h.0 h.1
-      by None is (inr h) =
-          let p = parts Wrap Spent [] [] [] in
-          kept p (subst (λ (l : Option (List ℕ)). HasJournal options l (plan_by m.machine.image ahead) p) (sym is) tt)
-      by (Some bytes) is (inr h) = stopped (Some bytes) is h.0 (subst (λ (l : Option (List ℕ)). IsStopped options l (plan_by m.machine.image ahead) h.0) is h.1) refl
+      by : (input : Option (List ℕ)) → w.input ≡ input → RunFronts force name w out notes
+      by None is = cut_untold force name fault w before after d out notes is alone tells short
+      by (Some bytes) is = at bytes is (some_end options.steps (program_by options m.machine.image) bytes ahead)
 
   -- ---- what the command tries
 

@@ -1,11 +1,11 @@
 -- What is promised of a call follows from how it ended.
-use Rattle.std.proofs.Common.{◌≡◌, ◌≢◌, ◌⊎◌, ◌∙◌, ℕ, false, List, [], ◌∷◌, codes, refl, sym, ap, subst, inl, inr, ⊎_elim}
+use Rattle.std.proofs.Common.{◌≡◌, ◌≢◌, ◌⊎◌, ◌∙◌, ℕ, false, List, sym, ap, subst, inl, inr, ⊎_elim}
 use Rattle.alpha_io.specs.Faults.{Rose}
 use Rattle.alpha_io.proofs.Counts.{Rose-not_calm}
 use Rattle.alpha_request.specs.Asked.{asked}
 use Rattle.alpha_request.specs.Command.{Command, check, fix, make_module, link, replay, run, imprecise}
 use Rattle.alpha_request.specs.Origin.{seed}
-use Rattle.alpha_request.specs.Plain.{IsPlain, defaults}
+use Rattle.alpha_request.specs.Plain.{defaults}
 use Rattle.alpha_request.proofs.AskedBy.{asked_rows}
 use Rattle.alpha_request.proofs.PlainWords.{plain_check, plain_run, plain_imprecise}
 use Rattle.alpha_cmd.specs.declared.status.Status.{Status}
@@ -15,7 +15,7 @@ use Rattle.alpha_cmd.specs.Drawn.{but_drawn}
 use Rattle.alpha_cmd.specs.Alike.{Alike}
 use Rattle.alpha_cmd.specs.AlikeByAnswers.{undrawn}
 use Rattle.alpha_cmd.specs.Answer.{Answer}
-use Rattle.alpha_cmd.specs.AnswerBy.{World, told}
+use Rattle.alpha_cmd.specs.AnswerBy.{told}
 use Rattle.alpha_cmd.specs.Asks.{Asks}
 use Rattle.alpha_cmd.specs.Call.{Call, Quiet}
 use Rattle.alpha_cmd.specs.Checked.{Checked, SpellsRestartable}
@@ -30,7 +30,7 @@ use Rattle.alpha_cmd.specs.Gave.{Gave}
 use Rattle.alpha_cmd.specs.Promises.{tried_in, EndsWhole, EndsCut, GivesOne, GivesThe, EndsAsked, LosesNone}
 use Rattle.alpha_cmd.specs.ReadsNothing.{Unread, UnreadAlike}
 use Rattle.alpha_cmd.specs.Replayed.{ShowsRuns}
-use Rattle.alpha_cmd.specs.ToldRun.{TellsAccepted, answer_told, AskRun, Ran}
+use Rattle.alpha_cmd.specs.ToldRun.{answer_told, Ran}
 use Rattle.alpha_cmd.specs.Tried.{IsAnswer}
 use Rattle.alpha_cmd.proofs.Accepted.{accepted_call}
 use Rattle.alpha_cmd.proofs.Alike.{tried_restarts}

@@ -11,7 +11,7 @@ use Rattle.alpha_pal.specs.declared.fault.Fault.{Fault}
 use Rattle.alpha_seq.specs.declared.machine.Machine.{Machine}
 use Rattle.alpha_seq.specs.State.{Program, State}
 use Rattle.alpha_seq.specs.Start.{start}
-use Rattle.alpha_seq.specs.Run.{Run, started, Shown, after, shown, sequential}
+use Rattle.alpha_seq.specs.Run.{started, Shown, after, shown, sequential}
 use Rattle.alpha_seq.specs.Machine.{program_of, state_of}
 use Rattle.alpha_seq.specs.Devices.{Drawn}
 use Rattle.alpha_seq.specs.Inputs.{run_over, HasMade}
@@ -25,7 +25,6 @@ use Rattle.alpha_cmd.specs.Image.{ImageOf}
 use Rattle.alpha_cmd.specs.Commands.Run.{run_by_reads, MayShow, form}
 use Rattle.alpha_cmd.specs.Commands.Imprecise.{answer_status, answer_line}
 use Rattle.alpha_cmd.specs.RunAnswer.{run_status, run_line, program_by, answer_shown}
-use Rattle.alpha_cmd.specs.Answer.{Answer}
 use Rattle.alpha_cmd.specs.AnswerBy.{World, said}
 use Rattle.alpha_cmd.specs.Ends.{Leaves}
 use Rattle.alpha_cmd.specs.Tries.{TriesBy}

@@ -1,5 +1,5 @@
 -- The journal that is kept with an answer over a told input is that of the run that has this answer.
-use Rattle.std.proofs.Common.{◌≡◌, ◌⊎◌, ◌∙◌, ◌<◌, ◌≤◌, ◌+◌, ◌-◌, ◌==◌, ◌&&◌, ◌||◌, ◌++◌, ◌^◌, ◌%◌, not, ℕ, zero, suc, Bool, true, false, List, [], Option, None, Some, is_none, Ok, refl, sym, ap, subst, inl, inr, ⊎_elim, arith}
+use Rattle.std.proofs.Common.{◌≡◌, ◌∙◌, ◌<◌, ◌≤◌, ◌+◌, ◌-◌, ◌&&◌, ◌||◌, ◌++◌, ◌^◌, ◌%◌, not, ℕ, zero, suc, Bool, true, false, List, [], Option, None, Some, is_none, refl, sym, ap, subst, inl, inr, ⊎_elim, arith}
 use Rattle.std.proofs.lemmas.Bool.{eqb-true, cases_lt}
 use Rattle.alpha_io.specs.Files.{Files}
 use Rattle.alpha_image.specs.Parts.{Parts as Image}
@@ -7,8 +7,7 @@ use Rattle.alpha_shadow.specs.Broken.{IsAccepted}
 use Rattle.alpha_request.specs.declared.options.RunOptions.{RunOptions}
 use Rattle.alpha_request.specs.Origin.{Origin}
 use Rattle.alpha_restart.proofs.Agreeing.{accepted_restarts}
-use Rattle.alpha_seq.specs.declared.end.End.{End}
-use Rattle.alpha_seq.specs.State.{Program, State, Event, Went, Barriered, Overflowed, Ends}
+use Rattle.alpha_seq.specs.State.{Program, State, Went, Barriered, Overflowed, Ends}
 use Rattle.alpha_seq.specs.Start.{start}
 use Rattle.alpha_seq.specs.Run.{Shown, sequential}
 use Rattle.alpha_imprecise.specs.Moment.{Trap, Happening, Precisely, Triggered, Waited, Reported, Lost}
@@ -16,7 +15,7 @@ use Rattle.alpha_imprecise.specs.Restart.{IsRestartable}
 use Rattle.alpha_imprecise.specs.Run.{finished, unit_of}
 use Rattle.alpha_imprecise.specs.Shown.{ShowsSame}
 use Rattle.alpha_imprecise.specs.Used.{HasUsed}
-use Rattle.alpha_imprecise.specs.Made.{Making, begun, advance_making, steps_making, made, first_words, most_words, wild_end, LostTrap, lost_trap, ShownWild, shown_making, imprecise_by}
+use Rattle.alpha_imprecise.specs.Made.{Making, begun, advance_making, steps_making, made, first_words, most_words, wild_end, lost_trap, ShownWild, shown_making, imprecise_by}
 use Rattle.alpha_imprecise.proofs.Nearing.{steps-first, steps-then, calm_takes}
 use Rattle.alpha_imprecise.proofs.Settling.{advance-going, advance-over, none_of, made_is}
 use Rattle.alpha_imprecise.proofs.Showing.{runs_alike}
@@ -31,14 +30,14 @@ use Rattle.alpha_replay.proofs.JournaledReplays.{input_stays, journaled_lists, l
 use Rattle.alpha_replay.proofs.JournaledRuns.{played_in, steps_run}
 use Rattle.alpha_replay.proofs.Recording.{taken_is}
 use Rattle.alpha_replay.proofs.Stopping.{few_words}
-use Rattle.alpha_cmd.specs.Outcome.{Outcome, goes, stops}
+use Rattle.alpha_cmd.specs.Outcome.{goes, stops}
 use Rattle.alpha_cmd.specs.Image.{ImageOf}
 use Rattle.alpha_cmd.specs.Answer.{Answer}
 use Rattle.alpha_cmd.specs.AnswerBy.{World, AnswerBy}
 use Rattle.alpha_cmd.specs.Kept.{Kept, nothing}
 use Rattle.alpha_cmd.specs.Kept as kinds
-use Rattle.alpha_cmd.specs.Commands.Imprecise.{Plan, PlanOf, Passes, with_drawn, MayShowWild, answer_wild}
-use Rattle.alpha_cmd.specs.Commands.Record.{unwatched, HasJournal, KeepsBehind, IsKeptRun, Planned, steps}
+use Rattle.alpha_cmd.specs.Commands.Imprecise.{Plan, with_drawn, MayShowWild, answer_wild}
+use Rattle.alpha_cmd.specs.Commands.Record.{unwatched, HasItsJournal, KeepsBehind, IsKeptRun, Planned, steps}
 use Rattle.alpha_cmd.specs.RecordedRun.{ending_shown, IsJournalOf, KeepsItsJournal}
 use Rattle.alpha_cmd.specs.RunAnswer.{program_by}
 
@@ -224,7 +223,7 @@ module _ (options : RunOptions) (choices : Origin) (force : Bool) (file out byte
       by (inl h) =
           let plans = is_planned force choices file w.files plan planned in
           let may = subst (λ (o : Option (List ℕ)). MayShowWild (unwatched options) force o plan k.shown) told k.may in
-          let has = subst (λ (o : Option (List ℕ)). HasJournal options o plan k.journal) told k.has in
+          let has = subst (λ (o : Option (List ℕ)). HasItsJournal options o plan k.shown k.journal) told k.has in
           let kept = kinds.file out (spelling k.journal) in
           let is : b ≡ record (answer_wild (Some bytes) k.shown) { kept = kept } =
           h.1 ∙ ap (λ (o : Option (List ℕ)). record (answer_wild o k.shown) { kept = kept }) told in

@@ -1,10 +1,10 @@
 -- A run of a file that spells an accepted image over a told input has, by either machine, the answer of the sequential run of
 -- that image.
-use Rattle.std.proofs.Common.{◌≡◌, ◌↔◌, ◌⊎◌, ◌∙◌, ℕ, Bool, List, Option, None, Some, IsSome, is_some, refl, sym, ap, subst, inr}
+use Rattle.std.proofs.Common.{◌≡◌, ◌↔◌, ◌∙◌, ℕ, Bool, List, Option, None, Some, IsSome, is_some, refl, sym, ap, subst, inr}
 use Rattle.alpha_io.specs.Files.{Files, HasFile}
 use Rattle.alpha_image.specs.Parts.{Parts, IsImage, spelling}
 use Rattle.alpha_shadow.specs.Broken.{IsAccepted}
-use Rattle.alpha_request.specs.Command.{Command, run, imprecise}
+use Rattle.alpha_request.specs.Command.{run, imprecise}
 use Rattle.alpha_request.specs.Origin.{Origin, seed, file}
 use Rattle.alpha_request.specs.declared.options.RunOptions.{RunOptions}
 use Rattle.alpha_seq.specs.declared.end.End.{End}

@@ -1,5 +1,5 @@
 -- From what a run of the imprecise machine did to what the command `run --imprecise` tries.
-use Rattle.std.proofs.Common.{◌≡◌, ◌≢◌, ◌++◌, ◌∙◌, ◌<◌, ◌≤◌, ◌+◌, length, ℕ, ◌%◌, ◌^◌, Bool, true, false, List, [], Option, None, Some, IfSome, option_map, unwrap_or, refl, sym, ap, subst, inl, append-nil, arith}
+use Rattle.std.proofs.Common.{◌≡◌, ◌≢◌, ◌++◌, ◌∙◌, ◌<◌, ◌≤◌, length, ℕ, ◌%◌, ◌^◌, Bool, true, false, List, [], Option, None, Some, IfSome, option_map, unwrap_or, refl, sym, ap, subst, inl, append-nil, arith}
 use Rattle.alpha_io.specs.Files.{Files, KeepsFiles}
 use Rattle.alpha_io.specs.Shelved.{Shelved}
 use Rattle.alpha_io.specs.Sunk.{Sunk, Puts}
@@ -13,7 +13,7 @@ use Rattle.alpha_seq.specs.declared.event.Event.TheVariants as events
 use Rattle.alpha_pal.specs.declared.fault.Fault.{Fault}
 use Rattle.alpha_seq.specs.State.{Program, Went, Barriered, Overflowed, Ends}
 use Rattle.alpha_seq.specs.Start.{start}
-use Rattle.alpha_seq.specs.Run.{notes_of, shown, sequential}
+use Rattle.alpha_seq.specs.Run.{notes_of, sequential}
 use Rattle.alpha_seq.specs.Machine.{program_of}
 use Rattle.alpha_seq.specs.Devices.{Drawn}
 use Rattle.alpha_imprecise.specs.Moment.{Happening, Precisely, Triggered, Waited, Reported, Lost}
@@ -31,10 +31,8 @@ use Rattle.alpha_restart.proofs.Agreeing.{accepted_restarts}
 use Rattle.alpha_restart.proofs.FreeTogether.{accepted_free}
 use Rattle.alpha_run.specs.WildRan.{making_from, ended_as, WildCut}
 use Rattle.alpha_run.proofs.WildShown.{drawn_from_none, Whole, used_all, few_drawn, told_all, cut_any, few_cut, cut_told}
-use Rattle.alpha_cmd.specs.declared.status.Status.{Status}
 use Rattle.alpha_cmd.specs.declared.status.Status.TheVariants.{ShelfFault}
 use Rattle.alpha_cmd.specs.Outcome.{goes}
-use Rattle.alpha_cmd.specs.Commands.Run.{run_by_reads}
 use Rattle.alpha_cmd.specs.RunAnswer.{program_by}
 use Rattle.alpha_cmd.specs.Commands.Imprecise.{Plan, plan_by, PlanOf, Passes, with_drawn, MadeByReads, MayShowWild, wild_status, wild_line, answer_status, answer_line, answer_wild, kind, form}
 use Rattle.alpha_cmd.specs.AnswerBy.{World, said}
@@ -43,7 +41,7 @@ use Rattle.alpha_cmd.specs.Ends.{Leaves}
 use Rattle.alpha_cmd.specs.Tries.{TriesBy}
 use Rattle.alpha_cmd.proofs.Commands.Imprecise.{wild_answer, may_lose, drawn_not_shelf}
 use Rattle.alpha_cmd.proofs.CutShort.{Fronts}
-use Rattle.alpha_cmd.proofs.Untold.{made_same, same_may}
+use Rattle.alpha_cmd.proofs.Untold.{reads_show}
 
 -- ---- the status and the line of a run's end
 
@@ -156,16 +154,18 @@ module _ (options : RunOptions) (m : WildState) (ahead : ℕ → ℕ) (how : m.m
 
   may_show : (force : Bool) (told : Option (List ℕ)) (k : Making) → IsRun told k → (force ≡ false → RunsAlone m.machine.image) → MayShowOf force told k
   unfolding by_reads
-  may_show true None k is alone = record {
-    what = shown_making options.watch k;
-    may = (by_reads k is, refl);
-    end = refl;
-    lost = refl;
-    output = refl;
-    notes = refl;
-    drawn = refl;
-    left = tt;
-  }
+  may_show force None k is alone =
+      let s = reads_show options force (plan_by m.machine.image ahead) (by_reads k is) (λ judges. (alone judges).free) in
+      record {
+        what = s.what;
+        may = s.may;
+        end = s.end;
+        lost = s.lost;
+        output = s.output;
+        notes = s.notes;
+        drawn = s.drawn;
+        left = tt;
+      }
   may_show true (Some bytes) k is alone = record {
     what = shown_making options.watch k;
     may = ap (shown_making options.watch) (is ∙ told_as bytes (first_words (most_words options.steps) ahead));
@@ -176,20 +176,6 @@ module _ (options : RunOptions) (m : WildState) (ahead : ℕ → ℕ) (how : m.m
     drawn = refl;
     left = refl;
   }
-  may_show false None k is alone =
-      let h = by_reads k is in
-      let q = made_same options (plan_by m.machine.image ahead) (alone refl).free h in
-      let t = shown options.watch (run_by_reads options m.machine.image q.inputs) in
-      record {
-        what = with_drawn t k.count;
-        may = (h, (t, same_may options m.machine.image k.run q, refl));
-        end = q.end;
-        lost = q.lost;
-        output = q.output;
-        notes = ap (notes_of options.watch) q.trace;
-        drawn = refl;
-        left = tt;
-      }
   may_show false (Some bytes) k is alone =
       let g = program_by options m.machine.image in
       let words = first_words (most_words options.steps) ahead in
@@ -238,17 +224,24 @@ module _ (options : RunOptions) (m : WildState) (ahead : ℕ → ℕ) (how : m.m
   left_by last rest new before after d out notes w coming None is left same = tt
   left_by last rest new before after d out notes w coming (Some bytes) is left same = (w.ran.told bytes coming is).1 ∙ ap (λ (l : List ℕ). Some l) same
 
-  pub ran_shows : (force : Bool) (last : Option Seen) (rest drawn : ℕ) (new : WildState) (before after : Telling) (d : Drawn) (out notes : Sunk)
-      → Whole last options.steps rest options.watch m new before after d out notes
-      → before.ahead ≡ Some ahead → before.count ≡ Some 0 → after.count ≡ Some drawn → drawn < 2 ^ 64 → (force ≡ false → RunsAlone m.machine.image)
-      → Shows force last drawn d.old d.new out notes
-  ran_shows force last rest drawn new before after d out notes w tells none now low alone =
-      let s = told_starts before after ahead w.ran.words (most_words options.steps) tells w.ran.drew
-      (few_drawn last options.steps rest options.watch m new before after d out notes w fresh.calm) in
-      let words = w.ran.words ++ s.coming in
+  -- which is what this run does
+  pub record ShowsOf (force : Bool) (last : Option Seen) (drawn : ℕ) (old new : Option (List ℕ)) (out notes : Sunk) (k : Making) : Type 0 where
+    pub shows : Shows force last drawn old new out notes
+    pub end : shows.what.end ≡ wild_end k.run.last
+    pub lost : shows.what.lost ≡ lost_trap k.run.last
+    pub output : shows.what.output ≡ k.run.state.outside.output
+    pub notes_are : shows.what.notes ≡ notes_of options.watch k.run.trace
+    pub count : shows.what.drawn ≡ k.count
+
+  pub ran_shows_of : (force : Bool) (last : Option Seen) (rest drawn : ℕ) (new : WildState) (before after : Telling) (d : Drawn) (out notes : Sunk)
+      → (w : Whole last options.steps rest options.watch m new before after d out notes) (coming : List ℕ) → first_words (most_words options.steps) ahead ≡ w.ran.words ++ coming
+      → before.count ≡ Some 0 → after.count ≡ Some drawn → drawn < 2 ^ 64 → (force ≡ false → RunsAlone m.machine.image)
+      → ShowsOf force last drawn d.old d.new out notes (making_from m (unwrap_or d.old []) (w.ran.words ++ coming) w.ran.inputs)
+  ran_shows_of force last rest drawn new before after d out notes w coming same none now low alone =
+      let words = w.ran.words ++ coming in
       let k = making_from m (unwrap_or d.old []) words w.ran.inputs in
-      let stands = w.ran.is (unwrap_or d.old []) s.coming in
-      let may = may_show force d.old k (whole_is last rest new before after d out notes w s.coming s.is d.old refl) alone in
+      let stands = w.ran.is (unwrap_or d.old []) coming in
+      let may = may_show force d.old k (whole_is last rest new before after d out notes w coming same d.old refl) alone in
       let h = ap (λ (j : Making). j.run.last) stands.is ∙ stands.last_is in
       let end : wild_end w.happened ≡ may.what.end = ap wild_end (sym h) ∙ may.end in
       let lost : lost_trap w.happened ≡ may.what.lost = ap lost_trap (sym h) ∙ may.lost in
@@ -256,17 +249,33 @@ module _ (options : RunOptions) (m : WildState) (ahead : ℕ → ℕ) (how : m.m
       let count : may.what.drawn ≡ length w.ran.words = sym may.drawn ∙ ap (λ (j : Making). j.count) stands.is in
       let many : drawn ≡ may.what.drawn % 2 ^ 64 = omega arith in
       record {
-        what = may.what;
-        may = may.may;
-        status_is =
-            ap (λ (o : Option Seen). answer_status o drawn) w.last_is
-            ∙ (status_by w.happened drawn
-            ∙ λ i. wild_status (end i) (lost i) (many i));
-        line_is = ap answer_line w.last_is ∙ (line_by w.happened ∙ λ i. wild_line (end i) (lost i));
-        bytes = subst (Puts out) (sym (ap (λ (j : Making). j.run.state.outside.output) stands.is) ∙ may.output) w.ran.wrote;
-        lines = subst (Puts notes) (sym (ap (λ (j : Making). notes_of options.watch j.run.trace) stands.is ∙ stands.notes) ∙ may.notes) w.ran.noted;
-        left = left_by last rest new before after d out notes w s.coming d.old refl may.what.left may.left;
+        shows = record {
+          what = may.what;
+          may = may.may;
+          status_is =
+              ap (λ (o : Option Seen). answer_status o drawn) w.last_is
+              ∙ (status_by w.happened drawn
+              ∙ λ i. wild_status (end i) (lost i) (many i));
+          line_is = ap answer_line w.last_is ∙ (line_by w.happened ∙ λ i. wild_line (end i) (lost i));
+          bytes = subst (Puts out) (sym (ap (λ (j : Making). j.run.state.outside.output) stands.is) ∙ may.output) w.ran.wrote;
+          lines = subst (Puts notes) (sym (ap (λ (j : Making). notes_of options.watch j.run.trace) stands.is ∙ stands.notes) ∙ may.notes) w.ran.noted;
+          left = left_by last rest new before after d out notes w coming d.old refl may.what.left may.left;
+        };
+        end = sym may.end;
+        lost = sym may.lost;
+        output = sym may.output;
+        notes_are = sym may.notes;
+        count = sym may.drawn;
       }
+
+  pub ran_shows : (force : Bool) (last : Option Seen) (rest drawn : ℕ) (new : WildState) (before after : Telling) (d : Drawn) (out notes : Sunk)
+      → Whole last options.steps rest options.watch m new before after d out notes
+      → before.ahead ≡ Some ahead → before.count ≡ Some 0 → after.count ≡ Some drawn → drawn < 2 ^ 64 → (force ≡ false → RunsAlone m.machine.image)
+      → Shows force last drawn d.old d.new out notes
+  ran_shows force last rest drawn new before after d out notes w tells none now low alone =
+      let s = told_starts before after ahead w.ran.words (most_words options.steps) tells w.ran.drew
+      (few_drawn last options.steps rest options.watch m new before after d out notes w fresh.calm) in
+      (ran_shows_of force last rest drawn new before after d out notes w s.coming s.is none now low alone).shows
 
   -- ---- a run that was cut short: fronts of what it would have shown were written
 

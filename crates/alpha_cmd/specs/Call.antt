@@ -1,5 +1,4 @@
 -- What a call did to its devices, and when none of them failed.
-use Rattle.std.specs.Prelude.{ℕ}
 use Rattle.alpha_io.specs.declared.shelf.Shelf as shelves
 use Rattle.alpha_io.specs.declared.source.Source as sources
 use Rattle.alpha_io.specs.declared.sink.Sink as sinks

@@ -20,6 +20,7 @@
 //! another.
 //!
 //! `src/wild.rt` is the machine and `src/pending.rt` its pending trap; `src/step.rt` has the step by what it is,
+//! `src/picks.rt` who chooses in it, and how a chooser does by its words,
 //! `src/look.rt` what the word at the PC would do, `src/spoil.rt` the words that are executed while a trap is pending,
 //! `src/report.rt` the report, through the kernel's frame and the handler, and `src/laws.rt` the laws.
 #![tactic(auto)]

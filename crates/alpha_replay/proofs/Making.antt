@@ -409,7 +409,7 @@ made_err fault n left old from before after input out notes start did =
     cut_short fault n left old before after input out notes (subst (λ (r : Recorder). IsCut fault WildGoes recording n left old r before after input out notes) start did)
 
 -- a run with its journal, as one to its end or for all its units
-pub whole_of : (n : ℕ) (last : Option Seen) (journal : Parts) (old new : WildState) (before after : Telling) (input : Drawn) (out notes : Sunk)
+unfoldable pub whole_of : (n : ℕ) (last : Option Seen) (journal : Parts) (old new : WildState) (before after : Telling) (input : Drawn) (out notes : Sunk)
     → (r : made.Records n last journal old new before after input out notes) → Whole last n (n - r.stops.units) false old new before after input out notes
 whole_of n last journal old new before after input out notes r =
     let most = r.stops.most in

@@ -18,7 +18,7 @@ use Rattle.alpha_replay.proofs.Shortened.{next_journaled}
 
 -- ---- where the run of all units is, the run with its journal has stopped
 
-stop_by : (w f c e : Bool) → (f || c) ≡ true → (f ≡ false → e ≡ true) → (not w || (f || (c && e))) ≡ true
+pub stop_by : (w f c e : Bool) → (f || c) ≡ true → (f ≡ false → e ≡ true) → (not w || (f || (c && e))) ≡ true
 stop_by false f c e h k = refl
 stop_by true true c e h k = refl
 stop_by true false true e h k = k refl
@@ -28,6 +28,20 @@ used_stops : (n : ℕ) (g : Program) (k : Journaled) → HasUsed n k.making.run 
 used_stops n g k used =
     stop_by (is_within (journal_at g.how k)) (finished k.making.run.last) (is_none k.making.run.pending) (k.making.run.units == n) used.settled
     (λ going. eq-eqb k.making.run.units n (used.full going))
+
+-- where nothing is pending and some units are left
+pub last_of : (a b c : Bool) → (a || (b || c)) ≡ false → c ≡ false
+last_of false false c e = e
+last_of false true c e = cc
+last_of true b c e = absurd cc
+
+pub room : (n : ℕ) (p : Option Trap) (units : ℕ) → (is_none p && (units == n)) ≡ false → units ≤ n → units + unit_of p ≤ n
+room n None units e low =
+    ⊎_elim
+    (λ (same : units ≡ n). absurd (let no : true ≡ false = sym (eq-eqb units n same) ∙ e in cc))
+    (λ (below : units < n). omega (arith, below))
+    (eq-or-lt_of_le low)
+room n (Some t) units e low = omega (arith, low)
 
 module _ (n : ℕ) (g : Program) (from : Journaled) where
   -- until it stops it makes the steps of the run
@@ -54,19 +68,6 @@ module _ (n : ℕ) (g : Program) (from : Journaled) where
 
   -- ---- it uses no more than its units
 
-  last_of : (a b c : Bool) → (a || (b || c)) ≡ false → c ≡ false
-  last_of false false c e = e
-  last_of false true c e = cc
-  last_of true b c e = absurd cc
-
-  room : (p : Option Trap) (units : ℕ) → (is_none p && (units == n)) ≡ false → units ≤ n → units + unit_of p ≤ n
-  room None units e low =
-      ⊎_elim
-      (λ (same : units ≡ n). absurd (let no : true ≡ false = sym (eq-eqb units n same) ∙ e in cc))
-      (λ (below : units < n). omega (arith, below))
-      (eq-or-lt_of_le low)
-  room (Some t) units e low = omega (arith, low)
-
   units_most : (m : ℕ) → from.making.run.units ≤ n → (steps_journaled n g from m).making.run.units ≤ n
   units_most zero low = low
   units_most (suc m) low = by (units_most m low) (has_stopped n g.how (steps_journaled n g from m)) refl
@@ -79,7 +80,7 @@ module _ (n : ℕ) (g : Program) (from : Journaled) where
           let goes : finished k.run.last ≡ false = going_of _ _ _ going in
           let more : (steps_journaled n g from (suc m)).making.run.units ≡ k.run.units + unit_of k.run.pending =
           ap (λ (j : Making). j.run.units) (next_journaled n g from m going ∙ advance-going g k goes) in
-          subst (λ (u : ℕ). u ≤ n) (sym more) (room k.run.pending k.run.units (last_of _ _ _ going) before)
+          subst (λ (u : ℕ). u ≤ n) (sym more) (room n k.run.pending k.run.units (last_of _ _ _ going) before)
 
 -- ---- from a state with nothing pending
 

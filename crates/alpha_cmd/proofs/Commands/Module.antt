@@ -1,5 +1,5 @@
 -- The laws of `module`, and what it leaves.
-use Rattle.std.proofs.Common.{◌≡◌, ◌∙◌, ℕ, List, [], ◌∷◌, Result, Ok, Err, refl, sym, ap, inl, ⊎_elim}
+use Rattle.std.proofs.Common.{◌≡◌, ◌∙◌, ℕ, List, Result, Ok, Err, refl, sym, ap, inl, ⊎_elim}
 use Rattle.alpha_asm.specs.declared.fault.AsmFault.{AsmFault}
 use Rattle.alpha_shadow.specs.declared.broken.Broken.{Broken}
 use Rattle.alpha_shadow.specs.Broken.{IsAccepted}

@@ -1,16 +1,22 @@
 -- The laws of `record`, and what leads to its answers.
-use Rattle.std.proofs.Common.{◌≡◌, ◌⊎◌, ◌∙◌, ℕ, ◌%◌, ◌^◌, Bool, true, false, List, [], length, Option, None, Some, IsSome, refl, sym, ap, subst, inl, inr}
-use Rattle.alpha_words.specs.declared.Completion.TheVariants.{Wrap}
+use Rattle.std.proofs.Common.{◌≡◌, ◌⊎◌, ◌∙◌, ℕ, ◌%◌, ◌^◌, Bool, true, false, List, [], length, Option, None, Some, IsSome, refl, sym, ap, subst, inl, inr, arith}
+use Rattle.alpha_io.specs.Files.{Files}
+use Rattle.alpha_shadow.specs.Broken.{IsAccepted}
+use Rattle.alpha_restart.proofs.FreeTogether.{accepted_free}
 use Rattle.alpha_request.specs.declared.options.RunOptions.{RunOptions}
 use Rattle.alpha_request.specs.Origin.{Origin}
 use Rattle.alpha_seq.specs.State.{Program}
 use Rattle.alpha_seq.specs.Start.{start}
 use Rattle.alpha_imprecise.specs.Made.{Making, begun, first_words, most_words, ShownWild}
-use Rattle.alpha_replay.specs.declared.ending.Ending.TheVariants.{Spent}
-use Rattle.alpha_replay.specs.Journal.{Parts, parts, spelling}
+use Rattle.alpha_imprecise.specs.Free.{FreeAlike}
+use Rattle.alpha_imprecise.proofs.FreeDrawing.{free_draws}
+use Rattle.alpha_replay.specs.Journal.{Parts, spelling}
 use Rattle.alpha_replay.specs.Journaled.{Journaled, unjournaled, journal_at, is_within}
 use Rattle.alpha_replay.specs.JournalEnd.{StopsAt, IsRecorded, IsPast}
+use Rattle.alpha_replay.specs.Recorded.{Recorded, recorded_over, journal_in}
 use Rattle.alpha_replay.proofs.JournaledRuns.{one_place}
+use Rattle.alpha_replay.proofs.Recording.{recorded-making}
+use Rattle.alpha_replay.proofs.Untold.{stopped_used, units_over, ends}
 use Rattle.alpha_replay.proofs.Stopping.{some_place}
 use Rattle.alpha_cmd.specs.declared.status.Status.{Status}
 use Rattle.alpha_cmd.specs.Outcome.{goes, stops}
@@ -19,8 +25,9 @@ use Rattle.alpha_cmd.specs.Answer.{Answer}
 use Rattle.alpha_cmd.specs.AnswerBy.{World, AnswerBy, said}
 use Rattle.alpha_cmd.specs.Keeping.{Untaken}
 use Rattle.alpha_cmd.specs.RunAnswer.{program_by}
-use Rattle.alpha_cmd.specs.Commands.Imprecise.{Plan, PlanOf, Passes, MayShowWild, answer_wild}
-use Rattle.alpha_cmd.specs.Commands.Record.{unwatched, HasJournal, IsStopped, KeepsBehind, IsKeptRun, full_answer, IsFullRun, Records, Planned, IsEndStatus, form, there}
+use Rattle.alpha_cmd.specs.Commands.Imprecise.{Plan, PlanOf, Passes, MadeByReads, MayShowBy, MayShowWild, answer_wild}
+use Rattle.alpha_cmd.specs.Commands.Record.{unwatched, unstarted, RecordedByReads, HasRecorded, HasJournal, ShowsMaking, HasItsJournal, IsStopped, KeepsBehind, IsKeptRun, full_answer, IsFullRun, Records, Planned, IsEndStatus, form, there}
+use Rattle.alpha_cmd.proofs.Untold.{reads_show}
 use Rattle.alpha_cmd.proofs.Lawful.{Lawful, Then-lawful, Goes-lawful}
 use Rattle.alpha_cmd.proofs.Stages.{taken_or_not, refused_there}
 use Rattle.alpha_cmd.proofs.Forms.{IsPlain, IsLawfulForm, is_fault}
@@ -75,9 +82,57 @@ keeps_some w out bytes a = by (taken_or_not w.files (w.takes out (length bytes))
 
 -- ---- the stage
 
-pub some_journal : (options : RunOptions) (input : Option (List ℕ)) (plan : Plan) → ((p : Parts) × HasJournal options input plan p) ⊎ ((k : Making) × IsStopped options input plan k)
-some_journal options None plan = inl (parts Wrap Spent [] [] [], tt)
-some_journal options (Some input) plan = some_end options.steps (program_by options plan.image) input plan.ahead
+-- over inputs that no step takes of
+recorded_any : (options : RunOptions) (plan : Plan) → (r : Recorded) × RecordedByReads options plan r
+recorded_any options plan =
+    let n = options.steps in
+    let g = program_by options plan.image in
+    let words = first_words (most_words n) plan.ahead in
+    let from = unstarted options plan (most_words n) in
+    let end = ends n g from (omega arith) in
+    let draws = free_draws g (start g []) words end.inputs in
+    let most = units_over n g end.inputs from (omega arith) end.goes in
+    let making = recorded-making g end.inputs from in
+    let units = ap (λ (k : Making). k.run.units) making in
+    let count = ap (λ (k : Making). k.count) making in (
+      recorded_over g end.inputs from,
+      record { reads = end.inputs; given = most_words n; goes = end.goes; is = refl; stopped = end.stopped; most = most; enough = omega (arith, draws, units, count, most) },
+    )
+
+-- within the limits it is a run of all its units, or to its end
+pub made_recorded : (options : RunOptions) (plan : Plan) (r : Recorded) → RecordedByReads options plan r → is_within (journal_in options.complete r) ≡ true
+    → MadeByReads (unwatched options) plan
+made_recorded options plan r by within = record {
+  reads = by.reads;
+  given = by.given;
+  making = r.making;
+  is = sym (recorded-making (program_by options plan.image) by.reads (unstarted options plan by.given)) ∙ ap (λ (x : Recorded). x.making) by.is;
+  used = stopped_used options.steps (program_by options plan.image) r by.most within by.stopped;
+  enough = by.enough;
+}
+
+-- what it may show, and its journal
+pub record Journals (options : RunOptions) (force : Bool) (plan : Plan) (r : Recorded) : Type 0 where
+  pub what : ShownWild
+  pub may : MayShowBy (unwatched options) force plan what
+  pub shows : ShowsMaking what r.making
+  pub has : HasRecorded options plan (journal_in options.complete r) r
+
+pub journals : (options : RunOptions) (force : Bool) (plan : Plan) (r : Recorded) → RecordedByReads options plan r → is_within (journal_in options.complete r) ≡ true
+    → (force ≡ false → FreeAlike plan.image) → Journals options force plan r
+unfolding made_recorded
+journals options force plan r by within alone =
+    let s = reads_show (unwatched options) force plan (made_recorded options plan r by within) alone in
+    record {
+      what = s.what;
+      may = s.may;
+      shows = record { end = sym s.end; lost = sym s.lost; output = sym s.output; notes = sym s.notes; drawn = sym s.drawn };
+      has = record { by = by; within = within; is = refl };
+    }
+
+pub has_of : (options : RunOptions) (input : Option (List ℕ)) (plan : Plan) (s : ShownWild) (p : Parts) → HasItsJournal options input plan s p → HasJournal options input plan p
+has_of options None plan s p (r, has, shows) = (r, has)
+has_of options (Some input) plan s p has = has
 
 pub kept_same : (options : RunOptions) (input : Option (List ℕ)) (plan : Plan) (p q : Parts) → IsSome input → HasJournal options input plan p → HasJournal options input plan q → p ≡ q
 kept_same options None plan p q told h g = cc
@@ -95,7 +150,8 @@ module _ (options : RunOptions) (force : Bool) (out : List ℕ) (w : World) (pla
   kept_one : IsSome w.input → (a b : Answer) → IsKeptRun options force out w plan a → IsKeptRun options force out w plan b → a ≡ b
   kept_one told a b h g =
       let shown : h.shown ≡ g.shown = same_shown (unwatched options) force w.input plan h.shown g.shown told h.may g.may in
-      let journal : h.journal ≡ g.journal = kept_same options w.input plan h.journal g.journal told h.has g.has in
+      let journal : h.journal ≡ g.journal = kept_same options w.input plan h.journal g.journal told
+      (has_of options w.input plan h.shown h.journal h.has) (has_of options w.input plan g.shown g.journal g.has) in
       keeps_one w out (spelling g.journal) (answer_wild w.input g.shown) a b
       (subst (λ (p : Parts). KeepsBehind w out (spelling p) (answer_wild w.input g.shown) a) journal
       (subst (λ (s : ShownWild). KeepsBehind w out (spelling h.journal) (answer_wild w.input s) a) shown h.keeps))
@@ -103,31 +159,50 @@ module _ (options : RunOptions) (force : Bool) (out : List ℕ) (w : World) (pla
 
   one : IsSome w.input → (a b : Answer) → IsKeptRun options force out w plan a ⊎ IsFullRun options w plan a → IsKeptRun options force out w plan b ⊎ IsFullRun options w plan b → a ≡ b
   one told a b (inl h) (inl g) = kept_one told a b h g
-  one told a b (inl h) (inr g) = absurd (apart options w.input plan h.journal g.making told h.has g.stopped)
-  one told a b (inr h) (inl g) = absurd (apart options w.input plan g.journal h.making told g.has h.stopped)
+  one told a b (inl h) (inr g) = absurd (apart options w.input plan h.journal g.making told (has_of options w.input plan h.shown h.journal h.has) g.stopped)
+  one told a b (inr h) (inl g) = absurd (apart options w.input plan g.journal h.making told (has_of options w.input plan g.shown g.journal g.has) h.stopped)
   one told a b (inr h) (inr g) = h.is ∙ (ap (full_answer w.input) (stopped_same options w.input plan h.making g.making told h.stopped g.stopped) ∙ sym g.is)
 
   -- a run that shows this, with such a journal
-  pub kept_run : (s : ShownWild) (p : Parts) → MayShowWild (unwatched options) force w.input plan s → HasJournal options w.input plan p
+  pub kept_run : (s : ShownWild) (p : Parts) → MayShowWild (unwatched options) force w.input plan s → HasItsJournal options w.input plan s p
       → (a : Answer) × KeepsBehind w out (spelling p) (answer_wild w.input s) a → (a : Answer) × IsKeptRun options force out w plan a
   kept_run s p may has keep = (keep.0, record { shown = s; may = may; journal = p; has = has; keeps = keep.1 })
 
-  some : (a : Answer) × (IsKeptRun options force out w plan a ⊎ IsFullRun options w plan a)
-  some = by (some_journal options w.input plan)
+  some : (force ≡ false → FreeAlike plan.image) → (a : Answer) × (IsKeptRun options force out w plan a ⊎ IsFullRun options w plan a)
+  some alone = by w.input refl
     where
-      shown : (s : ShownWild) × MayShowWild (unwatched options) force w.input plan s
-      shown = some_shown (unwatched options) force w.input plan
-
-      by : ((p : Parts) × HasJournal options w.input plan p) ⊎ ((k : Making) × IsStopped options w.input plan k)
+      -- where it is told
+      told : (bytes : List ℕ) → w.input ≡ Some bytes
+          → ((p : Parts) × HasJournal options (Some bytes) plan p) ⊎ ((k : Making) × IsStopped options (Some bytes) plan k)
           → (a : Answer) × (IsKeptRun options force out w plan a ⊎ IsFullRun options w plan a)
-      by (inl h) =
-          let run = kept_run shown.0 h.0 shown.1 h.1 (keeps_some w out (spelling h.0) (answer_wild w.input shown.0)) in
+      told bytes is (inl h) =
+          let shown = some_shown (unwatched options) force w.input plan in
+          let has = subst (λ (o : Option (List ℕ)). HasItsJournal options o plan shown.0 h.0) (sym is) h.1 in
+          let run = kept_run shown.0 h.0 shown.1 has (keeps_some w out (spelling h.0) (answer_wild w.input shown.0)) in
           (run.0, inl run.1)
-      by (inr h) = (full_answer w.input h.0, inr (record { making = h.0; stopped = h.1; is = refl }))
+      told bytes is (inr h) =
+          (full_answer w.input h.0, inr (record { making = h.0; stopped = subst (λ (o : Option (List ℕ)). IsStopped options o plan h.0) (sym is) h.1; is = refl }))
 
-  Records-lawful : (told whole there : Type 0) → (told → IsSome w.input) → Lawful told whole there (Records options force out w plan)
-  Records-lawful told whole there has =
-      Goes-lawful (λ (a : Answer). IsKeptRun options force out w plan a ⊎ IsFullRun options w plan a) (λ h a b p q. one (has h) a b p q) (λ h. some)
+      -- where it isn't
+      untold : w.input ≡ None → (r : Recorded) → RecordedByReads options plan r → (b : Bool) → is_within (journal_in options.complete r) ≡ b
+          → (a : Answer) × (IsKeptRun options force out w plan a ⊎ IsFullRun options w plan a)
+      untold is r run true within =
+          let j = journals options force plan r run within alone in
+          let p = journal_in options.complete r in
+          let may = subst (λ (o : Option (List ℕ)). MayShowWild (unwatched options) force o plan j.what) (sym is) j.may in
+          let has = subst (λ (o : Option (List ℕ)). HasItsJournal options o plan j.what p) (sym is) (r, j.has, j.shows) in
+          let kept = kept_run j.what p may has (keeps_some w out (spelling p) (answer_wild w.input j.what)) in
+          (kept.0, inl kept.1)
+      untold is r run false past =
+          (full_answer w.input r.making, inr (record { making = r.making; stopped = subst (λ (o : Option (List ℕ)). IsStopped options o plan r.making) (sym is) (r, run, past, refl); is = refl }))
+
+      by : (input : Option (List ℕ)) → w.input ≡ input → (a : Answer) × (IsKeptRun options force out w plan a ⊎ IsFullRun options w plan a)
+      by None is = let r = recorded_any options plan in untold is r.0 r.1 (is_within (journal_in options.complete r.0)) refl
+      by (Some bytes) is = told bytes is (some_end options.steps (program_by options plan.image) bytes plan.ahead)
+
+  Records-lawful : (told whole there : Type 0) → (told → IsSome w.input) → (force ≡ false → FreeAlike plan.image) → Lawful told whole there (Records options force out w plan)
+  Records-lawful told whole there has alone =
+      Goes-lawful (λ (a : Answer). IsKeptRun options force out w plan a ⊎ IsFullRun options w plan a) (λ h a b p q. one (has h) a b p q) (λ h. some alone)
 
   -- ---- its statuses
 
@@ -136,21 +211,32 @@ module _ (options : RunOptions) (force : Bool) (out : List ℕ) (w : World) (pla
   kept_plain there has a h (inl k) =
       inl (ap (λ (x : Answer). is_fault x.status) k.1 ∙ wild_plain h.shown.end h.shown.lost (h.shown.drawn % 2 ^ 64))
   kept_plain there has a h (inr k) =
-      inr (ap (λ (x : Answer). x.status) k.1, λ t. refused_there w.files (w.takes out (length (spelling h.journal))) k.0 (has h.journal h.has t))
+      inr (
+        ap (λ (x : Answer). x.status) k.1,
+        λ t. refused_there w.files (w.takes out (length (spelling h.journal))) k.0
+            (has h.journal (has_of options w.input plan h.shown h.journal h.has) t),
+      )
 
   plain : (there : Type 0) → ((p : Parts) → HasJournal options w.input plan p → there → w.takes out (length (spelling p)) ≡ true)
       → (a : Answer) → IsKeptRun options force out w plan a ⊎ IsFullRun options w plan a → IsPlain there a.status
   plain there has a (inl h) = kept_plain there has a h h.keeps
   plain there has a (inr h) = inl (ap (λ (x : Answer). is_fault x.status) h.is)
 
-  kept_ends : (a : Answer) (h : IsKeptRun options force out w plan a) → KeepsBehind w out (spelling h.journal) (answer_wild w.input h.shown) a → IsEndStatus force a.status
-  kept_ends a h (inl k) =
+  kept_status : (a : Answer) (h : IsKeptRun options force out w plan a) → KeepsBehind w out (spelling h.journal) (answer_wild w.input h.shown) a → IsEndStatus force a.status
+  kept_status a h (inl k) =
       inl (h.shown.end, (h.shown.lost, (h.shown.drawn % 2 ^ 64, may_lose (unwatched options) force w.input plan h.shown h.may, ap (λ (x : Answer). x.status) k.1)))
-  kept_ends a h (inr k) = inr (inr (ap (λ (x : Answer). x.status) k.1))
+  kept_status a h (inr k) = inr (inr (ap (λ (x : Answer). x.status) k.1))
 
-  ends : (a : Answer) → IsKeptRun options force out w plan a ⊎ IsFullRun options w plan a → IsEndStatus force a.status
-  ends a (inl h) = kept_ends a h h.keeps
-  ends a (inr h) = inr (inl (ap (λ (x : Answer). x.status) h.is))
+  has_status : (a : Answer) → IsKeptRun options force out w plan a ⊎ IsFullRun options w plan a → IsEndStatus force a.status
+  has_status a (inl h) = kept_status a h h.keeps
+  has_status a (inr h) = inr (inl (ap (λ (x : Answer). x.status) h.is))
+
+-- a plan that the verdict lets through runs as the sequential machine does
+planned_free : (force : Bool) (choices : Origin) (file : List ℕ) (files : Files) (plan : Plan) → Planned choices force file files (goes plan) → force ≡ false → FreeAlike plan.image
+planned_free true choices file files plan planned = λ no. cc
+planned_free false choices file files plan (q, (image, found, (ahead, chosen, is)), (x, (accepted, e), passes)) = λ no.
+    let same : plan.image ≡ image = ap (λ (y : Plan). y.image) (passes ∙ is) in
+    subst FreeAlike (sym same) (accepted_free image found.2.0 (subst (λ (y : Plan). IsAccepted y.image.words) is accepted))
 
 pub lawful : (options : RunOptions) (choices : Origin) (force : Bool) (file out : List ℕ) (w : World)
     → IsLawfulForm (form options choices force file out) (there options choices force file out) w
@@ -158,9 +244,9 @@ lawful options choices force file out w = record {
   stages =
       Then-lawful {R = Planned choices force file w.files} {S = Records options force out w}
       (Planned-lawful _ _ _ w choices force file (λ h. h.0) (λ h. h) (λ h. h.0) (λ h. h.1))
-      (λ plan passed. Records-lawful options force out w plan _ _ _ (λ h. h.1));
+      (λ plan passed. Records-lawful options force out w plan _ _ _ (λ h. h.1) (planned_free force choices file w.files plan passed));
   ends = λ a h. plain options force out w h.0 (there options choices force file out w) (λ p has t. t.2 h.0 p h.1 has) a h.2;
-  status = λ a h. ends options force out w h.0 a h.2;
+  status = λ a h. has_status options force out w h.0 a h.2;
 }
 
 -- ---- its answers

@@ -10,12 +10,13 @@ use Rattle.alpha_request.specs.Origin.{Origin}
 use Rattle.alpha_seq.specs.declared.end.End.{End}
 use Rattle.alpha_seq.specs.Run.{notes_of}
 use Rattle.alpha_seq.specs.Start.{start}
-use Rattle.alpha_imprecise.specs.Made.{Making, begun, first_words, LostTrap, ShownWild}
-use Rattle.alpha_imprecise.specs.Free.{run_making_over}
+use Rattle.alpha_imprecise.specs.Made.{Making, begun, first_words, wild_end, lost_trap, LostTrap, ShownWild}
 use Rattle.alpha_replay.specs.Journal.{Parts, IsJournal, spelling}
 use Rattle.alpha_replay.specs.JournalEnd.{IsRecorded, IsPast}
+use Rattle.alpha_replay.specs.Journaled.{is_within}
+use Rattle.alpha_replay.specs.Recorded.{Recorded, unrecorded, recorded_over, journal_in, stops_at, GoesOver}
 use Rattle.alpha_cmd.specs.declared.decision.Decision.{Decision}
-use Rattle.alpha_cmd.specs.declared.record.Recorded.{Recorded}
+use Rattle.alpha_cmd.specs.declared.record.Recorded.{Recorded as Ran}
 use Rattle.alpha_cmd.specs.declared.record.Recorded.TheVariants as ends
 use Rattle.alpha_cmd.specs.declared.status.Status.{Status}
 use Rattle.alpha_cmd.specs.declared.status.Status.TheVariants.{ShelfFault, InputFault, SinkFault, NoMemory, JournalFull}
@@ -38,25 +39,52 @@ unwatched options = record options { watch = false }
 
 -- ---- the run
 
--- The journal that a plan's run has: over an input that is told, that of the place where the run by the plan's words stops.
--- Over another nothing is said of it.
-abbrev pub HasJournal : RunOptions → Option (List ℕ) → Plan → Parts → Type 0
-HasJournal options None plan p = ⊤
-HasJournal options (Some input) plan p = IsRecorded options.steps (program_by options plan.image) input plan.ahead p
+-- a run from the start by so many words of a plan, of which no step was made
+abbrev pub unstarted : RunOptions → Plan → ℕ → Recorded
+unstarted options plan given =
+    unrecorded (begun (start (program_by options plan.image) []) None 0 (first_words given plan.ahead))
 
--- A moment of a run from the start over some inputs, one a step, by the words of a plan, that has used no more units than were
--- asked for.
-pub record MomentByReads (options : RunOptions) (plan : Plan) (making : Making) : Type 0 where
+-- A run from the start over some inputs, one a step, by the words of a plan, as one that gets a journal: it goes on before each
+-- of these inputs, and has stopped behind them. It has used no more units than were asked for, and draws no more words than it
+-- is given.
+pub record RecordedByReads (options : RunOptions) (plan : Plan) (r : Recorded) : Type 0 where
   pub reads : List (List ℕ)
   pub given : ℕ
-  pub is : run_making_over (program_by options plan.image) reads
-      (begun (start (program_by options plan.image) []) None 0 (first_words given plan.ahead)) ≡ making
-  pub most : making.run.units ≤ options.steps
-  pub enough : making.count ≤ given
+  pub goes : GoesOver options.steps (program_by options plan.image) reads (unstarted options plan given)
+  pub is : recorded_over (program_by options plan.image) reads (unstarted options plan given) ≡ r
+  pub stopped : stops_at options.steps options.complete r ≡ true
+  pub most : r.making.run.units ≤ options.steps
+  pub enough : r.making.count ≤ given
 
--- The run was stopped there: over an input that is told, directly behind its first step past a limit of a journal.
+-- within the limits of journals, and this is its journal
+pub record HasRecorded (options : RunOptions) (plan : Plan) (p : Parts) (r : Recorded) : Type 0 where
+  pub by : RecordedByReads options plan r
+  pub within : is_within p ≡ true
+  pub is : p ≡ journal_in options.complete r
+
+-- The journal that a plan's run has: over an input that is told, that of the place where the run by the plan's words stops.
+-- Over another, that of such a run over some inputs, one a step.
+abbrev pub HasJournal : RunOptions → Option (List ℕ) → Plan → Parts → Type 0
+HasJournal options None plan p = (r : Recorded) × HasRecorded options plan p r
+HasJournal options (Some input) plan p = IsRecorded options.steps (program_by options plan.image) input plan.ahead p
+
+-- what is shown is what this run shows
+pub record ShowsMaking (s : ShownWild) (k : Making) : Type 0 where
+  pub end : s.end ≡ wild_end k.run.last
+  pub lost : s.lost ≡ lost_trap k.run.last
+  pub output : s.output ≡ k.run.state.outside.output
+  pub notes : s.notes ≡ notes_of false k.run.trace
+  pub drawn : s.drawn ≡ k.count
+
+-- the journal of the run that is shown
+abbrev pub HasItsJournal : RunOptions → Option (List ℕ) → Plan → ShownWild → Parts → Type 0
+HasItsJournal options None plan s p = (r : Recorded) × HasRecorded options plan p r × ShowsMaking s r.making
+HasItsJournal options (Some input) plan s p = HasJournal options (Some input) plan p
+
+-- The run was stopped there: directly behind its first step past a limit of a journal.
 abbrev pub IsStopped : RunOptions → Option (List ℕ) → Plan → Making → Type 0
-IsStopped options None plan k = MomentByReads options plan k
+IsStopped options None plan k =
+    (r : Recorded) × RecordedByReads options plan r × (is_within (journal_in options.complete r) ≡ false) × (k ≡ r.making)
 IsStopped options (Some input) plan k = IsPast options.steps (program_by options plan.image) input plan.ahead k
 
 -- ---- the keep
@@ -74,7 +102,7 @@ pub record IsKeptRun (options : RunOptions) (force : Bool) (out : List ℕ) (w :
   pub shown : ShownWild
   pub may : MayShowWild (unwatched options) force w.input plan shown
   pub journal : Parts
-  pub has : HasJournal options w.input plan journal
+  pub has : HasItsJournal options w.input plan shown journal
   pub keeps : KeepsBehind w out (spelling journal) (answer_wild w.input shown) a
 
 -- what a run that was stopped has put and noted
@@ -149,18 +177,18 @@ pub record RunsOn (options : RunOptions) (force : Bool) (input : Option (List �
     (left : Option (List ℕ)) (out notes : Sunk) : Type 0 where
   pub shown : ShownWild
   pub may : MayShowWild (unwatched options) force input plan shown
-  pub has : HasJournal options input plan p
+  pub has : HasItsJournal options input plan shown p
   pub says : answer_in left d ≡ said left (wild_status shown.end shown.lost (shown.drawn % 2 ^ 64)) (wild_line shown.end shown.lost)
   pub put : Puts out shown.output
   pub noted : Puts notes shown.notes
   pub left_is : IfSome (option_map (λ bytes. shown.left) input) (λ rest. left ≡ Some rest)
 
 -- by whether a run was made
-abbrev pub WhenMade : Recorded → (Decision → Parts → Type 0) → Type 0
+abbrev pub WhenMade : Ran → (Decision → Parts → Type 0) → Type 0
 WhenMade (ends.Made d journal) P = P d journal
 WhenMade (ends.Over r) P = ⊤
 
-abbrev pub WhenOver : Recorded → (Result Decision Failed → Type 0) → Type 0
+abbrev pub WhenOver : Ran → (Result Decision Failed → Type 0) → Type 0
 WhenOver (ends.Made d journal) P = ⊤
 WhenOver (ends.Over r) P = P r
 

@@ -1,11 +1,11 @@
-use Rattle.std.proofs.Common.{◌≡◌, ◌∙◌, ℕ, None, Some, refl, sym, ap, subst, arith}
+use Rattle.std.proofs.Common.{◌∙◌, ℕ, None, Some, refl, sym, ap, subst, arith}
 use Rattle.alpha_io.specs.Faults.{Rose}
 use Rattle.alpha_io.specs.Sunk.{sunk}
 use Rattle.alpha_image.specs.Parts.{IsImage}
 use Rattle.alpha_seq.specs.Devices.{drawn}
 use Rattle.alpha_run.proofs.WildShown.{whole}
 use Rattle.alpha_cmd.specs.Chooser.{ahead_in}
-use Rattle.alpha_cmd.specs.Commands.Imprecise.{plan_by, answer_status, form, kind}
+use Rattle.alpha_cmd.specs.Commands.Imprecise.{plan_by, form, kind}
 use Rattle.alpha_cmd.specs.Form.{MayTakeBy}
 use Rattle.alpha_cmd.specs.Answer.{Answer}
 use Rattle.alpha_cmd.specs.AnswerBy.{World}

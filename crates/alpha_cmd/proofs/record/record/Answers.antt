@@ -18,7 +18,7 @@ use Rattle.alpha_cmd.specs.Decision.{answer_in}
 use Rattle.alpha_cmd.specs.Status.{status_line}
 use Rattle.alpha_cmd.specs.Tries.{TriesBy}
 use Rattle.alpha_cmd.proofs.Commands.Imprecise.{passed}
-use Rattle.alpha_cmd.proofs.Commands.Record.{broken_answer}
+use Rattle.alpha_cmd.proofs.Commands.Record.{has_of, broken_answer}
 use Rattle.alpha_cmd.proofs.Endings.{Leaves-all}
 use Rattle.alpha_cmd.proofs.JournalKept.{kept_tried}
 use Rattle.alpha_cmd.proofs.JournalStatus.{no_end, kept_takes, kept_spares, kept_keeps, decision_not_shelf}
@@ -74,7 +74,7 @@ returns-in-Made-clause-keeps g c = λ end lost n is.
     let s = shelved g.H.Shelf c.planned.new.shelf c.keep_journal.new.shelf in (
       plan,
       (plan, c.in-Ok.ensures.ok, passed a.force plan c.in-Ok-judged.ensures.ok),
-      (p, c.keep_journal.ensures.good, run.has, kept_keeps a.options a.force name input plan p d r left out notes run refuses cause s end lost n is c.keep_journal.ensures.kept),
+      (p, c.keep_journal.ensures.good, has_of a.options input plan run.shown p run.has, kept_keeps a.options a.force name input plan p d r left out notes run refuses cause s end lost n is c.keep_journal.ensures.kept),
     )
 
 pub returns-in-Made-clause-shelf : goal.returns-in-Made-clause-shelf

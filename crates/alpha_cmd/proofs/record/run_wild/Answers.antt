@@ -1,4 +1,4 @@
-use Rattle.std.proofs.Common.{◌≡◌, ◌⊎◌, ◌∙◌, ℕ, Some, refl, sym, ap, subst, inl, inr, ⊎_elim, arith}
+use Rattle.std.proofs.Common.{◌≡◌, ℕ, Some, refl, sym, ap, subst, inl, inr, ⊎_elim, arith}
 use Rattle.alpha_io.specs.Faults.{Rose}
 use Rattle.alpha_io.specs.Sunk.{sunk}
 use Rattle.alpha_image.specs.Parts.{IsImage}
@@ -15,8 +15,8 @@ use Rattle.alpha_cmd.specs.Tries.{TriesBy}
 use Rattle.alpha_cmd.proofs.Commands.Imprecise.{passed}
 use Rattle.alpha_cmd.proofs.CutShort.{cut_tried, cut_status, cut_counts}
 use Rattle.alpha_cmd.proofs.Trying.{starts_not}
-use Rattle.alpha_cmd.proofs.WildRan.{planned_image, accepted_alone, ran_shows, cut_begins}
-use Rattle.alpha_cmd.proofs.JournalRan.{recorded_whole, unbegun_tried, runs_on, moment, stopped_by, fronts_by, stopped_tried, cut_fronts}
+use Rattle.alpha_cmd.proofs.WildRan.{planned_image, accepted_alone, cut_begins}
+use Rattle.alpha_cmd.proofs.JournalRan.{unbegun_tried, runs_on, moment, stopped_by, fronts_by, stopped_tried, cut_fronts}
 use Rattle.alpha_cmd.proofs.record.run_wild.Goals as goal
 
 pub returns-in-Made-clause-made : goal.returns-in-Made-clause-made
@@ -30,13 +30,11 @@ returns-in-Made-clause-made g c = λ force good fine.
     let ahead = ahead_in c.args.chooser.now.chooser in
     let n = c.args.options.steps in
     let did = c.in-Made.ensures in
-    runs_on c.args.options from ahead c.requires.how c.requires.fresh force c.in-Made.last c.drawn.result input c.in-Made.journal c.behind.result out notes
+    runs_on c.args.options from ahead c.requires.how c.requires.fresh force c.in-Made.last c.drawn.result c.in-Made.journal c.behind.result to _ _ input out notes did.made
     (λ bytes told. did.told bytes ahead told refl c.requires.fresh)
     (c.behind.ensures input.new)
-    (ran_shows (unwatched c.args.options) from ahead c.requires.how c.requires.fresh force c.in-Made.last _ c.drawn.result to _ _ input out notes
-    (recorded_whole n c.in-Made.last c.in-Made.journal from to _ _ input out notes did.made)
     refl (ap (λ (k : ℕ). Some k) c.requires.none) (ap (λ (k : ℕ). Some k) (sym c.drawn.ensures)) c.drawn.type_inv
-    (λ judges. accepted_alone image fine (good judges)))
+    (λ judges. accepted_alone image fine (good judges))
 
 pub returns-in-Made-clause-source : goal.returns-in-Made-clause-source
 returns-in-Made-clause-source g c = let same = c.in-Made.ensures.made.stops.ran.same in record { later = omega (arith, same); calm = λ other. same }
@@ -56,7 +54,7 @@ returns-in-Failed-clause-over g c = λ shelf file name choices force found good 
     cut_tried (Rose shelf.before shelf.now) (form c.args.options choices force file name) w refl shelf same input out notes
     (cut_fronts c.args.options from ahead c.requires.how c.requires.fresh file name choices force w (Rose shelf.before shelf.now) (Rose input.before input.now) found
     (passed force (plan_by image ahead) good) shelf same out notes
-    (fronts_by c.args.options from ahead c.requires.how c.requires.fresh force name w out notes
+    (fronts_by c.args.options from ahead c.requires.how c.requires.fresh force name c.in-Failed.fault w _ _ input out notes (λ judges. (accepted_alone image fine (good judges)).free) refl did.made
     (λ bytes told. did.told bytes ahead told refl c.requires.fresh)
     (cut_begins (unwatched c.args.options) from ahead c.requires.how c.requires.fresh force c.in-Failed.fault _ _ input out notes cut refl
     (λ judges. accepted_alone image fine (good judges)) w.input refl)))
@@ -89,7 +87,7 @@ returns-in-Full-clause-over g c = λ shelf file name choices force found good sa
     input out notes refl
     (stopped_by c.args.options from ahead c.requires.how c.requires.fresh input.old input.new input.before input.now out notes
     (λ bytes told. did.told bytes ahead told refl c.requires.fresh)
-    (moment c.args.options from ahead c.requires.how c.requires.fresh did.made.happened to _ _ input out notes refl did.made.stops)))
+    (moment c.args.options from ahead c.requires.how c.requires.fresh to _ _ input out notes refl did.made)))
 
 pub returns-in-Full-clause-source : goal.returns-in-Full-clause-source
 returns-in-Full-clause-source g c = let same = c.in-Full.ensures.made.stops.ran.same in record { later = omega (arith, same); calm = λ other. same }

@@ -1,4 +1,4 @@
-use Rattle.std.proofs.Common.{◌≡◌, ◌∙◌, ℕ, List, Option, sym, ap}
+use Rattle.std.proofs.Common.{◌∙◌, Option, sym, ap}
 use Rattle.alpha_seq.specs.declared.event.Event.{Event}
 use Rattle.alpha_cmd.specs.AnswerBy.{said}
 use Rattle.alpha_cmd.specs.Commands.Imprecise.{answer_status, answer_line}
