@@ -113,7 +113,8 @@ module _ (function : PalCall) (m : Machine) (k : KernelState) (regs : List ℕ) 
   call-breaks broken.Input h source sink =
       input_breaks m (called_machine m k regs mem unique) (drawn_by left left' faults faults')
       (sunk_by written written' count count')
-      (here ∙ ap (λ (f : PalCall). Some (barrier (Some f))) h.0) h.1 source.0 source.1
+      (here ∙ ap (λ (f : PalCall). Some (barrier (Some f))) h.0) h.1
+      (ap (λ (s : Seen). called_machine m k s.regs s.mem s.unique) h.2) source.0 source.1
       (record { written = ap (λ (s : Seen). s.written) h.2; same = sink })
   call-breaks broken.Output h source sink =
       output_breaks m (called_machine m k regs mem unique) (drawn_by left left' faults faults')

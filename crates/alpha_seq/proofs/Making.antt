@@ -111,9 +111,9 @@ writes_all m input output class number descriptor range = rw (class, number, des
 
 -- a read whose source failed: the step to the machine after a read that takes all it asks for, of which some was taken
 pub input_breaks : (old new : Machine) (input : Drawn) (out : Sunk) → class_here old ≡ Some (barrier (Some Callsys))
-    → TakesPart (request_of old.regs) old.memory new.memory input.old input.new → input.before ≤ input.now → Rose input.before input.now → Idles out
-    → SeqBreaks faults.Input old new input out
-input_breaks old new input out class part later cause idle =
+    → TakesPart (request_of old.regs) old.memory new.memory input.old input.new → new ≡ record old { memory = new.memory; kernel = new.kernel }
+    → input.before ≤ input.now → Rose input.before input.now → Idles out → SeqBreaks faults.Input old new input out
+input_breaks old new input out class part stays later cause idle =
     let next = part.taken ++ part.rest in
     let at = reg old.regs 17 in
     let n = reg old.regs 18 in
@@ -156,6 +156,7 @@ input_breaks old new input out class part later cause idle =
         wrote = idle-part out [] idle;
         cause = λ lines same. record { later = later; source = cause; sink = idle.same; lines = same };
       };
+      read = λ e. record { part = part; same = stays };
       unmade = λ e. absurd cc;
     }
 
@@ -201,5 +202,6 @@ output_breaks old new input out class part unmade later cause rests =
         wrote = part.prefix;
         cause = λ lines same. record { source = rests.same; later = later; sink = cause; lines = same };
       };
+      read = λ e. absurd cc;
       unmade = λ e. unmade;
     }

@@ -4,6 +4,8 @@ use Rattle.alpha_io.specs.Sunk.{Sunk}
 use Rattle.alpha_pal.specs.declared.fault.Fault.{Fault}
 use Rattle.alpha_pal.specs.declared.fault.Fault.TheVariants as faults
 use Rattle.alpha_pal.specs.declared.pal_end.Passed.{Passed}
+use Rattle.alpha_pal.specs.CallEffect.{TakesPart}
+use Rattle.alpha_pal.specs.Serve.{request_of}
 use Rattle.alpha_seq.specs.declared.machine.Machine.{Machine}
 use Rattle.alpha_seq.specs.declared.event.Event.{Event as Seen}
 use Rattle.alpha_seq.specs.declared.event.Event.TheVariants as events
@@ -52,8 +54,14 @@ no_words words = words ≡ []
 abbrev pub SeqMakes : Seen → Machine → Machine → Drawn → Sunk → Type 0
 SeqMakes event old new input out = Makes SeqGoes one_unit itself no_words event old new input out
 
+-- A read whose source failed: the bytes taken so far are in memory, and all else is as before but for the kernel's frame.
+pub record ReadsPart (old new : Machine) (input : Drawn) : Type 0 where
+  pub part : TakesPart (request_of old.regs) old.memory new.memory input.old input.new
+  pub same : new ≡ record old { memory = new.memory; kernel = new.kernel }
+
 -- A step that a device's fault cut short. Where the output failed the machine is as it was but for the kernel's frame, so that
 -- the step can be made anew.
 pub record SeqBreaks (fault : Fault) (old new : Machine) (input : Drawn) (out : Sunk) : Type 0 where
   pub step : Breaks SeqGoes one_unit itself no_words fault old input out
+  pub read : fault ≡ faults.Input → ReadsPart old new input
   pub unmade : fault ≡ faults.Output → new ≡ record old { kernel = new.kernel }
