@@ -1,6 +1,7 @@
 -- A line says what its parts say.
-use Rattle.std.proofs.Common.{◌≡◌, ℕ, List, [], ◌∷◌, ◌++◌, true, false, not, ◌==◌, eqb, Some, Ok, refl, sym, ◌∙◌, ap, arith}
+use Rattle.std.proofs.Common.{◌≡◌, ℕ, List, [], ◌∷◌, ◌++◌, true, false, not, ◌==◌, eqb, Option, None, Some, is_some, Ok, refl, sym, ◌∙◌, ap, arith}
 use Rattle.std.specs.List.{list_all}
+use Rattle.std.specs.Option.{option_map}
 use Rattle.std.proofs.lemmas.Bool.Decides.{nat_tests}
 use Rattle.alpha_token.specs.declared.token.TokenKind.TheVariants as kinds
 use Rattle.alpha_token.specs.Bytes.{begins_name, goes_on_name}
@@ -17,6 +18,7 @@ use Rattle.alpha_text.proofs.Spelling.{token-begun}
 use Rattle.alpha_quick.specs.Words.{HasEnd}
 use Rattle.alpha_quick.specs.Parts.{SaysNamed}
 use Rattle.alpha_quick.specs.Lead.{HasStatement}
+use Rattle.alpha_quick.specs.Rest.{IsBehind}
 
 -- what goes on a label goes on a name, and isn't `/`
 pub label_parts : (s : List ℕ) → list_all goes_on_label s ≡ true → (list_all goes_on_name s ≡ true) × (list_all (λ b. not (b == 47)) s ≡ true)
@@ -43,10 +45,20 @@ label_good [] begins plain = cc
 label_good (b ∷ s) begins plain = rw (plain, (letter_begins b begins).1) refl
 
 -- a line that begins with a label
-pub label_says : (label rest : List ℕ) (s : Said) → begins_label label ≡ true → list_all goes_on_label label ≡ true → statement_of (tokens rest) ≡ Ok s → line_of (tokens (label ++ (58 ∷ rest))) ≡ Ok (record { label = Some label; statement = s })
+label_says : (label rest : List ℕ) (s : Said) → begins_label label ≡ true → list_all goes_on_label label ≡ true → statement_of (tokens rest) ≡ Ok s → line_of (tokens (label ++ (58 ∷ rest))) ≡ Ok (record { label = Some label; statement = s })
 label_says label rest s begins all h =
     let (names, plain) = label_parts label all in
     rw (label_tokens label (58 ∷ rest) begins names refl, label_good label begins plain, h) refl
+
+-- a line has the statement that stands behind its label
+pub behind_says : (line text : List ℕ) (label : Option (List ℕ)) (s : Said) → IsBehind line label text → HasStatement text s → line_of (tokens line) ≡ Ok (record { label = label; statement = s })
+behind_says line text None s same has = ap line_of same ∙ has.1
+behind_says line text (Some label) s (rest, begins, all, same, behind) has = ap line_of same ∙ label_says label rest s begins all (ap statement_of behind ∙ has.0)
+
+-- a line without a label
+pub bare_line : {A : Type 0} (now : A → List ℕ) (line text : List ℕ) (label : Option A) → is_some label ≡ false → IsBehind line (option_map now label) text → tokens line ≡ tokens text
+bare_line now line text None bare h = h
+bare_line now line text (Some label) bare h = absurd cc
 
 -- a line that begins with a name of the tables
 pub named_line : (line name behind : List ℕ) (s : Said) → tokens line ≡ tokens (name ++ behind) → SaysNamed name behind s → HasStatement line s

@@ -1,17 +1,18 @@
 //! Lines as programs write them, read in one pass: blanks, a label, a name, and the words behind it. What is
 //! written otherwise is left to the reader of all lines.
-ghost use Rattle.std.specs.Prelude.{◌≡◌, ◌≤◌, ◌∷◌, ◌++◌, IfSome, IfOk, IfErr, Ok, length, true};
+ghost use Rattle.std.specs.Prelude.{◌≡◌, ◌≤◌, ◌++◌, IfSome, IfOk, IfErr, Ok, length, true};
 ghost use Rattle.std.specs.List.{list_all};
+ghost use Rattle.std.specs.Option.{option_map};
 ghost use Rattle.alpha_token.specs.Tokens.{tokens};
 ghost use Rattle.alpha_operands.specs.Operands.{Gives};
 ghost use Rattle.alpha_text.specs.Behind.{IsApart};
 ghost use Rattle.alpha_text.specs.References.{goes_on_label};
 ghost use Rattle.alpha_text.specs.Statements.{said, code, empty};
 ghost use Rattle.alpha_text.specs.Reading.{item_said, statement_of, line_of, read};
-ghost use Rattle.alpha_quick.specs.Keys.{IsKeyed};
+ghost use Rattle.alpha_quick.specs.Keys.{key_of, IsKeyed};
 ghost use Rattle.alpha_quick.specs.Parts.{SaysNamed, unlabelled};
 ghost use Rattle.alpha_quick.specs.Lead.{Leads, HasStatement};
-ghost use Rattle.alpha_quick.specs.Rest.{IsRest};
+ghost use Rattle.alpha_quick.specs.Rest.{IsBehind, IsRest};
 ghost use Rattle.alpha_quick.specs.Words.{HasEnd};
 
 use crate::data::of_directive;
@@ -19,7 +20,7 @@ use crate::forms::{Lead, of_own, of_row};
 use crate::front::{Front, begins_label};
 use crate::reach::reached;
 use crate::rows::{own_named, row_named};
-use crate::words::{behind_blanks, behind_byte, is_end};
+use crate::words::{behind_blanks, behind_byte, is_end, spaced};
 use alpha_table::Insn;
 use alpha_text::{Item, LineFault, Statement};
 use alpha_token::without_blanks;
@@ -86,51 +87,78 @@ fn directive_of<'a>(front: &Front<'a>) -> Option<Statement<'a>>
     of_directive(own, front.behind, words)
 }
 
-/// A line whose instruction wasn't read alone, as far as it was read.
+// A line, cut behind its label and behind the first bytes of what stands behind that which go on a label.
+#[derive(Clone, Copy)]
+struct Cut<'a> {
+    label: Option<&'a [u8]>,
+    // What stands behind the label, or behind the blanks at the front of a line without one.
+    text: &'a [u8],
+    front: Front<'a>,
+}
+
+impl<'a> Cut<'a> {
+    #[inline(always)]
+    fn of(line: &'a [u8]) -> Cut<'a>
+        ensures line { IsBehind line.now (option_map (λ l. l.now) result.label) result.text.now }
+        ensures text { result.text.now ≡ result.front.name.now ++ result.front.behind.now }
+        ensures name { list_all goes_on_label result.front.name.now ≡ true }
+        ensures key { result.front.key.0 ≡ key_of result.front.name.now }
+    {
+        let text = behind_blanks(line);
+        let front = Front::of(text);
+        match behind_byte(b':', front.behind) {
+            Some(rest) if begins_label(front.name) => {
+                let label = Some(front.name);
+                let text = spaced(rest);
+                let front = Front::of(text);
+                Cut { label, text, front }
+            }
+            _ => {
+                let label = None;
+                Cut { label, text, front }
+            }
+        }
+    }
+}
+
+/// A line of which no instruction alone was read, as far as it was read.
 #[derive(Clone, Copy)]
 pub struct Rest<'a> {
     /// The line.
     pub line: &'a [u8],
-    // It is cut behind its blanks and the first bytes that go on a label.
+    // Its label, if it has one.
+    pub(crate) label: Option<&'a [u8]>,
+    // What stands behind the label and blanks.
     pub(crate) front: Front<'a>,
-    // The instruction at its front, if there is one.
+    // The instruction at the front of that, if there is one.
     pub(crate) insn: Option<Insn>,
-    // The words that name the label that it is to reach.
+    // Whether it is to reach a label.
+    pub(crate) reaches: bool,
+    // The words that name that one.
     pub(crate) left: &'a [u8],
 }
 
 impl<'a> Rest<'a> {
-    // The statement of a line without a label.
+    // The statement behind the label.
     #[inline(always)]
     fn statement(&self) -> Option<Statement<'a>>
         requires { IsRest self.now }
-        ensures { IfSome result (λ s. HasStatement self.now.line.now (said s)) }
+        ensures { IfSome result (λ s.
+            HasStatement (self.now.front.name.now ++ self.now.front.behind.now) (said s)) }
     {
         match self.insn {
-            Some(insn) => reached(insn, self.left),
+            Some(insn) => {
+                if self.reaches {
+                    reached(insn, self.left)
+                } else {
+                    Some(Statement::Code(insn))
+                }
+            }
             None => {
                 if self.front.name.is_empty() {
                     empty(self.front.behind)
                 } else {
                     directive_of(&self.front)
-                }
-            }
-        }
-    }
-
-    // The item of a line with a label or without.
-    #[inline(always)]
-    fn found(&self) -> Option<Item<'a>>
-        requires { IsRest self.now }
-        ensures { IfSome result (λ i. line_of (tokens self.now.line.now) ≡ Ok (item_said i)) }
-    {
-        match behind_byte(b':', self.front.behind) {
-            Some(rest) => labelled(self.front.name, rest),
-            None => {
-                let label = None;
-                match self.statement() {
-                    Some(statement) => Some(Item { label, statement }),
-                    None => None,
                 }
             }
         }
@@ -145,36 +173,11 @@ impl<'a> Rest<'a> {
         requires size { length self.now.line.now ≤ 1024 }
         ensures { Gives item_said result (read self.now.line.now) }
     {
-        match self.found() {
-            Some(item) => Ok(item),
+        let label = self.label;
+        match self.statement() {
+            Some(statement) => Ok(Item { label, statement }),
             None => alpha_text::read_line(self.line),
         }
-    }
-}
-
-// The statement of a line without a label.
-fn statement_in(line: &[u8]) -> Option<Statement<'_>>
-    ensures { IfSome result (λ s. HasStatement line.now (said s)) }
-{
-    match read_insn(line) {
-        Ok(insn) => Some(Statement::Code(insn)),
-        Err(rest) => rest.statement(),
-    }
-}
-
-// The item of a line with this label, behind whose colon `rest` stands.
-#[inline(always)]
-fn labelled<'a>(label: &'a [u8], rest: &'a [u8]) -> Option<Item<'a>>
-    requires { list_all goes_on_label label.now ≡ true }
-    ensures { IfSome result (λ i. line_of (tokens (label.now ++ 58 ∷ rest.now)) ≡ Ok (item_said i)) }
-{
-    if !begins_label(label) {
-        return None;
-    }
-    let label = Some(label);
-    match statement_in(rest) {
-        Some(statement) => Some(Item { label, statement }),
-        None => None,
     }
 }
 
@@ -187,16 +190,18 @@ pub fn read_insn(line: &[u8]) -> Result<Insn, Rest<'_>>
     ensures rest { IfErr result IsRest }
     ensures same { IfErr result (λ rest. rest.line.now ≡ line.now) }
 {
-    let text = behind_blanks(line);
-    let front = Front::of(text);
-    let whole = front.with_trap(text);
+    let cut = Cut::of(line);
+    let (label, front) = (cut.label, cut.front);
+    let whole = front.with_trap(cut.text);
     match lead_of(&whole) {
         Some(lead) => {
-            if lead.reaches {
+            if lead.reaches || label.is_some() {
                 Err(Rest {
                     line,
+                    label,
                     front,
                     insn: Some(lead.insn),
+                    reaches: lead.reaches,
                     left: lead.left,
                 })
             } else {
@@ -205,8 +210,10 @@ pub fn read_insn(line: &[u8]) -> Result<Insn, Rest<'_>>
         }
         None => Err(Rest {
             line,
+            label,
             front,
             insn: None,
+            reaches: false,
             left: line,
         }),
     }

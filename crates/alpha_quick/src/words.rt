@@ -106,9 +106,9 @@ fn register_number(s: &[u8]) -> Option<(u32, &[u8])>
     }
 }
 
-// What stands behind any blanks at the front. It is a call, since few words need it.
+/// What stands behind any blanks at the front. It is a call, since few words need it.
 #[inline(never)]
-fn spaced(s: &[u8]) -> &[u8]
+pub(crate) fn spaced(s: &[u8]) -> &[u8]
     ensures { tokens s.now ≡ tokens result.now }
 {
     without_blanks(s)
