@@ -5,7 +5,7 @@ ghost use Rattle.alpha_table.specs.Decoded.{decoded};
 ghost use Rattle.alpha_table.specs.declared.columns.InsnKind.TheVariants as kinds;
 ghost use Rattle.alpha_shadow.specs.Columns.{HasColumns};
 
-use alpha_table::{Form, Insn, InsnKind, MemAccess, access, kind, sets, uses};
+use alpha_table::{Insn, InsnKind, MemAccess, access, kind, sets, uses};
 use alpha_words::{Reg, RegSet};
 
 /// What the checker reads of an instruction: its columns of the instruction table.
@@ -55,8 +55,5 @@ impl Columns {
 pub(crate) fn is_trigger(insn: &Insn) -> bool
     ensures { IsTrue result ↔ (kind_of insn.now ≡ kinds.Trigger) }
 {
-    match insn.form() {
-        Form::Operate { op, .. } => op.trap().is_some(),
-        _ => false,
-    }
+    kind(insn) == InsnKind::Trigger
 }

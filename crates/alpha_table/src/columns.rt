@@ -1,10 +1,11 @@
-ghost use Rattle.std.specs.Prelude.{◌≡◌, ◌<◌, ℕ, ◌↔◌, ◌∷◌, IsTrue, IfSome};
+ghost use Rattle.std.specs.Prelude.{◌≡◌, ◌<◌, ℕ, ◌↔◌, ◌∷◌, IsTrue, IfSome, is_some};
 ghost use Rattle.alpha_table.specs.declared.form.Form.TheVariants.{Mem};
 ghost use Rattle.alpha_words.specs.Regs.{Has};
-ghost use Rattle.alpha_table.specs.Uses.{but_zero, counts, source_registers};
+ghost use Rattle.alpha_table.specs.Op.{trap_of};
+ghost use Rattle.alpha_table.specs.Uses.{but_zero, counts, is_move, source_registers};
 ghost use Rattle.alpha_table.specs.Columns.{uses_of, sets_of, kind_of, access_of, span_of, trap_op_of, level_of};
 
-use crate::{Form, Insn, MemOp, MemRole, OpRole, Src, TrapOp};
+use crate::{Form, Insn, MemOp, MemRole, Op, Src, TrapOp};
 use alpha_words::{Level, Reg, RegSet};
 
 /// What an instruction is to a trap shadow (Architecture Handbook, arithmetic trap completion).
@@ -90,12 +91,45 @@ pub fn uses(i: &Insn) -> RegSet
         },
         Form::Branch { op, ra, .. } if op.row().condition.is_some() => none.with(ra),
         Form::Jump { rb, .. } => none.with(rb),
-        Form::Operate { op, ra, src, rc } => match op.row().role {
-            OpRole::Move => operate_sources(ra, &src).with(rc),
-            OpRole::Plain | OpRole::Trap(_) => operate_sources(ra, &src),
-        },
+        Form::Operate { op, ra, src, rc } => {
+            let sources = operate_sources(ra, &src);
+            if is_move(op) {
+                sources.with(rc)
+            } else {
+                sources
+            }
+        }
         _ => none,
     }
+}
+
+// Whether an operate instruction is a conditional move. A test of its own is less than a look at its row.
+#[inline(always)]
+fn is_move(op: Op) -> bool
+    ensures { result ≡ is_move op }
+{
+    matches!(
+        op,
+        Op::Cmoveq
+            | Op::Cmovge
+            | Op::Cmovgt
+            | Op::Cmovlbc
+            | Op::Cmovlbs
+            | Op::Cmovle
+            | Op::Cmovlt
+            | Op::Cmovne
+    )
+}
+
+// Whether an operate instruction traps on overflow.
+#[inline(always)]
+fn is_trapping(op: Op) -> bool
+    ensures { result ≡ is_some (trap_of op) }
+{
+    matches!(
+        op,
+        Op::AddlV | Op::AddqV | Op::MullV | Op::MulqV | Op::SublV | Op::SubqV
+    )
 }
 
 // The sources of an operate instruction, but for R31.
@@ -142,10 +176,8 @@ pub fn kind(i: &Insn) -> InsnKind
     match i.form() {
         Form::Mem { op, ra, .. } => memory_kind(op, ra),
         Form::Branch { .. } | Form::Jump { .. } => InsnKind::Turn,
-        Form::Operate { op, .. } => match op.trap() {
-            Some(_) => InsnKind::Trigger,
-            None => InsnKind::Plain,
-        },
+        Form::Operate { op, .. } if is_trapping(op) => InsnKind::Trigger,
+        Form::Operate { .. } => InsnKind::Plain,
         Form::Misc(op) if op.row().reports => InsnKind::Barrier,
         Form::Misc(_) => InsnKind::Plain,
         Form::Fetch { .. } => InsnKind::Plain,

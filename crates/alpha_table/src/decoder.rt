@@ -79,6 +79,7 @@ fn pal(w: Word) -> Option<InsnRow>
 }
 
 // The row of a word whose opcode has a format of its own, or which no row has.
+#[inline(always)]
 fn other(w: Word) -> Option<InsnRow>
     requires { IsTrue (suits (field 31 26 w.0) (field 11 5 w.0) Other) }
     ensures found { IfSome result (λ row. Stands row w.0) }
