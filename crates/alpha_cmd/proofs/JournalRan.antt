@@ -286,8 +286,8 @@ module _ (options : RunOptions) (m : WildState) (ahead : ℕ → ℕ) (how : m.m
         lines = lines;
       }
 
-  cut_untold : (force : Bool) (name : List ℕ) (fault : Fault) (w : World) (before after : Telling) (d : Drawn) (out notes : Sunk) → w.input ≡ None → (force ≡ false → FreeAlike m.machine.image)
-      → before.ahead ≡ Some ahead → IsShort options.steps fault m before after d out notes → RunFronts force name w out notes
+  cut_untold : (force : Bool) (name : List ℕ) (fault : Fault) (w : World) {new : WildState} (before after : Telling) (d : Drawn) (out notes : Sunk) → w.input ≡ None → (force ≡ false → FreeAlike m.machine.image)
+      → before.ahead ≡ Some ahead → IsShort options.steps fault m new before after d out notes → RunFronts force name w out notes
   cut_untold force name fault w before after d out notes untold alone tells short =
       let n = options.steps in
       let g = program_of m.machine in
@@ -314,8 +314,8 @@ module _ (options : RunOptions) (m : WildState) (ahead : ℕ → ℕ) (how : m.m
       (subst (λ (l : List ℕ). Grows l (notes_of false r.making.run.trace)) (ap (λ (k : Making). notes_of false k.run.trace) making ∙ stands.notes)
       (notes-grow false mid.making.run.trace r.making.run.trace begins.trace)))
 
-  pub fronts_by : (force : Bool) (name : List ℕ) (fault : Fault) (w : World) (before after : Telling) (d : Drawn) (out notes : Sunk) → (force ≡ false → FreeAlike m.machine.image)
-      → before.ahead ≡ Some ahead → IsShort options.steps fault m before after d out notes
+  pub fronts_by : (force : Bool) (name : List ℕ) (fault : Fault) (w : World) {new : WildState} (before after : Telling) (d : Drawn) (out notes : Sunk) → (force ≡ false → FreeAlike m.machine.image)
+      → before.ahead ≡ Some ahead → IsShort options.steps fault m new before after d out notes
       → ((bytes : List ℕ) → w.input ≡ Some bytes → (k : Journaled) → StopsAt options.steps (program_of m.machine) bytes ahead k → ShowsWildPart (shown_making false k.making) out notes)
       → Begins (unwatched options) m ahead how fresh force w.input out notes → RunFronts force name w out notes
   fronts_by force name fault w before after d out notes alone tells short told b = by w.input refl

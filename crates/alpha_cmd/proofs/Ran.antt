@@ -101,8 +101,8 @@ record Begins (options : RunOptions) (m : Machine) (left : Option (List ℕ)) (o
   bytes : WritesPrefix out.old out.new what.output
   lines : WritesPrefix notes.old notes.new what.notes
 
-cut_begins : (options : RunOptions) (fault : Fault) (m : Machine) (input : Drawn) (out notes : Sunk) → IsStarted options m
-    → SeqCut fault options.steps options.watch m input out notes → (told : Option (List ℕ)) → input.old ≡ told → Begins options m told out notes
+cut_begins : (options : RunOptions) (fault : Fault) (m : Machine) {new : Machine} (input : Drawn) (out notes : Sunk) → IsStarted options m
+    → SeqCut fault options.steps options.watch m new input out notes → (told : Option (List ℕ)) → input.old ≡ told → Begins options m told out notes
 cut_begins options fault m input out notes at cut None is =
     let front = cut_any fault options.steps options.watch m input out notes cut in
     record {
@@ -157,7 +157,7 @@ module _ (options : RunOptions) (file : List ℕ) (w : World) (m : Machine) (she
       }
 
   -- one that was cut short
-  pub cut_fronts : (fault : Fault) (d : Drawn) (out notes : Sunk) → IsStarted options m → SeqCut fault options.steps options.watch m d out notes → d.old ≡ w.input
+  pub cut_fronts : (fault : Fault) {new : Machine} (d : Drawn) (out notes : Sunk) → IsStarted options m → SeqCut fault options.steps options.watch m new d out notes → d.old ≡ w.input
       → Fronts (form options file) w out notes
   cut_fronts fault d out notes at cut told =
       let b = cut_begins options fault m d out notes at cut w.input told in

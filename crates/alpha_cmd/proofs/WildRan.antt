@@ -296,7 +296,7 @@ module _ (options : RunOptions) (m : WildState) (ahead : ℕ → ℕ) (how : m.m
         lines = subst (WritesPrefix notes.old notes.new) may.notes lines;
       }
 
-  pub cut_begins : (force : Bool) (fault : Fault) (before after : Telling) (d : Drawn) (out notes : Sunk) → WildCut fault options.steps options.watch m before after d out notes
+  pub cut_begins : (force : Bool) (fault : Fault) {new : WildState} (before after : Telling) (d : Drawn) (out notes : Sunk) → WildCut fault options.steps options.watch m new before after d out notes
       → before.ahead ≡ Some ahead → (force ≡ false → RunsAlone m.machine.image) → (told : Option (List ℕ)) → d.old ≡ told → Begins force told out notes
   cut_begins force fault before after d out notes cut tells alone None is =
       let s = told_starts before after ahead cut.drawn (most_words options.steps) tells cut.drew (few_cut fault options.steps options.watch m before after d out notes cut fresh.calm) in

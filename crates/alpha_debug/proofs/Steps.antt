@@ -8,6 +8,7 @@ use Rattle.alpha_seq.specs.State.{Program, State, Event, Went, Barriered, Overfl
 use Rattle.alpha_seq.specs.Step.{step_from}
 use Rattle.alpha_seq.specs.Run.{end_of}
 use Rattle.alpha_seq.specs.Machine.{program_of, state_of, Stays}
+use Rattle.alpha_pal.specs.Kernel.{KernelState}
 use Rattle.alpha_pal.specs.declared.fault.Fault.{Fault}
 use Rattle.alpha_pal.specs.declared.fault.Fault.TheVariants as faults
 use Rattle.alpha_pal.specs.declared.pal_end.Passed.{Passed}
@@ -60,16 +61,17 @@ output_failed : (fault : Fault) (old new : Machine) (input : Drawn) (out : Sunk)
     → SeqBreaks fault old new input out → fault ≡ faults.Output
 unfolding untold
 output_failed faults.Input old new input out before now breaks =
-    absurd (let cause = breaks.step.cause untold refl in omega (arith, cause.source))
+    absurd (let cause = breaks.cause untold refl in omega (arith, cause.source))
 output_failed faults.Output old new input out before now breaks = refl
 output_failed faults.Notes old new input out before now breaks =
-    absurd (let cause = breaks.step.cause untold refl in omega (arith, cause.lines))
+    absurd (let cause = breaks.cause untold refl in omega (arith, cause.lines))
 
 -- the step wasn't made
 pub step_unmade : (fault : Fault) (old new : Machine) (input : Drawn) (out : Sunk) → input.before ≡ 0 → input.now ≡ 0
     → SeqBreaks fault old new input out → IsUnmade old new
 step_unmade fault old new input out before now breaks =
-    breaks.unmade (output_failed fault old new input out before now breaks)
+    let left = (subst (λ (f : Fault). SeqBreaks f old new input out) (output_failed fault old new input out before now breaks) breaks).behind in
+    left.same ∙ ap (λ (k : KernelState). record old { kernel = k }) (sym (ap (λ (m : Machine). m.kernel) left.same))
 
 -- a write whose sink failed
 pub sink_fault : (fault : Fault) (old new : Machine) (input : Drawn) (out : Sunk) → input.old ≡ Some []
@@ -77,8 +79,7 @@ pub sink_fault : (fault : Fault) (old new : Machine) (input : Drawn) (out : Sunk
     → MoveBreaks old (unblocked out)
 unfolding untold
 sink_fault fault old new input out none before now breaks =
-    let b = (subst (λ (f : Fault). SeqBreaks f old new input out)
-    (output_failed fault old new input out before now breaks) breaks).step in
+    let b = subst (λ (f : Fault). SeqBreaks f old new input out) (output_failed fault old new input out before now breaks) breaks in
     let p = b.print in
     let empty = none-left p.taken p.rest (b.found [] none).0 in
     let cause = b.cause untold refl in

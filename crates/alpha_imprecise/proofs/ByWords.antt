@@ -136,10 +136,10 @@ words-make ahead drawn event old new before after input out made =
       wrote = did.wrote;
     }
 
-pub words-break : {C : Type 0} (ahead : C → Option (ℕ → ℕ)) (drawn : C → Option ℕ) (fault : Fault) (old : WildState) (before after : C) (input : Drawn) (out : Sunk)
-    → BreaksBy (reads_pick ahead drawn) (reads_value ahead drawn) fault old before after input out
-    → WildBreaks fault old (telling ahead drawn before) (telling ahead drawn after) input out
-words-break ahead drawn fault old before after input out broken =
+pub words-break : {C : Type 0} (ahead : C → Option (ℕ → ℕ)) (drawn : C → Option ℕ) (fault : Fault) (old new : WildState) (before after : C) (input : Drawn) (out : Sunk)
+    → BreaksBy (reads_pick ahead drawn) (reads_value ahead drawn) fault old new before after input out
+    → WildBreaks fault old new (telling ahead drawn before) (telling ahead drawn after) input out
+words-break ahead drawn fault old new before after input out broken =
     let d = picked_draws ahead drawn old.machine old.pending broken.choice before after broken.picked in
     let did = broken.did in
     record {
@@ -151,5 +151,6 @@ words-break ahead drawn fault old before after input out broken =
       drew = d.drew;
       found = did.found;
       wrote = did.wrote;
+      behind = did.behind;
       cause = did.cause;
     }

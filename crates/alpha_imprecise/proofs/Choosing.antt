@@ -34,7 +34,7 @@ use Rattle.alpha_imprecise.specs.Chosen.{reporting, triggering, must_report, wai
 use Rattle.alpha_imprecise.specs.Telling.{Telling, Goes, Counts, Moves}
 use Rattle.alpha_imprecise.specs.Report.{Reports}
 use Rattle.alpha_imprecise.specs.Picks.{choice_by}
-use Rattle.alpha_imprecise.specs.WildEffect.{IsKernelBy, GoesBy, wild_uses, wild_core, StepsBy, WildGoesOn}
+use Rattle.alpha_imprecise.specs.WildEffect.{IsKernelBy, GoesBy, wild_uses, wild_core, WildLeaves, StepsBy, WildGoesOn}
 
 -- ---- no test of a step looks at the devices
 
@@ -200,20 +200,20 @@ precise-makes event old new input out exact made = record {
 }
 
 pub precise-breaks : (fault : Fault) (old new : Machine) (input : Drawn) (out : Sunk) → triggers (class_here old) (bare old) ≡ false
-    → SeqBreaks fault old new input out → Breaks (GoesBy (reporting 0).choice) wild_uses wild_core no_words fault (wild_state old None) input out
-precise-breaks fault old new input out exact breaks =
-    let b = breaks.step in
-    record {
-      would = wild_state b.would None;
-      print = b.print;
-      is = precise-goes old b.would b.print exact b.is;
-      units = b.units;
-      core_is = b.core_is;
-      drew = b.drew;
-      found = b.found;
-      wrote = b.wrote;
-      cause = b.cause;
-    }
+    → SeqBreaks fault old new input out
+    → Breaks (GoesBy (reporting 0).choice) wild_uses wild_core WildLeaves no_words fault (wild_state old None) (wild_state new None) input out
+precise-breaks fault old new input out exact breaks = record {
+  would = wild_state breaks.would None;
+  print = breaks.print;
+  is = precise-goes old breaks.would breaks.print exact breaks.is;
+  units = breaks.units;
+  core_is = breaks.core_is;
+  drew = breaks.drew;
+  found = breaks.found;
+  wrote = breaks.wrote;
+  behind = record { calm = refl; still = refl; machine = breaks.behind };
+  cause = breaks.cause;
+}
 
 -- a step that only goes on, with nothing pending
 pub goes-steps : (old new : Machine) → GoesOn old new → WildGoesOn (wild_state old None) (wild_state new None)

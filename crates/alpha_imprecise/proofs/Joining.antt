@@ -9,7 +9,7 @@ use Rattle.alpha_pal.proofs.Serving.{rest_of, Takes-nothing}
 use Rattle.alpha_seq.specs.State.{Went, Barriered, Overflowed, Ends}
 use Rattle.alpha_seq.specs.Machine.{state_of, class_here}
 use Rattle.alpha_seq.specs.Devices.{Drawn}
-use Rattle.alpha_seq.specs.Print.{Passes}
+use Rattle.alpha_seq.specs.Print.{HasPassed}
 use Rattle.alpha_seq.specs.StepEffect.{Makes}
 use Rattle.alpha_seq.specs.Sequential.{no_words}
 use Rattle.alpha_seq.specs.declared.event.Event.{Event as Seen}
@@ -29,7 +29,7 @@ idle_sink written count = record { old = written; new = written; before = count;
 
 -- a step that passes nothing says so
 passes-nothing : (w : WildState) (choice : Choice) (happened : Happening) (mem : List Block)
-    → Passes (shown_as (class_here w.machine) choice Nothing happened) mem [] []
+    → HasPassed (shown_as (class_here w.machine) choice Nothing happened) mem [] []
 passes-nothing w choice (Precisely Went) mem = (refl, refl)
 passes-nothing w choice (Precisely Barriered) mem = (refl, refl)
 passes-nothing w choice (Precisely (Overflowed at)) mem = (refl, refl)
@@ -55,7 +55,7 @@ alone event old new choice left written faults count s =
         core = refl;
         is = λ output.
             steps.is rest output ∙ ap (λ (l : List ℕ). moment (state_of new.machine rest l) (trap_in new.pending) s.happened) (sym (append-nil output));
-        passes = subst (λ (e : Seen). Passes e new.machine.memory [] []) (sym s.event_is) (passes-nothing old choice s.happened new.machine.memory);
+        passes = subst (λ (e : Seen). HasPassed e new.machine.memory [] []) (sym s.event_is) (passes-nothing old choice s.happened new.machine.memory);
         waited = steps.waited;
         kernel = steps.kernel;
         program = steps.program;

@@ -133,6 +133,16 @@ module _ (g : Program) where
           subst (λ (l : Making). HasUsed (suc n) (settled g l).run) (sym (advance-going g k e))
           (record { settled = a.done; most = (let m = a.units in omega arith); full = λ going. a.units ∙ units })
 
+  made_on : (k : Making) (n : ℕ) → HasUsed 0 (made g k 0).run → HasUsed n (made g k n).run
+  made_on k zero start = start
+  made_on k (suc n) start = made_more n (made g k n) (made_on k n start)
+
   pub made_is : (k : Making) (n : ℕ) → k.run.pending ≡ None → k.run.units ≡ 0 → HasUsed n (made g k n).run
-  made_is k zero e units = made_start k e units
-  made_is k (suc n) e units = made_more n (made g k n) (made_is k n e units)
+  made_is k n e units = made_on k n (made_start k e units)
+
+  -- also where a trap is pending, which has waited for no more words than it may
+  pub made_from : (k : Making) (n : ℕ) → k.waited ≤ most_waited → k.run.units ≡ 0 → HasUsed n (made g k n).run
+  made_from k n low units =
+      let a = enough (most_waited + 1) k low (omega arith) in
+      let used : k.run.units ≡ 0 = units in
+      made_on k n (record { settled = a.done; most = (let m = a.units in omega arith); full = λ going. a.units ∙ used })

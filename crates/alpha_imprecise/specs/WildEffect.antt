@@ -11,9 +11,9 @@ use Rattle.alpha_pal.specs.declared.fault.Fault.{Fault}
 use Rattle.alpha_seq.specs.State.{Went}
 use Rattle.alpha_seq.specs.Machine.{program_of, state_of, class_here}
 use Rattle.alpha_seq.specs.Devices.{Drawn}
-use Rattle.alpha_seq.specs.Print.{Print, Passes, found_by}
+use Rattle.alpha_seq.specs.Print.{Print, HasPassed, found_by}
 use Rattle.alpha_seq.specs.StepEffect.{Makes, Breaks}
-use Rattle.alpha_seq.specs.Sequential.{seen_as, no_words}
+use Rattle.alpha_seq.specs.Sequential.{seen_as, SeqLeaves, no_words}
 use Rattle.alpha_imprecise.specs.declared.pending.Pending.{Pending}
 use Rattle.alpha_imprecise.specs.Moment.{Choice, Happening, Precisely, Triggered, Waited, Reported, Lost, moment}
 use Rattle.alpha_imprecise.specs.Step.{triggers, adds_here, wild}
@@ -48,7 +48,7 @@ pub record GoesBy (choice : Choice) (old : WildState) (p : Print) (new : WildSta
   pub is : (output : List ℕ)
       → wild (program_of old.machine) (state_of old.machine (found_by p) output) (trap_in old.pending) choice
       ≡ moment (state_of new.machine p.rest (output ++ p.bytes)) (trap_in new.pending) happened
-  pub passes : Passes p.event p.core.memory p.taken p.bytes
+  pub passes : HasPassed p.event p.core.memory p.taken p.bytes
   pub waited : waited_in new.pending ≡ waited_after happened (waited_in old.pending)
   pub kernel : IsKernelBy happened old new
   pub program : program_of new.machine ≡ program_of old.machine
@@ -75,13 +75,20 @@ wild_waits w = wait_left w.pending
 abbrev pub wild_core : WildState → Machine
 wild_core w = w.machine
 
+-- What a device that failed leaves of the machine: nothing is pending, as nothing was, and the rest is what the sequential
+-- machine's step leaves.
+pub record WildLeaves (fault : Fault) (old new : WildState) (input : Drawn) (out : Sunk) : Type 0 where
+  pub calm : old.pending ≡ None
+  pub still : new.pending ≡ None
+  pub machine : SeqLeaves fault old.machine new.machine input out
+
 -- what a step did, by the words that the chooser went on by
 abbrev pub WildMakes : Seen → WildState → WildState → Telling → Telling → Drawn → Sunk → Type 0
 WildMakes event old new before after input out = Makes WildGoes wild_uses wild_core (Moves before after) event old new input out
 
 -- one that a device's fault cut short
-abbrev pub WildBreaks : Fault → WildState → Telling → Telling → Drawn → Sunk → Type 0
-WildBreaks fault old before after input out = Breaks WildGoes wild_uses wild_core (Moves before after) fault old input out
+abbrev pub WildBreaks : Fault → WildState → WildState → Telling → Telling → Drawn → Sunk → Type 0
+WildBreaks fault old new before after input out = Breaks WildGoes wild_uses wild_core WildLeaves (Moves before after) fault old new input out
 
 -- ---- by who chooses
 
@@ -98,9 +105,9 @@ MakesBy picks values event old new before after input out =
     Chose picks values old before after (λ choice. Makes (GoesBy choice) wild_uses wild_core no_words event old new input out)
 
 -- one that a device's fault cut short
-abbrev pub BreaksBy : {P : Type 0} → (P → Pick → P → Type 0) → (P → ℕ → P → Type 0) → Fault → WildState → P → P → Drawn → Sunk → Type 0
-BreaksBy picks values fault old before after input out =
-    Chose picks values old before after (λ choice. Breaks (GoesBy choice) wild_uses wild_core no_words fault old input out)
+abbrev pub BreaksBy : {P : Type 0} → (P → Pick → P → Type 0) → (P → ℕ → P → Type 0) → Fault → WildState → WildState → P → P → Drawn → Sunk → Type 0
+BreaksBy picks values fault old new before after input out =
+    Chose picks values old before after (λ choice. Breaks (GoesBy choice) wild_uses wild_core WildLeaves no_words fault old new input out)
 
 -- ---- steps that leave the input and the output alone
 

@@ -11,7 +11,7 @@ ghost use Rattle.alpha_imprecise.specs.Moment.{Triggered, with_register};
 ghost use Rattle.alpha_imprecise.specs.Step.{triggers, destination, adds_here};
 ghost use Rattle.alpha_imprecise.specs.Picks.{choice_by};
 ghost use Rattle.alpha_imprecise.specs.Wild.{mask_after, bare, wild_state, OverflowsAt, WaitsAt};
-ghost use Rattle.alpha_imprecise.specs.WildEffect.{GoesBy, wild_uses, wild_core, MakesBy, BreaksBy, Chose, StepsBy, StepsAs};
+ghost use Rattle.alpha_imprecise.specs.WildEffect.{GoesBy, wild_uses, wild_core, WildLeaves, MakesBy, BreaksBy, Chose, StepsBy, StepsAs};
 ghost use Rattle.alpha_seq.specs.StepEffect.{Makes, Breaks};
 ghost use Rattle.alpha_seq.specs.Sequential.{no_words};
 
@@ -41,7 +41,8 @@ pub(crate) fn step<P: Picks, S: Source, K: Sink>(
         (drawn S.Source input.old input.new)
         (sunk K.Sink out.old out.new)) }
     ensures broken { IfErr result (λ fault. BreaksBy P.picks P.values fault
-        (wild_state machine.old pending.old) picks.old picks.new
+        (wild_state machine.old pending.old) (wild_state machine.new pending.new)
+        picks.old picks.new
         (drawn S.Source input.old input.new)
         (sunk K.Sink out.old out.new)) }
     ensures program { program_of machine.new ≡ program_of machine.old }
@@ -72,7 +73,8 @@ fn with_none<P: Picks, S: Source, K: Sink>(
         (drawn S.Source input.old input.new)
         (sunk K.Sink out.old out.new)) }
     ensures broken { IfErr result (λ fault. BreaksBy P.picks P.values fault
-        (wild_state machine.old pending.old) picks.old picks.new
+        (wild_state machine.old pending.old) (wild_state machine.new pending.new)
+        picks.old picks.new
         (drawn S.Source input.old input.new)
         (sunk K.Sink out.old out.new)) }
     ensures program { program_of machine.new ≡ program_of machine.old }
@@ -135,8 +137,8 @@ fn precise<S: Source, K: Sink>(
         (drawn S.Source input.old input.new)
         (sunk K.Sink out.old out.new)) }
     ensures broken { IfErr result (λ fault.
-        Breaks (GoesBy (reporting 0).choice) wild_uses wild_core no_words fault
-        (wild_state machine.old None)
+        Breaks (GoesBy (reporting 0).choice) wild_uses wild_core WildLeaves no_words fault
+        (wild_state machine.old None) (wild_state machine.new None)
         (drawn S.Source input.old input.new)
         (sunk K.Sink out.old out.new)) }
     ensures program { program_of machine.new ≡ program_of machine.old }

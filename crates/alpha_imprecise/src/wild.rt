@@ -101,7 +101,8 @@ impl Wild {
     ///
     /// Whoever makes the steps writes the line of a report that logs, after the handler has returned.
     /// `Fault::Input` comes only where the input failed in this step, and `Fault::Output` where the
-    /// output did.
+    /// output did. Nothing is pending then, nor was before, and the machine is what
+    /// [`Machine::step`] leaves of it.
     #[inline(always)]
     pub fn step_by<P: Picks, S: Source, K: Sink>(
         &mut self,
@@ -113,7 +114,7 @@ impl Wild {
             picks.old picks.new
             (drawn S.Source input.old input.new)
             (sunk K.Sink out.old out.new)) }
-        ensures broken { IfErr result (λ fault. BreaksBy P.picks P.values fault self.old
+        ensures broken { IfErr result (λ fault. BreaksBy P.picks P.values fault self.old self.new
             picks.old picks.new
             (drawn S.Source input.old input.new)
             (sunk K.Sink out.old out.new)) }
@@ -137,7 +138,7 @@ impl Wild {
             (sunk K.Sink out.old out.new)) }
         ensures nearer { IfOk result (λ event. is_over event ≡ false
             → wild_waits self.new < wild_waits self.old + 1026 * wild_uses self.old) }
-        ensures broken { IfErr result (λ fault. WildBreaks fault self.old
+        ensures broken { IfErr result (λ fault. WildBreaks fault self.old self.new
             (telling C.ahead C.drawn chooser.old) (telling C.ahead C.drawn chooser.new)
             (drawn S.Source input.old input.new)
             (sunk K.Sink out.old out.new)) }

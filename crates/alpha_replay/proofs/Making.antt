@@ -22,7 +22,7 @@ use Rattle.alpha_imprecise.specs.Telling.{Telling}
 use Rattle.alpha_imprecise.specs.Made.{Making}
 use Rattle.alpha_imprecise.specs.Wild.{WildState, bare, trap_in, begun_at}
 use Rattle.alpha_imprecise.specs.Free.{NeverLoses, advance_making_over}
-use Rattle.alpha_imprecise.specs.WildEffect.{WildGoes, wild_uses}
+use Rattle.alpha_imprecise.specs.WildEffect.{WildGoes, WildLeaves, wild_uses}
 use Rattle.alpha_imprecise.proofs.RunSteps.{onto}
 use Rattle.alpha_run.specs.Row.{Row, AreGoing, words_of, units_of, Feeds, seen_by}
 use Rattle.alpha_run.specs.Ran.{ends_at, Goes, Stops, RunsTo, IsCut}
@@ -325,11 +325,11 @@ module _ (n left : ℕ) (event : Seen) (old new : WildState) (to : Recorder) (be
 front_of : (out : Sunk) (xs ys zs zs' : List ℕ) → WritesBetween out.old out.new xs ys → zs ≡ ys → Grows zs zs' → WritesPrefix out.old out.new zs'
 front_of out xs ys zs zs' wrote same more = front out.old out.new xs ys zs' wrote (subst (λ (l : List ℕ). Grows l zs') same more)
 
-cut_short : (fault : Fault) (n left : ℕ) (old : WildState) (before after : Telling) (input : Drawn) (out notes : Sunk)
-    → IsCut fault WildGoes recording n left old blank before after input out notes
-    → made.IsShort n fault old before after input out notes
+cut_short : (fault : Fault) (n left : ℕ) (old new : WildState) (before after : Telling) (input : Drawn) (out notes : Sunk)
+    → IsCut fault WildGoes WildLeaves recording n left old new blank before after input out notes
+    → made.IsShort n fault old new before after input out notes
 unfolding wild_cut
-cut_short fault n left old before after input out notes one =
+cut_short fault n left old new before after input out notes one =
     let ps = one.prints in
     let p = one.print in
     let g = program_of old.machine in
@@ -338,7 +338,7 @@ cut_short fault n left old before after input out notes one =
     let all = unstopped_fit blank ps one.unstopped in
     let used = one.used in
     let most : units_of ps + p.units ≤ n = omega arith in
-    let cut = wild_cut recording fault n left false old blank before after input out notes writes one in
+    let cut = wild_cut recording fault n left false old new blank before after input out notes writes one in
     record {
       cut = cut;
       goes = λ from coming.
@@ -402,11 +402,11 @@ made_ok last n left old new from to before after input out notes start did =
             ∙ ap (λ (b : Bool). outcome (Some event) old.machine.how (record { tape = tape_after reached.tape one.print.event one.print.core; full = not b })) past) in
             subst (λ (e : JournalEnd). made.MakesJournal e n old new before after input out notes) full (stopped_full n left event old new to before after input out notes one past)
 
-pub made_err : (fault : Fault) (n left : ℕ) (old : WildState) (from : Recorder) (before after : Telling) (input : Drawn) (out notes : Sunk) → from ≡ blank
-    → IsCut fault WildGoes recording n left old from before after input out notes
-    → made.IsShort n fault old before after input out notes
-made_err fault n left old from before after input out notes start did =
-    cut_short fault n left old before after input out notes (subst (λ (r : Recorder). IsCut fault WildGoes recording n left old r before after input out notes) start did)
+pub made_err : (fault : Fault) (n left : ℕ) (old new : WildState) (from : Recorder) (before after : Telling) (input : Drawn) (out notes : Sunk) → from ≡ blank
+    → IsCut fault WildGoes WildLeaves recording n left old new from before after input out notes
+    → made.IsShort n fault old new before after input out notes
+made_err fault n left old new from before after input out notes start did =
+    cut_short fault n left old new before after input out notes (subst (λ (r : Recorder). IsCut fault WildGoes WildLeaves recording n left old new r before after input out notes) start did)
 
 -- a run with its journal, as one to its end or for all its units
 unfoldable pub whole_of : (n : ℕ) (last : Option Seen) (journal : Parts) (old new : WildState) (before after : Telling) (input : Drawn) (out notes : Sunk)

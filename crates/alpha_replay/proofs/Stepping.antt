@@ -48,5 +48,5 @@ never Input xs ys cause = absurd (let rose = cause.source in omega arith)
 never Output xs ys cause = absurd (let rose = cause.sink in omega arith)
 never Notes xs ys cause = absurd (let rose = cause.lines in omega arith)
 
-pub never_breaks : (fault : Fault) (old : WildState) (before after : Given) (xs ys : List ℕ) → BreaksBy gives_pick gives_value fault old before after (sure xs ys) null → ⊥
-never_breaks fault old before after xs ys broken = never fault xs ys (broken.did.cause null refl)
+pub never_breaks : (fault : Fault) (old new : WildState) (before after : Given) (xs ys : List ℕ) → BreaksBy gives_pick gives_value fault old new before after (sure xs ys) null → ⊥
+never_breaks fault old new before after xs ys broken = never fault xs ys (broken.did.cause null refl)

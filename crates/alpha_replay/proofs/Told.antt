@@ -83,7 +83,7 @@ module _ (n : ℕ) (bytes : List ℕ) (ahead : ℕ → ℕ) (old new : WildState
       let place = journaled (recorded_from old bytes (f.stops.ran.words ++ h.coming) f.stops.ran.inputs) bytes in
       (place.making, record { place = place; stops = h.stops; past = ap is_within h.journal ∙ f.past bytes h.coming; is = refl }, h.shows)
 
-  fronts : (fault : Fault) → IsShort n fault old before after input out notes → (k : Journaled) → StopsAt n g bytes ahead k → ShowsWildPart (shown_making false k.making) out notes
+  fronts : (fault : Fault) → IsShort n fault old new before after input out notes → (k : Journaled) → StopsAt n g bytes ahead k → ShowsWildPart (shown_making false k.making) out notes
   fronts fault s k is =
       let few : length s.cut.drawn ≤ most_words n = few_cut fault n false old before after input out notes s.cut fresh.calm in
       let list = told_starts before after ahead s.cut.drawn (most_words n) told s.cut.drew few in

@@ -68,8 +68,8 @@ pub record ShowsWildPart (what : ShownWild) (out notes : Sunk) : Type 0 where
 
 -- A device's fault cut the run short within a step: it went on before that step too. Where the input is told, fronts were
 -- written of what the run shows wherever it would have stopped.
-pub record IsShort (n : ℕ) (fault : Fault) (old : WildState) (before after : Telling) (input : Drawn) (out notes : Sunk) : Type 0 where
-  pub cut : WildCut fault n false old before after input out notes
+pub record IsShort (n : ℕ) (fault : Fault) (old new : WildState) (before after : Telling) (input : Drawn) (out notes : Sunk) : Type 0 where
+  pub cut : WildCut fault n false old new before after input out notes
   pub goes : (from coming : List ℕ) → GoesFrom n old from (cut.drawn ++ coming) (cut.inputs ++ cut.next ∷ [])
   pub fronts : (bytes coming : List ℕ) (k : Journaled) → input.old ≡ Some bytes
       → IsJournaledAt n old bytes (cut.drawn ++ coming) k → ShowsWildPart (shown_making false k.making) out notes
@@ -86,7 +86,7 @@ pub record IsUnbegun (old new : WildState) (before after : Telling) (input : Dra
 abbrev pub MakesJournal : JournalEnd → ℕ → WildState → WildState → Telling → Telling → Drawn → Sunk → Sunk → Type 0
 MakesJournal (made.Made last journal) n old new before after input out notes =
     Records n last journal old new before after input out notes
-MakesJournal (made.Failed fault) n old new before after input out notes = IsShort n fault old before after input out notes
+MakesJournal (made.Failed fault) n old new before after input out notes = IsShort n fault old new before after input out notes
 MakesJournal made.Full n old new before after input out notes = IsFull n old new before after input out notes
 MakesJournal made.NoMemory n old new before after input out notes = IsUnbegun old new before after input out notes
 

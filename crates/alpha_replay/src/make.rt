@@ -7,7 +7,7 @@ ghost use Rattle.alpha_seq.specs.Machine.{Stays, program_of};
 ghost use Rattle.alpha_imprecise.specs.Free.{NeverLoses};
 ghost use Rattle.alpha_imprecise.specs.Telling.{telling};
 ghost use Rattle.alpha_imprecise.specs.Wild.{IsFresh};
-ghost use Rattle.alpha_imprecise.specs.WildEffect.{WildGoes, wild_uses};
+ghost use Rattle.alpha_imprecise.specs.WildEffect.{WildGoes, WildLeaves, wild_uses};
 ghost use Rattle.alpha_run.specs.Ran.{IsCut, RunsTo};
 ghost use Rattle.alpha_replay.specs.Endings.{FitsEnding};
 ghost use Rattle.alpha_replay.specs.JournalEnd.{JournalLosesNone, JournalTold, MakesJournal};
@@ -84,8 +84,8 @@ fn run_recorded<C: Chooser, S: Source, K: Sink, N: Sink>(
         (drawn S.Source input.old input.new)
         (sunk K.Sink out.old out.new)
         (sunk N.Sink notes.old notes.new)) }
-    ensures broken { IfErr result (λ fault. (left : ℕ) × IsCut fault WildGoes recording units left
-        wild.old recorder.old
+    ensures broken { IfErr result (λ fault. (left : ℕ) × IsCut fault WildGoes WildLeaves recording units left
+        wild.old wild.new recorder.old
         (telling C.ahead C.drawn chooser.old) (telling C.ahead C.drawn chooser.new)
         (drawn S.Source input.old input.new)
         (sunk K.Sink out.old out.new)

@@ -104,7 +104,7 @@ shows last n left watch old new before after input out notes w bytes tells fresh
     }
 
 pub restarted : (r : Result (Option Seen) Fault) (n left : ℕ) (watch : Bool) (old new : WildState) (before after : Telling) (input : Drawn) (out notes : Sunk)
-    → IfOk r (λ last. WildRanAs last n left watch old new before after input out notes) → IfErr r (λ fault. WildCut fault n watch old before after input out notes)
+    → IfOk r (λ last. WildRanAs last n left watch old new before after input out notes) → IfErr r (λ fault. WildCut fault n watch old new before after input out notes)
     → (bytes : List ℕ) → input.old ≡ Some bytes → IsFresh old → IsRestartable old.machine.image
     → ShowsSequential n watch bytes r old.machine input out notes
 restarted (Ok last) n left watch old new before after input out notes did cut bytes tells fresh restarts =

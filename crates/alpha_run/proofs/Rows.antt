@@ -8,7 +8,7 @@ use Rattle.alpha_io.specs.Faults.{Rose}
 use Rattle.alpha_io.specs.Sunk.{Sunk, Puts}
 use Rattle.alpha_io.proofs.Sinks.{Puts-none, Puts-then}
 use Rattle.alpha_seq.specs.declared.machine.Machine.{Machine}
-use Rattle.alpha_seq.specs.Devices.{Drawn}
+use Rattle.alpha_seq.specs.Devices.{Drawn, drawn_from, sunk_from}
 use Rattle.alpha_seq.proofs.RunSteps.{Times, drawn_before, drawn_after, drawn_over, sunk_before, sunk_after, sunk_over}
 use Rattle.alpha_seq.proofs.RunSteps.{between}
 use Rattle.alpha_imprecise.specs.Telling.{Telling, Moves}
@@ -21,7 +21,7 @@ use Rattle.alpha_pal.specs.declared.fault.Fault.TheVariants as faults
 use Rattle.alpha_seq.specs.Print.{Print, is_over}
 use Rattle.alpha_run.specs.Row.{Row, AreGoing, AreWent, words_of, bytes_of, units_of, Feeds, lines_by, seen_by, Unstopped}
 use Rattle.alpha_seq.specs.StepEffect.{Causes}
-use Rattle.alpha_run.specs.Ran.{Watching, ends_at, Did, Turns, Slips, Hastens, Goes, Stops, IsCut}
+use Rattle.alpha_run.specs.Ran.{Watching, ends_at, Did, Behind, Turns, Slips, Hastens, Goes, Stops, IsCut}
 
 -- ---- lists
 
@@ -238,12 +238,22 @@ causes-after faults.Notes input out notes a b c two = record {
   lines = subst (λ k. Rose k notes.faults_last) c two.lines;
 }
 
-pub cut : {M O : Type 0} (fault : Fault) (goes : M → Print → M → Type 0) (uses : M → ℕ) (w : Watching O) (units some left : ℕ) (old mid : M) (from via : O) (before told after : Telling) (input out notes : Times)
+-- what it leaves, by the counts before the first step
+behind_all : {M : Type 0} (leaves : Fault → M → M → Drawn → Sunk → Type 0) (fault : Fault) (p : Print) (mid would new : M) (input out notes : Times)
+    → input.faults_mid ≡ input.faults_first → out.faults_mid ≡ out.faults_first → notes.faults_mid ≡ notes.faults_first
+    → Behind leaves fault p mid would new (drawn_after input) (sunk_after out) (sunk_after notes)
+    → Behind leaves fault p mid would new (drawn_from (drawn_over input) input.mid input.faults_first) (sunk_from (sunk_over out) out.mid out.faults_first) (sunk_from (sunk_over notes) notes.mid notes.faults_first)
+behind_all leaves fault p mid would new input out notes a b c one =
+    subst (λ (k : ℕ). Behind leaves fault p mid would new (drawn_from (drawn_over input) input.mid k) (sunk_from (sunk_over out) out.mid out.faults_first) (sunk_from (sunk_over notes) notes.mid notes.faults_first)) a
+    (subst (λ (k : ℕ). Behind leaves fault p mid would new (drawn_after input) (sunk_from (sunk_over out) out.mid k) (sunk_from (sunk_over notes) notes.mid notes.faults_first)) b
+    (subst (λ (k : ℕ). Behind leaves fault p mid would new (drawn_after input) (sunk_after out) (sunk_from (sunk_over notes) notes.mid k)) c one))
+
+pub cut : {M O : Type 0} (fault : Fault) (goes : M → Print → M → Type 0) (uses : M → ℕ) (leaves : Fault → M → M → Drawn → Sunk → Type 0) (w : Watching O) (units some left : ℕ) (old mid new : M) (from via : O) (before told after : Telling) (input out notes : Times)
     → left + uses mid ≡ some
     → Goes goes w units some old mid from via before told (drawn_before input) (sunk_before out) (sunk_before notes)
-    → Slips goes uses w fault mid via told after (drawn_after input) (sunk_after out) (sunk_after notes)
-    → IsCut fault goes w units left old from before after (drawn_over input) (sunk_over out) (sunk_over notes)
-cut fault goes uses w units some left old mid from via before told after input out notes room one two =
+    → Slips goes uses leaves w fault mid new via told after (drawn_after input) (sunk_after out) (sunk_after notes)
+    → IsCut fault goes leaves w units left old new from before after (drawn_over input) (sunk_over out) (sunk_over notes)
+cut fault goes uses leaves w units some left old mid new from via before told after input out notes room one two =
     let ps = one.prints in
     let p = two.print in
     record {
@@ -262,12 +272,17 @@ cut fault goes uses w units some left old mid from via before told after input o
         left = input.mid;
         fed = one.did.fed;
         found = two.found;
+        written = out.mid;
+        wrote = one.did.wrote.written;
+        noted = notes.mid;
+        notes_are = one.did.lines.written;
         output = between out.first out.mid out.last (flat_map bytes_of ps) p.bytes (flat_map bytes_of (ps ++ p ∷ [])) one.did.wrote.written two.output
             (flat_map-append bytes_of ps (p ∷ []) ∙ ap (λ l. flat_map bytes_of ps ++ l) (append-nil p.bytes));
         lines = between notes.first notes.mid notes.last (lines_by w.after w.lines from ps) (w.lines via p.event p.core) (lines_by w.after w.lines from (ps ++ p ∷ [])) one.did.lines.written two.lines
             (lines-append w.after w.lines from ps (p ∷ []) ∙ ap (λ l. lines_by w.after w.lines from ps ++ l)
             (append-nil (w.lines (seen_by w.after from ps) p.event p.core) ∙ ap (λ o. w.lines o p.event p.core) (sym one.did.seen)));
       };
+      behind = behind_all leaves fault p mid two.would new input out notes one.did.same one.did.wrote.same one.did.lines.same two.behind;
       cause = causes-after fault input out notes one.did.same one.did.wrote.same one.did.lines.same two.cause;
     }
 

@@ -2,6 +2,7 @@
 use Rattle.std.proofs.Common.{◌≡◌, ◌<◌, ◌+◌, ℕ, zero, suc, Bool, true, false, List, [], ◌∷◌, ◌++◌, length, map, Option, Some, None, refl, sym, ap, subst, ◌∙◌, append_assoc, append-nil, length-append, arith}
 use Rattle.std.specs.List.{flat_map}
 use Rattle.std.proofs.lemmas.Grind.{flat_map-append}
+use Rattle.std.specs.Io.KnownBytes.{Appends}
 use Rattle.alpha_io.specs.Sunk.{Sunk, Puts}
 use Rattle.alpha_pal.specs.declared.pal_end.Passed.{Passed}
 use Rattle.alpha_pal.specs.Kernel.{KernelState}
@@ -24,7 +25,7 @@ use Rattle.alpha_seq.specs.Print.{Print, is_over as is_last, found_by}
 use Rattle.alpha_run.specs.Row.{Row, AreGoing, bytes_of, units_of, Feeds, lines_by}
 use Rattle.alpha_run.specs.Noted.{noted, lines_of, stays, never}
 use Rattle.alpha_run.specs.Ran.{watching, Goes, Stops, RunsTo, IsCut}
-use Rattle.alpha_seq.specs.Sequential.{seen_as, SeqGoes, one_unit}
+use Rattle.alpha_seq.specs.Sequential.{seen_as, SeqGoes, SeqLeaves, one_unit}
 use Rattle.alpha_run.specs.SeqRun.{Stands, end_by, run_from, SeqRan, SeqCut}
 use Rattle.alpha_run.proofs.Rows.{lines-append}
 use Rattle.alpha_run.proofs.Noting.{seen-stays}
@@ -314,11 +315,11 @@ stopped units left event watch old new from to before behind input out notes is 
           );
     }
 
-pub cut_ran : (fault : Fault) (units left : ℕ) (watch : Bool) (old : Machine) (from : Notes) (before behind : Telling) (input : Drawn) (out notes : Sunk)
+pub cut_ran : (fault : Fault) (units left : ℕ) (watch : Bool) (old new : Machine) (from : Notes) (before behind : Telling) (input : Drawn) (out notes : Sunk)
     → from ≡ record { watch = watch }
-    → IsCut fault SeqGoes (watching stays lines_of never) units left old from before behind input out notes
-    → SeqCut fault units watch old input out notes
-cut_ran fault units left watch old from before behind input out notes is one =
+    → IsCut fault SeqGoes SeqLeaves (watching stays lines_of never) units left old new from before behind input out notes
+    → SeqCut fault units watch old new input out notes
+cut_ran fault units left watch old new from before behind input out notes is one =
     let g = program_of old in
     let ps = one.prints in
     let p = one.print in
@@ -328,12 +329,16 @@ cut_ran fault units left watch old from before behind input out notes is one =
       next = found_by p;
       steps = units_of ps;
       mid = one.mid;
+      print = p;
       would = one.would;
+      step = one.is;
       end = end_of one.is.happened;
       put = flat_map bytes_of ps;
       lines = all_lines watch ps;
       put' = flat_map bytes_of (ps ++ p ∷ []);
       lines' = all_lines watch (ps ++ p ∷ []);
+      next_is = refl;
+      put_is = flat_map-append bytes_of ps (p ∷ []) ∙ ap (λ l. flat_map bytes_of ps ++ l) (append-nil p.bytes);
       less = omega (arith, one.used, one.is.units);
       each = length-found ps ∙ sym (ones ps old one.mid one.row);
       is = row_from old one.mid watch ps one.row one.going;
@@ -341,6 +346,12 @@ cut_ran fault units left watch old from before behind input out notes is one =
           subst (λ (n : ℕ). Stands g (run_from old start (fs ++ found_by p ∷ [])) n watch (end_of one.is.happened) (flat_map bytes_of (ps ++ p ∷ [])) (all_lines watch (ps ++ p ∷ [])) one.would
           (kernel_over g (fs ++ found_by p ∷ []) (started (state_of old start [])) old.kernel)) (ap (λ n. units_of ps + n) one.is.units)
           (last_stands old one.mid one.would watch ps p one.row one.going one.is start);
+      left = one.did.left;
+      written = one.did.written;
+      wrote = one.did.wrote;
+      marked = one.did.noted;
+      marks = subst (λ (o : Notes). Appends notes.old one.did.noted (lines_by stays lines_of o ps)) is one.did.notes_are;
+      behind = one.behind;
       output = one.did.output;
       noted = subst (λ (o : Notes). WritesBetween notes.old notes.new (lines_by stays lines_of o ps) (lines_by stays lines_of o (ps ++ p ∷ []))) is one.did.lines;
       told = λ bytes tells.
@@ -348,7 +359,7 @@ cut_ran fault units left watch old from before behind input out notes is one =
           let told = told_first old one.mid watch ps bytes (Some left.0) one.row one.going left.2 in
           let here : left.0 ≡ (run_from old bytes fs).state.outside.input = (let e = told.1 in cc) in
           let found = one.did.found left.0 left.1 in
-          (told.0, sym found.0 ∙ here, (found.1.0, found.1.1, sym found.0 ∙ found.1.2, found.1.3));
+          (told.0, sym found.0 ∙ here, left.1 ∙ ap Some found.0, (found.1.0, found.1.1, sym found.0 ∙ found.1.2, found.1.3));
       cause = one.cause;
     }
 

@@ -58,7 +58,7 @@ made_any (Some event) units left watch old new input out notes ran from =
 -- ---- a run that was cut short
 
 -- what was written is a front of what a whole run shows over some inputs
-pub cut_any : (fault : Fault) (units : ℕ) (watch : Bool) (old : Machine) (input : Drawn) (out notes : Sunk) → SeqCut fault units watch old input out notes → IsFront units watch old out notes
+pub cut_any : (fault : Fault) (units : ℕ) (watch : Bool) (old : Machine) {new : Machine} (input : Drawn) (out notes : Sunk) → SeqCut fault units watch old new input out notes → IsFront units watch old out notes
 cut_any fault units watch old input out notes cut =
     let g = program_of old in
     let all = cut.inputs ++ cut.next ∷ [] in
@@ -79,7 +79,7 @@ cut_any fault units watch old input out notes cut =
     }
 
 -- where the input is told, of what the run after all its steps shows
-pub cut_told : (fault : Fault) (units : ℕ) (watch : Bool) (old : Machine) (input : Drawn) (out notes : Sunk) → SeqCut fault units watch old input out notes → (bytes : List ℕ) → input.old ≡ Some bytes
+pub cut_told : (fault : Fault) (units : ℕ) (watch : Bool) (old : Machine) {new : Machine} (input : Drawn) (out notes : Sunk) → SeqCut fault units watch old new input out notes → (bytes : List ℕ) → input.old ≡ Some bytes
     → let to = after (program_of old) (state_of old bytes []) units in
     WritesPrefix out.old out.new to.state.outside.output × WritesPrefix notes.old notes.new (notes_of watch to.trace)
 cut_told fault units watch old input out notes cut bytes tells =

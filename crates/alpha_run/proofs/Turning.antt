@@ -4,18 +4,18 @@ use Rattle.alpha_io.specs.Sunk.{Sunk, Puts, Partly, HasFailed}
 use Rattle.alpha_io.specs.Written.{WritesPrefix}
 use Rattle.alpha_io.proofs.Writes.{WritesPrefix-all}
 use Rattle.alpha_seq.specs.declared.machine.Machine.{Machine}
-use Rattle.alpha_seq.specs.Devices.{Drawn}
+use Rattle.alpha_seq.specs.Devices.{Drawn, Idles}
 use Rattle.alpha_seq.proofs.RunSteps.{idle-part}
 use Rattle.alpha_imprecise.specs.Telling.{Telling, Moves}
 use Rattle.alpha_seq.specs.declared.event.Event.{Event}
 use Rattle.alpha_pal.specs.declared.fault.Fault.{Fault}
 use Rattle.alpha_pal.specs.declared.fault.Fault.TheVariants as faults
 use Rattle.alpha_seq.specs.Print.{Print, is_over}
-use Rattle.alpha_seq.specs.Sequential.{SeqGoes, one_unit, no_wait, itself, SeqMakes, SeqBreaks}
+use Rattle.alpha_seq.specs.Sequential.{SeqGoes, SeqLeaves, one_unit, no_wait, itself, SeqMakes, SeqBreaks}
 use Rattle.alpha_imprecise.proofs.Choosing.{Moves-none}
 use Rattle.alpha_run.specs.Row.{Feeds}
 use Rattle.alpha_seq.specs.StepEffect.{Finds, FindsPart, Makes, Breaks}
-use Rattle.alpha_run.specs.Ran.{watching, Turns, Slips}
+use Rattle.alpha_run.specs.Ran.{watching, Behind, Turns, Slips}
 
 feeds : (old new : Option (List ℕ)) (p : Print) → Finds old new p → Feeds old (p ∷ []) new
 feeds None new p found = tt
@@ -54,11 +54,11 @@ part-of : (old new : Option (List ℕ)) (p : Print) → Finds old new p → Find
 part-of old new p found = λ left is. let f = found left is in (f.0, (p.taken, p.rest, f.0, f.1))
 
 -- the step was made, and its lines failed
-pub unnoted : {M O : Type 0} (goes : M → Print → M → Type 0) (uses : M → ℕ) (core : M → Machine) (next : O → Event → Machine → O) (lines : O → Event → Machine → List ℕ) (stops : O → Event → Machine → Bool)
+pub unnoted : {M O : Type 0} (goes : M → Print → M → Type 0) (uses : M → ℕ) (core : M → Machine) (leaves : Fault → M → M → Drawn → Sunk → Type 0) (next : O → Event → Machine → O) (lines : O → Event → Machine → List ℕ) (stops : O → Event → Machine → Bool)
     (event : Event) (old new : M) (m : Machine) (from : O) (before after : Telling) (input : Drawn) (out notes : Sunk)
     → Makes goes uses core (Moves before after) event old new input out → m ≡ core new → Partly notes (lines from event m) → HasFailed notes
-    → Slips goes uses (watching next lines stops) faults.Notes old from before after input out notes
-unnoted goes uses core next lines stops event old new m from before after input out notes one here wrote failed =
+    → Slips goes uses leaves (watching next lines stops) faults.Notes old new from before after input out notes
+unnoted goes uses core leaves next lines stops event old new m from before after input out notes one here wrote failed =
     let p = one.print in
     record {
       would = new;
@@ -69,16 +69,30 @@ unnoted goes uses core next lines stops event old new m from before after input 
       found = part-of input.old input.new p one.found;
       output = WritesPrefix-all out.old out.new p.bytes one.wrote.written;
       lines = subst (WritesPrefix notes.old notes.new) (ap (lines from event) (here ∙ sym one.core_is) ∙ ap (λ e. lines from e p.core) (sym one.event_is)) wrote.prefix;
+      behind = record { is = refl; found = one.found; wrote = one.wrote };
       cause = record { source = one.same; sink = one.wrote.same; later = wrote.later; lines = failed };
     }
 
+-- a step writes no notes
+no_notes : Sunk
+no_notes = record { old = None; new = None; before = 0; now = 0 }
+
+behind_step : {M : Type 0} (goes : M → Print → M → Type 0) (uses : M → ℕ) (core : M → Machine) (leaves : Fault → M → M → Drawn → Sunk → Type 0) (draws : List ℕ → Type 0)
+    (fault : Fault) (old new : M) (input : Drawn) (out notes : Sunk) → Idles notes
+    → (one : Breaks goes uses core leaves draws fault old new input out) → Behind leaves fault one.print old one.would new input out notes
+unfolding no_notes
+behind_step goes uses core leaves draws faults.Input old new input out notes idle one = (one.behind, idle)
+behind_step goes uses core leaves draws faults.Output old new input out notes idle one = (one.behind, idle)
+behind_step goes uses core leaves draws faults.Notes old new input out notes idle one = absurd (let cause = one.cause no_notes refl in omega (arith, cause.lines))
+
 -- the step was cut short
-pub broken : {M O : Type 0} (goes : M → Print → M → Type 0) (uses : M → ℕ) (core : M → Machine) (next : O → Event → Machine → O) (lines : O → Event → Machine → List ℕ) (stops : O → Event → Machine → Bool)
-    (fault : Fault) (old : M) (from : O) (before after : Telling) (input : Drawn) (out : Sunk) (told : Option (List ℕ)) (count : ℕ)
-    → Breaks goes uses core (Moves before after) fault old input out
+pub broken : {M O : Type 0} (goes : M → Print → M → Type 0) (uses : M → ℕ) (core : M → Machine) (leaves : Fault → M → M → Drawn → Sunk → Type 0)
+    (next : O → Event → Machine → O) (lines : O → Event → Machine → List ℕ) (stops : O → Event → Machine → Bool)
+    (fault : Fault) (old new : M) (from : O) (before after : Telling) (input : Drawn) (out : Sunk) (told : Option (List ℕ)) (count : ℕ)
+    → Breaks goes uses core leaves (Moves before after) fault old new input out
     → let notes : Sunk = record { old = told; new = told; before = count; now = count } in
-    Slips goes uses (watching next lines stops) fault old from before after input out notes
-broken goes uses core next lines stops fault old from before after input out told count one =
+    Slips goes uses leaves (watching next lines stops) fault old new from before after input out notes
+broken goes uses core leaves next lines stops fault old new from before after input out told count one =
     let notes : Sunk = record { old = told; new = told; before = count; now = count } in
     let p = one.print in
     record {
@@ -90,6 +104,7 @@ broken goes uses core next lines stops fault old from before after input out tol
       found = one.found;
       output = one.wrote;
       lines = idle-part notes (lines from p.event p.core) (record { written = refl; same = refl });
+      behind = behind_step goes uses core leaves (Moves before after) fault old new input out notes (record { written = refl; same = refl }) one;
       cause = one.cause notes refl;
     }
 
@@ -110,20 +125,19 @@ told_makes event old new t input out made = record {
 }
 
 pub told_breaks : (fault : Fault) (old new : Machine) (t : Telling) (input : Drawn) (out : Sunk) → SeqBreaks fault old new input out
-    → Breaks SeqGoes one_unit itself (Moves t t) fault old input out
-told_breaks fault old new t input out breaks =
-    let b = breaks.step in
-    record {
-      would = b.would;
-      print = b.print;
-      is = b.is;
-      units = b.units;
-      core_is = b.core_is;
-      drew = subst (Moves t t) (sym b.drew) (Moves-none t);
-      found = b.found;
-      wrote = b.wrote;
-      cause = b.cause;
-    }
+    → Breaks SeqGoes one_unit itself SeqLeaves (Moves t t) fault old new input out
+told_breaks fault old new t input out breaks = record {
+  would = breaks.would;
+  print = breaks.print;
+  is = breaks.is;
+  units = breaks.units;
+  core_is = breaks.core_is;
+  drew = subst (Moves t t) (sym breaks.drew) (Moves-none t);
+  found = breaks.found;
+  wrote = breaks.wrote;
+  behind = breaks.behind;
+  cause = breaks.cause;
+}
 
 pub near_made : (r : Result Event Fault) (old new : Machine) → IfOk r (λ event. is_over event ≡ false → no_wait new < no_wait old + 1026 * one_unit old)
 near_made (Ok event) old new = λ going. omega arith

@@ -2,6 +2,7 @@
 use Rattle.std.proofs.Common.{◌≡◌, ◌<◌, ◌+◌, ℕ, zero, suc, Bool, true, false, cond, List, [], ◌∷◌, ◌++◌, length, map, Option, Some, None, refl, sym, ap, subst, ◌∙◌, append_assoc, append-nil, length-append, arith}
 use Rattle.std.specs.List.{flat_map}
 use Rattle.std.proofs.lemmas.Grind.{flat_map-append}
+use Rattle.std.specs.Io.KnownBytes.{Appends}
 use Rattle.alpha_io.specs.Sunk.{Sunk, Puts}
 use Rattle.alpha_pal.specs.declared.pal_end.Passed.{Passed}
 use Rattle.alpha_pal.specs.Kernel.{KernelState}
@@ -31,7 +32,7 @@ use Rattle.alpha_seq.specs.Print.{Print, is_over, found_by}
 use Rattle.alpha_run.specs.Row.{Row, AreGoing, words_of, bytes_of, units_of, Feeds, lines_by}
 use Rattle.alpha_run.specs.Noted.{noted, lines_of, stays, never}
 use Rattle.alpha_run.specs.Ran.{Watching, watching, Goes, Stops, RunsTo, IsCut}
-use Rattle.alpha_imprecise.specs.WildEffect.{shown_as, WildGoes}
+use Rattle.alpha_imprecise.specs.WildEffect.{shown_as, WildGoes, WildLeaves}
 use Rattle.alpha_imprecise.specs.WildEffect.{wild_uses}
 use Rattle.alpha_run.specs.WildRan.{WildStands, making_from, WildRan, ended_as, WildRanAs, WildCut}
 use Rattle.alpha_run.proofs.WildUsed.{own-input}
@@ -364,11 +365,11 @@ wild_as (Some event) units left watch old new from to before after input out not
 )
 
 -- a run that a fault cut short
-unfoldable pub wild_cut : {O : Type 0} (w : Watching O) (fault : Fault) (n left : ℕ) (watch : Bool) (old : WildState) (from : O) (before after : Telling) (input : Drawn) (out notes : Sunk)
+unfoldable pub wild_cut : {O : Type 0} (w : Watching O) (fault : Fault) (n left : ℕ) (watch : Bool) (old new : WildState) (from : O) (before after : Telling) (input : Drawn) (out notes : Sunk)
     → WritesLines w watch from
-    → IsCut fault WildGoes w n left old from before after input out notes
-    → WildCut fault n watch old before after input out notes
-wild_cut w fault n left watch old from before after input out notes writes one =
+    → IsCut fault WildGoes WildLeaves w n left old new from before after input out notes
+    → WildCut fault n watch old new before after input out notes
+wild_cut w fault n left watch old new from before after input out notes writes one =
     let ps = one.prints in
     let p = one.print in
     let fs = map found_by ps in
@@ -380,7 +381,9 @@ wild_cut w fault n left watch old from before after input out notes writes one =
       units = units_of ps;
       more = p.units;
       mid = one.mid;
+      print = p;
       would = one.would;
+      step = one.is;
       last = last_of old one.mid (Precisely Went) ps one.row;
       happened = one.is.by.happened;
       put = flat_map bytes_of ps;
@@ -389,12 +392,19 @@ wild_cut w fault n left watch old from before after input out notes writes one =
       lines' = all_lines watch (ps ++ p ∷ []);
       room = omega (arith, one.used);
       uses = one.is.by.units;
-      step = p.words;
+      next_is = refl;
+      put_is = flat_map-append bytes_of ps (p ∷ []) ∙ ap (λ l. flat_map bytes_of ps ++ l) (append-nil p.bytes);
       split = words-last ps p;
       going = lasts old one.mid (Precisely Went) refl ps one.row one.going;
       drew = one.did.drew;
       is = wild_from old one.mid watch ps one.row one.going;
       then = wild_last old one.mid one.would watch ps p one.row one.going one.is;
+      left = one.did.left;
+      written = one.did.written;
+      wrote = one.did.wrote;
+      marked = one.did.noted;
+      marks = subst (Appends notes.old one.did.noted) (writes ps) one.did.notes_are;
+      behind = one.behind;
       output = one.did.output;
       noted = subst (λ l. WritesBetween notes.old notes.new l (all_lines watch (ps ++ p ∷ []))) (writes ps)
           (subst (WritesBetween notes.old notes.new (lines_by w.after w.lines from ps)) (writes (ps ++ p ∷ [])) one.did.lines);
@@ -408,6 +418,7 @@ wild_cut w fault n left watch old from before after input out notes writes one =
           let found = one.did.found left.0 left.1 in (
             told.0 ∙ (steps-more (program_of old.machine) k (length ps) ∙ ap (steps_making (program_of old.machine) k) (sym (length-found ps))),
             sym found.0 ∙ here,
+            left.1 ∙ ap Some found.0,
             (found.1.0, found.1.1, sym found.0 ∙ found.1.2, found.1.3),
           );
       cause = one.cause;

@@ -17,12 +17,13 @@ use Rattle.alpha_imprecise.specs.declared.pending.Pending.{Pending}
 use Rattle.alpha_imprecise.specs.Moment.{Trap, Happening, Precisely, Triggered, Waited, Reported, Lost}
 use Rattle.alpha_imprecise.specs.Run.{finished, unit_of}
 use Rattle.alpha_imprecise.specs.Used.{HasUsed}
+use Rattle.alpha_imprecise.specs.Chosen.{most_waited}
 use Rattle.alpha_imprecise.specs.Made.{Making, begun, advance_making, steps_making, made, most_words}
 use Rattle.alpha_imprecise.specs.Telling.{Telling, Counts}
 use Rattle.alpha_imprecise.specs.Wild.{WildState, trap_in, waited_in, begun_at}
 use Rattle.alpha_imprecise.specs.Free.{advance_making_over, run_making_over, IsFrontBy}
-use Rattle.alpha_imprecise.proofs.Settling.{advance-going, none_of, made_is}
-use Rattle.alpha_imprecise.proofs.Nearing.{calm_takes}
+use Rattle.alpha_imprecise.proofs.Settling.{advance-going, none_of, made_from}
+use Rattle.alpha_imprecise.proofs.Nearing.{pending_takes}
 use Rattle.alpha_imprecise.proofs.Growing.{Begins, begins_same, begins_then, advance_begins}
 use Rattle.alpha_imprecise.proofs.Freely.{run_making-last}
 use Rattle.alpha_imprecise.proofs.FreeDrawing.{free_draws}
@@ -42,6 +43,9 @@ drawn_from_none (Some b) (Some c) count n from to more =
     omega (arith, more)
 
 -- ---- a run to its end, or for all its units
+
+calm_waits : (o : Option Pending) → o ≡ None → waited_in o ≤ most_waited
+calm_waits o calm = let none : waited_in o ≡ 0 = ap waited_in calm in omega arith
 
 going_as : (h : Happening) → finished h ≡ false → None ≡ ended_as h
 going_as (Precisely Went) e = refl
@@ -121,15 +125,20 @@ module _ (last : Option Seen) (n left : ℕ) (watch : Bool) (old new : WildState
       let used = w.used in
       omega arith
 
-  -- where the input is told and nothing is pending at the beginning, it is the run that the words make
-  pub told_all : old.pending ≡ None → (bytes coming : List ℕ) → input.old ≡ Some bytes
+  -- where the input is told, it is the run that the words make
+  pub told_from : waited_in old.pending ≤ most_waited → (bytes coming : List ℕ) → input.old ≡ Some bytes
       → making_from old bytes (w.ran.words ++ coming) w.ran.inputs ≡ made (program_of old.machine) (begun_at old bytes [] (w.ran.words ++ coming)) n
-  told_all calm bytes coming tells =
+  told_from low bytes coming tells =
       let g = program_of old.machine in
+      let k = begun_at old bytes [] (w.ran.words ++ coming) in
       let told = (w.ran.told bytes coming tells).0 in
       told
-      ∙ sym (made_by g (begun_at old bytes [] (w.ran.words ++ coming)) (length w.ran.inputs) n (ap trap_in calm) refl
+      ∙ sym (made_by g k (length w.ran.inputs) n (made_from g k n low refl)
       (subst (λ (j : Making). HasUsed n j.run) told (used_all bytes coming)))
+
+  pub told_all : old.pending ≡ None → (bytes coming : List ℕ) → input.old ≡ Some bytes
+      → making_from old bytes (w.ran.words ++ coming) w.ran.inputs ≡ made (program_of old.machine) (begun_at old bytes [] (w.ran.words ++ coming)) n
+  told_all calm = told_from (calm_waits old.pending calm)
 
 -- ---- a run that was cut short
 
@@ -164,12 +173,12 @@ none_within g k n used d going room = by (finished k.run.last) refl d going room
         omega arith
 
 -- a run whose next step is within so many units begins the one that uses them
-step_begins : (g : Program) (k : Making) (m n : ℕ) → k.run.pending ≡ None → k.run.units ≡ 0 → finished (steps_making g k m).run.last ≡ false
+step_begins : (g : Program) (k : Making) (m n : ℕ) → HasUsed n (made g k n).run → finished (steps_making g k m).run.last ≡ false
     → (steps_making g k m).run.units + unit_of (steps_making g k m).run.pending ≤ n → Begins (steps_making g k (suc m)) (made g k n)
-step_begins g k m n calm units going room =
-    let within = calm_takes g k n calm in
+step_begins g k m n whole going room =
+    let within = pending_takes g k n in
     let s = within.steps in
-    let used : HasUsed n (steps_making g k s).run = subst (λ (j : Making). HasUsed n j.run) (sym within.reached) (made_is g k n calm units) in
+    let used : HasUsed n (steps_making g k s).run = subst (λ (j : Making). HasUsed n j.run) (sym within.reached) whole in
     ⊎_elim
     (λ (late : s < suc m).
     let same : steps_making g (steps_making g k s) (m - s) ≡ steps_making g k m = then_steps g k s (m - s) ∙ ap (steps_making g k) (let e : (m - s) + s ≡ m = omega arith in e) in
@@ -182,8 +191,8 @@ step_begins g k m n calm units going room =
     subst (Begins (steps_making g k (suc m))) (same ∙ within.reached) (steps_begin g (steps_making g k (suc m)) (s - suc m)))
     (cases_lt s (suc m))
 
-module _ (fault : Fault) (n : ℕ) (watch : Bool) (old : WildState) (before after : Telling) (input : Drawn) (out notes : Sunk)
-    (cut : WildCut fault n watch old before after input out notes) where
+module _ (fault : Fault) (n : ℕ) (watch : Bool) (old : WildState) {new : WildState} (before after : Telling) (input : Drawn) (out notes : Sunk)
+    (cut : WildCut fault n watch old new before after input out notes) where
   -- fronts of what some run of all its units shows were written
   pub cut_any : (coming : List ℕ) → IsFrontBy n watch old (cut.drawn ++ coming) out notes
   cut_any coming =
@@ -217,18 +226,18 @@ module _ (fault : Fault) (n : ℕ) (watch : Bool) (old : WildState) (before afte
       omega arith
 
   -- where the input is told, of what the run that the words make shows
-  pub cut_told : old.pending ≡ None → (bytes coming : List ℕ) → input.old ≡ Some bytes
+  pub cut_from : waited_in old.pending ≤ most_waited → (bytes coming : List ℕ) → input.old ≡ Some bytes
       → let to = made (program_of old.machine) (begun_at old bytes [] (cut.drawn ++ coming)) n in
       WritesPrefix out.old out.new to.run.state.outside.output × WritesPrefix notes.old notes.new (notes_of watch to.run.trace)
-  cut_told calm bytes coming tells =
+  cut_from low bytes coming tells =
       let g = program_of old.machine in
       let k = begun_at old bytes [] (cut.drawn ++ coming) in
       let m = length cut.inputs in
       let split = cut.split coming in
-      let told = cut.told bytes (cut.step ++ coming) tells in
-      let first = cut.is bytes (cut.step ++ coming) in
+      let told = cut.told bytes (cut.print.words ++ coming) tells in
+      let first = cut.is bytes (cut.print.words ++ coming) in
       let q = making_from old bytes (cut.drawn ++ coming) cut.inputs in
-      let here : q ≡ making_from old bytes (cut.words ++ (cut.step ++ coming)) cut.inputs = ap (λ (l : List ℕ). making_from old bytes l cut.inputs) split in
+      let here : q ≡ making_from old bytes (cut.words ++ (cut.print.words ++ coming)) cut.inputs = ap (λ (l : List ℕ). making_from old bytes l cut.inputs) split in
       let there : q ≡ steps_making g k m = here ∙ (told.0 ∙ ap (λ (l : List ℕ). steps_making g (begun_at old bytes [] l) m) (sym split)) in
       let one : making_from old bytes (cut.drawn ++ coming) (cut.inputs ++ cut.next ∷ []) ≡ steps_making g k (suc m) =
       run_making-last g cut.inputs cut.next k
@@ -239,7 +248,7 @@ module _ (fault : Fault) (n : ℕ) (watch : Bool) (old : WildState) (before afte
       let units = first.units in
       let uses = cut.uses in
       let room = cut.room in
-      let begins = step_begins g k m n (ap trap_in calm) refl (ap (λ (j : Making). finished j.run.last) at ∙ (ap finished first.last_is ∙ cut.going))
+      let begins = step_begins g k m n (made_from g k n low refl) (ap (λ (j : Making). finished j.run.last) at ∙ (ap finished first.last_is ∙ cut.going))
       (subst (λ (j : Making). j.run.units + unit_of j.run.pending ≤ n) (sym at) (let low : first.run.units + unit_of (trap_in cut.mid.pending) ≤ n = omega arith in low)) in
       let stands = cut.then bytes coming in
       let to = made g k n in (
@@ -249,3 +258,8 @@ module _ (fault : Fault) (n : ℕ) (watch : Bool) (old : WildState) (before afte
             (subst (λ (l : List ℕ). Grows l (notes_of watch to.run.trace)) (ap (λ (j : Making). notes_of watch j.run.trace) (sym one ∙ stands.is) ∙ stands.notes)
             (notes-grow watch (steps_making g k (suc m)).run.trace to.run.trace begins.trace)),
       )
+
+  pub cut_told : old.pending ≡ None → (bytes coming : List ℕ) → input.old ≡ Some bytes
+      → let to = made (program_of old.machine) (begun_at old bytes [] (cut.drawn ++ coming)) n in
+      WritesPrefix out.old out.new to.run.state.outside.output × WritesPrefix notes.old notes.new (notes_of watch to.run.trace)
+  cut_told calm = cut_from (calm_waits old.pending calm)

@@ -7,8 +7,8 @@ use Rattle.alpha_imprecise.specs.Run.{finished, unit_of}
 use Rattle.alpha_imprecise.specs.Used.{HasUsed}
 use Rattle.alpha_imprecise.specs.Made.{Making, advance_making, steps_making, made}
 use Rattle.alpha_imprecise.specs.Free.{advance_making_over}
-use Rattle.alpha_imprecise.proofs.Settling.{stepped_making, advance-going, advance-over, none_of, made_is}
-use Rattle.alpha_imprecise.proofs.Nearing.{calm_takes}
+use Rattle.alpha_imprecise.proofs.Settling.{stepped_making, advance-going, advance-over, none_of}
+use Rattle.alpha_imprecise.proofs.Nearing.{pending_takes}
 
 pub first_step : (g : Program) (k : Making) (n : ℕ) → steps_making g (advance_making g k) n ≡ steps_making g k (suc n)
 first_step g k zero = refl
@@ -63,12 +63,12 @@ used_once g k n one d two = by (finished k.run.last) refl d two
         let most = two.most in
         absurd (omega arith)
 
--- from nothing pending, the run of so many units is the one that has used them
-pub made_by : (g : Program) (k : Making) (m n : ℕ) → k.run.pending ≡ None → k.run.units ≡ 0 → HasUsed n (steps_making g k m).run → made g k n ≡ steps_making g k m
-made_by g k m n calm units used =
-    let within = calm_takes g k n calm in
+-- the run of so many units is the one that has used them
+pub made_by : (g : Program) (k : Making) (m n : ℕ) → HasUsed n (made g k n).run → HasUsed n (steps_making g k m).run → made g k n ≡ steps_making g k m
+made_by g k m n whole used =
+    let within = pending_takes g k n in
     let s = within.steps in
-    let there : HasUsed n (steps_making g k s).run = subst (λ (j : Making). HasUsed n j.run) (sym within.reached) (made_is g k n calm units) in
+    let there : HasUsed n (steps_making g k s).run = subst (λ (j : Making). HasUsed n j.run) (sym within.reached) whole in
     sym within.reached ∙ ⊎_elim (λ (less : s < m). sym (later s m less there used)) (λ (most : m ≤ s). no_later m s most used there) (cases_lt s m)
   where
     no_later : (a b : ℕ) → a ≤ b → HasUsed n (steps_making g k a).run → HasUsed n (steps_making g k b).run → steps_making g k b ≡ steps_making g k a

@@ -1,17 +1,19 @@
 -- What a run did, by its answer.
 use Rattle.std.specs.Prelude.{◌≡◌, ◌<◌, ℕ, ◌+◌, ◌||◌, Bool, true, List, [], ◌∷◌, ◌++◌, length, Option, Some, None}
 use Rattle.std.specs.List.{flat_map}
+use Rattle.std.specs.Io.KnownBytes.{Appends}
 use Rattle.alpha_io.specs.Sunk.{Sunk, Puts}
 use Rattle.alpha_io.specs.Written.{WritesPrefix}
 use Rattle.alpha_seq.specs.declared.machine.Machine.{Machine}
-use Rattle.alpha_seq.specs.Devices.{Drawn}
+use Rattle.alpha_seq.specs.Devices.{Drawn, Idles, drawn_from, sunk_from}
 use Rattle.alpha_seq.specs.Inputs.{WritesBetween}
 use Rattle.alpha_imprecise.specs.Telling.{Telling, Moves}
 use Rattle.alpha_seq.specs.declared.event.Event.{Event}
 use Rattle.alpha_pal.specs.declared.fault.Fault.{Fault}
+use Rattle.alpha_pal.specs.declared.fault.Fault.TheVariants as faults
 use Rattle.alpha_seq.specs.Print.{Print, is_over}
 use Rattle.alpha_run.specs.Row.{Row, AreGoing, AreWent, Rushed, words_of, bytes_of, units_of, Feeds, lines_by, seen_by, Unstopped}
-use Rattle.alpha_seq.specs.StepEffect.{FindsPart, Causes}
+use Rattle.alpha_seq.specs.StepEffect.{Finds, FindsPart, Causes}
 
 -- How an observer goes on, what it writes, and where it stops the run.
 pub record Watching (O : Type 0) : Type 0 where
@@ -42,14 +44,34 @@ pub record Did {O : Type 0} (w : Watching O) (from to : O) (ps : List Print) (be
   pub wrote : Puts out (flat_map bytes_of ps)
   pub lines : Puts notes (lines_by w.after w.lines from ps)
 
--- What they did where a device's fault cut the last one short: all of the first, and of the last a front.
+-- What they did where a device's fault cut the last one short: all of the first, and of the last a front. Before that one
+-- this was left of the input, and this was written to the output and to the notes.
 pub record DidPart {O : Type 0} (w : Watching O) (from : O) (ps : List Print) (p : Print) (before after : Telling) (input : Drawn) (out notes : Sunk) : Type 0 where
   pub drew : Moves before after (flat_map words_of (ps ++ p ∷ []))
   pub left : Option (List ℕ)
   pub fed : Feeds input.old ps left
   pub found : FindsPart left input.new p
+  pub written : Option (List ℕ)
+  pub wrote : Appends out.old written (flat_map bytes_of ps)
+  pub noted : Option (List ℕ)
+  pub notes_are : Appends notes.old noted (lines_by w.after w.lines from ps)
   pub output : WritesBetween out.old out.new (flat_map bytes_of ps) (flat_map bytes_of (ps ++ p ∷ []))
   pub lines : WritesBetween notes.old notes.new (lines_by w.after w.lines from ps) (lines_by w.after w.lines from (ps ++ p ∷ []))
+
+-- ---- what a fault leaves
+
+-- a step was made: all that it puts was put, and of the input is left what it leaves
+pub record StepMade {M : Type 0} (p : Print) (would new : M) (input : Drawn) (out : Sunk) : Type 0 where
+  pub is : new ≡ would
+  pub found : Finds input.old input.new p
+  pub wrote : Puts out p.bytes
+
+-- What a fault leaves of a machine whose step it cut short, by what it leaves of a step and by the machine to which the step
+-- leads. Where the notes failed, the step was made; else nothing was noted of it.
+abbrev pub Behind : {M : Type 0} → (Fault → M → M → Drawn → Sunk → Type 0) → Fault → Print → M → M → M → Drawn → Sunk → Sunk → Type 0
+Behind leaves faults.Input p old would new input out notes = leaves faults.Input old new input out × Idles notes
+Behind leaves faults.Output p old would new input out notes = leaves faults.Output old new input out × Idles notes
+Behind leaves faults.Notes p old would new input out notes = StepMade p would new input out
 
 -- ---- a step and what the observer wrote of it
 
@@ -63,7 +85,8 @@ pub record Turns {M O : Type 0} (goes : M → Print → M → Type 0) (uses : M 
   pub did : Did w from to (print ∷ []) before after input out notes
 
 -- one that a device's fault cut short
-pub record Slips {M O : Type 0} (goes : M → Print → M → Type 0) (uses : M → ℕ) (w : Watching O) (fault : Fault) (old : M) (from : O)
+pub record Slips {M O : Type 0} (goes : M → Print → M → Type 0) (uses : M → ℕ) (leaves : Fault → M → M → Drawn → Sunk → Type 0) (w : Watching O)
+    (fault : Fault) (old new : M) (from : O)
     (before after : Telling) (input : Drawn) (out notes : Sunk) : Type 0 where
   pub would : M
   pub print : Print
@@ -73,6 +96,7 @@ pub record Slips {M O : Type 0} (goes : M → Print → M → Type 0) (uses : M 
   pub found : FindsPart input.old input.new print
   pub output : WritesPrefix out.old out.new print.bytes
   pub lines : WritesPrefix notes.old notes.new (w.lines from print.event print.core)
+  pub behind : Behind leaves fault print old would new input out notes
   pub cause : Causes fault input out notes
 
 -- Steps that only went on, a unit each, and that the observer has passed over.
@@ -117,7 +141,8 @@ RunsTo (Some event) goes uses w units left old new from to before after input ou
     Stops goes w units left event old new from to before after input out notes
 
 -- such steps, and one more that a device's fault cut short
-pub record IsCut {M O : Type 0} (fault : Fault) (goes : M → Print → M → Type 0) (w : Watching O) (units left : ℕ) (old : M) (from : O)
+pub record IsCut {M O : Type 0} (fault : Fault) (goes : M → Print → M → Type 0) (leaves : Fault → M → M → Drawn → Sunk → Type 0) (w : Watching O)
+    (units left : ℕ) (old new : M) (from : O)
     (before after : Telling) (input : Drawn) (out notes : Sunk) : Type 0 where
   pub prints : List Print
   pub mid : M
@@ -129,4 +154,6 @@ pub record IsCut {M O : Type 0} (fault : Fault) (goes : M → Print → M → Ty
   pub is : goes mid print would
   pub used : units_of prints + print.units + left ≡ units
   pub did : DidPart w from prints print before after input out notes
+  pub behind : Behind leaves fault print mid would new (drawn_from input did.left input.before)
+      (sunk_from out did.written out.before) (sunk_from notes did.noted notes.before)
   pub cause : Causes fault input out notes

@@ -31,9 +31,10 @@ pub fn run<M: Steps, O: Observer, C: Chooser, S: Source, K: Sink, N: Sink>(
         (drawn S.Source input.old input.new)
         (sunk K.Sink out.old out.new)
         (sunk N.Sink notes.old notes.new)) }
-    ensures broken { IfErr result (λ fault. IsCut fault M.goes (watching O.after O.lines O.stops)
+    ensures broken { IfErr result (λ fault. IsCut fault M.goes M.leaves
+        (watching O.after O.lines O.stops)
         left.old left.new
-        machine.old observer.old
+        machine.old machine.new observer.old
         (telling C.ahead C.drawn chooser.old) (telling C.ahead C.drawn chooser.new)
         (drawn S.Source input.old input.new)
         (sunk K.Sink out.old out.new)

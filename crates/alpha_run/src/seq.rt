@@ -7,7 +7,7 @@ use alpha_seq::{Event, Fault, Machine};
 
 impl Steps for Machine {
     ghost use Rattle.std.specs.Prelude.{IsTrue};
-    ghost use Rattle.alpha_seq.specs.Sequential.{SeqGoes, one_unit, no_wait, itself};
+    ghost use Rattle.alpha_seq.specs.Sequential.{SeqGoes, SeqLeaves, one_unit, no_wait, itself};
     ghost use Rattle.alpha_run.specs.Stays.{SeqStays, seq_own, seq_on};
 
     ghost goes = { SeqGoes };
@@ -19,6 +19,8 @@ impl Steps for Machine {
     ghost waits = { no_wait };
 
     ghost core = { itself };
+
+    ghost leaves = { SeqLeaves };
 
     ghost stays = { SeqStays };
 

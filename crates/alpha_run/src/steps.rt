@@ -1,7 +1,8 @@
 ghost use Rattle.std.specs.Prelude.{◌≡◌, ◌<◌, ◌≤◌, ◌+◌, ◌*◌, ℕ, false, IfOk, IfErr};
-ghost use Rattle.alpha_io.specs.Sunk.{sunk};
+ghost use Rattle.alpha_io.specs.Sunk.{Sunk, sunk};
+ghost use Rattle.alpha_pal.specs.declared.fault.Fault.{Fault as Failure};
 ghost use Rattle.alpha_seq.specs.declared.machine.Machine.{Machine as Core};
-ghost use Rattle.alpha_seq.specs.Devices.{drawn};
+ghost use Rattle.alpha_seq.specs.Devices.{Drawn, drawn};
 ghost use Rattle.alpha_imprecise.specs.Telling.{Moves, telling};
 ghost use Rattle.alpha_seq.specs.Print.{Print, is_over};
 ghost use Rattle.alpha_seq.specs.StepEffect.{Makes, Breaks};
@@ -27,6 +28,9 @@ pub trait Steps {
 
     /// The registers, memory and PC.
     ghost core: { Self → Core };
+
+    /// What a device that failed leaves of the machine, from the machine before the step to the one behind it.
+    ghost leaves: { Failure → Self → Self → Drawn → Sunk → Type 0 };
 
     /// All that no step changes is the same.
     ghost stays: { Self → Self → Type 0 };
@@ -64,9 +68,9 @@ pub trait Steps {
             (sunk K.Sink out.old out.new)) }
         ensures nearer { IfOk result (λ event. is_over event ≡ false
             → waits self.new < waits self.old + 1026 * uses self.old) }
-        ensures broken { IfErr result (λ fault. Breaks goes uses core
+        ensures broken { IfErr result (λ fault. Breaks goes uses core leaves
             (Moves (telling C.ahead C.drawn chooser.old) (telling C.ahead C.drawn chooser.new))
-            fault self.old
+            fault self.old self.new
             (drawn S.Source input.old input.new)
             (sunk K.Sink out.old out.new)) }
         ensures same { stays self.old self.new }

@@ -37,8 +37,9 @@ pub(crate) fn turn<M: Steps, O: Observer, C: Chooser, S: Source, K: Sink, N: Sin
         (sunk N.Sink notes.old notes.new)) }
     ensures nearer { IfOk result (λ t. t.last ≡ false
         → M.waits machine.new < M.waits machine.old + 1026 * M.uses machine.old) }
-    ensures broken { IfErr result (λ fault. Slips M.goes M.uses (watching O.after O.lines O.stops) fault
-        machine.old observer.old
+    ensures broken { IfErr result (λ fault. Slips M.goes M.uses M.leaves
+        (watching O.after O.lines O.stops) fault
+        machine.old machine.new observer.old
         (telling C.ahead C.drawn chooser.old) (telling C.ahead C.drawn chooser.new)
         (drawn S.Source input.old input.new)
         (sunk K.Sink out.old out.new)

@@ -8,7 +8,7 @@ use alpha_seq::{Event, Fault, Machine};
 impl Steps for Wild {
     ghost use Rattle.std.specs.Prelude.{⊤};
     ghost use Rattle.alpha_imprecise.specs.WildEffect.{WildGoes};
-    ghost use Rattle.alpha_imprecise.specs.WildEffect.{wild_uses, wild_waits, wild_core};
+    ghost use Rattle.alpha_imprecise.specs.WildEffect.{WildLeaves, wild_uses, wild_waits, wild_core};
     ghost use Rattle.alpha_run.specs.Stays.{WildStays, wild_own, wild_on};
 
     ghost goes = { WildGoes };
@@ -20,6 +20,8 @@ impl Steps for Wild {
     ghost waits = { wild_waits };
 
     ghost core = { wild_core };
+
+    ghost leaves = { WildLeaves };
 
     ghost stays = { WildStays };
 

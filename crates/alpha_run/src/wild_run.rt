@@ -36,7 +36,7 @@ pub fn run_imprecise<C: Chooser, S: Source, K: Sink, N: Sink>(
         (drawn S.Source input.old input.new)
         (sunk K.Sink out.old out.new)
         (sunk N.Sink notes.old notes.new)) }
-    ensures broken { IfErr result (λ fault. WildCut fault left.old watch wild.old
+    ensures broken { IfErr result (λ fault. WildCut fault left.old watch wild.old wild.new
         (telling C.ahead C.drawn chooser.old) (telling C.ahead C.drawn chooser.new)
         (drawn S.Source input.old input.new)
         (sunk K.Sink out.old out.new)

@@ -25,7 +25,7 @@ use Rattle.alpha_seq.specs.Step.{next_pc, ended, lock_after, returned, step}
 use Rattle.alpha_seq.specs.Machine.{program_of, state_of, class_here}
 use Rattle.alpha_seq.specs.Devices.{Drawn}
 use Rattle.alpha_seq.specs.Sequential.{SeqBreaks}
-use Rattle.alpha_seq.proofs.Making.{Steps, input_breaks, output_breaks}
+use Rattle.alpha_seq.proofs.Making.{Steps, kernel_here, input_breaks, output_breaks}
 
 -- the machine after a call, before the program counter moves
 abbrev pub called_machine : Machine → KernelState → List ℕ → List Block → ℕ → Machine
@@ -107,19 +107,20 @@ module _ (function : PalCall) (m : Machine) (k : KernelState) (regs : List ℕ) 
   pub call-breaks : (fault : Fault)
       → CallEffect function (Err fault) (seen m.regs m.memory m.unique left written)
       (seen regs mem unique left' written')
+      → kernel_here m (called_machine m k regs mem unique)
       → InputCause {A = PalEnd} (Err fault) faults faults' → SinkCause {A = PalEnd} (Err fault) count count'
       → SeqBreaks fault m (called_machine m k regs mem unique) (drawn_by left left' faults faults')
       (sunk_by written written' count count')
-  call-breaks broken.Input h source sink =
+  call-breaks broken.Input h kernel source sink =
       input_breaks m (called_machine m k regs mem unique) (drawn_by left left' faults faults')
       (sunk_by written written' count count')
       (here ∙ ap (λ (f : PalCall). Some (barrier (Some f))) h.0) h.1
-      (ap (λ (s : Seen). called_machine m k s.regs s.mem s.unique) h.2) source.0 source.1
+      (ap (λ (s : Seen). called_machine m k s.regs s.mem s.unique) h.2) kernel source.0 source.1
       (record { written = ap (λ (s : Seen). s.written) h.2; same = sink })
-  call-breaks broken.Output h source sink =
+  call-breaks broken.Output h kernel source sink =
       output_breaks m (called_machine m k regs mem unique) (drawn_by left left' faults faults')
       (sunk_by written written' count count')
       (here ∙ ap (λ (f : PalCall). Some (barrier (Some f))) h.0) h.1
-      (ap (λ (s : Seen). called_machine m k s.regs s.mem s.unique) h.2) sink.0 sink.1
+      (ap (λ (s : Seen). called_machine m k s.regs s.mem s.unique) h.2) kernel sink.0 sink.1
       (record { left = ap (λ (s : Seen). s.left) h.2; same = source })
-  call-breaks broken.Notes h source sink = absurd h
+  call-breaks broken.Notes h kernel source sink = absurd h

@@ -45,7 +45,7 @@ use Rattle.alpha_seq.specs.Step.{next_pc, setting, fault_end, accessed, ended, w
 use Rattle.alpha_seq.specs.Next.{next_insn}
 use Rattle.alpha_seq.specs.Machine.{program_of, state_of, class_here, kernel_left}
 use Rattle.alpha_seq.specs.Devices.{Drawn}
-use Rattle.alpha_seq.specs.Print.{Passes}
+use Rattle.alpha_seq.specs.Print.{HasPassed}
 use Rattle.alpha_seq.specs.Sequential.{seen_as, SeqMakes}
 use Rattle.alpha_seq.proofs.Making.{Steps, makes}
 use Rattle.alpha_seq.specs.Executed.{Does, ExecuteEffect, GoesOn, FaultEffect, NeverGoes}
@@ -82,7 +82,7 @@ Does-user event class old new user does =
     ∙ kernel-user (Some class) (next_pc (state_of old [] [])) old.regs old.kernel user
 
 -- what passes in a step that takes and puts nothing
-passes_nothing : (event : Event) (mem : List Block) → Passes (seen_as event Nothing) mem [] []
+passes_nothing : (event : Event) (mem : List Block) → HasPassed (seen_as event Nothing) mem [] []
 passes_nothing Went mem = (refl, refl)
 passes_nothing Barriered mem = (refl, refl)
 passes_nothing (Overflowed at) mem = (refl, refl)

@@ -11,6 +11,7 @@ use Rattle.alpha_mem.specs.Memory.{bytes_at, write_bytes}
 use Rattle.alpha_pal.specs.declared.fault.Fault.TheVariants as faults
 use Rattle.alpha_pal.specs.declared.pal_end.Passed.{Passed}
 use Rattle.alpha_pal.specs.declared.pal_end.Passed.TheVariants.{Took, Put}
+use Rattle.alpha_pal.specs.Kernel.{KernelState}
 use Rattle.alpha_pal.specs.Call.{call}
 use Rattle.alpha_pal.specs.Serve.{request_of}
 use Rattle.alpha_pal.specs.CallEffect.{TakesPart, PutsPart}
@@ -22,7 +23,7 @@ use Rattle.alpha_seq.specs.Step.{next_class, next_pc, step_from}
 use Rattle.alpha_seq.specs.Machine.{program_of, state_of, class_here, kernel_left}
 use Rattle.alpha_seq.specs.Devices.{Drawn, Rests, Idles}
 use Rattle.alpha_seq.specs.Draws.{Draws}
-use Rattle.alpha_seq.specs.Print.{Passes}
+use Rattle.alpha_seq.specs.Print.{HasPassed}
 use Rattle.alpha_seq.specs.Sequential.{seen_as, SeqMakes, SeqBreaks}
 use Rattle.alpha_seq.proofs.RunSteps.{Takes-told, idle-part}
 
@@ -37,7 +38,7 @@ pub record Steps (event : Event) (passed : Passed) (old new : Machine) (input : 
   pub is : (output : List ℕ)
       → step_from (program_of old) (state_of old (taken ++ rest) output)
       ≡ stepped (state_of new rest (output ++ bytes)) event
-  pub passes : Passes (seen_as event passed) new.memory taken bytes
+  pub passes : HasPassed (seen_as event passed) new.memory taken bytes
 
 -- the kernel after a step from here
 abbrev pub kernel_here : Machine → Machine → Type 0
@@ -112,8 +113,8 @@ writes_all m input output class number descriptor range = rw (class, number, des
 -- a read whose source failed: the step to the machine after a read that takes all it asks for, of which some was taken
 pub input_breaks : (old new : Machine) (input : Drawn) (out : Sunk) → class_here old ≡ Some (barrier (Some Callsys))
     → TakesPart (request_of old.regs) old.memory new.memory input.old input.new → new ≡ record old { memory = new.memory; kernel = new.kernel }
-    → input.before ≤ input.now → Rose input.before input.now → Idles out → SeqBreaks faults.Input old new input out
-input_breaks old new input out class part stays later cause idle =
+    → kernel_here old new → input.before ≤ input.now → Rose input.before input.now → Idles out → SeqBreaks faults.Input old new input out
+input_breaks old new input out class part stays kernel later cause idle =
     let next = part.taken ++ part.rest in
     let at = reg old.regs 17 in
     let n = reg old.regs 18 in
@@ -121,87 +122,91 @@ input_breaks old new input out class part stays later cause idle =
     let there = there_behind old.memory at n (take n next) part.layout part.range (take_at-most n next) in
     let whole : take n next ++ drop n next ≡ next = take-append-drop n next in
     record {
-      step = record {
-        would = read_machine old next;
-        print = record {
-          units = 1;
-          words = [];
-          taken = take n next;
-          rest = drop n next;
-          bytes = [];
-          event = seen_as Barriered passed;
-          core = read_machine old next;
-        };
-        is = record {
-          happened = Barriered;
-          passed = passed;
-          event = refl;
-          units = refl;
-          words = refl;
-          core = refl;
-          is = λ output.
-              ap (λ (l : List ℕ). step_from (program_of old) (state_of old l output)) whole
-              ∙ (reads_all old next output class part.number part.descriptor part.range
-              ∙ ap (λ (l : List ℕ). stepped (state_of (read_machine old next) (drop n next) l) Barriered) (sym (append-nil output)));
-          passes = (there.0, there.1, refl);
-          kernel = ap (λ class. kernel_left class (next_pc (state_of old [] [])) old.regs old.kernel) (sym class);
-          program = refl;
-        };
-        units = refl;
-        core_is = refl;
-        drew = refl;
-        found = λ left is.
-            let took = Takes-told input.old input.new part.taken part.rest left is part.took in
-            (took.0 ∙ sym whole, (part.taken, part.rest, took.0, took.1));
-        wrote = idle-part out [] idle;
-        cause = λ lines same. record { later = later; source = cause; sink = idle.same; lines = same };
+      would = read_machine old next;
+      print = record {
+        units = 1;
+        words = [];
+        taken = take n next;
+        rest = drop n next;
+        bytes = [];
+        event = seen_as Barriered passed;
+        core = read_machine old next;
       };
-      read = λ e. record { part = part; same = stays };
-      unmade = λ e. absurd cc;
+      is = record {
+        happened = Barriered;
+        passed = passed;
+        event = refl;
+        units = refl;
+        words = refl;
+        core = refl;
+        is = λ output.
+            ap (λ (l : List ℕ). step_from (program_of old) (state_of old l output)) whole
+            ∙ (reads_all old next output class part.number part.descriptor part.range
+            ∙ ap (λ (l : List ℕ). stepped (state_of (read_machine old next) (drop n next) l) Barriered) (sym (append-nil output)));
+        passes = (there.0, there.1, refl);
+        kernel = ap (λ class. kernel_left class (next_pc (state_of old [] [])) old.regs old.kernel) (sym class);
+        program = refl;
+      };
+      units = refl;
+      core_is = refl;
+      drew = refl;
+      found = λ left is.
+          let took = Takes-told input.old input.new part.taken part.rest left is part.took in
+          (took.0 ∙ sym whole, (part.taken, part.rest, took.0, took.1));
+      wrote = idle-part out [] idle;
+      behind = record {
+        class = class;
+        part = part;
+        same = stays ∙ ap (λ (k : KernelState). record old { memory = new.memory; kernel = k }) kernel;
+        idle = idle;
+      };
+      cause = λ lines same. record { later = later; source = cause; sink = idle.same; lines = same };
     }
 
 -- a write whose sink failed: the step to the machine after a write, of whose bytes a front was put
 pub output_breaks : (old new : Machine) (input : Drawn) (out : Sunk) → class_here old ≡ Some (barrier (Some Callsys))
-    → PutsPart (request_of old.regs) old.memory out.old out.new → new ≡ record old { kernel = new.kernel } → out.before ≤ out.now → HasFailed out → Rests input
-    → SeqBreaks faults.Output old new input out
-output_breaks old new input out class part unmade later cause rests =
+    → PutsPart (request_of old.regs) old.memory out.old out.new → new ≡ record old { kernel = new.kernel }
+    → kernel_here old new → out.before ≤ out.now → HasFailed out → Rests input → SeqBreaks faults.Output old new input out
+output_breaks old new input out class part unmade kernel later cause rests =
     let next = rest_of input.old input.old in
     let bytes = bytes_at old.memory (reg old.regs 17) (reg old.regs 18) in
     let passed = Put (reg old.regs 17) (reg old.regs 18) in
     let would = served_machine old (reg old.regs 18) in
     record {
-      step = record {
-        would = would;
-        print = record {
-          units = 1;
-          words = [];
-          taken = [];
-          rest = next;
-          bytes = bytes;
-          event = seen_as Barriered passed;
-          core = would;
-        };
-        is = record {
-          happened = Barriered;
-          passed = passed;
-          event = refl;
-          units = refl;
-          words = refl;
-          core = refl;
-          is = λ output. writes_all old next output class part.number part.descriptor part.range;
-          passes = (part.range, refl, refl);
-          kernel = ap (λ class. kernel_left class (next_pc (state_of old [] [])) old.regs old.kernel) (sym class);
-          program = refl;
-        };
-        units = refl;
-        core_is = refl;
-        drew = refl;
-        found = λ left is.
-            let took = Takes-told input.old input.old [] next left is (Takes-nothing input.old) in
-            (took.0, ([], next, took.0, rests.left ∙ took.1));
-        wrote = part.prefix;
-        cause = λ lines same. record { source = rests.same; later = later; sink = cause; lines = same };
+      would = would;
+      print = record {
+        units = 1;
+        words = [];
+        taken = [];
+        rest = next;
+        bytes = bytes;
+        event = seen_as Barriered passed;
+        core = would;
       };
-      read = λ e. absurd cc;
-      unmade = λ e. unmade;
+      is = record {
+        happened = Barriered;
+        passed = passed;
+        event = refl;
+        units = refl;
+        words = refl;
+        core = refl;
+        is = λ output. writes_all old next output class part.number part.descriptor part.range;
+        passes = (part.range, refl, refl);
+        kernel = ap (λ class. kernel_left class (next_pc (state_of old [] [])) old.regs old.kernel) (sym class);
+        program = refl;
+      };
+      units = refl;
+      core_is = refl;
+      drew = refl;
+      found = λ left is.
+          let took = Takes-told input.old input.old [] next left is (Takes-nothing input.old) in
+          (took.0, ([], next, took.0, rests.left ∙ took.1));
+      wrote = part.prefix;
+      behind = record {
+        class = class;
+        part = part;
+        same = unmade ∙ ap (λ (k : KernelState). record old { kernel = k }) kernel;
+        rests = rests;
+      };
+      cause = λ lines same. record { source = rests.same; later = later; sink = cause; lines = same };
     }

@@ -29,9 +29,9 @@ is_over (events.Ended end) = true
 is_over (events.Lost pc mask) = true
 
 -- a barrier took and put what it says, which stands in memory behind it, and every other step nothing
-abbrev pub Passes : Event → List Block → List ℕ → List ℕ → Type 0
-Passes (events.Barrier passed) mem taken bytes = IsPassed passed mem taken bytes
-Passes event mem taken bytes = (taken ≡ []) × (bytes ≡ [])
+abbrev pub HasPassed : Event → List Block → List ℕ → List ℕ → Type 0
+HasPassed (events.Barrier passed) mem taken bytes = IsPassed passed mem taken bytes
+HasPassed event mem taken bytes = (taken ≡ []) × (bytes ≡ [])
 
 -- the input that it found
 abbrev pub found_by : Print → List ℕ

@@ -1,10 +1,12 @@
 -- The step of the sequential machine, as one of a run.
-use Rattle.std.specs.Prelude.{◌≡◌, ℕ, List, [], ◌++◌}
+use Rattle.std.specs.Prelude.{◌≡◌, ℕ, List, [], ◌++◌, Some}
+use Rattle.alpha_words.specs.declared.PalCall.TheVariants.{Callsys}
 use Rattle.alpha_io.specs.Sunk.{Sunk}
+use Rattle.alpha_table.specs.Class.{barrier}
 use Rattle.alpha_pal.specs.declared.fault.Fault.{Fault}
 use Rattle.alpha_pal.specs.declared.fault.Fault.TheVariants as faults
 use Rattle.alpha_pal.specs.declared.pal_end.Passed.{Passed}
-use Rattle.alpha_pal.specs.CallEffect.{TakesPart}
+use Rattle.alpha_pal.specs.CallEffect.{TakesPart, PutsPart}
 use Rattle.alpha_pal.specs.Serve.{request_of}
 use Rattle.alpha_seq.specs.declared.machine.Machine.{Machine}
 use Rattle.alpha_seq.specs.declared.event.Event.{Event as Seen}
@@ -12,8 +14,8 @@ use Rattle.alpha_seq.specs.declared.event.Event.TheVariants as events
 use Rattle.alpha_seq.specs.State.{Event, Went, Barriered, Overflowed, Ends, stepped}
 use Rattle.alpha_seq.specs.Step.{next_pc, step_from}
 use Rattle.alpha_seq.specs.Machine.{program_of, state_of, class_here, kernel_left}
-use Rattle.alpha_seq.specs.Devices.{Drawn}
-use Rattle.alpha_seq.specs.Print.{Print, Passes, found_by}
+use Rattle.alpha_seq.specs.Devices.{Drawn, Rests, Idles}
+use Rattle.alpha_seq.specs.Print.{Print, HasPassed, found_by}
 use Rattle.alpha_seq.specs.StepEffect.{Makes, Breaks}
 
 -- how the code says what a step of the definition came to, a barrier with what it took or put
@@ -33,7 +35,7 @@ pub record SeqGoes (old : Machine) (p : Print) (new : Machine) : Type 0 where
   pub core : p.core ≡ new
   pub is : (output : List ℕ)
       → step_from (program_of old) (state_of old (found_by p) output) ≡ stepped (state_of new p.rest (output ++ p.bytes)) happened
-  pub passes : Passes p.event p.core.memory p.taken p.bytes
+  pub passes : HasPassed p.event p.core.memory p.taken p.bytes
   pub kernel : new.kernel ≡ kernel_left (class_here old) (next_pc (state_of old [] [])) old.regs old.kernel
   pub program : program_of new ≡ program_of old
 
@@ -54,14 +56,33 @@ no_words words = words ≡ []
 abbrev pub SeqMakes : Seen → Machine → Machine → Drawn → Sunk → Type 0
 SeqMakes event old new input out = Makes SeqGoes one_unit itself no_words event old new input out
 
--- A read whose source failed: the bytes taken so far are in memory, and all else is as before but for the kernel's frame.
-pub record ReadsPart (old new : Machine) (input : Drawn) : Type 0 where
-  pub part : TakesPart (request_of old.regs) old.memory new.memory input.old input.new
-  pub same : new ≡ record old { memory = new.memory; kernel = new.kernel }
+-- ---- a step that a device's fault cut short
 
--- A step that a device's fault cut short. Where the output failed the machine is as it was but for the kernel's frame, so that
--- the step can be made anew.
-pub record SeqBreaks (fault : Fault) (old new : Machine) (input : Drawn) (out : Sunk) : Type 0 where
-  pub step : Breaks SeqGoes one_unit itself no_words fault old input out
-  pub read : fault ≡ faults.Input → ReadsPart old new input
-  pub unmade : fault ≡ faults.Output → new ≡ record old { kernel = new.kernel }
+-- all is as before but for the kernel's frame: the call has entered the kernel
+abbrev pub entered : Machine → Machine
+entered m = record m { kernel = kernel_left (class_here m) (next_pc (state_of m [] [])) m.regs m.kernel }
+
+-- A read whose source failed: the bytes taken so far are in memory, and all else is as before but for the kernel's frame.
+pub record ReadsPart (old new : Machine) (input : Drawn) (out : Sunk) : Type 0 where
+  pub class : class_here old ≡ Some (barrier (Some Callsys))
+  pub part : TakesPart (request_of old.regs) old.memory new.memory input.old input.new
+  pub same : new ≡ record (entered old) { memory = new.memory }
+  pub idle : Idles out
+
+-- A write whose sink failed: a prefix of its bytes was put, and all is as before but for the kernel's frame, so that the step
+-- can be made anew.
+pub record WritesPart (old new : Machine) (input : Drawn) (out : Sunk) : Type 0 where
+  pub class : class_here old ≡ Some (barrier (Some Callsys))
+  pub part : PutsPart (request_of old.regs) old.memory out.old out.new
+  pub same : new ≡ entered old
+  pub rests : Rests input
+
+-- what the device that failed leaves of the machine; a step writes no notes
+abbrev pub SeqLeaves : Fault → Machine → Machine → Drawn → Sunk → Type 0
+SeqLeaves faults.Input old new input out = ReadsPart old new input out
+SeqLeaves faults.Output old new input out = WritesPart old new input out
+SeqLeaves faults.Notes old new input out = ⊥
+
+-- what was made of the step
+abbrev pub SeqBreaks : Fault → Machine → Machine → Drawn → Sunk → Type 0
+SeqBreaks fault old new input out = Breaks SeqGoes one_unit itself SeqLeaves no_words fault old new input out

@@ -39,9 +39,10 @@ Causes faults.Output input out notes = HasOutputFault input out notes
 Causes faults.Notes input out notes = HasNotesFault input out notes
 
 -- The step of the definition that a device's fault cut short: it leads to a machine that isn't there, and of what it puts a
--- front was put.
-pub record Breaks {M : Type 0} (goes : M → Print → M → Type 0) (uses : M → ℕ) (core : M → Machine) (draws : List ℕ → Type 0)
-    (fault : Fault) (old : M) (input : Drawn) (out : Sunk) : Type 0 where
+-- front was put. A machine says by `leaves` what is there in its place.
+pub record Breaks {M : Type 0} (goes : M → Print → M → Type 0) (uses : M → ℕ) (core : M → Machine)
+    (leaves : Fault → M → M → Drawn → Sunk → Type 0) (draws : List ℕ → Type 0)
+    (fault : Fault) (old new : M) (input : Drawn) (out : Sunk) : Type 0 where
   pub would : M
   pub print : Print
   pub is : goes old print would
@@ -50,4 +51,5 @@ pub record Breaks {M : Type 0} (goes : M → Print → M → Type 0) (uses : M �
   pub drew : draws print.words
   pub found : FindsPart input.old input.new print
   pub wrote : WritesPrefix out.old out.new print.bytes
+  pub behind : leaves fault old new input out
   pub cause : (notes : Sunk) → notes.now ≡ notes.before → Causes fault input out notes

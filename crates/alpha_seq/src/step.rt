@@ -15,9 +15,9 @@ impl Machine {
     /// Makes one step, in user mode: the word at the PC does what its instruction does (Architecture Handbook,
     /// chapter 4; the PAL calls are those of the Reference Manual's OSF/1 PALcode). An overflow is logged; whoever
     /// makes the steps writes its line. What a barrier took or put stands in memory behind it, where the event says.
-    /// `Ended` leaves all as it was. `Fault::Input` comes only where the input
-    /// failed in this step, and leaves the bytes taken so far in memory. `Fault::Output` comes only where the output
-    /// failed in a write, which got a prefix of the bytes; all but the kernel's frame is then as it was.
+    /// `Ended` leaves all as it was. `Fault::Input` comes only where the input failed in a read, and `Fault::Output`
+    /// where the output failed in a write: the bytes taken so far are in memory, the output got a prefix of its bytes,
+    /// and all else but the kernel's frame is as it was.
     #[inline(always)]
     pub fn step<S: Source, K: Sink>(&mut self, input: &mut S, out: &mut K) -> Result<Event, Fault>
         requires { IsTrue self.old.kernel.user }

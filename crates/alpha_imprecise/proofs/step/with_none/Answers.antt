@@ -8,7 +8,7 @@ use Rattle.alpha_seq.specs.Devices.{drawn}
 use Rattle.alpha_imprecise.specs.Moment.{Triggered}
 use Rattle.alpha_imprecise.specs.Chosen.{triggering}
 use Rattle.alpha_imprecise.specs.Wild.{wild_state}
-use Rattle.alpha_imprecise.specs.WildEffect.{GoesBy, wild_uses, wild_core}
+use Rattle.alpha_imprecise.specs.WildEffect.{GoesBy, wild_uses, wild_core, WildLeaves}
 use Rattle.alpha_imprecise.proofs.Asking.{exact-chose, value-chose}
 use Rattle.alpha_imprecise.proofs.Joining.{resting, idle_sink, alone}
 use Rattle.alpha_imprecise.proofs.Looking.{triggers-here}
@@ -36,7 +36,7 @@ returns-in_default-clause-broken g c =
     let out = sunk g.K.Sink c.args.out.now c.precise.new.out in
     IfErr-weaker c.precise.result _ _
     (λ fault broken. exact-chose g.P.Picks.picks g.P.Picks.values m c.args.pending.now c.args.picks.now
-    (λ p choice. Breaks (GoesBy choice) wild_uses wild_core no_words fault (wild_state m p) input out)
+    (λ p choice. Breaks (GoesBy choice) wild_uses wild_core WildLeaves no_words fault (wild_state m p) (wild_state c.precise.new.machine p) input out)
     c.requires.none (triggers-here m None false (sym c.in_default.is ∙ c.insn.ensures) refl) broken)
     c.precise.ensures.broken
 

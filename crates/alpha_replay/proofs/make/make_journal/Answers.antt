@@ -46,7 +46,7 @@ returns-in-Ok-run_recorded-clause-found g c = λ calm never.
 pub returns-in-Err-clause-made : goal.returns-in-Err-clause-made
 returns-in-Err-clause-made g c =
     let cut = c.in-Err.ensures.broken in
-    made_err c.in-Err.fault c.args.units cut.0 c.args.wild.now (record { tape = c.in-Ok.tape; full = false })
+    made_err c.in-Err.fault c.args.units cut.0 c.args.wild.now c.run_recorded.new.wild (record { tape = c.in-Ok.tape; full = false })
     (telling g.C.Chooser.ahead g.C.Chooser.drawn c.args.chooser.now) (telling g.C.Chooser.ahead g.C.Chooser.drawn c.run_recorded.new.chooser)
     (drawn g.S.Source c.args.input.now c.run_recorded.new.input) (sunk g.K.Sink c.args.out.now c.run_recorded.new.out) (sunk g.N.Sink c.args.notes.now c.run_recorded.new.notes)
     (ap (λ (t : Taped). record { tape = t; full = false }) c.in-Ok.ensures) cut.1

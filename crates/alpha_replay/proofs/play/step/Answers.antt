@@ -4,7 +4,7 @@ use Rattle.alpha_replay.proofs.play.step.Goals as goal
 
 pub unreachable-requires : goal.unreachable-requires
 unreachable-requires c =
-    never_breaks c.in-Err.field-0 c.args.wild.now (record { step = c.args.m.now }) c.step_by.new.picks c.args.input.now c.step_by.new.input c.in-Err.ensures.broken
+    never_breaks c.in-Err.field-0 c.args.wild.now c.step_by.new.self (record { step = c.args.m.now }) c.step_by.new.picks c.args.input.now c.step_by.new.input c.in-Err.ensures.broken
 
 pub returns : goal.returns
 returns c =

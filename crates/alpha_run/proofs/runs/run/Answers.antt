@@ -19,7 +19,7 @@ steps-init g c = record {
 pub returns-in_err-event-clause-broken : goal.returns-in_err-event-clause-broken
 returns-in_err-event-clause-broken g c =
     if_err _ c.from_residual.result c.in_err-event.field-0.0 c.from_residual.ensures
-    (cut c.in_err-event.field-0.0 g.M.Steps.goes g.M.Steps.uses (watching g.O.Observer.after g.O.Observer.lines g.O.Observer.stops) c.args.left.now c.steps.left _ c.args.machine.now c.steps.machine c.args.observer.now c.steps.observer
+    (cut c.in_err-event.field-0.0 g.M.Steps.goes g.M.Steps.uses g.M.Steps.leaves (watching g.O.Observer.after g.O.Observer.lines g.O.Observer.stops) c.args.left.now c.steps.left _ c.args.machine.now c.steps.machine c.turn.new.machine c.args.observer.now c.steps.observer
     (telling g.C.Chooser.ahead g.C.Chooser.drawn c.args.chooser.now) (telling g.C.Chooser.ahead g.C.Chooser.drawn c.steps.chooser) (telling g.C.Chooser.ahead g.C.Chooser.drawn c.turn.new.chooser)
     (times g.S.Source.left g.S.Source.faults c.args.input.now c.steps.input c.turn.new.input)
     (times g.K.Sink.written g.K.Sink.faults c.args.out.now c.steps.out c.turn.new.out)

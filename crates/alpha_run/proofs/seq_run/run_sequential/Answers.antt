@@ -15,6 +15,6 @@ returns-clause-made g c =
 pub returns-clause-broken : goal.returns-clause-broken
 returns-clause-broken g c =
     IfErr-weaker c.run.result _ _
-    (λ fault did. cut_ran fault c.args.left.now c.run.new.left c.args.watch c.args.machine.now (record { watch = c.args.watch }) _ _
+    (λ fault did. cut_ran fault c.args.left.now c.run.new.left c.args.watch c.args.machine.now c.run.new.machine (record { watch = c.args.watch }) _ _
     (drawn g.S.Source c.args.input.now c.run.new.input) (sunk g.K.Sink c.args.out.now c.run.new.out) (sunk g.N.Sink c.args.notes.now c.run.new.notes) refl did)
     c.run.ensures.broken

@@ -10,7 +10,7 @@ use Rattle.alpha_run.proofs.turn.turn.Goals as goal
 pub returns-in_err-event-clause-broken : goal.returns-in_err-event-clause-broken
 returns-in_err-event-clause-broken g c =
     if_err _ c.from_residual.result c.in_err-event.field-0.0 c.from_residual.ensures
-    (broken g.M.Steps.goes g.M.Steps.uses g.M.Steps.core g.O.Observer.after g.O.Observer.lines g.O.Observer.stops _ c.args.machine.now c.args.observer.now
+    (broken g.M.Steps.goes g.M.Steps.uses g.M.Steps.core g.M.Steps.leaves g.O.Observer.after g.O.Observer.lines g.O.Observer.stops _ c.args.machine.now c.step.new.self c.args.observer.now
     (telling g.C.Chooser.ahead g.C.Chooser.drawn c.args.chooser.now) (telling g.C.Chooser.ahead g.C.Chooser.drawn c.step.new.chooser)
     (drawn g.S.Source c.args.input.now c.step.new.input) (sunk g.K.Sink c.args.out.now c.step.new.out)
     (g.N.Sink.written c.args.notes.now) (g.N.Sink.faults c.args.notes.now) c.in_err-event.ensures.broken)
@@ -24,7 +24,7 @@ returns-in-Ok-clause-made g c =
 
 pub returns-in-Err-clause-broken : goal.returns-in-Err-clause-broken
 returns-in-Err-clause-broken g c =
-    unnoted g.M.Steps.goes g.M.Steps.uses g.M.Steps.core g.O.Observer.after g.O.Observer.lines g.O.Observer.stops c.in_ok-event.event c.args.machine.now c.step.new.self c.machine.result.now c.args.observer.now
+    unnoted g.M.Steps.goes g.M.Steps.uses g.M.Steps.core g.M.Steps.leaves g.O.Observer.after g.O.Observer.lines g.O.Observer.stops c.in_ok-event.event c.args.machine.now c.step.new.self c.machine.result.now c.args.observer.now
     (telling g.C.Chooser.ahead g.C.Chooser.drawn c.args.chooser.now) (telling g.C.Chooser.ahead g.C.Chooser.drawn c.step.new.chooser)
     (drawn g.S.Source c.args.input.now c.step.new.input) (sunk g.K.Sink c.args.out.now c.step.new.out) (sunk g.N.Sink c.args.notes.now c.see.new.notes)
     c.in_ok-event.ensures.made c.machine.ensures c.in-Err.ensures.part c.in-Err.ensures.cause

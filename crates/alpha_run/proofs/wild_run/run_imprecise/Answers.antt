@@ -20,7 +20,7 @@ returns-clause-made g c =
 pub returns-clause-broken : goal.returns-clause-broken
 returns-clause-broken g c =
     IfErr-weaker c.run.result _ _
-    (λ fault did. wild_cut (watching stays lines_of never) fault c.args.left.now c.run.new.left c.args.watch c.args.wild.now (record { watch = c.args.watch })
+    (λ fault did. wild_cut (watching stays lines_of never) fault c.args.left.now c.run.new.left c.args.watch c.args.wild.now c.run.new.machine (record { watch = c.args.watch })
     (telling g.C.Chooser.ahead g.C.Chooser.drawn c.args.chooser.now) (telling g.C.Chooser.ahead g.C.Chooser.drawn c.run.new.chooser)
     (drawn g.S.Source c.args.input.now c.run.new.input) (sunk g.K.Sink c.args.out.now c.run.new.out) (sunk g.N.Sink c.args.notes.now c.run.new.notes) (λ ps. refl) did)
     c.run.ensures.broken

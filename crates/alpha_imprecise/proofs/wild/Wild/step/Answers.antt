@@ -24,6 +24,6 @@ returns-clause-nearer g c =
 pub returns-clause-broken : goal.returns-clause-broken
 returns-clause-broken g c =
     IfErr-weaker c.step_by.result _ _
-    (λ fault broken. words-break g.C.Chooser.ahead g.C.Chooser.drawn fault c.args.self.now c.args.chooser.now c.step_by.new.picks
+    (λ fault broken. words-break g.C.Chooser.ahead g.C.Chooser.drawn fault c.args.self.now c.step_by.new.self c.args.chooser.now c.step_by.new.picks
     (drawn g.S.Source c.args.input.now c.step_by.new.input) (sunk g.K.Sink c.args.out.now c.step_by.new.out) broken)
     c.step_by.ensures.broken

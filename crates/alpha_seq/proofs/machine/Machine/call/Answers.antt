@@ -69,4 +69,8 @@ returns-in_err-end-clause-broken g c =
     (g.S.Source.left n.input) (g.K.Sink.written c.args.out.now) (g.K.Sink.written n.out)
     (g.S.Source.faults c.args.input.now) (g.S.Source.faults n.input) (g.K.Sink.faults c.args.out.now)
     (g.K.Sink.faults n.out)
-    c.requires.class c.in_err-end.field-0.0 did.effect did.input did.sink)
+    c.requires.class c.in_err-end.field-0.0 did.effect
+    (called-kernel c.args.function m m n.self c.requires.class refl
+    (c.call.ensures.kernel
+    ∙ ap (λ (next : ℕ). kernel_after c.args.function next m.regs m.kernel) c.next_pc-next.ensures))
+    did.input did.sink)
