@@ -7,4 +7,5 @@ pub mod SeqShown
 pub mod WildRuns
 pub mod WildUsed
 pub mod WildShown
+pub mod Told
 pub mod Restarted

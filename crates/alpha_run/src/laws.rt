@@ -1,14 +1,17 @@
-ghost use Rattle.std.specs.Prelude.{ℕ, Bool};
+ghost use Rattle.std.specs.Prelude.{◌≡◌, ◌≤◌, ℕ, Bool, List, Option, Some};
 ghost use Rattle.alpha_io.specs.Sunk.{Sunk};
 ghost use Rattle.alpha_seq.specs.declared.machine.Machine.{Machine};
+ghost use Rattle.alpha_seq.specs.declared.event.Event.{Event};
 ghost use Rattle.alpha_pal.specs.declared.fault.Fault.{Fault};
 ghost use Rattle.alpha_seq.specs.Devices.{Drawn};
 ghost use Rattle.alpha_seq.specs.Inputs.{IsFront};
-ghost use Rattle.alpha_imprecise.specs.Wild.{WildState};
+ghost use Rattle.alpha_imprecise.specs.Chosen.{most_waited};
+ghost use Rattle.alpha_imprecise.specs.Wild.{WildState, waited_in};
 ghost use Rattle.alpha_imprecise.specs.Telling.{Telling};
 ghost use Rattle.alpha_imprecise.specs.Free.{IsFreeFront};
-ghost use Rattle.alpha_run.specs.SeqRun.{SeqCut};
-ghost use Rattle.alpha_run.specs.WildRan.{WildCut};
+ghost use Rattle.alpha_run.specs.SeqRun.{SeqCut, SeqRan};
+ghost use Rattle.alpha_run.specs.WildRan.{WildCut, WildRanAs};
+ghost use Rattle.alpha_run.specs.Shows.{Shows, ShowsPart, shown_from, ShowsMade, ShowsMadePart};
 
 /// What a run has shown that a device's fault cut short is a front of what a whole run shows over some inputs, which the
 /// imprecise machine makes by the words that were drawn and any others behind them.
@@ -18,4 +21,26 @@ pub fn laws_of_cut_runs()
     ensures imprecise { (fault : Fault) (n : ℕ) (watch : Bool) (w new : WildState) (before after : Telling)
         (input : Drawn) (out notes : Sunk) → WildCut fault n watch w new before after input out notes
         → IsFreeFront n watch w before after out notes }
+{}
+
+/// What a run did whose input is told is what the definition's run over that input shows, of so many steps or units: in full,
+/// or where a device's fault cut it short a front of it. The imprecise machine's is the one that the words make that were
+/// drawn, and any others behind them, also where a trap is pending at the beginning.
+pub fn laws_of_told_runs()
+    ensures sequential { (last : Option Event) (n left : ℕ) (watch : Bool) (m new : Machine) (input : Drawn)
+        (out notes : Sunk) (bytes : List ℕ) → SeqRan last n left watch m new input out notes
+        → input.old ≡ Some bytes → Shows (shown_from m bytes n watch) last input out notes }
+    ensures sequential_part { (fault : Fault) (n : ℕ) (watch : Bool) (m new : Machine) (input : Drawn)
+        (out notes : Sunk) (bytes : List ℕ) → SeqCut fault n watch m new input out notes
+        → input.old ≡ Some bytes → ShowsPart (shown_from m bytes n watch) out notes }
+    ensures imprecise { (last : Option Event) (n left : ℕ) (watch : Bool) (w new : WildState)
+        (before after : Telling) (input : Drawn) (out notes : Sunk) (bytes : List ℕ)
+        → WildRanAs last n left watch w new before after input out notes
+        → input.old ≡ Some bytes → waited_in w.pending ≤ most_waited
+        → ShowsMade n watch bytes last w new before after input out notes }
+    ensures imprecise_part { (fault : Fault) (n : ℕ) (watch : Bool) (w new : WildState)
+        (before after : Telling) (input : Drawn) (out notes : Sunk) (bytes : List ℕ)
+        → WildCut fault n watch w new before after input out notes
+        → input.old ≡ Some bytes → waited_in w.pending ≤ most_waited
+        → ShowsMadePart n watch bytes w before after out notes }
 {}

@@ -1,0 +1,16 @@
+use Rattle.alpha_run.proofs.Told.{shows, part, made_shows, made_part}
+use Rattle.alpha_run.proofs.laws.laws_of_told_runs.Goals as goal
+
+pub returns-clause-sequential : goal.returns-clause-sequential
+returns-clause-sequential c last n left watch m new input out notes bytes ran tells = shows last n left watch m new input out notes bytes ran tells
+
+pub returns-clause-sequential_part : goal.returns-clause-sequential_part
+returns-clause-sequential_part c fault n watch m new input out notes bytes cut tells = part fault n watch m new input out notes bytes cut tells
+
+pub returns-clause-imprecise : goal.returns-clause-imprecise
+returns-clause-imprecise c last n left watch w new before after input out notes bytes ran tells low =
+    made_shows last n left watch w new before after input out notes bytes ran tells low
+
+pub returns-clause-imprecise_part : goal.returns-clause-imprecise_part
+returns-clause-imprecise_part c fault n watch w new before after input out notes bytes cut tells low =
+    made_part fault n watch w new before after input out notes bytes cut tells low
