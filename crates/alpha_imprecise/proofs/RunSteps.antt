@@ -6,10 +6,11 @@ use Rattle.std.proofs.Math.Seq.{drop-append_seam}
 use Rattle.std.proofs.lemmas.List.{length-append, get_or_append_left, get_or-append_right}
 use Rattle.std.proofs.lemmas.List.Elements.{All-append}
 use Rattle.alpha_seq.specs.declared.machine.Machine.{Machine}
-use Rattle.alpha_seq.specs.State.{Program, State, Event, Went, Barriered, Overflowed, Ends}
-use Rattle.alpha_seq.specs.Run.{Mark, marks_of}
+use Rattle.alpha_seq.specs.State.{Program, State}
+use Rattle.alpha_seq.specs.Run.{Mark}
 use Rattle.alpha_seq.specs.Machine.{program_of, state_of}
 use Rattle.alpha_seq.specs.Print.{Print, found_by}
+use Rattle.alpha_seq.proofs.RunSteps.{marks-same as precisely_same}
 use Rattle.alpha_imprecise.specs.Moment.{Happening, Precisely, Triggered, Waited, Reported, Lost, Moment, moment}
 use Rattle.alpha_imprecise.specs.Run.{WildRun, wild_marks, finished, unit_of, extended_wild}
 use Rattle.alpha_imprecise.specs.Step.{wild}
@@ -64,14 +65,8 @@ Moves-then a b d xs ys first second = record {
 -- ---- one step more of the definition
 
 -- what is noted of a step shows the PC and the registers alone
-precise-marks : (event : Event) (m : Machine) (input output : List ℕ) → marks_of event (state_of m input output) ≡ marks_of event (bare m)
-precise-marks Went m input output = refl
-precise-marks Barriered m input output = refl
-precise-marks (Overflowed at) m input output = refl
-precise-marks (Ends end) m input output = refl
-
-marks-same : (h : Happening) (m : Machine) (input output : List ℕ) → wild_marks h (state_of m input output) ≡ wild_marks h (bare m)
-marks-same (Precisely event) m input output = precise-marks event m input output
+pub marks-same : (h : Happening) (m : Machine) (input output : List ℕ) → wild_marks h (state_of m input output) ≡ wild_marks h (bare m)
+marks-same (Precisely event) m input output = precisely_same event m input output
 marks-same Triggered m input output = refl
 marks-same Waited m input output = refl
 marks-same (Reported at) m input output = refl

@@ -1,12 +1,11 @@
 -- Moves that the code made, and rows of them.
 use Rattle.std.proofs.Common.{◌≡◌, ◌<◌, ◌+◌, ◌-◌, ◌&&◌, not, ℕ, zero, suc, Bool, true, false, cond, List, [], ◌∷◌, ◌++◌, length, drop, Option, Some, None, Result, refl, sym, ap, subst, ◌∙◌, append_assoc, append-nil, length-append, option_and_then, arith, add-one}
 use Rattle.alpha_seq.specs.declared.event.Event.{Event}
-use Rattle.alpha_seq.specs.declared.machine.Machine.{Machine}
-use Rattle.alpha_seq.specs.State.{Program, State, Event as Happened, Went, Barriered, Overflowed, Ends}
-use Rattle.alpha_seq.specs.Run.{Mark, marks_of}
+use Rattle.alpha_seq.specs.State.{Program, State}
+use Rattle.alpha_seq.specs.Run.{Mark}
 use Rattle.alpha_seq.specs.Machine.{program_of, state_of, class_here}
 use Rattle.alpha_seq.specs.Print.{Print}
-use Rattle.alpha_imprecise.specs.Moment.{Choice, Happening, Precisely, Triggered, Waited, Reported, Lost, Moment, moment}
+use Rattle.alpha_imprecise.specs.Moment.{Choice, Happening, Moment, moment}
 use Rattle.alpha_imprecise.specs.Step.{wild}
 use Rattle.alpha_imprecise.specs.Run.{wild_marks, finished, unit_of}
 use Rattle.alpha_imprecise.specs.Chosen.{waited_after}
@@ -23,22 +22,9 @@ use Rattle.alpha_replay.specs.Given.{given_choice}
 use Rattle.alpha_replay.specs.Moves.{choice_of, suits}
 use Rattle.alpha_replay.specs.Listed.{Played, played_by, move, units, item, listed_then, listed_from}
 use Rattle.alpha_replay.specs.Playing.{Place, place, program_at, standing, Did, Fails, Plays, StopsAt, Moved}
+use Rattle.alpha_imprecise.proofs.RunSteps.{marks-same}
 use Rattle.alpha_replay.proofs.Moving.{Fits, given-fits, shown-happened}
 use Rattle.alpha_replay.proofs.Passing.{passed-took}
-
--- what is noted of a step shows the PC and the registers alone
-precise_marks : (event : Happened) (m : Machine) (input output : List ℕ) → marks_of event (state_of m input output) ≡ marks_of event (bare m)
-precise_marks Went m input output = refl
-precise_marks Barriered m input output = refl
-precise_marks (Overflowed at) m input output = refl
-precise_marks (Ends end) m input output = refl
-
-marks-same : (h : Happening) (m : Machine) (input output : List ℕ) → wild_marks h (state_of m input output) ≡ wild_marks h (bare m)
-marks-same (Precisely event) m input output = precise_marks event m input output
-marks-same Triggered m input output = refl
-marks-same Waited m input output = refl
-marks-same (Reported at) m input output = refl
-marks-same (Lost pc mask) m input output = refl
 
 -- ---- one move
 

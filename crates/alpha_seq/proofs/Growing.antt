@@ -9,13 +9,12 @@ use Rattle.alpha_words.specs.Regs.{reg}
 use Rattle.alpha_table.specs.declared.columns.MemAccess.{MemAccess}
 use Rattle.alpha_table.specs.Class.{Class, operate, trigger, address, load, store, load_locked, store_conditional, branch, jump, barrier, idle}
 use Rattle.alpha_mem.specs.declared.access.MemFault.{MemFault}
-use Rattle.alpha_mem.specs.Intent.{Load}
-use Rattle.alpha_mem.specs.Block.{Block, shapes, within}
+use Rattle.alpha_mem.specs.Block.{Block}
 use Rattle.alpha_mem.specs.Memory.{bytes_at}
 use Rattle.alpha_pal.specs.Call.{Outside, Called, goes, exits, signals, call}
 use Rattle.alpha_pal.proofs.Callsys.{callsys-each}
 use Rattle.alpha_seq.specs.State.{Program, State, Stepped}
-use Rattle.alpha_seq.specs.Step.{next_class, step, step_from, unless, overflowed, conditional, matches, lock_block, returned}
+use Rattle.alpha_seq.specs.Step.{step, step_from, unless, overflowed, conditional, matches, lock_block, returned}
 use Rattle.alpha_seq.specs.Run.{Run, Mark, marks_of, is_over, extended_by, advance, after}
 
 pub record Grows {X : Type 0} (old new : List X) : Type 0 where
@@ -137,12 +136,3 @@ after-begins g s (suc m) n h =
       trace = Grows-trans (after g s n).trace (after g s m).trace (after g s (suc m)).trace first.trace last.trace;
     })
     (eq-or-lt_of_le h)
-
--- ---- a good write
-
--- the output after a write whose range is good
-pub wrote_all : (g : Program) (s : State) → next_class g s.pc ≡ Some (barrier (Some Callsys))
-    → reg s.regs 0 ≡ 4 → reg s.regs 16 ≡ 1 → within (shapes s.mem) Load (reg s.regs 17) (reg s.regs 18) ≡ true
-    → (step_from g s).state.outside.output ≡ s.outside.output ++ bytes_at s.mem (reg s.regs 17) (reg s.regs 18)
-unfolding call
-wrote_all g s class number descriptor range = rw (class, number, descriptor, range) refl
