@@ -63,10 +63,7 @@ pub(crate) const NOTHING: Operands<'static> = Operands {
 pub(crate) fn number_of(piece: Piece, sign: Sign, text: &[u8]) -> Option<Number>
     ensures { result ≡ number_of piece sign (number_value text.now) }
 {
-    match number(text) {
-        Some(n) => number_at(piece, sign, n),
-        None => None,
-    }
+    number_at(piece, sign, number(text)?)
 }
 
 /// A label's offset, `None` exactly where it is outside its range.
@@ -85,10 +82,7 @@ pub fn offset_at(sign: Sign, n: u64) -> Option<i64>
 fn offset_of(sign: Sign, text: &[u8]) -> Option<i64>
     ensures { result ≡ offset_of sign (number_value text.now) }
 {
-    match number(text) {
-        Some(n) => offset_at(sign, n),
-        None => None,
-    }
+    offset_at(sign, number(text)?)
 }
 
 // Whether a name has no `/`.

@@ -109,13 +109,8 @@ fn sought_value(shape: Shape, list: &[u8]) -> Option<(ListValue<'_>, &[u8])>
     ensures { option_map (λ v. (view v.0, v.1.now)) result ≡ first_value shape list.now }
 {
     let mut operands = NOTHING;
-    match first_operands(shape, list, &Reached::NONE, Sign::Plus, &mut operands) {
-        Some(rest) => match value_of(&operands) {
-            Some(value) => Some((value, rest)),
-            None => None,
-        },
-        None => None,
-    }
+    let rest = first_operands(shape, list, &Reached::NONE, Sign::Plus, &mut operands)?;
+    Some((value_of(&operands)?, rest))
 }
 
 // The piece of the numbers of a list. Other shapes have none.
@@ -251,8 +246,6 @@ pub fn next_value(list: &[u8], bytes: u8) -> Option<(ListValue<'_>, &[u8])>
     if list.is_empty() {
         return None;
     }
-    match list_shape(bytes) {
-        Some(shape) => first_value(shape, list),
-        None => None,
-    }
+    let shape = list_shape(bytes)?;
+    first_value(shape, list)
 }

@@ -153,10 +153,10 @@ impl Reached {
         let front = &self.pattern[..self.pieces];
         match self.next_piece(kind) {
             Some(piece) => Some(with_piece(front, piece, self.pattern)),
-            None => match piece_behind(shape.patterns(), front, kind) {
-                Some((piece, pattern)) => Some(with_piece(front, piece, pattern)),
-                None => None,
-            },
+            None => {
+                let (piece, pattern) = piece_behind(shape.patterns(), front, kind)?;
+                Some(with_piece(front, piece, pattern))
+            }
         }
     }
 
@@ -276,9 +276,7 @@ impl Shape {
         ensures good { IfOk result (λ o. IfSome o.number IsNumber) }
     {
         let mut operands = NOTHING;
-        match follow(self, line, &Reached::NONE, Sign::Plus, &mut operands) {
-            Ok(()) => Ok(operands),
-            Err(fault) => Err(fault),
-        }
+        follow(self, line, &Reached::NONE, Sign::Plus, &mut operands)?;
+        Ok(operands)
     }
 }

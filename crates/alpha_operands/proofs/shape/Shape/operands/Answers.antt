@@ -6,5 +6,5 @@ use Rattle.alpha_operands.specs.Operands.{nothing}
 use Rattle.alpha_operands.proofs.Within.{follow-within}
 use Rattle.alpha_operands.proofs.shape.Shape.operands.Goals as goal
 
-pub returns-in-Ok-clause-good : goal.returns-in-Ok-clause-good
-returns-in-Ok-clause-good c = follow-within (patterns c.args.self) [] signs.Plus (tokens c.args.line.now) nothing _ tt c.in-Ok.ensures.ok
+pub returns-clause-good : goal.returns-clause-good
+returns-clause-good c = follow-within (patterns c.args.self) [] signs.Plus (tokens c.args.line.now) nothing _ tt c.in_ok-follow.ensures.ok
