@@ -1,5 +1,5 @@
 ghost use Rattle.std.specs.Prelude.{◌≡◌};
-ghost use Rattle.alpha_operands.specs.Pieces.{kind_of, same_piece, same_kind};
+ghost use Rattle.alpha_operands.specs.Pieces.{kind_of, same_kind};
 
 use alpha_token::TokenKind;
 
@@ -87,13 +87,6 @@ impl Piece {
             _ => TokenKind::Number,
         }
     }
-}
-
-// Whether two pieces are the same.
-fn same_piece(a: Piece, b: Piece) -> bool
-    ensures { result ≡ same_piece a b }
-{
-    a == b
 }
 
 // Whether two kinds of tokens are the same.
