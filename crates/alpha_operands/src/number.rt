@@ -8,6 +8,9 @@ use crate::Piece;
 use alpha_table::{Form, decode};
 use alpha_words::{PalCall, Word};
 
+// The most zeroed bytes that a line asks for: as many as an image has data bytes.
+const MOST_ZEROED: u64 = 16_777_216;
+
 /// The sign before a number.
 #[derive(Clone, Copy, Debug, PartialEq, Eq)]
 pub enum Sign {
@@ -125,7 +128,7 @@ pub fn number_at(piece: Piece, sign: Sign, n: u64) -> Option<Number>
         Piece::Literal if n <= 255 => Some(Number::Literal(n as u8)),
         Piece::Hint if n <= 16383 => Some(Number::Hint(n as u16)),
         Piece::Whole => Some(Number::Whole(n)),
-        Piece::Zeroed if n <= 16_777_216 => Some(Number::Zeroed(n as u32)),
+        Piece::Zeroed if n <= MOST_ZEROED => Some(Number::Zeroed(n as u32)),
         Piece::Align if n <= 13 => Some(Number::Align(n as u8)),
         Piece::Level if n == 1 || n == 2 => Some(Number::Level(n as u8)),
         Piece::Pal => call(n),
