@@ -147,8 +147,5 @@ fn store(alloc: Global, files: &mut FileMap, name: &str, bytes: &[u8]) -> Result
 fn find_file<'a>(files: &'a FileMap, name: &str) -> Option<&'a [u8]>
     ensures { option_copied result ≡ map.get (file_map files.now.entries) name.now }
 {
-    match files.get(name) {
-        Some(file) => Some(file.as_slice()),
-        None => None,
-    }
+    Some(files.get(name)?.as_slice())
 }
