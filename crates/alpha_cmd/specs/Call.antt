@@ -6,6 +6,7 @@ use Rattle.alpha_io.specs.Faults.{Calm}
 use Rattle.alpha_io.specs.Shelved.{Shelved, shelved}
 use Rattle.alpha_io.specs.Sunk.{Sunk, sunk}
 use Rattle.alpha_seq.specs.Devices.{Drawn, drawn}
+use Rattle.alpha_cmd.specs.declared.devices.Devices.{Devices}
 
 -- what each device tells and its count of faults, before the call and after it
 pub record Call : Type 0 where
@@ -14,14 +15,14 @@ pub record Call : Type 0 where
   pub out : Sunk
   pub notes : Sunk
 
--- by the ghosts of the devices' types, and by each device before and after
+-- by the ghosts of the devices' types, and by the devices before and after
 abbrev pub called : {H S K N : Type 0} → shelves.Ghosts H → sources.Ghosts S → sinks.Ghosts K → sinks.Ghosts N
-    → H → H → S → S → K → K → N → N → Call
-called h s k n shelf shelf_now input input_now out out_now notes notes_now = record {
-  shelf = shelved h shelf shelf_now;
-  input = drawn s input input_now;
-  out = sunk k out out_now;
-  notes = sunk n notes notes_now;
+    → Devices H S K N → Devices H S K N → Call
+called h s k n old new = record {
+  shelf = shelved h old.shelf new.shelf;
+  input = drawn s old.input new.input;
+  out = sunk k old.out new.out;
+  notes = sunk n old.notes new.notes;
 }
 
 -- no device failed, by its count of faults

@@ -20,6 +20,7 @@ ghost use Rattle.alpha_cmd.specs.Restarts.{Restarts};
 ghost use Rattle.alpha_cmd.specs.Accepts.{Accepts};
 ghost use Rattle.alpha_cmd.specs.ToldRun.{Ran};
 
+use crate::devices::Devices;
 use crate::{Status, alpha_top};
 use alpha_io::{Shelf, Sink, Source};
 use alpha_request::Words;
@@ -32,62 +33,52 @@ use std::alloc::Global;
 pub fn alpha_main<H: Shelf, S: Source, K: Sink, N: Sink>(
     alloc: Global,
     arguments: &[String],
-    shelf: &mut H,
-    input: &mut S,
-    out: &mut K,
-    notes: &mut N,
+    devices: &mut Devices<H, S, K, N>,
 ) -> Status
     // All that the words behind the program's name ask for was done, or memory ran out before these were
     // gathered, and nothing was done or written.
     ensures whole { EndsWhole (words_in arguments.now) result
-        (called H.Shelf S.Source K.Sink N.Sink shelf.old shelf.new input.old
-        input.new out.old out.new notes.old notes.new)
-        ⊎ ((result ≡ Status.NoMemory) × (shelf.new ≡ shelf.old) × (input.new ≡ input.old)
-        × (out.new ≡ out.old) × (notes.new ≡ notes.old)) }
+        (called H.Shelf S.Source K.Sink N.Sink devices.old devices.new)
+        ⊎ ((result ≡ Status.NoMemory)
+        × (devices.new.shelf ≡ devices.old.shelf) × (devices.new.input ≡ devices.old.input)
+        × (devices.new.out ≡ devices.old.out) × (devices.new.notes ≡ devices.old.notes)) }
 
     // The others are those of `alpha_top`, of the same words.
     ensures part { EndsCut (words_in arguments.now) result
-        (called H.Shelf S.Source K.Sink N.Sink shelf.old shelf.new input.old
-        input.new out.old out.new notes.old notes.new) }
-    ensures shelf { ServesUnder result (shelved H.Shelf shelf.old shelf.new) }
-    ensures files { SparesFiles (words_in arguments.now) result (H.files shelf.old) (H.files shelf.new) }
-    ensures input { (input.new ≡ input.old) ⊎ TakesInput (words_in arguments.now) result }
-    ensures source { DrawsUnder result (drawn S.Source input.old input.new) }
+        (called H.Shelf S.Source K.Sink N.Sink devices.old devices.new) }
+    ensures shelf { ServesUnder result (shelved H.Shelf devices.old.shelf devices.new.shelf) }
+    ensures files { SparesFiles (words_in arguments.now) result
+        (H.files devices.old.shelf) (H.files devices.new.shelf) }
+    ensures input { (devices.new.input ≡ devices.old.input) ⊎ TakesInput (words_in arguments.now) result }
+    ensures source { DrawsUnder result (drawn S.Source devices.old.input devices.new.input) }
     ensures ended { EndsAsked (words_in arguments.now) result }
     ensures found { LosesNone (words_in arguments.now) result }
-    ensures script { LeavesScript (words_in arguments.now) (drawn S.Source input.old input.new) }
+    ensures script { LeavesScript (words_in arguments.now) (drawn S.Source devices.old.input devices.new.input) }
     ensures given { GivesOne (words_in arguments.now) result
-        (called H.Shelf S.Source K.Sink N.Sink shelf.old shelf.new input.old
-        input.new out.old out.new notes.old notes.new) }
+        (called H.Shelf S.Source K.Sink N.Sink devices.old devices.new) }
     ensures exact { GivesThe (words_in arguments.now) result
-        (called H.Shelf S.Source K.Sink N.Sink shelf.old shelf.new input.old
-        input.new out.old out.new notes.old notes.new) }
-    ensures restarts { Restarts (words_in arguments.now) result (H.files shelf.old) }
-    ensures checked { Checked (words_in arguments.now) result (H.files shelf.old) }
+        (called H.Shelf S.Source K.Sink N.Sink devices.old devices.new) }
+    ensures restarts { Restarts (words_in arguments.now) result (H.files devices.old.shelf) }
+    ensures checked { Checked (words_in arguments.now) result (H.files devices.old.shelf) }
     ensures accepted { Accepts (words_in arguments.now) result
-        (called H.Shelf S.Source K.Sink N.Sink shelf.old shelf.new input.old
-        input.new out.old out.new notes.old notes.new) }
-    ensures ran { Ran (words_in arguments.now) result
-        (called H.Shelf S.Source K.Sink N.Sink shelf.old shelf.new input.old
-        input.new out.old out.new notes.old notes.new) }
+        (called H.Shelf S.Source K.Sink N.Sink devices.old devices.new) }
+    ensures ran { Ran (words_in arguments.now) result (called H.Shelf S.Source K.Sink N.Sink devices.old devices.new) }
     ensures alike { Alike (words_in arguments.now) result
-        (called H.Shelf S.Source K.Sink N.Sink shelf.old shelf.new input.old
-        input.new out.old out.new notes.old notes.new) }
+        (called H.Shelf S.Source K.Sink N.Sink devices.old devices.new) }
     ensures unread { Unread (words_in arguments.now) result
-        (called H.Shelf S.Source K.Sink N.Sink shelf.old shelf.new input.old
-        input.new out.old out.new notes.old notes.new) }
+        (called H.Shelf S.Source K.Sink N.Sink devices.old devices.new) }
     ensures unread_alike { UnreadAlike (words_in arguments.now) result
-        (called H.Shelf S.Source K.Sink N.Sink shelf.old shelf.new input.old
-        input.new out.old out.new notes.old notes.new) }
-    ensures fixed { Fixes (words_in arguments.now) result (H.files shelf.old) (H.files shelf.new) }
-    ensures modules { KeepsModules (words_in arguments.now) result (H.files shelf.old) (H.files shelf.new) }
-    ensures links { KeepsLinks (words_in arguments.now) result (H.files shelf.old) (H.files shelf.new) }
-    ensures replays { ShowsRuns (words_in arguments.now) result (H.files shelf.old) }
-    ensures recorded { KeepsUnder (Asks (words_in arguments.now)) result (world H.Shelf S.Source shelf.old input.old)
-        (H.files shelf.new) }
+        (called H.Shelf S.Source K.Sink N.Sink devices.old devices.new) }
+    ensures fixed { Fixes (words_in arguments.now) result (H.files devices.old.shelf) (H.files devices.new.shelf) }
+    ensures modules { KeepsModules (words_in arguments.now) result
+        (H.files devices.old.shelf) (H.files devices.new.shelf) }
+    ensures links { KeepsLinks (words_in arguments.now) result (H.files devices.old.shelf) (H.files devices.new.shelf) }
+    ensures replays { ShowsRuns (words_in arguments.now) result (H.files devices.old.shelf) }
+    ensures recorded { KeepsUnder (Asks (words_in arguments.now)) result
+        (world H.Shelf S.Source devices.old.shelf devices.old.input) (H.files devices.new.shelf) }
 {
     match words_of(alloc, arguments) {
-        Ok(words) => alpha_top(alloc, &words, shelf, input, out, notes),
+        Ok(words) => alpha_top(alloc, &words, devices),
         Err(NoMemory) => Status::NoMemory,
     }
 }

@@ -42,6 +42,7 @@ mod check;
 mod choosing;
 mod debug;
 mod decision;
+mod devices;
 mod dis;
 mod entry;
 mod fix;
@@ -64,6 +65,7 @@ mod trial;
 
 pub use alpha_request::Words;
 pub use alpha_trial::trial_image;
+pub use devices::Devices;
 pub use entry::alpha_main;
 pub use image::{IMAGE_LIMIT, image_of};
 pub use laws::{

@@ -8,6 +8,7 @@ ghost use Rattle.alpha_cmd.specs.Commands.{there_of, MayTake, Spares};
 ghost use Rattle.alpha_cmd.specs.Sure.{sure_world};
 ghost use Rattle.alpha_cmd.specs.Tried.{IsAnswer};
 
+use crate::devices::Devices;
 use crate::{Status, alpha_top};
 use alpha_io::{NullSink, SureShelf, SureSource};
 use alpha_request::Words;
@@ -18,25 +19,22 @@ use std::alloc::Global;
 pub fn alpha_sure(
     alloc: Global,
     words: &Words,
-    shelf: &mut SureShelf,
-    input: &mut SureSource,
+    devices: &mut Devices<SureShelf, SureSource, NullSink, NullSink>,
 ) -> Status
-    ensures answer { (a : Answer) → IsAnswer words.now (sure_world shelf.old input.old) a
+    ensures answer { (a : Answer) → IsAnswer words.now (sure_world devices.old.shelf devices.old.input) a
         → (result ≡ a.status) ⊎ (result ≡ Status.NoMemory) }
 
     // No stream fails, and the shelf answers only for a file that it doesn't have or doesn't take.
     ensures streams { (result ≢ Status.InputFault) × (result ≢ Status.SinkFault) }
     ensures shelf { (command : Command) → Asks words.now command
-        → there_of command (sure_world shelf.old input.old) → result ≢ Status.ShelfFault }
+        → there_of command (sure_world devices.old.shelf devices.old.input) → result ≢ Status.ShelfFault }
 
     // Files stay, but for the one that a command keeps, and so does input but for a run or a session.
-    ensures files { KeepsFiles (Some (sure_file shelf.old)) (Some (sure_file shelf.new))
+    ensures files { KeepsFiles (Some (sure_file devices.old.shelf)) (Some (sure_file devices.new.shelf))
         ⊎ ((command : Command) × Asks words.now command
-        × Spares command result (Some (sure_file shelf.old)) (Some (sure_file shelf.new))) }
-    ensures input { (input.new ≡ input.old)
+        × Spares command result (Some (sure_file devices.old.shelf)) (Some (sure_file devices.new.shelf))) }
+    ensures input { (devices.new.input ≡ devices.old.input)
         ⊎ ((command : Command) × Asks words.now command × MayTake command result) }
 {
-    let mut out = NullSink::new();
-    let mut notes = NullSink::new();
-    alpha_top(alloc, words, shelf, input, &mut out, &mut notes)
+    alpha_top(alloc, words, devices)
 }

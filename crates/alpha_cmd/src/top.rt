@@ -31,6 +31,7 @@ ghost use Rattle.alpha_cmd.specs.Tries.{CountStays, TriesBy};
 
 use crate::Status;
 use crate::decision::Decision;
+use crate::devices::Devices;
 use crate::imprecise::{Asked, imprecise};
 use crate::link::link;
 use crate::making::make;
@@ -66,31 +67,24 @@ use std::alloc::Global;
 pub fn alpha_top<H: Shelf, S: Source, K: Sink, N: Sink>(
     alloc: Global,
     words: &Words,
-    shelf: &mut H,
-    input: &mut S,
-    out: &mut K,
-    notes: &mut N,
+    devices: &mut Devices<H, S, K, N>,
 ) -> Status
     // The status, all that is written and the input left are an answer to the words, or what a fault
     // of the shelf or of the input or want of memory leaves of it.
-    ensures whole { EndsWhole words.now result
-        (called H.Shelf S.Source K.Sink N.Sink shelf.old shelf.new input.old
-        input.new out.old out.new notes.old notes.new) }
+    ensures whole { EndsWhole words.now result (called H.Shelf S.Source K.Sink N.Sink devices.old devices.new) }
 
     // Where something couldn't be written, a sink failed, and a prefix of that was written.
-    ensures part { EndsCut words.now result
-        (called H.Shelf S.Source K.Sink N.Sink shelf.old shelf.new input.old
-        input.new out.old out.new notes.old notes.new) }
+    ensures part { EndsCut words.now result (called H.Shelf S.Source K.Sink N.Sink devices.old devices.new) }
 
     // The shelf fails only under its status, or under that of a sink. Told files stay, but for the
     // one that a command keeps.
-    ensures shelf { ServesUnder result (shelved H.Shelf shelf.old shelf.new) }
-    ensures files { SparesFiles words.now result (H.files shelf.old) (H.files shelf.new) }
+    ensures shelf { ServesUnder result (shelved H.Shelf devices.old.shelf devices.new.shelf) }
+    ensures files { SparesFiles words.now result (H.files devices.old.shelf) (H.files devices.new.shelf) }
 
     // Input is not touched, but by a run or a session that was begun, and it fails only under its
     // status, or under that of a sink.
-    ensures input { (input.new ≡ input.old) ⊎ TakesInput words.now result }
-    ensures source { DrawsUnder result (drawn S.Source input.old input.new) }
+    ensures input { (devices.new.input ≡ devices.old.input) ⊎ TakesInput words.now result }
+    ensures source { DrawsUnder result (drawn S.Source devices.old.input devices.new.input) }
 
     // The status of a program that didn't end by exit, or that wasn't run to its end, is one of the
     // end of the words' command. So a run of the imprecise machine never loses a trap, whatever the
@@ -99,75 +93,62 @@ pub fn alpha_top<H: Shelf, S: Source, K: Sink, N: Sink>(
     ensures found { LosesNone words.now result }
 
     // Of a script no more is taken than the bytes that count and one.
-    ensures script { LeavesScript words.now (drawn S.Source input.old input.new) }
+    ensures script { LeavesScript words.now (drawn S.Source devices.old.input devices.new.input) }
 
     // Where no device fails, one of the words' answers is given, or memory ran out.
-    ensures given { GivesOne words.now result
-        (called H.Shelf S.Source K.Sink N.Sink shelf.old shelf.new input.old
-        input.new out.old out.new notes.old notes.new) }
+    ensures given { GivesOne words.now result (called H.Shelf S.Source K.Sink N.Sink devices.old devices.new) }
 
     // Where what the words' command reads is told and no device fails, the words' answer is given,
     // or memory ran out.
-    ensures exact { GivesThe words.now result
-        (called H.Shelf S.Source K.Sink N.Sink shelf.old shelf.new input.old
-        input.new out.old out.new notes.old notes.new) }
+    ensures exact { GivesThe words.now result (called H.Shelf S.Source K.Sink N.Sink devices.old devices.new) }
 
     // Where a check is done, its file spells an image that can be restarted after each late trap. So it
     // is of the two plain words `check FILE`.
-    ensures restarts { Restarts words.now result (H.files shelf.old) }
-    ensures checked { Checked words.now result (H.files shelf.old) }
+    ensures restarts { Restarts words.now result (H.files devices.old.shelf) }
+    ensures checked { Checked words.now result (H.files devices.old.shelf) }
 
     // Where the shelf tells that the file spells an accepted image and no device fails, a check of it
     // is done, or memory ran out.
-    ensures accepted { Accepts words.now result
-        (called H.Shelf S.Source K.Sink N.Sink shelf.old shelf.new input.old
-        input.new out.old out.new notes.old notes.new) }
+    ensures accepted { Accepts words.now result (called H.Shelf S.Source K.Sink N.Sink devices.old devices.new) }
 
     // A run of a told file that spells an accepted image, over a told input, has the answer of the
     // sequential run of that image by either machine, whatever words the imprecise one draws and whether
     // the verdict is passed over: only the number of words, which the status carries where the program
     // has exited, is its own. So it is of the plain words `run FILE` and `run --imprecise FILE`.
-    ensures alike { Alike words.now result
-        (called H.Shelf S.Source K.Sink N.Sink shelf.old shelf.new input.old
-        input.new out.old out.new notes.old notes.new) }
-    ensures ran { Ran words.now result
-        (called H.Shelf S.Source K.Sink N.Sink shelf.old shelf.new input.old
-        input.new out.old out.new notes.old notes.new) }
+    ensures alike { Alike words.now result (called H.Shelf S.Source K.Sink N.Sink devices.old devices.new) }
+    ensures ran { Ran words.now result (called H.Shelf S.Source K.Sink N.Sink devices.old devices.new) }
 
     // A run of a told file whose program reads nothing in the steps that are asked for has the answer of
     // the sequential run over no input, whatever the source tells or doesn't tell. So has a run of the
     // imprecise machine of such a file that a check accepts, but for the number of words that it draws.
-    ensures unread { Unread words.now result
-        (called H.Shelf S.Source K.Sink N.Sink shelf.old shelf.new input.old
-        input.new out.old out.new notes.old notes.new) }
+    ensures unread { Unread words.now result (called H.Shelf S.Source K.Sink N.Sink devices.old devices.new) }
     ensures unread_alike { UnreadAlike words.now result
-        (called H.Shelf S.Source K.Sink N.Sink shelf.old shelf.new input.old
-        input.new out.old out.new notes.old notes.new) }
+        (called H.Shelf S.Source K.Sink N.Sink devices.old devices.new) }
 
     // Where barriers were put into a source, the file kept is that source with a barrier at each cut of
     // its code. Its image is accepted and can be restarted, and needs each of the barriers.
-    ensures fixed { Fixes words.now result (H.files shelf.old) (H.files shelf.new) }
+    ensures fixed { Fixes words.now result (H.files devices.old.shelf) (H.files devices.new.shelf) }
 
     // Where a module is made, the file that is kept spells the one that the source makes, and no place
     // of its code is broken.
-    ensures modules { KeepsModules words.now result (H.files shelf.old) (H.files shelf.new) }
+    ensures modules { KeepsModules words.now result (H.files devices.old.shelf) (H.files devices.new.shelf) }
 
     // Where modules are linked, each of the files spells one, and the file that is kept spells the image
     // that they link to. Where no place of any module's code is broken, the image is accepted and can be
     // restarted.
-    ensures links { KeepsLinks words.now result (H.files shelf.old) (H.files shelf.new) }
+    ensures links { KeepsLinks words.now result (H.files devices.old.shelf) (H.files devices.new.shelf) }
 
     // Where a replay is done, its file spells an image, and its journal lists a run of it: over the
     // journal's input, with its output and its end. On an accepted image the sequential run is that too.
-    ensures replays { ShowsRuns words.now result (H.files shelf.old) }
+    ensures replays { ShowsRuns words.now result (H.files devices.old.shelf) }
 
     // Under the status of a run's end a journal was kept, and it is a good one. Where the input is told,
     // it is that of the run that the words make, to its end or to all its units.
-    ensures recorded { KeepsUnder (Asks words.now) result (world H.Shelf S.Source shelf.old input.old)
-        (H.files shelf.new) }
+    ensures recorded { KeepsUnder (Asks words.now) result (world H.Shelf S.Source devices.old.shelf devices.old.input)
+        (H.files devices.new.shelf) }
 {
-    match decide(alloc, words, shelf, input, out, notes) {
-        Ok(decision) => decision.deliver(out, notes),
+    match decide(alloc, words, devices) {
+        Ok(decision) => decision.deliver(&mut devices.out, &mut devices.notes),
         Err(Failed) => Status::SinkFault,
     }
 }
@@ -177,32 +158,29 @@ pub fn alpha_top<H: Shelf, S: Source, K: Sink, N: Sink>(
 fn decide<H: Shelf, S: Source, K: Sink, N: Sink>(
     alloc: Global,
     words: &Words,
-    shelf: &mut H,
-    input: &mut S,
-    out: &mut K,
-    notes: &mut N,
+    devices: &mut Devices<H, S, K, N>,
 ) -> Result<Decision, Failed>
-    ensures tried { Decides (TriedBy (Rose (H.faults shelf.old) (H.faults shelf.new))
-        (Rose (S.faults input.old) (S.faults input.new)) words.now
-        (world H.Shelf S.Source shelf.old input.old)) result (S.left input.new)
-        (shelved H.Shelf shelf.old shelf.new)
-        (sunk K.Sink out.old out.new) (sunk N.Sink notes.old notes.new) }
-    ensures shelf { Serves (shelved H.Shelf shelf.old shelf.new)
+    ensures tried { Decides (TriedBy (Rose (H.faults devices.old.shelf) (H.faults devices.new.shelf))
+        (Rose (S.faults devices.old.input) (S.faults devices.new.input)) words.now
+        (world H.Shelf S.Source devices.old.shelf devices.old.input)) result (S.left devices.new.input)
+        (shelved H.Shelf devices.old.shelf devices.new.shelf)
+        (sunk K.Sink devices.old.out devices.new.out) (sunk N.Sink devices.old.notes devices.new.notes) }
+    ensures shelf { Serves (shelved H.Shelf devices.old.shelf devices.new.shelf)
         (IfOk result (λ decision. decision.status ≢ Status.ShelfFault)) }
-    ensures files { KeepsFiles (H.files shelf.old) (H.files shelf.new)
+    ensures files { KeepsFiles (H.files devices.old.shelf) (H.files devices.new.shelf)
         ⊎ ((command : Command) × Asks words.now command
-        × Spares command (status_in result) (H.files shelf.old) (H.files shelf.new)) }
-    ensures input { (input.new ≡ input.old)
+        × Spares command (status_in result) (H.files devices.old.shelf) (H.files devices.new.shelf)) }
+    ensures input { (devices.new.input ≡ devices.old.input)
         ⊎ ((command : Command) × Asks words.now command × MayTake command (status_in result)) }
-    ensures source { CountStays (drawn S.Source input.old input.new)
+    ensures source { CountStays (drawn S.Source devices.old.input devices.new.input)
         (IfOk result (λ decision. decision.status ≢ Status.InputFault)) }
     ensures script { (file : List ℕ) → Asks words.now (commands.debug file)
-        → LeavesTail script_most (S.left input.old) (S.left input.new) }
+        → LeavesTail script_most (S.left devices.old.input) (S.left devices.new.input) }
     ensures recorded { KeepsUnder (Asks words.now) (status_in result)
-        (world H.Shelf S.Source shelf.old input.old) (H.files shelf.new) }
+        (world H.Shelf S.Source devices.old.shelf devices.old.input) (H.files devices.new.shelf) }
 {
     match request_of(alloc, words) {
-        Ok(request) => perform(alloc, request, shelf, input, out, notes),
+        Ok(request) => perform(alloc, request, devices),
         Err(Refusal::BadWords) => Ok(Decision::said(Status::BadWords)),
         Err(Refusal::NoMemory) => Ok(Decision::said(Status::NoMemory)),
     }
@@ -212,36 +190,44 @@ fn decide<H: Shelf, S: Source, K: Sink, N: Sink>(
 fn perform<H: Shelf, S: Source, K: Sink, N: Sink>(
     alloc: Global,
     request: Request<'_>,
-    shelf: &mut H,
-    input: &mut S,
-    out: &mut K,
-    notes: &mut N,
+    devices: &mut Devices<H, S, K, N>,
 ) -> Result<Decision, Failed>
-    requires blocks { (n : ℕ) → command_of request ≡ commands.trial n
-        → (0 < n) × (n ≤ 20000) }
-    ensures tried { Decides (TriesBy (Rose (H.faults shelf.old) (H.faults shelf.new))
-        (Rose (S.faults input.old) (S.faults input.new)) (form_of (command_of request.entry))
-        (world H.Shelf S.Source shelf.old input.old)) result (S.left input.new)
-        (shelved H.Shelf shelf.old shelf.new)
-        (sunk K.Sink out.old out.new) (sunk N.Sink notes.old notes.new) }
-    ensures shelf { Serves (shelved H.Shelf shelf.old shelf.new)
+    requires blocks { (n : ℕ) → command_of request ≡ commands.trial n → (0 < n) × (n ≤ 20000) }
+    ensures tried { Decides (TriesBy (Rose (H.faults devices.old.shelf) (H.faults devices.new.shelf))
+        (Rose (S.faults devices.old.input) (S.faults devices.new.input)) (form_of (command_of request.entry))
+        (world H.Shelf S.Source devices.old.shelf devices.old.input)) result (S.left devices.new.input)
+        (shelved H.Shelf devices.old.shelf devices.new.shelf)
+        (sunk K.Sink devices.old.out devices.new.out) (sunk N.Sink devices.old.notes devices.new.notes) }
+    ensures shelf { Serves (shelved H.Shelf devices.old.shelf devices.new.shelf)
         (IfOk result (λ decision. decision.status ≢ Status.ShelfFault)) }
     ensures files { Spares (command_of request.entry) (status_in result)
-        (H.files shelf.old) (H.files shelf.new) }
-    ensures input { (input.new ≡ input.old)
-        ⊎ MayTake (command_of request.entry) (status_in result) }
-    ensures source { CountStays (drawn S.Source input.old input.new)
+        (H.files devices.old.shelf) (H.files devices.new.shelf) }
+    ensures input { (devices.new.input ≡ devices.old.input) ⊎ MayTake (command_of request.entry) (status_in result) }
+    ensures source { CountStays (drawn S.Source devices.old.input devices.new.input)
         (IfOk result (λ decision. decision.status ≢ Status.InputFault)) }
     ensures script { (file : List ℕ) → command_of request.entry ≡ commands.debug file
-        → LeavesTail script_most (S.left input.old) (S.left input.new) }
+        → LeavesTail script_most (S.left devices.old.input) (S.left devices.new.input) }
     ensures recorded { KeepsUnder (λ command. command_of request.entry ≡ command) (status_in result)
-        (world H.Shelf S.Source shelf.old input.old) (H.files shelf.new) }
+        (world H.Shelf S.Source devices.old.shelf devices.old.input) (H.files devices.new.shelf) }
 {
     match request {
-        Request::OfImage { what, file } => of_image(alloc, what, file, shelf, input, out),
-        Request::Make { what, file, out } => Ok(make(alloc, what, file, out, shelf)),
-        Request::Link { entry, out, files } => Ok(link(alloc, entry, out, files.as_slice(), shelf)),
-        Request::Replay { file, journal } => Ok(replay(alloc, file, journal, shelf)),
+        Request::OfImage { what, file } => of_image(
+            alloc,
+            what,
+            file,
+            &mut devices.shelf,
+            &mut devices.input,
+            &mut devices.out,
+        ),
+        Request::Make { what, file, out } => Ok(make(alloc, what, file, out, &mut devices.shelf)),
+        Request::Link { entry, out, files } => Ok(link(
+            alloc,
+            entry,
+            out,
+            files.as_slice(),
+            &mut devices.shelf,
+        )),
+        Request::Replay { file, journal } => Ok(replay(alloc, file, journal, &mut devices.shelf)),
         Request::RunImprecise {
             options,
             choices,
@@ -254,7 +240,14 @@ fn perform<H: Shelf, S: Source, K: Sink, N: Sink>(
                 force,
                 file,
             };
-            imprecise(alloc, asked, shelf, input, out, notes)
+            imprecise(
+                alloc,
+                asked,
+                &mut devices.shelf,
+                &mut devices.input,
+                &mut devices.out,
+                &mut devices.notes,
+            )
         }
         Request::Record {
             options,
@@ -269,9 +262,25 @@ fn perform<H: Shelf, S: Source, K: Sink, N: Sink>(
                 force,
                 file,
             };
-            record(alloc, asked, name, shelf, input, out, notes)
+            record(
+                alloc,
+                asked,
+                name,
+                &mut devices.shelf,
+                &mut devices.input,
+                &mut devices.out,
+                &mut devices.notes,
+            )
         }
-        Request::Run { options, file } => run(alloc, options, file, shelf, input, out, notes),
-        Request::Trial { blocks } => trial(alloc, blocks, out),
+        Request::Run { options, file } => run(
+            alloc,
+            options,
+            file,
+            &mut devices.shelf,
+            &mut devices.input,
+            &mut devices.out,
+            &mut devices.notes,
+        ),
+        Request::Trial { blocks } => trial(alloc, blocks, &mut devices.out),
     }
 }

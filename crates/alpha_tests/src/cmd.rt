@@ -2,9 +2,9 @@
 //! functions beside the top call.
 
 use crate::common::words_of;
-use alpha_cmd::{Status, alpha_sure, alpha_top, image_of};
+use alpha_cmd::{Devices, Status, alpha_sure, alpha_top, image_of};
 use alpha_image::ImageFault;
-use alpha_io::{MemorySink, SureShelf, SureSource};
+use alpha_io::{MemorySink, NullSink, SureShelf, SureSource};
 use std::alloc::Global;
 use std::test::Fail;
 
@@ -25,15 +25,14 @@ fn shelf(alloc: Global, bytes: &[u8], room: usize) -> Result<SureShelf, Fail> {
 #[test]
 fn sure_devices_serve(rt: HostRuntime) -> Result<(), Fail> {
     let alloc = rt.alloc();
-    let mut shelf = shelf(alloc, &ACCEPTED, 0)?;
-    let mut input = SureSource::new(Vec::new(alloc));
+    let mut devices = Devices {
+        shelf: shelf(alloc, &ACCEPTED, 0)?,
+        input: SureSource::new(Vec::new(alloc)),
+        out: NullSink::new(),
+        notes: NullSink::new(),
+    };
     assert_eq!(rt;
-        alpha_sure(
-            alloc,
-            &words_of(alloc, &["check", "a"])?,
-            &mut shelf,
-            &mut input
-        ),
+        alpha_sure(alloc, &words_of(alloc, &["check", "a"])?, &mut devices),
         Status::Done(0)
     );
     Ok(())
@@ -47,14 +46,16 @@ fn an_image_that_is_not_taken_is_a_shelf_fault(rt: HostRuntime) -> Result<(), Fa
         (52, Status::Done(0), b"".as_slice()),
         (51, Status::ShelfFault, b"shelf\n".as_slice()),
     ] {
-        let mut shelf = shelf(alloc, b"ret\n.entry 0x10000", room)?;
-        let mut input = SureSource::new(Vec::new(alloc));
-        let mut out = MemorySink::new(alloc, 0, Vec::new(alloc))?;
-        let mut notes = MemorySink::new(alloc, 64, Vec::new(alloc))?;
+        let mut devices = Devices {
+            shelf: shelf(alloc, b"ret\n.entry 0x10000", room)?,
+            input: SureSource::new(Vec::new(alloc)),
+            out: MemorySink::new(alloc, 0, Vec::new(alloc))?,
+            notes: MemorySink::new(alloc, 64, Vec::new(alloc))?,
+        };
         let words = words_of(alloc, &["asm", "a", "b"])?;
-        let answer = alpha_top(alloc, &words, &mut shelf, &mut input, &mut out, &mut notes);
+        let answer = alpha_top(alloc, &words, &mut devices);
         assert_eq!(rt; answer, status);
-        assert_eq!(rt; notes.bytes(), line);
+        assert_eq!(rt; devices.notes.bytes(), line);
     }
     Ok(())
 }

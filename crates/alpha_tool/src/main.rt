@@ -2,7 +2,7 @@
 //! status of [`alpha_main`].
 #![tactic(auto)]
 
-use alpha_cmd::{Status, alpha_main};
+use alpha_cmd::{Devices, Status, alpha_main};
 use alpha_io::{DiskShelf, ReadSource, WriteSink};
 use std::env;
 use std::io::ErrorKind;
@@ -14,10 +14,12 @@ fn main(rt: HostRuntime) -> ExitCode {
         Ok(arguments) => alpha_main(
             rt.alloc(),
             arguments.as_slice(),
-            &mut DiskShelf::new(&rt),
-            &mut ReadSource::new(rt.stdin()),
-            &mut WriteSink::new(rt.stdout()),
-            &mut WriteSink::new(rt.stderr()),
+            &mut Devices {
+                shelf: DiskShelf::new(&rt),
+                input: ReadSource::new(rt.stdin()),
+                out: WriteSink::new(rt.stdout()),
+                notes: WriteSink::new(rt.stderr()),
+            },
         ),
         Err(status) => status,
     };

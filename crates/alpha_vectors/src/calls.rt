@@ -1,6 +1,6 @@
 //! Calls of the program over the real devices, one after another.
 
-use alpha_cmd::alpha_main;
+use alpha_cmd::{Devices, alpha_main};
 use alpha_io::{DiskShelf, ReadSource, WriteSink};
 use std::alloc::Global;
 
@@ -12,10 +12,12 @@ pub fn run(rt: &HostRuntime, text: &str) -> anyhow::Result<()> {
         let status = alpha_main(
             rt.alloc(),
             arguments.as_slice(),
-            &mut DiskShelf::new(rt),
-            &mut ReadSource::new(rt.stdin()),
-            &mut WriteSink::new(rt.stdout()),
-            &mut WriteSink::new(rt.stdout()),
+            &mut Devices {
+                shelf: DiskShelf::new(rt),
+                input: ReadSource::new(rt.stdin()),
+                out: WriteSink::new(rt.stdout()),
+                notes: WriteSink::new(rt.stdout()),
+            },
         );
         let number = status.number();
         println!(rt; "status {number}")?;

@@ -2,7 +2,7 @@
 
 use crate::cases::case::File;
 use crate::cases::lines::{Entry, bytes_of, number_of, numbers_of};
-use alpha_cmd::{Status, alpha_main};
+use alpha_cmd::{Devices, Status, alpha_main};
 use alpha_io::{MemoryShelf, MemorySink, MemorySource, read_whole};
 use alpha_words::NoMemory;
 use anyhow::bail;
@@ -178,26 +178,25 @@ impl<'a> Call<'a> {
         if self.piece == 0 {
             bail!("a piece has no bytes");
         }
-        let mut input = MemorySource::new(
+        let input = MemorySource::new(
             self.input.to_vec(alloc)?,
             self.piece,
             self.failing.input.to_vec(alloc)?,
         );
-        let mut out = there(MemorySink::new(alloc, ROOM, self.failing.output.to_vec(alloc)?))?;
-        let mut notes = there(MemorySink::new(alloc, ROOM, self.failing.notes.to_vec(alloc)?))?;
-        let status = alpha_main(
-            alloc,
-            arguments.as_slice(),
-            &mut shelf,
-            &mut input,
-            &mut out,
-            &mut notes,
-        );
+        let out = there(MemorySink::new(alloc, ROOM, self.failing.output.to_vec(alloc)?))?;
+        let notes = there(MemorySink::new(alloc, ROOM, self.failing.notes.to_vec(alloc)?))?;
+        let mut devices = Devices {
+            shelf,
+            input,
+            out,
+            notes,
+        };
+        let status = alpha_main(alloc, arguments.as_slice(), &mut devices);
         Ok(Answer {
             status,
-            output: out.bytes().to_vec(alloc)?,
-            notes: notes.bytes().to_vec(alloc)?,
-            shelf,
+            output: devices.out.bytes().to_vec(alloc)?,
+            notes: devices.notes.bytes().to_vec(alloc)?,
+            shelf: devices.shelf,
         })
     }
 }

@@ -27,8 +27,7 @@ returns-in-Ok-clause-whole g c =
     (subst
     (λ (words : List (List ℕ)).
     EndsWhole words c.alpha_top.result
-    (called g.H.Shelf g.S.Source g.K.Sink g.N.Sink c.args.shelf.now c.alpha_top.new.shelf c.args.input.now c.alpha_top.new.input c.args.out.now c.alpha_top.new.out
-    c.args.notes.now c.alpha_top.new.notes))
+    (called g.H.Shelf g.S.Source g.K.Sink g.N.Sink c.args.devices.now c.alpha_top.new.devices))
     c.in-Ok.ensures c.alpha_top.ensures.whole)
 
 pub returns-in-Ok-clause-part : goal.returns-in-Ok-clause-part
@@ -36,15 +35,14 @@ returns-in-Ok-clause-part g c =
     subst
     (λ (words : List (List ℕ)).
     EndsCut words c.alpha_top.result
-    (called g.H.Shelf g.S.Source g.K.Sink g.N.Sink c.args.shelf.now c.alpha_top.new.shelf c.args.input.now c.alpha_top.new.input c.args.out.now c.alpha_top.new.out
-    c.args.notes.now c.alpha_top.new.notes))
+    (called g.H.Shelf g.S.Source g.K.Sink g.N.Sink c.args.devices.now c.alpha_top.new.devices))
     c.in-Ok.ensures c.alpha_top.ensures.part
 
 pub returns-in-Ok-clause-files : goal.returns-in-Ok-clause-files
 returns-in-Ok-clause-files g c =
     subst
     (λ (words : List (List ℕ)).
-    SparesFiles words c.alpha_top.result (g.H.Shelf.files c.args.shelf.now) (g.H.Shelf.files c.alpha_top.new.shelf))
+    SparesFiles words c.alpha_top.result (g.H.Shelf.files c.args.devices.now.shelf) (g.H.Shelf.files c.alpha_top.new.devices.shelf))
     c.in-Ok.ensures c.alpha_top.ensures.files
 
 pub returns-in-Ok-clause-ended : goal.returns-in-Ok-clause-ended
@@ -65,7 +63,7 @@ pub returns-in-Ok-clause-script : goal.returns-in-Ok-clause-script
 returns-in-Ok-clause-script g c =
     subst
     (λ (words : List (List ℕ)).
-    LeavesScript words (drawn g.S.Source c.args.input.now c.alpha_top.new.input))
+    LeavesScript words (drawn g.S.Source c.args.devices.now.input c.alpha_top.new.devices.input))
     c.in-Ok.ensures c.alpha_top.ensures.script
 
 pub returns-in-Ok-clause-given : goal.returns-in-Ok-clause-given
@@ -73,8 +71,7 @@ returns-in-Ok-clause-given g c =
     subst
     (λ (words : List (List ℕ)).
     GivesOne words c.alpha_top.result
-    (called g.H.Shelf g.S.Source g.K.Sink g.N.Sink c.args.shelf.now c.alpha_top.new.shelf c.args.input.now c.alpha_top.new.input c.args.out.now c.alpha_top.new.out
-    c.args.notes.now c.alpha_top.new.notes))
+    (called g.H.Shelf g.S.Source g.K.Sink g.N.Sink c.args.devices.now c.alpha_top.new.devices))
     c.in-Ok.ensures c.alpha_top.ensures.given
 
 pub returns-in-Ok-clause-exact : goal.returns-in-Ok-clause-exact
@@ -82,22 +79,21 @@ returns-in-Ok-clause-exact g c =
     subst
     (λ (words : List (List ℕ)).
     GivesThe words c.alpha_top.result
-    (called g.H.Shelf g.S.Source g.K.Sink g.N.Sink c.args.shelf.now c.alpha_top.new.shelf c.args.input.now c.alpha_top.new.input c.args.out.now c.alpha_top.new.out
-    c.args.notes.now c.alpha_top.new.notes))
+    (called g.H.Shelf g.S.Source g.K.Sink g.N.Sink c.args.devices.now c.alpha_top.new.devices))
     c.in-Ok.ensures c.alpha_top.ensures.exact
 
 pub returns-in-Ok-clause-restarts : goal.returns-in-Ok-clause-restarts
 returns-in-Ok-clause-restarts g c =
     subst
     (λ (words : List (List ℕ)).
-    Restarts words c.alpha_top.result (g.H.Shelf.files c.args.shelf.now))
+    Restarts words c.alpha_top.result (g.H.Shelf.files c.args.devices.now.shelf))
     c.in-Ok.ensures c.alpha_top.ensures.restarts
 
 pub returns-in-Ok-clause-checked : goal.returns-in-Ok-clause-checked
 returns-in-Ok-clause-checked g c =
     subst
     (λ (words : List (List ℕ)).
-    Checked words c.alpha_top.result (g.H.Shelf.files c.args.shelf.now))
+    Checked words c.alpha_top.result (g.H.Shelf.files c.args.devices.now.shelf))
     c.in-Ok.ensures c.alpha_top.ensures.checked
 
 pub returns-in-Ok-clause-accepted : goal.returns-in-Ok-clause-accepted
@@ -105,8 +101,7 @@ returns-in-Ok-clause-accepted g c =
     subst
     (λ (words : List (List ℕ)).
     Accepts words c.alpha_top.result
-    (called g.H.Shelf g.S.Source g.K.Sink g.N.Sink c.args.shelf.now c.alpha_top.new.shelf c.args.input.now c.alpha_top.new.input c.args.out.now c.alpha_top.new.out
-    c.args.notes.now c.alpha_top.new.notes))
+    (called g.H.Shelf g.S.Source g.K.Sink g.N.Sink c.args.devices.now c.alpha_top.new.devices))
     c.in-Ok.ensures c.alpha_top.ensures.accepted
 
 pub returns-in-Ok-clause-ran : goal.returns-in-Ok-clause-ran
@@ -114,8 +109,7 @@ returns-in-Ok-clause-ran g c =
     subst
     (λ (words : List (List ℕ)).
     Ran words c.alpha_top.result
-    (called g.H.Shelf g.S.Source g.K.Sink g.N.Sink c.args.shelf.now c.alpha_top.new.shelf c.args.input.now c.alpha_top.new.input c.args.out.now c.alpha_top.new.out
-    c.args.notes.now c.alpha_top.new.notes))
+    (called g.H.Shelf g.S.Source g.K.Sink g.N.Sink c.args.devices.now c.alpha_top.new.devices))
     c.in-Ok.ensures c.alpha_top.ensures.ran
 
 pub returns-in-Ok-clause-alike : goal.returns-in-Ok-clause-alike
@@ -123,8 +117,7 @@ returns-in-Ok-clause-alike g c =
     subst
     (λ (words : List (List ℕ)).
     Alike words c.alpha_top.result
-    (called g.H.Shelf g.S.Source g.K.Sink g.N.Sink c.args.shelf.now c.alpha_top.new.shelf c.args.input.now c.alpha_top.new.input c.args.out.now c.alpha_top.new.out
-    c.args.notes.now c.alpha_top.new.notes))
+    (called g.H.Shelf g.S.Source g.K.Sink g.N.Sink c.args.devices.now c.alpha_top.new.devices))
     c.in-Ok.ensures c.alpha_top.ensures.alike
 
 pub returns-in-Ok-clause-unread : goal.returns-in-Ok-clause-unread
@@ -132,8 +125,7 @@ returns-in-Ok-clause-unread g c =
     subst
     (λ (words : List (List ℕ)).
     Unread words c.alpha_top.result
-    (called g.H.Shelf g.S.Source g.K.Sink g.N.Sink c.args.shelf.now c.alpha_top.new.shelf c.args.input.now c.alpha_top.new.input c.args.out.now c.alpha_top.new.out
-    c.args.notes.now c.alpha_top.new.notes))
+    (called g.H.Shelf g.S.Source g.K.Sink g.N.Sink c.args.devices.now c.alpha_top.new.devices))
     c.in-Ok.ensures c.alpha_top.ensures.unread
 
 pub returns-in-Ok-clause-unread_alike : goal.returns-in-Ok-clause-unread_alike
@@ -141,49 +133,48 @@ returns-in-Ok-clause-unread_alike g c =
     subst
     (λ (words : List (List ℕ)).
     UnreadAlike words c.alpha_top.result
-    (called g.H.Shelf g.S.Source g.K.Sink g.N.Sink c.args.shelf.now c.alpha_top.new.shelf c.args.input.now c.alpha_top.new.input c.args.out.now c.alpha_top.new.out
-    c.args.notes.now c.alpha_top.new.notes))
+    (called g.H.Shelf g.S.Source g.K.Sink g.N.Sink c.args.devices.now c.alpha_top.new.devices))
     c.in-Ok.ensures c.alpha_top.ensures.unread_alike
 
 pub returns-in-Ok-clause-fixed : goal.returns-in-Ok-clause-fixed
 returns-in-Ok-clause-fixed g c =
     subst
     (λ (words : List (List ℕ)).
-    Fixes words c.alpha_top.result (g.H.Shelf.files c.args.shelf.now) (g.H.Shelf.files c.alpha_top.new.shelf))
+    Fixes words c.alpha_top.result (g.H.Shelf.files c.args.devices.now.shelf) (g.H.Shelf.files c.alpha_top.new.devices.shelf))
     c.in-Ok.ensures c.alpha_top.ensures.fixed
 
 pub returns-in-Ok-clause-modules : goal.returns-in-Ok-clause-modules
 returns-in-Ok-clause-modules g c =
     subst
     (λ (words : List (List ℕ)).
-    KeepsModules words c.alpha_top.result (g.H.Shelf.files c.args.shelf.now) (g.H.Shelf.files c.alpha_top.new.shelf))
+    KeepsModules words c.alpha_top.result (g.H.Shelf.files c.args.devices.now.shelf) (g.H.Shelf.files c.alpha_top.new.devices.shelf))
     c.in-Ok.ensures c.alpha_top.ensures.modules
 
 pub returns-in-Ok-clause-links : goal.returns-in-Ok-clause-links
 returns-in-Ok-clause-links g c =
     subst
     (λ (words : List (List ℕ)).
-    KeepsLinks words c.alpha_top.result (g.H.Shelf.files c.args.shelf.now) (g.H.Shelf.files c.alpha_top.new.shelf))
+    KeepsLinks words c.alpha_top.result (g.H.Shelf.files c.args.devices.now.shelf) (g.H.Shelf.files c.alpha_top.new.devices.shelf))
     c.in-Ok.ensures c.alpha_top.ensures.links
 
 pub returns-in-Ok-clause-replays : goal.returns-in-Ok-clause-replays
 returns-in-Ok-clause-replays g c =
     subst
     (λ (words : List (List ℕ)).
-    ShowsRuns words c.alpha_top.result (g.H.Shelf.files c.args.shelf.now))
+    ShowsRuns words c.alpha_top.result (g.H.Shelf.files c.args.devices.now.shelf))
     c.in-Ok.ensures c.alpha_top.ensures.replays
 
 pub returns-in-Ok-clause-recorded : goal.returns-in-Ok-clause-recorded
 returns-in-Ok-clause-recorded g c =
     subst
     (λ (words : List (List ℕ)).
-    KeepsUnder (Asks words) c.alpha_top.result (world g.H.Shelf g.S.Source c.args.shelf.now c.args.input.now) (g.H.Shelf.files c.alpha_top.new.shelf))
+    KeepsUnder (Asks words) c.alpha_top.result (world g.H.Shelf g.S.Source c.args.devices.now.shelf c.args.devices.now.input) (g.H.Shelf.files c.alpha_top.new.devices.shelf))
     c.in-Ok.ensures c.alpha_top.ensures.recorded
 
 pub returns-in-Ok-clause-input : goal.returns-in-Ok-clause-input
 returns-in-Ok-clause-input g c =
     subst
-    (λ (words : List (List ℕ)). (c.alpha_top.new.input ≡ c.args.input.now) ⊎ TakesInput words c.alpha_top.result)
+    (λ (words : List (List ℕ)). (c.alpha_top.new.devices.input ≡ c.args.devices.now.input) ⊎ TakesInput words c.alpha_top.result)
     c.in-Ok.ensures c.alpha_top.ensures.input
 
 -- ---- memory ran out before the words were gathered
@@ -198,7 +189,7 @@ pub returns-in-Err-clause-shelf : goal.returns-in-Err-clause-shelf
 returns-in-Err-clause-shelf g c = record { takes = refl; later = omega arith; calm = λ stays. refl }
 
 pub returns-in-Err-clause-files : goal.returns-in-Err-clause-files
-returns-in-Err-clause-files g c = inl (KeepsFiles-refl (g.H.Shelf.files c.args.shelf.now))
+returns-in-Err-clause-files g c = inl (KeepsFiles-refl (g.H.Shelf.files c.args.devices.now.shelf))
 
 pub returns-in-Err-clause-source : goal.returns-in-Err-clause-source
 returns-in-Err-clause-source g c = record { later = omega arith; calm = λ stays. refl }
@@ -210,7 +201,7 @@ pub returns-in-Err-clause-found : goal.returns-in-Err-clause-found
 returns-in-Err-clause-found g c = λ options choices file lost asks e. cc
 
 pub returns-in-Err-clause-script : goal.returns-in-Err-clause-script
-returns-in-Err-clause-script g c = λ file asks. tail_same (g.S.Source.left c.args.input.now) (g.S.Source.left c.args.input.now) refl
+returns-in-Err-clause-script g c = λ file asks. tail_same (g.S.Source.left c.args.devices.now.input) (g.S.Source.left c.args.devices.now.input) refl
 
 pub returns-in-Err-clause-given : goal.returns-in-Err-clause-given
 returns-in-Err-clause-given g c = λ quiet. inr refl

@@ -19,20 +19,20 @@ use Rattle.alpha_cmd.proofs.top.decide.Goals as goal
 
 pub returns-in-Ok-clause-tried : goal.returns-in-Ok-clause-tried
 returns-in-Ok-clause-tried g c =
-    let shelf = Rose (g.H.Shelf.faults c.args.shelf.now) (g.H.Shelf.faults c.perform.new.shelf) in
-    let input = Rose (g.S.Source.faults c.args.input.now) (g.S.Source.faults c.perform.new.input) in
-    let w = world g.H.Shelf g.S.Source c.args.shelf.now c.args.input.now in
+    let shelf = Rose (g.H.Shelf.faults c.args.devices.now.shelf) (g.H.Shelf.faults c.perform.new.devices.shelf) in
+    let input = Rose (g.S.Source.faults c.args.devices.now.input) (g.S.Source.faults c.perform.new.devices.input) in
+    let w = world g.H.Shelf g.S.Source c.args.devices.now.shelf c.args.devices.now.input in
     let command = command_of c.in-Ok.request in
     Decides-map (TriesBy shelf input (form_of command) w) (TriedBy shelf input c.args.words.now w)
     (λ t. asked_tried shelf input c.args.words.now command w t c.in-Ok.ensures)
-    c.perform.result (g.S.Source.left c.perform.new.input)
-    (shelved g.H.Shelf c.args.shelf.now c.perform.new.shelf) (sunk g.K.Sink c.args.out.now c.perform.new.out)
-    (sunk g.N.Sink c.args.notes.now c.perform.new.notes) c.perform.ensures.tried
+    c.perform.result (g.S.Source.left c.perform.new.devices.input)
+    (shelved g.H.Shelf c.args.devices.now.shelf c.perform.new.devices.shelf) (sunk g.K.Sink c.args.devices.now.out c.perform.new.devices.out)
+    (sunk g.N.Sink c.args.devices.now.notes c.perform.new.devices.notes) c.perform.ensures.tried
 
 pub returns-in-Ok-clause-input : goal.returns-in-Ok-clause-input
 returns-in-Ok-clause-input g c =
     ⊎_elim
-    (λ (h : c.perform.new.input ≡ c.args.input.now). inl h)
+    (λ (h : c.perform.new.devices.input ≡ c.args.devices.now.input). inl h)
     (λ (h : MayTake (command_of c.in-Ok.request) (status_in c.perform.result)). inr (command_of c.in-Ok.request, c.in-Ok.ensures, h))
     c.perform.ensures.input
 
@@ -41,30 +41,30 @@ returns-in-Ok-clause-files g c = inr (command_of c.in-Ok.request, c.in-Ok.ensure
 
 pub returns-in-Err-BadWords-clause-tried : goal.returns-in-Err-BadWords-clause-tried
 returns-in-Err-BadWords-clause-tried g c =
-    let shelf = Rose (g.H.Shelf.faults c.args.shelf.now) (g.H.Shelf.faults c.args.shelf.now) in
-    let input = Rose (g.S.Source.faults c.args.input.now) (g.S.Source.faults c.args.input.now) in
-    let left = g.S.Source.left c.args.input.now in
-    let w = world g.H.Shelf g.S.Source c.args.shelf.now c.args.input.now in
+    let shelf = Rose (g.H.Shelf.faults c.args.devices.now.shelf) (g.H.Shelf.faults c.args.devices.now.shelf) in
+    let input = Rose (g.S.Source.faults c.args.devices.now.input) (g.S.Source.faults c.args.devices.now.input) in
+    let left = g.S.Source.left c.args.devices.now.input in
+    let w = world g.H.Shelf g.S.Source c.args.devices.now.shelf c.args.devices.now.input in
     Leaves-all (TriedBy shelf input c.args.words.now w) (answer_in left c.said.result)
-    (shelved g.H.Shelf c.args.shelf.now c.args.shelf.now)
-    (g.K.Sink.written c.args.out.now) (g.N.Sink.written c.args.notes.now) (g.K.Sink.faults c.args.out.now) (g.N.Sink.faults c.args.notes.now)
+    (shelved g.H.Shelf c.args.devices.now.shelf c.args.devices.now.shelf)
+    (g.K.Sink.written c.args.devices.now.out) (g.N.Sink.written c.args.devices.now.notes) (g.K.Sink.faults c.args.devices.now.out) (g.N.Sink.faults c.args.devices.now.notes)
     (inl (inl (rw c.in-Err-BadWords.field-0-is at c.in-Err-BadWords.ensures, c.said.ensures.answer left)))
     (KeepsFiles-refl w.files)
 
 pub returns-in-Err-NoMemory-clause-tried : goal.returns-in-Err-NoMemory-clause-tried
 returns-in-Err-NoMemory-clause-tried g c =
-    let shelf = Rose (g.H.Shelf.faults c.args.shelf.now) (g.H.Shelf.faults c.args.shelf.now) in
-    let input = Rose (g.S.Source.faults c.args.input.now) (g.S.Source.faults c.args.input.now) in
-    let left = g.S.Source.left c.args.input.now in
-    let w = world g.H.Shelf g.S.Source c.args.shelf.now c.args.input.now in
+    let shelf = Rose (g.H.Shelf.faults c.args.devices.now.shelf) (g.H.Shelf.faults c.args.devices.now.shelf) in
+    let input = Rose (g.S.Source.faults c.args.devices.now.input) (g.S.Source.faults c.args.devices.now.input) in
+    let left = g.S.Source.left c.args.devices.now.input in
+    let w = world g.H.Shelf g.S.Source c.args.devices.now.shelf c.args.devices.now.input in
     Leaves-all (TriedBy shelf input c.args.words.now w) (answer_in left c.said-in-Err-NoMemory.result)
-    (shelved g.H.Shelf c.args.shelf.now c.args.shelf.now)
-    (g.K.Sink.written c.args.out.now) (g.N.Sink.written c.args.notes.now) (g.K.Sink.faults c.args.out.now) (g.N.Sink.faults c.args.notes.now)
+    (shelved g.H.Shelf c.args.devices.now.shelf c.args.devices.now.shelf)
+    (g.K.Sink.written c.args.devices.now.out) (g.N.Sink.written c.args.devices.now.notes) (g.K.Sink.faults c.args.devices.now.out) (g.N.Sink.faults c.args.devices.now.notes)
     (inr (inr (c.said-in-Err-NoMemory.ensures.answer left)))
     (KeepsFiles-refl w.files)
 
 pub returns-in-Err-NoMemory-clause-script : goal.returns-in-Err-NoMemory-clause-script
-returns-in-Err-NoMemory-clause-script g c = λ file asks. tail_same (g.S.Source.left c.args.input.now) (g.S.Source.left c.args.input.now) refl
+returns-in-Err-NoMemory-clause-script g c = λ file asks. tail_same (g.S.Source.left c.args.devices.now.input) (g.S.Source.left c.args.devices.now.input) refl
 
 pub perform-requires : goal.perform-requires
 perform-requires g c = record { blocks = λ n is. asked_blocks c.args.words.now n (c.in-Ok.ensures ∙ ap Some is) }
