@@ -30,7 +30,6 @@ use Rattle.alpha_cmd.specs.Commands.{IsTold}
 use Rattle.alpha_cmd.specs.Commands.Check.{accepted}
 use Rattle.alpha_cmd.specs.Tried.{AreTold, IsAnswer}
 use Rattle.alpha_cmd.specs.AlikeByAnswers.{IsChecked, HasWords}
-use Rattle.alpha_cmd.proofs.Commands.Check.{accepted_answer}
 
 -- ---- the spelling of a good image is within the limit of an image file
 
@@ -54,7 +53,7 @@ spelled image files name good there = (spelling image, (there, within image good
 pub checked : (image : Parts) (w : World) (name : List ℕ) → IsImage image → IsAccepted image.words → HasFile w.files name (spelling image) → IsChecked name w
 checked image w name good safe there = record {
   answer = accepted w.input;
-  is = accepted_answer w name image (accepted w.input) (spelled image w.files name good there) (safe, refl) refl;
+  is = (goes (accepted w.input), (image, spelled image w.files name good there, (image, (safe, refl), refl)), refl);
   done = refl;
 }
 

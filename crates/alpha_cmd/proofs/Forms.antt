@@ -1,15 +1,17 @@
 -- The laws of forms, from those of their stages.
-use Rattle.std.proofs.Common.{◌≡◌, ◌⊎◌, ◌∙◌, ℕ, Bool, true, false, List, IsSome, refl, sym, ap, subst, inl, inr}
+use Rattle.std.proofs.Common.{◌≡◌, ◌⊎◌, ◌∙◌, ℕ, Bool, true, false, List, Option, IsSome, refl, sym, ap, subst, inl, inr}
+use Rattle.alpha_image.specs.Parts.{Parts}
 use Rattle.alpha_cmd.specs.declared.status.Status.{Status}
 use Rattle.alpha_cmd.specs.declared.status.Status.TheVariants.{ShelfFault}
 use Rattle.alpha_cmd.specs.Status.{Class, done, refused, ended, failed, class_of}
 use Rattle.alpha_cmd.specs.Outcome.{Outcome, goes, stops}
 use Rattle.alpha_cmd.specs.Answer.{Answer}
 use Rattle.alpha_cmd.specs.AnswerBy.{World, AnswerBy, HaveBytes, answer_of}
+use Rattle.alpha_cmd.specs.Image.{ImageOf, OfFile}
 use Rattle.alpha_cmd.specs.Keeping.{KeepsAs}
-use Rattle.alpha_cmd.specs.Form.{Form, IsToldFor, making, making_there}
+use Rattle.alpha_cmd.specs.Form.{Form, Kind, Needs, IsThere, IsToldFor, making, making_there}
 use Rattle.alpha_cmd.proofs.Lawful.{Lawful, IsRefusal, Then-lawful}
-use Rattle.alpha_cmd.proofs.Stages.{KeepsAs-lawful}
+use Rattle.alpha_cmd.proofs.Stages.{ImageOf-lawful, KeepsAs-lawful}
 
 abbrev pub is_failed : Class → Bool
 is_failed done = false
@@ -67,6 +69,19 @@ pub ended_ends : (f : Form) (there : World → Type 0) (w : World) → IsLawfulF
 ended_ends f there w law a (goes b, h, e) is = subst (λ (x : Answer). f.kind.ends x.status) (sym e) (law.status b h)
 ended_ends f there w law a (stops s line, h, e) is =
     absurd (ended_not (there w) s (sym (ap (λ (x : Answer). class_of x.status) e) ∙ is) (law.stages.plain s line h))
+
+-- ---- a command of an image
+
+pub of_file_lawful : (Answers : Option (List ℕ) → Parts → Outcome Answer → Type 0) (needs : Needs) (kind : Kind) (file : List ℕ) (w : World)
+    → (IsToldFor needs w → IsSome w.files)
+    → ((image : Parts) → Lawful (IsToldFor needs w) (IsSome w.files × HaveBytes w.files) (IsThere file w) (Answers w.input image))
+    → ((image : Parts) (a : Answer) → Answers w.input image (goes a) → (is_fault a.status ≡ false) × kind.ends a.status)
+    → IsLawfulForm (record { steps = OfFile Answers file; needs = needs; kind = kind }) (IsThere file) w
+of_file_lawful Answers needs kind file w told law ends = record {
+  stages = Then-lawful {R = ImageOf w.files file} {S = Answers w.input} (ImageOf-lawful _ _ _ w.files file told (λ h. h) (λ h. h)) (λ image found. law image);
+  ends = λ a h. inl (ends h.0 a h.2).0;
+  status = λ a h. (ends h.0 a h.2).1;
+}
 
 -- ---- a command that makes bytes and keeps them
 

@@ -1,20 +1,23 @@
--- From what a run with its journal did to what the command `record` tries.
-use Rattle.std.proofs.Common.{◌≡◌, ◌⊎◌, ◌++◌, ◌∷◌, ◌∙◌, ◌<◌, ◌≤◌, ◌+◌, ◌-◌, length, ℕ, ◌^◌, Bool, true, false, List, [], Option, None, Some, IfSome, option_map, unwrap_or, Result, refl, sym, ap, subst, inl, inr, append-nil, arith}
+-- From what a run with its journal did to what is done of a plan by it.
+use Rattle.std.proofs.Common.{◌≡◌, ◌⊎◌, ◌++◌, ◌∷◌, ◌∙◌, ◌<◌, ◌≤◌, ◌+◌, ◌-◌, length, ℕ, ◌^◌, Bool, true, false, List, [], Option, None, Some, IfSome, option_map, unwrap_or, Result, Ok, refl, sym, ap, subst, inl, inr, append-nil, arith}
 use Rattle.std.specs.Io.KnownBytes.{Appends}
 use Rattle.std.proofs.KnownBytes.{Appends-nil}
 use Rattle.alpha_io.specs.declared.Failed.{Failed}
+use Rattle.alpha_io.specs.declared.shelf.Shelf as shelves
+use Rattle.alpha_io.specs.declared.source.Source as sources
+use Rattle.alpha_io.specs.declared.sink.Sink as sinks
 use Rattle.alpha_io.specs.Files.{KeepsFiles}
-use Rattle.alpha_io.specs.Shelved.{Shelved}
-use Rattle.alpha_io.specs.Sunk.{Sunk, Puts}
+use Rattle.alpha_io.specs.Shelved.{Shelved, shelved}
+use Rattle.alpha_io.specs.Sunk.{Sunk, sunk, Puts}
+use Rattle.alpha_io.proofs.Shelved.{KeepsFiles-refl}
 use Rattle.alpha_io.specs.Written.{WritesPrefix}
 use Rattle.alpha_request.specs.declared.options.RunOptions.{RunOptions}
-use Rattle.alpha_request.specs.Origin as choices
 use Rattle.alpha_seq.specs.declared.event.Event.{Event as Seen}
 use Rattle.alpha_seq.specs.State.{Program}
 use Rattle.alpha_seq.specs.Start.{start}
 use Rattle.alpha_seq.specs.Run.{notes_of}
 use Rattle.alpha_seq.specs.Machine.{program_of}
-use Rattle.alpha_seq.specs.Devices.{Drawn, Rests, Idles}
+use Rattle.alpha_seq.specs.Devices.{Drawn, drawn, Rests, Idles}
 use Rattle.alpha_seq.proofs.Growing.{Grows}
 use Rattle.alpha_seq.proofs.Filling.{front, notes-grow}
 use Rattle.alpha_pal.specs.declared.fault.Fault.{Fault}
@@ -34,22 +37,26 @@ use Rattle.alpha_replay.proofs.Making.{whole_of}
 use Rattle.alpha_replay.proofs.Recording.{recorded-making}
 use Rattle.alpha_replay.proofs.Untold.{units_over, begins_over, ends, recorded-append, goes-append}
 use Rattle.alpha_cmd.specs.declared.decision.Decision.{Decision}
+use Rattle.alpha_cmd.specs.declared.devices.Devices.{Devices}
 use Rattle.alpha_cmd.specs.declared.record.Recorded.{Recorded as Ran}
 use Rattle.alpha_cmd.specs.declared.record.Recorded.TheVariants as outcomes
 use Rattle.alpha_cmd.specs.declared.status.Status.TheVariants.{NoMemory, JournalFull}
 use Rattle.alpha_cmd.specs.Answer.{Answer}
-use Rattle.alpha_cmd.specs.AnswerBy.{World, said}
+use Rattle.alpha_cmd.specs.AnswerBy.{World, said, world}
 use Rattle.alpha_cmd.specs.Decision.{answer_in}
+use Rattle.alpha_cmd.specs.Does.{Does}
 use Rattle.alpha_cmd.specs.Ends.{Leaves}
 use Rattle.alpha_cmd.specs.Outcome.{goes}
 use Rattle.alpha_cmd.specs.Status.{status_line}
-use Rattle.alpha_cmd.specs.Tries.{TriesBy}
 use Rattle.alpha_cmd.specs.RunAnswer.{program_by}
-use Rattle.alpha_cmd.specs.Commands.Imprecise.{Plan, plan_by, PlanOf, Passes, MayShowWild, answer_wild, answer_status, answer_line}
-use Rattle.alpha_cmd.specs.Commands.Record.{unwatched, RecordedByReads, ShowsMaking, HasItsJournal, IsStopped, KeepsBehind, IsKeptRun, full_answer, IsFullRun, form, RunsOn, WhenMade, WhenOver}
+use Rattle.alpha_cmd.specs.Commands.Imprecise.{Plan, plan_by, MayShowWild, answer_wild, answer_status, answer_line}
+use Rattle.alpha_cmd.specs.Commands.Record.{unwatched, RecordedByReads, ShowsMaking, HasItsJournal, IsStopped, KeepsBehind, IsKeptRun, full_answer, IsFullRun, on, RunsOn, WhenMade, WhenOver}
 use Rattle.alpha_cmd.proofs.CutShort.{Fronts}
 use Rattle.alpha_cmd.proofs.Endings.{IsLeft-own}
-use Rattle.alpha_cmd.proofs.Commands.Record.{keeps_some, some_end, journals, recorded_answer}
+use Rattle.alpha_cmd.proofs.Commands.Record.{keeps_some, some_end, journals}
+use Rattle.alpha_cmd.proofs.JournalStatus.{over_takes}
+use Rattle.alpha_cmd.proofs.Streaming.{streamed, does_stream, does_whole}
+use Rattle.alpha_cmd.proofs.Trying.{starts_not}
 use Rattle.alpha_cmd.proofs.WildRan.{RunsAlone, ShowsOf, ran_shows_of, Begins, same_program, draws_most}
 
 -- the answer of a run but for its keep
@@ -349,35 +356,38 @@ module _ (options : RunOptions) (m : WildState) (ahead : ℕ → ℕ) (how : m.m
       by None is = cut_untold force name fault w before after d out notes is alone tells short
       by (Some bytes) is = at bytes is (some_end options.steps (program_by options m.machine.image) bytes ahead)
 
-  -- ---- what the command tries
+  -- ---- what is done of a plan by it
 
-  module _ (file name : List ℕ) (drawn : choices.Origin) (force : Bool) (w : World) (shelf input : Type 0) (found : PlanOf w.files file drawn (goes (plan_by m.machine.image ahead)))
-      (passes : Passes force (plan_by m.machine.image ahead) (goes (plan_by m.machine.image ahead))) (s : Shelved) (same : KeepsFiles s.old s.new) where
+  module _ {H S K N : Type 0} (h : shelves.Ghosts H) (s : sources.Ghosts S) (k : sinks.Ghosts K) (n : sinks.Ghosts N) (old : Devices H S K N) (input : S) (out : K) (notes : N)
+      (force : Bool) (name : List ℕ) (d : Decision) where
     -- a run that was stopped, with its line still to be written
-    pub stopped_tried : (d : Drawn) (out notes : Sunk) → d.old ≡ w.input → Stopped d.old d.new out notes
-        → Leaves (TriesBy shelf input (form options drawn force file name) w) (said d.new JournalFull (status_line JournalFull)) s out notes
-    stopped_tried d out notes told h =
-        let stopped : IsStopped options w.input (plan_by m.machine.image ahead) h.making = subst (λ (l : Option (List ℕ)). IsStopped options l (plan_by m.machine.image ahead) h.making) told h.stopped in
-        record {
-          tried = full_answer w.input h.making;
-          is = inl (recorded_answer w options drawn force file name (plan_by m.machine.image ahead) (full_answer w.input h.making) found passes (inr (record { making = h.making; stopped = stopped; is = refl })));
-          status_is = refl;
-          left_is = subst (λ (l : Option (List ℕ)). IfSome (option_map (λ (b : List ℕ). h.making.run.state.outside.input) l) (λ rest. d.new ≡ Some rest)) told h.left;
-          files = same;
-          output = h.making.run.state.outside.output;
-          put = h.put;
-          output_is = append-nil h.making.run.state.outside.output;
-          trace = notes_of false h.making.run.trace;
-          noted = h.noted;
-          notes_are = refl;
-        }
+    pub stopped_does : ((left : Option (List ℕ)) → answer_in left d ≡ said left JournalFull (status_line JournalFull))
+        → Stopped (s.left old.input) (s.left input) (sunk k old.out out) (sunk n old.notes notes) → s.faults input ≡ s.faults old.input
+        → Does h s k n (on options force name (plan_by m.machine.image ahead)) (Ok d) old (streamed h s k n old input out notes)
+    stopped_does says did same =
+        let a = full_answer (s.left old.input) did.making in
+        does_whole h s k n old input out notes (on options force name (plan_by m.machine.image ahead)) d a JournalFull (status_line JournalFull)
+        (goes a, inr (record { making = did.making; stopped = did.stopped; is = refl }), refl) says refl refl did.put did.noted did.left refl
+        (over_takes force name JournalFull (inl refl)) same
 
-    -- one that was cut short
-    pub cut_fronts : (out notes : Sunk) → RunFronts force name w out notes → Fronts (form options drawn force file name) w out notes
-    cut_fronts out notes f = record {
-      answer = f.answer;
-      kept = inr refl;
-      is = recorded_answer w options drawn force file name (plan_by m.machine.image ahead) f.answer found passes f.run;
-      bytes = f.bytes;
-      lines = f.lines;
-    }
+    -- one without memory, which touched no device
+    pub unbegun_does : ((left : Option (List ℕ)) → answer_in left d ≡ said left NoMemory (status_line NoMemory))
+        → Rests (drawn s old.input input) → Idles (sunk k old.out out) → Idles (sunk n old.notes notes)
+        → Does h s k n (on options force name (plan_by m.machine.image ahead)) (Ok d) old (streamed h s k n old input out notes)
+    unbegun_does says rests put noted =
+        let w = world h s old.shelf old.input in
+        does_stream h s k n old input out notes (on options force name (plan_by m.machine.image ahead)) (Ok d)
+        (unbegun_tried _ w (answer_in (s.left input) d) (drawn s old.input input) (shelved h old.shelf old.shelf) (sunk k old.out out) (sunk n old.notes notes)
+        (starts_not _ _ (on options force name (plan_by m.machine.image ahead)) w _ refl) (KeepsFiles-refl (h.files old.shelf)) refl rests put noted (says (s.left input)))
+        (over_takes force name d.status (inr (inr (inr (ap (λ (a : Answer). a.status) (says None))))))
+        (record { later = omega (arith, rests.same); calm = λ stays. rests.same })
+
+  -- one that was cut short
+  pub cut_fronts : (force : Bool) (name : List ℕ) (w : World) (out notes : Sunk) → RunFronts force name w out notes → Fronts (on options force name (plan_by m.machine.image ahead)) w out notes
+  cut_fronts force name w out notes f = record {
+    answer = f.answer;
+    kept = inr refl;
+    is = (goes f.answer, f.run, refl);
+    bytes = f.bytes;
+    lines = f.lines;
+  }

@@ -40,7 +40,7 @@ SparesBy-after k status a b c first (inl same) = inl (KeepsFiles-trans a b c fir
 SparesBy-after k status a b c first (inr (name, may, others)) = inr (name, may, KeepsOtherFiles-after_kept a b c name first others)
 
 module _ {H : Type 0} (g : Ghosts H) (old middle new : H) (first : KeepsFiles (g.files old) (g.files middle)) where
-  HasKept-after : (kept : Kept) → HasKept kept (shelved g middle new) → HasKept kept (shelved g old new)
+  pub HasKept-after : (kept : Kept) → HasKept kept (shelved g middle new) → HasKept kept (shelved g old new)
   HasKept-after nothing h = KeepsFiles-trans (g.files old) (g.files middle) (g.files new) first h
   HasKept-after (file name bytes) h = (h.0, KeepsOtherFiles-after_kept (g.files old) (g.files middle) (g.files new) name first h.1)
   HasKept-after (spoilt name) h = KeepsOtherFiles-after_kept (g.files old) (g.files middle) (g.files new) name first h

@@ -1,7 +1,9 @@
 pub mod Accepted
+pub mod After
 pub mod Alike
 pub mod Commands
 pub mod CutShort
+pub mod Doing
 pub mod Endings
 pub mod Fixed
 pub mod Forms
@@ -16,13 +18,14 @@ pub mod Lawful
 pub mod Listed
 pub mod Makings
 pub mod ModuleWords
+pub mod OfImages
 pub mod Promised
 pub mod Ran
 pub mod ReadsNothing
 pub mod RecordedRuns
 pub mod ReplayedRuns
 pub mod Stages
-pub mod Tested
+pub mod Streaming
 pub mod Told
 pub mod ToldRuns
 pub mod Tried

@@ -1,8 +1,9 @@
--- From what a machine's run did to what the command `run` tries.
-use Rattle.std.proofs.Common.{◌≡◌, ◌≢◌, ◌++◌, ◌∙◌, ℕ, List, [], Option, None, Some, IfSome, option_map, unwrap_or, refl, sym, ap, subst, inl, append-nil}
-use Rattle.alpha_io.specs.Files.{KeepsFiles}
-use Rattle.alpha_io.specs.Shelved.{Shelved}
-use Rattle.alpha_io.specs.Sunk.{Sunk, Puts}
+-- From what a machine's run did to what is done of an image by it.
+use Rattle.std.proofs.Common.{◌≡◌, ◌∙◌, ℕ, List, [], Option, None, Some, IfSome, option_map, unwrap_or, Ok, refl, sym, ap, subst, inl}
+use Rattle.alpha_io.specs.declared.shelf.Shelf as shelves
+use Rattle.alpha_io.specs.declared.source.Source as sources
+use Rattle.alpha_io.specs.declared.sink.Sink as sinks
+use Rattle.alpha_io.specs.Sunk.{Sunk, sunk, Puts}
 use Rattle.alpha_io.specs.Written.{WritesPrefix}
 use Rattle.alpha_request.specs.declared.options.RunOptions.{RunOptions}
 use Rattle.alpha_seq.specs.declared.end.End.{End}
@@ -13,24 +14,24 @@ use Rattle.alpha_seq.specs.State.{Program, State}
 use Rattle.alpha_seq.specs.Start.{start}
 use Rattle.alpha_seq.specs.Run.{started, Shown, after, shown, sequential}
 use Rattle.alpha_seq.specs.Machine.{program_of, state_of}
-use Rattle.alpha_seq.specs.Devices.{Drawn}
+use Rattle.alpha_seq.specs.Devices.{Drawn, drawn}
 use Rattle.alpha_seq.specs.Inputs.{run_over, HasMade}
 use Rattle.alpha_seq.specs.Notes.{end_line}
 use Rattle.alpha_run.specs.SeqRun.{end_by, HasEnded, run_from, SeqRan, SeqCut}
 use Rattle.alpha_run.proofs.SeqShown.{told_all, made_any, cut_any, cut_told}
+use Rattle.alpha_cmd.specs.declared.decision.Decision.{Decision}
+use Rattle.alpha_cmd.specs.declared.devices.Devices.{Devices}
 use Rattle.alpha_cmd.specs.declared.status.Status.{Status}
-use Rattle.alpha_cmd.specs.declared.status.Status.TheVariants.{ShelfFault}
 use Rattle.alpha_cmd.specs.Outcome.{goes}
-use Rattle.alpha_cmd.specs.Image.{ImageOf}
-use Rattle.alpha_cmd.specs.Commands.Run.{run_by_reads, MayShow, form}
+use Rattle.alpha_cmd.specs.Commands.Run.{run_by_reads, MayShow, on}
 use Rattle.alpha_cmd.specs.Commands.Imprecise.{answer_status, answer_line}
 use Rattle.alpha_cmd.specs.RunAnswer.{run_status, run_line, program_by, answer_shown}
 use Rattle.alpha_cmd.specs.AnswerBy.{World, said}
-use Rattle.alpha_cmd.specs.Ends.{Leaves}
-use Rattle.alpha_cmd.specs.Tries.{TriesBy}
-use Rattle.alpha_cmd.proofs.Commands.Run.{shown_answer, run_plain, none_drawn}
+use Rattle.alpha_cmd.specs.Decision.{answer_in}
+use Rattle.alpha_cmd.specs.Does.{Does}
+use Rattle.alpha_cmd.proofs.Commands.Run.{none_drawn, takes_end}
 use Rattle.alpha_cmd.proofs.CutShort.{Fronts}
-use Rattle.alpha_cmd.proofs.Forms.{is_fault}
+use Rattle.alpha_cmd.proofs.Streaming.{streamed, does_whole}
 
 -- a machine at the start of an image's program
 pub record IsStarted (options : RunOptions) (m : Machine) : Type 0 where
@@ -130,41 +131,27 @@ says_end left (Some event) ended =
     ∙ (ap (λ (status : Status). said left status (end_line ended.0)) (none_drawn ended.0)
     ∙ sym (ap (λ (e : Event). said left (run_status (end_by (Some e))) (run_line (end_by (Some e)))) ended.1))
 
-pub run_not_shelf : (end : Option End) → run_status end ≢ ShelfFault
-run_not_shelf end e = let no = sym (run_plain end) ∙ ap is_fault e in cc
+-- ---- what is done of an image by it
 
--- ---- what the command tries
+-- a run that was made, with the status and the line of its end still to be written
+pub ran_whole : {H S K N : Type 0} (h : shelves.Ghosts H) (s : sources.Ghosts S) (k : sinks.Ghosts K) (n : sinks.Ghosts N) (old : Devices H S K N) (input : S) (out : K) (notes : N)
+    (options : RunOptions) (m : Machine) (end : Option End) (d : Decision) → ((left : Option (List ℕ)) → answer_in left d ≡ said left (run_status end) (run_line end))
+    → Shows options m end (drawn s old.input input) (sunk k old.out out) (sunk n old.notes notes) → s.faults input ≡ s.faults old.input
+    → Does h s k n (on options m.image) (Ok d) old (streamed h s k n old input out notes)
+ran_whole h s k n old input out notes options m end d says did same =
+    let a = answer_shown (s.left old.input) did.what in
+    does_whole h s k n old input out notes (on options m.image) d a (run_status end) (run_line end) (goes a, (did.what, did.may, refl), refl) says
+    (ap run_status (sym did.end_is)) (ap run_line (sym did.end_is)) did.bytes did.lines did.left refl (takes_end end) same
 
-module _ (options : RunOptions) (file : List ℕ) (w : World) (m : Machine) (shelf input : Type 0) (found : ImageOf w.files file (goes m.image))
-    (s : Shelved) (same : KeepsFiles s.old s.new) where
-  -- a run that was made, with the status and the line of its end still to be written
-  pub made_tried : (d : Drawn) (out notes : Sunk) (end : Option End) → d.old ≡ w.input → Shows options m end d out notes
-      → Leaves (TriesBy shelf input (form options file) w) (said d.new (run_status end) (run_line end)) s out notes
-  made_tried d out notes end told did =
-      let may : MayShow options w.input m.image did.what = subst (λ l. MayShow options l m.image did.what) told did.may in
-      record {
-        tried = answer_shown w.input did.what;
-        is = inl (shown_answer w options file m.image did.what found may);
-        status_is = ap run_status (sym did.end_is);
-        files = same;
-        left_is = subst (λ (l : Option (List ℕ)). IfSome (option_map (λ (b : List ℕ). did.what.left) l) (λ rest. d.new ≡ Some rest)) told did.left;
-        output = did.what.output;
-        put = did.bytes;
-        output_is = append-nil did.what.output;
-        trace = did.what.notes;
-        noted = did.lines;
-        notes_are = ap (λ line. did.what.notes ++ line) (ap run_line (sym did.end_is));
-      }
-
-  -- one that was cut short
-  pub cut_fronts : (fault : Fault) {new : Machine} (d : Drawn) (out notes : Sunk) → IsStarted options m → SeqCut fault options.steps options.watch m new d out notes → d.old ≡ w.input
-      → Fronts (form options file) w out notes
-  cut_fronts fault d out notes at cut told =
-      let b = cut_begins options fault m d out notes at cut w.input told in
-      record {
-        answer = answer_shown w.input b.what;
-        kept = inl refl;
-        is = shown_answer w options file m.image b.what found b.may;
-        bytes = b.bytes;
-        lines = b.lines;
-      }
+-- one that was cut short
+pub cut_fronts : (options : RunOptions) (m : Machine) (w : World) (fault : Fault) (d : Drawn) (out notes : Sunk) → IsStarted options m
+    → SeqCut fault options.steps options.watch m d out notes → d.old ≡ w.input → Fronts (on options m.image) w out notes
+cut_fronts options m w fault d out notes at cut told =
+    let b = cut_begins options fault m d out notes at cut w.input told in
+    record {
+      answer = answer_shown w.input b.what;
+      kept = inl refl;
+      is = (goes (answer_shown w.input b.what), (b.what, b.may, refl), refl);
+      bytes = b.bytes;
+      lines = b.lines;
+    }

@@ -36,8 +36,8 @@ use Rattle.alpha_cmd.specs.Answer.{Answer}
 use Rattle.alpha_cmd.specs.AnswerBy.{World, AnswerBy}
 use Rattle.alpha_cmd.specs.Kept.{Kept, nothing}
 use Rattle.alpha_cmd.specs.Kept as kinds
-use Rattle.alpha_cmd.specs.Commands.Imprecise.{Plan, with_drawn, MayShowWild, answer_wild}
-use Rattle.alpha_cmd.specs.Commands.Record.{unwatched, HasItsJournal, KeepsBehind, IsKeptRun, Planned, steps}
+use Rattle.alpha_cmd.specs.Commands.Imprecise.{Plan, with_drawn, MayShowWild, answer_wild, Planned}
+use Rattle.alpha_cmd.specs.Commands.Record.{unwatched, HasItsJournal, KeepsBehind, IsKeptRun, steps}
 use Rattle.alpha_cmd.specs.RecordedRun.{ending_shown, IsJournalOf, KeepsItsJournal}
 use Rattle.alpha_cmd.specs.RunAnswer.{program_by}
 

@@ -1,27 +1,31 @@
--- From what a session did to what the command `debug` tries.
-use Rattle.std.proofs.Common.{◌≡◌, ℕ, List, [], ◌++◌, Option, None, Some, refl, sym, ap, subst, inl, inr, append-nil, arith}
-use Rattle.alpha_io.specs.Files.{KeepsFiles}
-use Rattle.alpha_io.specs.Faults.{Rose}
-use Rattle.alpha_io.specs.Shelved.{Shelved}
-use Rattle.alpha_io.specs.Sunk.{Sunk}
+-- From what a session did to what is done of an image by it.
+use Rattle.std.proofs.Common.{◌≡◌, ℕ, List, [], ◌++◌, Option, None, Some, Ok, Err, refl, sym, ap, subst, inl, inr, arith}
+use Rattle.alpha_io.specs.declared.Failed.{Failed}
+use Rattle.alpha_io.specs.declared.shelf.Shelf as shelves
+use Rattle.alpha_io.specs.declared.source.Source as sources
+use Rattle.alpha_io.specs.declared.sink.Sink as sinks
+use Rattle.alpha_io.specs.Sunk.{sunk, Partly}
 use Rattle.alpha_io.proofs.Sinks.{Puts-none, Partly-none}
+use Rattle.alpha_pal.specs.declared.fault.Fault.TheVariants as faults
 use Rattle.alpha_pal.specs.CallEffect.{Takes}
 use Rattle.alpha_image.specs.Parts.{Parts}
-use Rattle.alpha_seq.specs.Devices.{Drawn}
+use Rattle.alpha_request.specs.declared.request.ImageCommand.TheVariants.{Debug}
+use Rattle.alpha_seq.specs.Devices.{Drawn, drawn}
 use Rattle.alpha_debug.specs.declared.end.DebugEnd.{DebugEnd}
 use Rattle.alpha_debug.specs.Script.{Transcript, IsTranscript}
 use Rattle.alpha_debug.specs.DebugEffect.{Follows, IsWhole, IsUnread, IsUnwritten}
-use Rattle.alpha_cmd.specs.declared.status.Status.TheVariants.{InputFault}
+use Rattle.alpha_cmd.specs.declared.decision.Decision.{Decision}
+use Rattle.alpha_cmd.specs.declared.devices.Devices.{Devices}
 use Rattle.alpha_cmd.specs.Status.{status_line}
 use Rattle.alpha_cmd.specs.Outcome.{goes}
-use Rattle.alpha_cmd.specs.Image.{ImageOf}
-use Rattle.alpha_cmd.specs.Commands.Debug.{MayTell, session_status, LeavesTail, script_most, answer_told, form}
-use Rattle.alpha_cmd.specs.Answer.{Answer}
-use Rattle.alpha_cmd.specs.AnswerBy.{World, said}
-use Rattle.alpha_cmd.specs.Kept.{nothing}
-use Rattle.alpha_cmd.specs.Ends.{EndsPart, Leaves, still}
-use Rattle.alpha_cmd.specs.Tries.{TriesBy}
-use Rattle.alpha_cmd.proofs.Commands.Debug.{told_answer}
+use Rattle.alpha_cmd.specs.Commands.Debug.{MayTell, session_status, LeavesTail, script_most, answer_told, IsEndStatus}
+use Rattle.alpha_cmd.specs.AnswerBy.{AnswerBy, said, told}
+use Rattle.alpha_cmd.specs.Call.{called}
+use Rattle.alpha_cmd.specs.Decision.{answer_in, IsCutShort}
+use Rattle.alpha_cmd.specs.Does.{Does}
+use Rattle.alpha_cmd.specs.OfImage.{on}
+use Rattle.alpha_cmd.proofs.CutShort.{Fronts}
+use Rattle.alpha_cmd.proofs.Streaming.{streamed, does_whole, does_cut}
 
 -- ---- the script
 
@@ -44,68 +48,42 @@ took_none (Some bytes) = record { taken = []; rest = bytes; took = (refl, refl);
 pub tail_same : (old new : Option (List ℕ)) → new ≡ old → LeavesTail script_most old new
 tail_same old new same = subst (λ (left : Option (List ℕ)). LeavesTail script_most old left) (sym same) (took_none old)
 
--- ---- what the command tries
+-- ---- what is done of an image by a session
 
-module _ (file : List ℕ) (w : World) (image : Parts) (shelf input : Type 0) (found : ImageOf w.files file (goes image))
-    (s : Shelved) (same : KeepsFiles s.old s.new) (d : Drawn) (out : Sunk) (told : Option (List ℕ)) (count : ℕ) (from : d.old ≡ w.input) where
-  is_answer : (t : Transcript) → Follows image d t → TriesBy shelf input (form file) w (answer_told t)
-  is_answer t follows = inl (told_answer w file image t found (subst (λ left. MayTell left image t) from (may_tell image d t follows)))
+module _ {H S K N : Type 0} (h : shelves.Ghosts H) (s : sources.Ghosts S) (k : sinks.Ghosts K) (n : sinks.Ghosts N) (old : Devices H S K N) (input : S) (out : K) (image : Parts) where
+  abbrev new : Devices H S K N
+  new = streamed h s k n old input out old.notes
 
-  -- a session to its end, with its status and the line of that still to be written
-  pub whole_tried : (end : DebugEnd) → IsWhole end image d out
-      → Leaves (TriesBy shelf input (form file) w) (said d.new (session_status end) (status_line (session_status end))) s out (still told count)
-  whole_tried end did = record {
-    tried = answer_told did.told;
-    is = is_answer did.told did.follows;
-    status_is = ap session_status (sym did.end_is);
-    left_is = tt;
-    files = same;
-    output = did.told.text;
-    put = did.wrote;
-    output_is = append-nil did.told.text;
-    trace = [];
-    noted = Puts-none told count;
-    notes_are = ap (λ e. status_line (session_status e)) (sym did.end_is);
+  -- its transcript is an answer
+  answers : (t : Transcript) → Follows image (drawn s old.input input) t → AnswerBy (on Debug image).steps (told (called h s k n old new)) (answer_told t)
+  answers t follows = (goes (answer_told t), (t, may_tell image (drawn s old.input input) t follows, refl), refl)
+
+  -- a front of it was written
+  fronts : (t : Transcript) → Follows image (drawn s old.input input) t → Partly (sunk k old.out out) t.text
+      → Fronts (on Debug image) (told (called h s k n old new)) (sunk k old.out out) (sunk n old.notes old.notes)
+  fronts t follows part = record {
+    answer = answer_told t;
+    kept = inl refl;
+    is = answers t follows;
+    bytes = part.prefix;
+    lines = (Partly-none (n.written old.notes) (n.faults old.notes) []).prefix;
   }
 
-  -- one whose script failed, with the line of the fault still to be written
-  pub unread_tried : (Rose d.before d.now → input) → IsUnread image d out
-      → Leaves (TriesBy shelf input (form file) w) (said d.new InputFault (status_line InputFault)) s out (still told count)
-  unread_tried cause did =
-      let front = did.part.prefix in
-      let t : Answer = record { status = InputFault; output = front.done; trace = []; line = status_line InputFault; left = None; kept = nothing } in
-      record {
-        tried = t;
-        is = inr (inr (inl (record {
-          cause = cause did.cause;
-          takes = refl;
-          status_is = refl;
-          answer = answer_told did.told;
-          is = told_answer w file image did.told found (subst (λ left. MayTell left image did.told) from (may_tell image d did.told did.follows));
-          output = (front.rest, front.whole);
-          trace = ([], refl);
-          line = refl;
-          left = refl;
-          kept = refl;
-        })));
-        status_is = refl;
-        left_is = tt;
-        files = same;
-        output = front.done;
-        put = record { written = front.written; same = did.same };
-        output_is = append-nil front.done;
-        trace = [];
-        noted = Puts-none told count;
-        notes_are = refl;
-      }
+  pub session_whole : (end : DebugEnd) (d : Decision) → IsEndStatus (session_status end)
+      → ((left : Option (List ℕ)) → answer_in left d ≡ said left (session_status end) (status_line (session_status end)))
+      → IsWhole end image (drawn s old.input input) (sunk k old.out out) → Does h s k n (on Debug image) (Ok d) old new
+  session_whole end d ends says did =
+      does_whole h s k n old input out old.notes (on Debug image) d (answer_told did.told) (session_status end) (status_line (session_status end))
+      (answers did.told did.follows) says (ap session_status (sym did.end_is)) (ap (λ e. status_line (session_status e)) (sym did.end_is))
+      did.wrote (Puts-none (n.written old.notes) (n.faults old.notes)) tt refl (refl, inl ends) did.same
 
-  -- one whose sink failed
-  pub unwritten_tried : IsUnwritten image d out → EndsPart (TriesBy shelf input (form file) w) s out (still told count)
-  unwritten_tried did = record {
-    tried = answer_told did.told;
-    is = is_answer did.told did.follows;
-    files = same;
-    output = did.part;
-    line = Partly-none told count (status_line (session_status did.told.end));
-    failed = inl did.cause;
-  }
+  pub session_unread : (d : Decision) → IsCutShort faults.Input (Ok d) → IsUnread image (drawn s old.input input) (sunk k old.out out)
+      → Does h s k n (on Debug image) (Ok d) old new
+  session_unread d says did =
+      does_cut h s k n old input out old.notes (on Debug image) faults.Input (Ok d) refl (fronts did.told did.follows did.part) says
+      (record { later = did.later; source = did.cause; sink = did.same; lines = refl })
+
+  pub session_unwritten : (e : Failed) → IsUnwritten image (drawn s old.input input) (sunk k old.out out) → Does h s k n (on Debug image) (Err e) old new
+  session_unwritten e did =
+      does_cut h s k n old input out old.notes (on Debug image) faults.Output (Err e) refl (fronts did.told did.follows did.part) tt
+      (record { source = did.same; later = did.part.later; sink = did.cause; lines = refl })

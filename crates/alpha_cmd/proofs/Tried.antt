@@ -2,7 +2,6 @@
 use Rattle.std.proofs.Common.{◌≡◌, ◌≢◌, ◌⊎◌, ◌∙◌, ℕ, Bool, false, List, Option, None, Some, IsSome, refl, sym, ap, subst, inl, inr, arith}
 use Rattle.alpha_io.specs.Faults.{Rose, Calm}
 use Rattle.alpha_trap.specs.declared.handler.Lost.{Lost}
-use Rattle.alpha_request.specs.declared.request.ImageCommand.TheVariants as images
 use Rattle.alpha_request.specs.Command.{Command, of_image, make, link, replay, record_run, run, imprecise, trial}
 use Rattle.alpha_request.specs.Origin.{Origin}
 use Rattle.alpha_request.specs.declared.options.RunOptions.{RunOptions}
@@ -14,9 +13,9 @@ use Rattle.alpha_cmd.specs.Status.{refused, ended, failed, class_of, status_line
 use Rattle.alpha_cmd.specs.Asks.{Asks}
 use Rattle.alpha_cmd.specs.Answer.{Answer}
 use Rattle.alpha_cmd.specs.AnswerBy.{World, HaveBytes, said}
-use Rattle.alpha_cmd.specs.Form.{Form, Needs, needs_nothing, needs_files, needs_files_and_input, IsToldFor}
+use Rattle.alpha_cmd.specs.Form.{Form, Kind, Needs, needs_nothing, needs_files, needs_files_and_input, IsToldFor}
 use Rattle.alpha_cmd.specs.Tries.{CutBy, FailsBy, TriesBy}
-use Rattle.alpha_cmd.specs.Commands.{form_of, there_of, AnswerOf, EndsBy}
+use Rattle.alpha_cmd.specs.Commands.{form_of, kind_of, there_of, AnswerOf, EndsBy}
 use Rattle.alpha_cmd.specs.Tried.{IsAnswer, AreTold, TriedBy}
 use Rattle.alpha_cmd.proofs.Forms.{IsPlain, one_answer, some_answer, plain_answer, ended_ends}
 use Rattle.alpha_cmd.proofs.Commands.Imprecise.{found_end}
@@ -122,18 +121,19 @@ fails_failed shelf input f w t (inl h) = cut_failed shelf t.status h.cause
 fails_failed shelf input f w t (inr (inl h)) = ap class_of h.status_is
 fails_failed shelf input f w t (inr (inr h)) = cut_failed shelf t.status h.cause
 
--- the end of a command by its form is one by its kind
+-- the kind of a command is that of its form
+pub kind_is : (command : Command) → (form_of command).kind ≡ kind_of command
+kind_is (of_image what file) = refl
+kind_is (make what file out) = refl
+kind_is (link entry out files) = refl
+kind_is (replay file journal) = refl
+kind_is (record_run options choices force file out) = refl
+kind_is (run options file) = refl
+kind_is (imprecise options choices force file) = refl
+kind_is (trial blocks) = refl
+
 ends_by : (command : Command) (s : Status) → (form_of command).kind.ends s → EndsBy command s
-ends_by (of_image images.Check file) s h = h
-ends_by (of_image images.Dis file) s h = h
-ends_by (make what file out) s h = h
-ends_by (link entry out files) s h = h
-ends_by (replay file journal) s h = h
-ends_by (record_run options choices force file out) s h = h
-ends_by (run options file) s h = h
-ends_by (imprecise options choices force file) s h = h
-ends_by (of_image images.Debug file) s h = h
-ends_by (trial blocks) s h = h
+ends_by command s = subst (λ (k : Kind). k.ends s) (kind_is command)
 
 -- the status of a program's end is one of the end of the words' command
 pub tried_ended : (shelf input : Type 0) (words : List (List ℕ)) (w : World) (t : Answer) → TriedBy shelf input words w t → class_of t.status ≡ ended

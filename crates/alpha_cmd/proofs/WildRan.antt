@@ -1,15 +1,16 @@
--- From what a run of the imprecise machine did to what the command `run --imprecise` tries.
-use Rattle.std.proofs.Common.{◌≡◌, ◌≢◌, ◌++◌, ◌∙◌, ◌<◌, ◌≤◌, length, ℕ, ◌%◌, ◌^◌, Bool, true, false, List, [], Option, None, Some, IfSome, option_map, unwrap_or, refl, sym, ap, subst, inl, append-nil, arith}
-use Rattle.alpha_io.specs.Files.{Files, KeepsFiles}
-use Rattle.alpha_io.specs.Shelved.{Shelved}
-use Rattle.alpha_io.specs.Sunk.{Sunk, Puts}
+-- From what a run of the imprecise machine did to what is done of a plan by it.
+use Rattle.std.proofs.Common.{◌≡◌, ◌≢◌, ◌++◌, ◌∙◌, ◌<◌, ◌≤◌, length, ℕ, ◌%◌, ◌^◌, Bool, true, false, List, [], Option, None, Some, IfSome, option_map, unwrap_or, Ok, refl, sym, ap, subst, inl, arith}
+use Rattle.alpha_io.specs.declared.shelf.Shelf as shelves
+use Rattle.alpha_io.specs.declared.source.Source as sources
+use Rattle.alpha_io.specs.declared.sink.Sink as sinks
+use Rattle.alpha_io.specs.Files.{Files}
+use Rattle.alpha_io.specs.Sunk.{Sunk, sunk, Puts}
 use Rattle.alpha_io.specs.Written.{WritesPrefix}
 use Rattle.alpha_image.specs.Parts.{Parts, IsImage}
 use Rattle.alpha_shadow.specs.Broken.{IsAccepted}
 use Rattle.alpha_request.specs.declared.options.RunOptions.{RunOptions}
 use Rattle.alpha_request.specs.Origin as choices
 use Rattle.alpha_seq.specs.declared.event.Event.{Event as Seen}
-use Rattle.alpha_seq.specs.declared.event.Event.TheVariants as events
 use Rattle.alpha_pal.specs.declared.fault.Fault.{Fault}
 use Rattle.alpha_seq.specs.State.{Program, Went, Barriered, Overflowed, Ends}
 use Rattle.alpha_seq.specs.Start.{start}
@@ -31,16 +32,18 @@ use Rattle.alpha_restart.proofs.Agreeing.{accepted_restarts}
 use Rattle.alpha_restart.proofs.FreeTogether.{accepted_free}
 use Rattle.alpha_run.specs.WildRan.{making_from, ended_as, WildCut}
 use Rattle.alpha_run.proofs.WildShown.{drawn_from_none, Whole, used_all, few_drawn, told_all, cut_any, few_cut, cut_told}
-use Rattle.alpha_cmd.specs.declared.status.Status.TheVariants.{ShelfFault}
+use Rattle.alpha_cmd.specs.declared.decision.Decision.{Decision}
+use Rattle.alpha_cmd.specs.declared.devices.Devices.{Devices}
 use Rattle.alpha_cmd.specs.Outcome.{goes}
 use Rattle.alpha_cmd.specs.RunAnswer.{program_by}
-use Rattle.alpha_cmd.specs.Commands.Imprecise.{Plan, plan_by, PlanOf, Passes, with_drawn, MadeByReads, MayShowWild, wild_status, wild_line, answer_status, answer_line, answer_wild, kind, form}
+use Rattle.alpha_cmd.specs.Commands.Imprecise.{Plan, plan_by, Planned, with_drawn, MadeByReads, MayShowWild, wild_status, wild_line, answer_status, answer_line, answer_wild, kind, on}
 use Rattle.alpha_cmd.specs.AnswerBy.{World, said}
 use Rattle.alpha_cmd.specs.Form.{MayTakeBy}
-use Rattle.alpha_cmd.specs.Ends.{Leaves}
-use Rattle.alpha_cmd.specs.Tries.{TriesBy}
-use Rattle.alpha_cmd.proofs.Commands.Imprecise.{wild_answer, may_lose, drawn_not_shelf}
+use Rattle.alpha_cmd.specs.Decision.{answer_in}
+use Rattle.alpha_cmd.specs.Does.{Does}
+use Rattle.alpha_cmd.proofs.Commands.Imprecise.{may_lose}
 use Rattle.alpha_cmd.proofs.CutShort.{Fronts}
+use Rattle.alpha_cmd.proofs.Streaming.{streamed, does_whole}
 use Rattle.alpha_cmd.proofs.Untold.{reads_show}
 
 -- ---- the status and the line of a run's end
@@ -65,16 +68,15 @@ line_by Waited = refl
 line_by (Reported at) = refl
 line_by (Lost pc mask) = refl
 
-pub answer_not_shelf : (last : Option Seen) (n : ℕ) → answer_status last n ≢ ShelfFault
-answer_not_shelf (Some (events.Ended end)) n e = drawn_not_shelf n end e
-answer_not_shelf (Some (events.Lost pc mask)) n e = cc
-answer_not_shelf _ n e = cc
-
--- the image of a plan is a good one
-pub planned_image : (files : Files) (name : List ℕ) (drawn : choices.Origin) (image : Parts) (ahead : ℕ → ℕ) → PlanOf files name drawn (goes (plan_by image ahead)) → IsImage image
-planned_image files name drawn image ahead found =
-    let same : image ≡ found.0 = ap (λ (p : Plan). p.image) found.2.2 in
-    subst IsImage (sym same) found.1.2.0
+-- the image of a plan that may be run is a good one, and it is accepted unless the verdict is passed over
+pub planned_good : (force : Bool) (drawn : choices.Origin) (name : List ℕ) (files : Files) (plan : Plan) → Planned drawn force name files (goes plan)
+    → IsImage plan.image × (force ≡ false → IsAccepted plan.image.words)
+planned_good true drawn name files plan (q, (image, found, (ahead, chosen, is)), passes) =
+    let same : plan.image ≡ image = ap (λ (x : Plan). x.image) (passes ∙ is) in
+    (subst IsImage (sym same) found.2.0, λ no. cc)
+planned_good false drawn name files plan (q, (image, found, (ahead, chosen, is)), (x, (accepted, e), passes)) =
+    let same : plan.image ≡ image = ap (λ (y : Plan). y.image) (passes ∙ is) in
+    (subst IsImage (sym same) found.2.0, λ no. subst (λ (i : Parts). IsAccepted i.words) (sym same) (subst (λ (y : Plan). IsAccepted y.image.words) is accepted))
 
 -- whatever words are drawn, its runs are those of the sequential machine
 pub record RunsAlone (image : Parts) : Type 0 where
@@ -316,43 +318,32 @@ module _ (options : RunOptions) (m : WildState) (ahead : ℕ → ℕ) (how : m.m
       begins_by force (Some bytes) (made (program_of m.machine) (begun_at m bytes [] words) options.steps) out notes
       (ap (λ (l : List ℕ). made (program_of m.machine) (begun_at m bytes [] l) options.steps) (sym s.is)) alone part.0 part.1
 
-  -- ---- what the command tries
+  -- ---- what is done of a plan by it
 
   -- the status is one of an end
-  pub shows_takes : (force : Bool) (last : Option Seen) (drawn : ℕ) (old new : Option (List ℕ)) (out notes : Sunk) → Shows force last drawn old new out notes
+  shows_takes : (force : Bool) (last : Option Seen) (drawn : ℕ) (old new : Option (List ℕ)) (out notes : Sunk) → Shows force last drawn old new out notes
       → MayTakeBy (kind force) (answer_status last drawn)
   shows_takes force last drawn old new out notes did =
       let lost = may_lose options force old (plan_by m.machine.image ahead) did.what did.may in
       (refl, inl (did.what.end, (did.what.lost, (did.what.drawn % 2 ^ 64, lost, did.status_is))))
 
-  module _ (name : List ℕ) (drawn : choices.Origin) (force : Bool) (w : World) (found : PlanOf w.files name drawn (goes (plan_by m.machine.image ahead)))
-      (passes : Passes force (plan_by m.machine.image ahead) (goes (plan_by m.machine.image ahead))) where
-    -- a run that was made, with the status and the line of its end still to be written
-    pub made_tried : (shelf input : Type 0) (s : Shelved) → KeepsFiles s.old s.new → (last : Option Seen) (count : ℕ) (d : Drawn) (out notes : Sunk) → d.old ≡ w.input
-        → Shows force last count d.old d.new out notes
-        → Leaves (TriesBy shelf input (form options drawn force name) w) (said d.new (answer_status last count) (answer_line last)) s out notes
-    made_tried shelf input s same last count d out notes told did =
-        let may : MayShowWild options force w.input (plan_by m.machine.image ahead) did.what = subst (λ l. MayShowWild options force l (plan_by m.machine.image ahead) did.what) told did.may in
-        record {
-          tried = answer_wild w.input did.what;
-          is = inl (wild_answer w options drawn force name (plan_by m.machine.image ahead) did.what found passes may);
-          status_is = did.status_is;
-          left_is = subst (λ (l : Option (List ℕ)). IfSome (option_map (λ (b : List ℕ). did.what.left) l) (λ rest. d.new ≡ Some rest)) told did.left;
-          files = same;
-          output = did.what.output;
-          put = did.bytes;
-          output_is = append-nil did.what.output;
-          trace = did.what.notes;
-          noted = did.lines;
-          notes_are = ap (λ line. did.what.notes ++ line) did.line_is;
-        }
+  -- a run that was made, with the status and the line of its end still to be written
+  pub ran_whole : {H S K N : Type 0} (h : shelves.Ghosts H) (s : sources.Ghosts S) (k : sinks.Ghosts K) (n : sinks.Ghosts N) (old : Devices H S K N) (input : S) (out : K) (notes : N)
+      (force : Bool) (last : Option Seen) (drawn : ℕ) (d : Decision) → ((left : Option (List ℕ)) → answer_in left d ≡ said left (answer_status last drawn) (answer_line last))
+      → Shows force last drawn (s.left old.input) (s.left input) (sunk k old.out out) (sunk n old.notes notes) → s.faults input ≡ s.faults old.input
+      → Does h s k n (on options force (plan_by m.machine.image ahead)) (Ok d) old (streamed h s k n old input out notes)
+  ran_whole h s k n old input out notes force last drawn d says did same =
+      let a = answer_wild (s.left old.input) did.what in
+      does_whole h s k n old input out notes (on options force (plan_by m.machine.image ahead)) d a (answer_status last drawn) (answer_line last)
+      (goes a, (did.what, did.may, refl), refl) says did.status_is did.line_is did.bytes did.lines did.left refl
+      (shows_takes force last drawn (s.left old.input) (s.left input) (sunk k old.out out) (sunk n old.notes notes) did) same
 
-    -- one that was cut short
-    pub cut_fronts : (out notes : Sunk) → Begins force w.input out notes → Fronts (form options drawn force name) w out notes
-    cut_fronts out notes b = record {
-      answer = answer_wild w.input b.what;
-      kept = inl refl;
-      is = wild_answer w options drawn force name (plan_by m.machine.image ahead) b.what found passes b.may;
-      bytes = b.bytes;
-      lines = b.lines;
-    }
+  -- one that was cut short
+  pub cut_fronts : (force : Bool) (w : World) (out notes : Sunk) → Begins force w.input out notes → Fronts (on options force (plan_by m.machine.image ahead)) w out notes
+  cut_fronts force w out notes b = record {
+    answer = answer_wild w.input b.what;
+    kept = inl refl;
+    is = (goes (answer_wild w.input b.what), (b.what, b.may, refl), refl);
+    bytes = b.bytes;
+    lines = b.lines;
+  }

@@ -1,14 +1,10 @@
 -- The commands: the form of each, its kind, and the files that are there where it meets no missing one.
-use Rattle.alpha_request.specs.declared.request.ImageCommand.TheVariants as images
 use Rattle.alpha_request.specs.Command.{Command, of_image, make, link, replay, record_run, run, imprecise, trial}
 use Rattle.alpha_io.specs.Files.{Files}
 use Rattle.alpha_cmd.specs.declared.status.Status.{Status}
 use Rattle.alpha_cmd.specs.Answer.{Answer}
 use Rattle.alpha_cmd.specs.AnswerBy.{World, AnswerBy}
 use Rattle.alpha_cmd.specs.Form.{Form, Kind, IsToldFor, MayTakeBy, SparesBy}
-use Rattle.alpha_cmd.specs.Commands.Check as checks
-use Rattle.alpha_cmd.specs.Commands.Debug as sessions
-use Rattle.alpha_cmd.specs.Commands.Dis as listings
 use Rattle.alpha_cmd.specs.Commands.Imprecise as wilds
 use Rattle.alpha_cmd.specs.Commands.Link as links
 use Rattle.alpha_cmd.specs.Commands.Record as recordings
@@ -16,6 +12,7 @@ use Rattle.alpha_cmd.specs.Commands.Replay as replays
 use Rattle.alpha_cmd.specs.Commands.Run as runs
 use Rattle.alpha_cmd.specs.Commands.Trial as trials
 use Rattle.alpha_cmd.specs.Makings as makings
+use Rattle.alpha_cmd.specs.OfImage as images
 pub mod Asm
 pub mod Check
 pub mod Debug
@@ -30,41 +27,35 @@ pub mod Run
 pub mod Trial
 
 abbrev pub form_of : Command → Form
-form_of (of_image images.Check file) = checks.form file
-form_of (of_image images.Dis file) = listings.form file
+form_of (of_image what file) = images.form what file
 form_of (make what file out) = makings.form what file out
 form_of (link entry out files) = links.form entry out files
 form_of (replay file journal) = replays.form file journal
 form_of (record_run options choices force file out) = recordings.form options choices force file out
 form_of (run options file) = runs.form options file
 form_of (imprecise options choices force file) = wilds.form options choices force file
-form_of (of_image images.Debug file) = sessions.form file
 form_of (trial blocks) = trials.form blocks
 
 -- its kind, which says nothing of its stages
 abbrev pub kind_of : Command → Kind
-kind_of (of_image images.Check file) = checks.kind
-kind_of (of_image images.Dis file) = listings.kind
+kind_of (of_image what file) = images.kind what
 kind_of (make what file out) = makings.kind out
 kind_of (link entry out files) = links.kind out
 kind_of (replay file journal) = replays.kind
 kind_of (record_run options choices force file out) = recordings.kind force out
 kind_of (run options file) = runs.kind
 kind_of (imprecise options choices force file) = wilds.kind force
-kind_of (of_image images.Debug file) = sessions.kind
 kind_of (trial blocks) = trials.kind
 
 -- where files are told, those that a command reads are there, and the one that it keeps is taken
 abbrev pub there_of : Command → World → Type 0
-there_of (of_image images.Check file) = checks.there file
-there_of (of_image images.Dis file) = listings.there file
+there_of (of_image what file) = images.there file
 there_of (make what file out) = makings.there what file out
 there_of (link entry out files) = links.there entry out files
 there_of (replay file journal) = replays.there file journal
 there_of (record_run options choices force file out) = recordings.there options choices force file out
 there_of (run options file) = runs.there file
 there_of (imprecise options choices force file) = wilds.there choices file
-there_of (of_image images.Debug file) = sessions.there file
 there_of (trial blocks) = λ w. Unit {0}
 
 -- an answer of a command

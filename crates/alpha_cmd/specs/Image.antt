@@ -1,5 +1,5 @@
 -- The stages that lead to a file, to its image and to the verdict on it.
-use Rattle.std.specs.Prelude.{◌≡◌, ◌⊎◌, ◌<◌, ◌≤◌, ℕ, List, length, Some}
+use Rattle.std.specs.Prelude.{◌≡◌, ◌⊎◌, ◌<◌, ◌≤◌, ℕ, List, length, Option, Some}
 use Rattle.alpha_io.specs.Files.{Files, IfTold, HasFile, Lacks}
 use Rattle.alpha_image.specs.declared.fault.ImageFault.{ImageFault}
 use Rattle.alpha_image.specs.Parts.{Parts, IsImage, spelling}
@@ -12,6 +12,8 @@ use Rattle.alpha_cmd.specs.declared.status.Status.{Status}
 use Rattle.alpha_cmd.specs.declared.status.Status.TheVariants.{NotRestartable, BadImage, ShelfFault, TooLarge}
 use Rattle.alpha_cmd.specs.Outcome.{Outcome, Either, Then}
 use Rattle.alpha_cmd.specs.Status.{Says}
+use Rattle.alpha_cmd.specs.Answer.{Answer}
+use Rattle.alpha_cmd.specs.AnswerBy.{World}
 
 -- why a named file isn't read: files are told and have none of this name, or it has more bytes than the limit
 abbrev pub Unread : Files → List ℕ → ℕ → Status → Type 0
@@ -38,6 +40,10 @@ image_limit = 18874368
 -- the image of a named file
 abbrev pub ImageOf : Files → List ℕ → Outcome Parts → Type 0
 ImageOf files name = Then (Reads files name image_limit) Spells
+
+-- what is answered of that image, over the input that is told
+abbrev pub OfFile : (Option (List ℕ) → Parts → Outcome Answer → Type 0) → List ℕ → World → Outcome Answer → Type 0
+OfFile Answers file w = Then (ImageOf w.files file) (Answers w.input)
 
 -- why an image is refused, with the line that says it: its least broken place
 abbrev pub IsRefused : Parts → Status → List ℕ → Type 0

@@ -12,6 +12,7 @@ pub mod ChoicesLimit
 pub mod Choosing
 pub mod Commands
 pub mod Decision
+pub mod Does
 pub mod Drawn
 pub mod Ends
 pub mod Fixed
@@ -21,6 +22,7 @@ pub mod Image
 pub mod Keeping
 pub mod Kept
 pub mod Makings
+pub mod OfImage
 pub mod Outcome
 pub mod Promises
 pub mod ReadsNothing

@@ -1,30 +1,25 @@
 //! `run --imprecise FILE`: a run of the image's program by the imprecise machine.
 
-ghost use Rattle.std.specs.Prelude.{◌≡◌, ◌≢◌, ◌⊎◌, ℕ, List, Bool, false, Err, IfOk, IfErr, OnOk};
+ghost use Rattle.std.specs.Prelude.{◌≡◌, ◌≢◌, ◌⊎◌, Bool, false, Err, IfOk, IfErr, OnOk};
 ghost use Rattle.alpha_io.specs.Faults.{Rose};
-ghost use Rattle.alpha_io.specs.Files.{KeepsFiles};
-ghost use Rattle.alpha_io.specs.Shelved.{Shelved, shelved, OnlyReads};
-ghost use Rattle.alpha_io.specs.Sunk.{sunk};
+ghost use Rattle.alpha_io.specs.Shelved.{shelved, OnlyReads};
 ghost use Rattle.alpha_image.specs.Parts.{IsImage};
 ghost use Rattle.alpha_shadow.specs.Broken.{IsAccepted};
 ghost use Rattle.alpha_shadow.specs.Least.{IsLeastBroken};
 ghost use Rattle.alpha_request.specs.Options.{origin_of};
-ghost use Rattle.alpha_request.specs.Origin.{Origin};
-ghost use Rattle.alpha_seq.specs.Devices.{drawn};
 ghost use Rattle.alpha_imprecise.specs.Wild.{IsFresh};
 ghost use Rattle.alpha_cmd.specs.Outcome.{goes, stops};
 ghost use Rattle.alpha_cmd.specs.Status.{status_line};
 ghost use Rattle.alpha_cmd.specs.Chooser.{ahead_in};
 ghost use Rattle.alpha_cmd.specs.Commands.Imprecise as wilds;
-ghost use Rattle.alpha_cmd.specs.Commands.Imprecise.{PlanOf, plan_by};
-ghost use Rattle.alpha_cmd.specs.AnswerBy.{world};
-ghost use Rattle.alpha_cmd.specs.Ends.{Decides, status_in};
-ghost use Rattle.alpha_cmd.specs.Form.{MayTakeBy};
-ghost use Rattle.alpha_cmd.specs.Tries.{CountStays, CutBy, TriesBy};
+ghost use Rattle.alpha_cmd.specs.Commands.Imprecise.{PlanOf, Planned, plan_by};
+ghost use Rattle.alpha_cmd.specs.Does.{Does, Stage};
+ghost use Rattle.alpha_cmd.specs.Tries.{CutBy};
 
 use crate::Status;
 use crate::choosing::{Choosing, chooser_of};
 use crate::decision::Decision;
+use crate::devices::Devices;
 use crate::image::load;
 use alpha_image::Image;
 use alpha_imprecise::{CountingChooser, Wild};
@@ -58,40 +53,44 @@ pub(crate) struct Plan {
 }
 
 /// Reads the image of a file and the choices, judges the image unless the verdict is passed over, and
-/// runs it over the input. Nothing is put and nothing taken before the machine has all of its memory.
+/// runs it over the input.
 pub(crate) fn imprecise<H: Shelf, S: Source, K: Sink, N: Sink>(
     alloc: Global,
     asked: Asked<'_>,
-    shelf: &mut H,
-    input: &mut S,
-    out: &mut K,
-    notes: &mut N,
+    devices: &mut Devices<H, S, K, N>,
 ) -> Result<Decision, Failed>
-    ensures tried { Decides (TriesBy (Rose (H.faults shelf.old) (H.faults shelf.new))
-        (Rose (S.faults input.old) (S.faults input.new))
-        (wilds.form asked.entry.options (origin_of asked.entry.choices) asked.entry.force
-        asked.entry.file.now)
-        (world H.Shelf S.Source shelf.old input.old)) result (S.left input.new)
-        (shelved H.Shelf shelf.old shelf.new)
-        (sunk K.Sink out.old out.new) (sunk N.Sink notes.old notes.new) }
-    ensures shelf { OnlyReads (shelved H.Shelf shelf.old shelf.new)
-        (IfOk result (λ decision. decision.status ≢ Status.ShelfFault)) }
-    ensures input { (input.new ≡ input.old)
-        ⊎ MayTakeBy (wilds.kind asked.entry.force) (status_in result) }
-    ensures source { CountStays (drawn S.Source input.old input.new)
-        (IfOk result (λ decision. decision.status ≢ Status.InputFault)) }
+    ensures { Does H.Shelf S.Source K.Sink N.Sink
+        (wilds.form asked.entry.options (origin_of asked.entry.choices) asked.entry.force asked.entry.file.now)
+        result devices.old devices.new }
 {
-    match planned(alloc, asked.file, &asked.choices, shelf) {
-        Ok(plan) => match judged(&plan.image, asked.force) {
-            Ok(()) => run_plan(alloc, plan, asked.options, input, out, notes),
-            Err(broken) => Ok(Decision::broken(broken, plan.image.code_base())),
-        },
-        Err(status) => Ok(Decision::said(status)),
+    match passed(alloc, &asked, &mut devices.shelf) {
+        Ok(plan) => run_plan(alloc, plan, asked.options, devices),
+        Err(decision) => Ok(decision),
     }
 }
 
-/// Reads the image of a file, and then the choices.
-pub(crate) fn planned<H: Shelf>(
+/// Reads the image of a file and then the choices, and judges the image unless the verdict is passed over.
+pub(crate) fn passed<H: Shelf>(
+    alloc: Global,
+    asked: &Asked<'_>,
+    shelf: &mut H,
+) -> Result<Plan, Decision>
+    ensures { Stage
+        (Planned (origin_of asked.now.choices) asked.now.force asked.now.file.now (H.files shelf.old))
+        (λ plan. plan_by plan.image (ahead_in plan.chooser)) result
+        (shelved H.Shelf shelf.old shelf.new) }
+{
+    match planned(alloc, asked.file, &asked.choices, shelf) {
+        Ok(plan) => match judged(&plan.image, asked.force) {
+            Ok(()) => Ok(plan),
+            Err(broken) => Err(Decision::broken(broken, plan.image.code_base())),
+        },
+        Err(status) => Err(Decision::said(status)),
+    }
+}
+
+// Reads the image of a file, and then the choices.
+fn planned<H: Shelf>(
     alloc: Global,
     file: &str,
     choices: &Choices<'_>,
@@ -116,8 +115,8 @@ pub(crate) fn planned<H: Shelf>(
     }
 }
 
-/// Judges an image, unless the verdict is passed over.
-pub(crate) fn judged(image: &Image, force: bool) -> Result<(), Broken>
+// Judges an image, unless the verdict is passed over.
+fn judged(image: &Image, force: bool) -> Result<(), Broken>
     ensures ok { OnOk result (force ≡ false → IsAccepted image.now.words) }
     ensures refused { IfErr result (λ broken.
         (force ≡ false) × IsLeastBroken image.now.words broken) }
@@ -129,73 +128,55 @@ pub(crate) fn judged(image: &Image, force: bool) -> Result<(), Broken>
     }
 }
 
-// Runs an image's program from the start.
-fn run_plan<S: Source, K: Sink, N: Sink>(
+// Runs an image's program from the start, where it may be run. Nothing is put and nothing taken before the
+// machine has all of its memory.
+fn run_plan<H: Shelf, S: Source, K: Sink, N: Sink>(
     alloc: Global,
     plan: Plan,
     options: RunOptions,
-    input: &mut S,
-    out: &mut K,
-    notes: &mut N,
+    devices: &mut Devices<H, S, K, N>,
 ) -> Result<Decision, Failed>
-    ensures tried { (shelf : Shelved) (file : List ℕ) (choices : Origin) (force : Bool)
-        → PlanOf shelf.old file choices (goes (plan_by plan.image (ahead_in plan.chooser)))
-        → (force ≡ false → IsAccepted plan.image.words) → KeepsFiles shelf.old shelf.new
-        → Decides (TriesBy (Rose shelf.before shelf.now)
-        (Rose (S.faults input.old) (S.faults input.new))
-        (wilds.form options choices force file)
-        (record { files = shelf.old; takes = shelf.took; input = S.left input.old }))
-        result (S.left input.new) shelf
-        (sunk K.Sink out.old out.new) (sunk N.Sink notes.old notes.new) }
-    ensures status { IfOk result (λ decision. decision.status ≢ Status.ShelfFault) }
-    ensures input { (force : Bool) → IsImage plan.image
-        → (force ≡ false → IsAccepted plan.image.words)
-        → (input.new ≡ input.old) ⊎ MayTakeBy (wilds.kind force) (status_in result) }
-    ensures source { CountStays (drawn S.Source input.old input.new)
-        (IfOk result (λ decision. decision.status ≢ Status.InputFault)) }
+    ensures { (force : Bool) → IsImage plan.image → (force ≡ false → IsAccepted plan.image.words)
+        → Does H.Shelf S.Source K.Sink N.Sink
+        (wilds.on options force (plan_by plan.image (ahead_in plan.chooser))) result
+        devices.old devices.new }
 {
     match Machine::new(alloc, plan.image, options.complete) {
         Ok(machine) => {
             let mut wild = Wild::new(machine);
             let mut chooser = CountingChooser::new(plan.chooser);
-            run_wild(&mut wild, &mut chooser, options, input, out, notes)
+            run_wild(&mut wild, &mut chooser, options, devices)
         }
         Err(_) => Ok(Decision::said(Status::NoMemory)),
     }
 }
 
 // Runs a machine from the start, by words of which none was drawn.
-fn run_wild<S: Source, K: Sink, N: Sink>(
+fn run_wild<H: Shelf, S: Source, K: Sink, N: Sink>(
     wild: &mut Wild,
     chooser: &mut CountingChooser<Choosing>,
     options: RunOptions,
-    input: &mut S,
-    out: &mut K,
-    notes: &mut N,
+    devices: &mut Devices<H, S, K, N>,
 ) -> Result<Decision, Failed>
     requires fresh { IsFresh wild.old }
     requires how { wild.old.machine.how ≡ options.complete }
     requires none { chooser.old.drawn ≡ 0 }
-    ensures tried { (shelf : Shelved) (file : List ℕ) (choices : Origin) (force : Bool)
-        → PlanOf shelf.old file choices
-        (goes (plan_by wild.old.machine.image (ahead_in chooser.old.chooser)))
+    ensures { (force : Bool) → IsImage wild.old.machine.image
         → (force ≡ false → IsAccepted wild.old.machine.image.words)
-        → KeepsFiles shelf.old shelf.new
-        → Decides (TriesBy (Rose shelf.before shelf.now)
-        (Rose (S.faults input.old) (S.faults input.new))
-        (wilds.form options choices force file)
-        (record { files = shelf.old; takes = shelf.took; input = S.left input.old }))
-        result (S.left input.new) shelf
-        (sunk K.Sink out.old out.new) (sunk N.Sink notes.old notes.new) }
-    ensures status { IfOk result (λ decision. decision.status ≢ Status.ShelfFault) }
-    ensures input { (force : Bool) → IsImage wild.old.machine.image
-        → (force ≡ false → IsAccepted wild.old.machine.image.words)
-        → MayTakeBy (wilds.kind force) (status_in result) }
-    ensures source { CountStays (drawn S.Source input.old input.new)
-        (IfOk result (λ decision. decision.status ≢ Status.InputFault)) }
+        → Does H.Shelf S.Source K.Sink N.Sink
+        (wilds.on options force (plan_by wild.old.machine.image (ahead_in chooser.old.chooser))) result
+        devices.old devices.new }
 {
     let mut left = options.steps;
-    match run_imprecise(wild, chooser, input, out, notes, &mut left, options.watch) {
+    match run_imprecise(
+        wild,
+        chooser,
+        &mut devices.input,
+        &mut devices.out,
+        &mut devices.notes,
+        &mut left,
+        options.watch,
+    ) {
         Ok(last) => Ok(Decision::behind(last, chooser.drawn())),
         Err(fault) => Decision::cut_short(fault),
     }

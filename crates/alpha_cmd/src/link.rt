@@ -4,23 +4,20 @@ ghost use Rattle.std.specs.Prelude.{◌≡◌, ◌≢◌, ◌⊎◌, ◌≤◌, 
 ghost use Rattle.alpha_image.specs.Parts as images;
 ghost use Rattle.alpha_io.specs.Faults.{Rose};
 ghost use Rattle.alpha_io.specs.Shelved.{shelved, OnlyReads};
-ghost use Rattle.alpha_seq.specs.Devices.{Drawn};
 ghost use Rattle.alpha_cmd.specs.Outcome.{goes, stops, Then};
 ghost use Rattle.alpha_cmd.specs.Status.{status_line};
 ghost use Rattle.alpha_cmd.specs.Commands.Link as links;
 ghost use Rattle.alpha_cmd.specs.Commands.Link.{FilesOf, ModuleOf, ModulesOf, Links, Makes};
-ghost use Rattle.alpha_cmd.specs.Decision.{answer_in};
-ghost use Rattle.alpha_cmd.specs.Ends.{Settles};
-ghost use Rattle.alpha_cmd.specs.Form.{SparesBy};
-ghost use Rattle.alpha_cmd.specs.Kept.{Serves};
-ghost use Rattle.alpha_cmd.specs.Tries.{CutBy, TriesBy};
+ghost use Rattle.alpha_cmd.specs.Does.{Does};
+ghost use Rattle.alpha_cmd.specs.Tries.{CutBy};
 
 use crate::Status;
 use crate::decision::Decision;
+use crate::devices::Devices;
 use crate::image::{read_file, spelled};
 use crate::keep::keep_as;
 use alpha_image::Image;
-use alpha_io::Shelf;
+use alpha_io::{Failed, Shelf, Sink, Source};
 use alpha_link::{LinkFault, Module, ModuleFault, read_module};
 use std::alloc::Global;
 
@@ -29,29 +26,21 @@ pub const MODULE_LIMIT: u64 = 20_971_520;
 
 /// Links the modules of files, and keeps the spelling of their image under another name or one of
 /// theirs. The keep comes last: before it no file is changed.
-pub(crate) fn link<H: Shelf>(
+pub(crate) fn link<H: Shelf, S: Source, K: Sink, N: Sink>(
     alloc: Global,
     entry: &str,
     out: &str,
     files: &[&str],
-    shelf: &mut H,
-) -> Decision
+    devices: &mut Devices<H, S, K, N>,
+) -> Result<Decision, Failed>
     requires { length files.now ≤ 64 }
-    ensures tried { (input : Drawn)
-        → Settles (TriesBy (Rose (H.faults shelf.old) (H.faults shelf.new))
-        (Rose input.before input.now)
-        (links.form entry.now out.now (map (λ name. name.now) files.now))
-        (record { files = H.files shelf.old; takes = H.takes shelf.old; input = input.old }))
-        (answer_in input.old result)
-        (shelved H.Shelf shelf.old shelf.new) }
-    ensures shelf { Serves (shelved H.Shelf shelf.old shelf.new)
-        (result.status ≢ Status.ShelfFault) }
-    ensures files { SparesBy (links.kind out.now) result.status
-        (H.files shelf.old) (H.files shelf.new) }
+    ensures { Does H.Shelf S.Source K.Sink N.Sink
+        (links.form entry.now out.now (map (λ name. name.now) files.now)) result
+        devices.old devices.new }
 {
-    match made(alloc, entry, files, shelf) {
-        Ok(bytes) => keep_as(bytes.as_slice(), out, shelf),
-        Err(status) => Decision::said(status),
+    match made(alloc, entry, files, &mut devices.shelf) {
+        Ok(bytes) => Ok(keep_as(bytes.as_slice(), out, &mut devices.shelf)),
+        Err(status) => Ok(Decision::said(status)),
     }
 }
 

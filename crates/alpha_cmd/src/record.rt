@@ -1,35 +1,32 @@
 //! `record FILE OUT`: a run of the image's program by the imprecise machine, whose journal is kept as a
 //! file.
 
-ghost use Rattle.std.specs.Prelude.{◌≡◌, ◌≢◌, ◌⊎◌, ℕ, List, Bool, false, Option, length, IfOk};
+ghost use Rattle.std.specs.Prelude.{◌≡◌, ◌≢◌, ℕ, List, Bool, false, Option, length};
 ghost use Rattle.alpha_io.specs.Faults.{Rose};
-ghost use Rattle.alpha_io.specs.Files.{KeepsFiles, Refuses};
-ghost use Rattle.alpha_io.specs.Shelved.{Shelved, shelved};
+ghost use Rattle.alpha_io.specs.Files.{Refuses};
+ghost use Rattle.alpha_io.specs.Shelved.{shelved};
 ghost use Rattle.alpha_io.specs.Sunk.{sunk};
 ghost use Rattle.alpha_image.specs.Parts.{IsImage};
 ghost use Rattle.alpha_shadow.specs.Broken.{IsAccepted};
 ghost use Rattle.alpha_request.specs.Options.{origin_of};
-ghost use Rattle.alpha_request.specs.Origin.{Origin};
-ghost use Rattle.alpha_seq.specs.Devices.{drawn};
 ghost use Rattle.alpha_seq.specs.declared.end.End.{End};
 ghost use Rattle.alpha_imprecise.specs.Made.{LostTrap};
 ghost use Rattle.alpha_imprecise.specs.Wild.{IsFresh};
 ghost use Rattle.alpha_replay.specs.Journal.{IsJournal, spelling};
-ghost use Rattle.alpha_cmd.specs.Outcome.{goes};
 ghost use Rattle.alpha_cmd.specs.AnswerBy.{world};
 ghost use Rattle.alpha_cmd.specs.Chooser.{ahead_in};
-ghost use Rattle.alpha_cmd.specs.Commands.Imprecise.{PlanOf, plan_by, wild_status};
+ghost use Rattle.alpha_cmd.specs.Commands.Imprecise.{plan_by, wild_status};
 ghost use Rattle.alpha_cmd.specs.Commands.Record as recordings;
-ghost use Rattle.alpha_cmd.specs.Commands.Record.{IsOver, KeepsRun, KeptBehind, RunsOn, WhenMade, WhenOver};
-ghost use Rattle.alpha_cmd.specs.Ends.{Decides, status_in};
-ghost use Rattle.alpha_cmd.specs.Form.{MayTakeBy, SparesBy};
+ghost use Rattle.alpha_cmd.specs.Commands.Record.{IsOver, KeepsJournal, KeepsRun, KeptBehind, RunsOn, WhenMade, WhenOver};
+ghost use Rattle.alpha_cmd.specs.Does.{Does};
+ghost use Rattle.alpha_cmd.specs.Ends.{status_in};
 ghost use Rattle.alpha_cmd.specs.Kept.{Serves};
-ghost use Rattle.alpha_cmd.specs.Tries.{CountStays, TriesBy};
 
 use crate::Status;
 use crate::choosing::Choosing;
 use crate::decision::Decision;
-use crate::imprecise::{Asked, Plan, judged, planned};
+use crate::devices::Devices;
+use crate::imprecise::{Asked, Plan, passed};
 use alpha_imprecise::{CountingChooser, Wild};
 use alpha_io::{Failed, Shelf, Sink, Source};
 use alpha_replay::{Journal, JournalEnd, journal_bytes, make_journal};
@@ -47,49 +44,52 @@ enum Recorded {
 }
 
 /// Reads the image of a file and the choices, judges the image unless the verdict is passed over, runs
-/// it over the input, and keeps the journal of the run under another name. The keep comes behind the
-/// run: before it no file is changed. What the run puts and notes is written while it is made.
+/// it over the input, and keeps the journal of the run under another name.
 pub(crate) fn record<H: Shelf, S: Source, K: Sink, N: Sink>(
     alloc: Global,
     asked: Asked<'_>,
     name: &str,
-    shelf: &mut H,
-    input: &mut S,
-    out: &mut K,
-    notes: &mut N,
+    devices: &mut Devices<H, S, K, N>,
 ) -> Result<Decision, Failed>
-    ensures tried { Decides (TriesBy (Rose (H.faults shelf.old) (H.faults shelf.new))
-        (Rose (S.faults input.old) (S.faults input.new))
+    ensures does { Does H.Shelf S.Source K.Sink N.Sink
         (recordings.form asked.entry.options (origin_of asked.entry.choices) asked.entry.force
-        asked.entry.file.now name.now)
-        (world H.Shelf S.Source shelf.old input.old)) result (S.left input.new)
-        (shelved H.Shelf shelf.old shelf.new)
-        (sunk K.Sink out.old out.new) (sunk N.Sink notes.old notes.new) }
+        asked.entry.file.now name.now) result devices.old devices.new }
     ensures keeps { (end : Option End) (lost : Option LostTrap) (n : ℕ)
         → status_in result ≡ wild_status end lost n
         → KeepsRun asked.entry.options (origin_of asked.entry.choices) asked.entry.force
-        asked.entry.file.now name.now (world H.Shelf S.Source shelf.old input.old)
-        (H.files shelf.new) }
-    ensures shelf { Serves (shelved H.Shelf shelf.old shelf.new)
-        (IfOk result (λ decision. decision.status ≢ Status.ShelfFault)) }
-    ensures files { SparesBy (recordings.kind asked.entry.force name.now) (status_in result)
-        (H.files shelf.old) (H.files shelf.new) }
-    ensures input { (input.new ≡ input.old)
-        ⊎ MayTakeBy (recordings.kind asked.entry.force name.now) (status_in result) }
-    ensures source { CountStays (drawn S.Source input.old input.new)
-        (IfOk result (λ decision. decision.status ≢ Status.InputFault)) }
+        asked.entry.file.now name.now (world H.Shelf S.Source devices.old.shelf devices.old.input)
+        (H.files devices.new.shelf) }
 {
-    match planned(alloc, asked.file, &asked.choices, shelf) {
-        Ok(plan) => match judged(&plan.image, asked.force) {
-            Ok(()) => match run_plan(alloc, plan, asked.options, input, out, notes) {
-                Recorded::Made(decision, journal) => {
-                    Ok(keep_journal(alloc, &journal, name, decision, shelf))
-                }
-                Recorded::Over(result) => result,
-            },
-            Err(broken) => Ok(Decision::broken(broken, plan.image.code_base())),
-        },
-        Err(status) => Ok(Decision::said(status)),
+    match passed(alloc, &asked, &mut devices.shelf) {
+        Ok(plan) => record_plan(alloc, plan, asked.options, name, devices),
+        Err(decision) => Ok(decision),
+    }
+}
+
+// Runs an image's program, where it may be run, and keeps the journal of the run. The keep comes behind the
+// run: before it no file is changed. What the run puts and notes is written while it is made.
+fn record_plan<H: Shelf, S: Source, K: Sink, N: Sink>(
+    alloc: Global,
+    plan: Plan,
+    options: RunOptions,
+    name: &str,
+    devices: &mut Devices<H, S, K, N>,
+) -> Result<Decision, Failed>
+    ensures does { (force : Bool) → IsImage plan.image → (force ≡ false → IsAccepted plan.image.words)
+        → Does H.Shelf S.Source K.Sink N.Sink
+        (recordings.on options force name.now (plan_by plan.image (ahead_in plan.chooser))) result
+        devices.old devices.new }
+    ensures keeps { (force : Bool) → IsImage plan.image → (force ≡ false → IsAccepted plan.image.words)
+        → (end : Option End) (lost : Option LostTrap) (n : ℕ)
+        → status_in result ≡ wild_status end lost n
+        → KeepsJournal options name.now (plan_by plan.image (ahead_in plan.chooser))
+        (S.left devices.old.input) (H.files devices.new.shelf) }
+{
+    match run_plan(alloc, plan, options, devices) {
+        Recorded::Made(decision, journal) => {
+            Ok(keep_journal(alloc, &journal, name, decision, &mut devices.shelf))
+        }
+        Recorded::Over(result) => result,
     }
 }
 
@@ -120,79 +120,72 @@ fn keep_journal<H: Shelf>(
 }
 
 // Runs an image's program from the start, with its journal.
-fn run_plan<S: Source, K: Sink, N: Sink>(
+fn run_plan<H: Shelf, S: Source, K: Sink, N: Sink>(
     alloc: Global,
     plan: Plan,
     options: RunOptions,
-    input: &mut S,
-    out: &mut K,
-    notes: &mut N,
+    devices: &mut Devices<H, S, K, N>,
 ) -> Recorded
     ensures made { WhenMade result (λ decision journal. (force : Bool)
-        → (force ≡ false → IsAccepted plan.image.words) → IsImage plan.image
-        → RunsOn options force (S.left input.old) (plan_by plan.image (ahead_in plan.chooser))
-        journal decision (S.left input.new)
-        (sunk K.Sink out.old out.new) (sunk N.Sink notes.old notes.new)) }
-    ensures over { WhenOver result (λ r. (shelf : Shelved) (file name : List ℕ) (choices : Origin)
-        (force : Bool)
-        → PlanOf shelf.old file choices (goes (plan_by plan.image (ahead_in plan.chooser)))
-        → (force ≡ false → IsAccepted plan.image.words) → KeepsFiles shelf.old shelf.new
-        → Decides (TriesBy (Rose shelf.before shelf.now)
-        (Rose (S.faults input.old) (S.faults input.new))
-        (recordings.form options choices force file name)
-        (record { files = shelf.old; takes = shelf.took; input = S.left input.old }))
-        r (S.left input.new) shelf
-        (sunk K.Sink out.old out.new) (sunk N.Sink notes.old notes.new)) }
+        → IsImage plan.image → (force ≡ false → IsAccepted plan.image.words)
+        → RunsOn options force (S.left devices.old.input) (plan_by plan.image (ahead_in plan.chooser))
+        journal decision (S.left devices.new.input)
+        (sunk K.Sink devices.old.out devices.new.out) (sunk N.Sink devices.old.notes devices.new.notes)) }
+    ensures calm { WhenMade result (λ decision journal.
+        S.faults devices.new.input ≡ S.faults devices.old.input) }
+    ensures over { WhenOver result (λ r. (force : Bool) (name : List ℕ)
+        → IsImage plan.image → (force ≡ false → IsAccepted plan.image.words)
+        → Does H.Shelf S.Source K.Sink N.Sink
+        (recordings.on options force name (plan_by plan.image (ahead_in plan.chooser))) r
+        devices.old devices.new) }
     ensures status { WhenOver result (λ r. IsOver (status_in r)) }
-    ensures source { CountStays (drawn S.Source input.old input.new)
-        (WhenOver result (λ r. IfOk r (λ decision. decision.status ≢ Status.InputFault))) }
+    ensures shelf { devices.new.shelf ≡ devices.old.shelf }
 {
     match Machine::new(alloc, plan.image, options.complete) {
         Ok(machine) => {
             let mut wild = Wild::new(machine);
             let mut chooser = CountingChooser::new(plan.chooser);
-            run_wild(alloc, &mut wild, &mut chooser, options, input, out, notes)
+            run_wild(alloc, &mut wild, &mut chooser, options, devices)
         }
         Err(_) => Recorded::Over(Ok(Decision::said(Status::NoMemory))),
     }
 }
 
 // Runs a machine from the start, by words of which none was drawn, with its journal.
-fn run_wild<S: Source, K: Sink, N: Sink>(
+fn run_wild<H: Shelf, S: Source, K: Sink, N: Sink>(
     alloc: Global,
     wild: &mut Wild,
     chooser: &mut CountingChooser<Choosing>,
     options: RunOptions,
-    input: &mut S,
-    out: &mut K,
-    notes: &mut N,
+    devices: &mut Devices<H, S, K, N>,
 ) -> Recorded
     requires fresh { IsFresh wild.old }
     requires how { wild.old.machine.how ≡ options.complete }
     requires none { chooser.old.drawn ≡ 0 }
     ensures made { WhenMade result (λ decision journal. (force : Bool)
-        → (force ≡ false → IsAccepted wild.old.machine.image.words) → IsImage wild.old.machine.image
-        → RunsOn options force (S.left input.old)
+        → IsImage wild.old.machine.image → (force ≡ false → IsAccepted wild.old.machine.image.words)
+        → RunsOn options force (S.left devices.old.input)
         (plan_by wild.old.machine.image (ahead_in chooser.old.chooser))
-        journal decision (S.left input.new)
-        (sunk K.Sink out.old out.new) (sunk N.Sink notes.old notes.new)) }
-    ensures over { WhenOver result (λ r. (shelf : Shelved) (file name : List ℕ) (choices : Origin)
-        (force : Bool)
-        → PlanOf shelf.old file choices
-        (goes (plan_by wild.old.machine.image (ahead_in chooser.old.chooser)))
-        → (force ≡ false → IsAccepted wild.old.machine.image.words)
-        → KeepsFiles shelf.old shelf.new
-        → Decides (TriesBy (Rose shelf.before shelf.now)
-        (Rose (S.faults input.old) (S.faults input.new))
-        (recordings.form options choices force file name)
-        (record { files = shelf.old; takes = shelf.took; input = S.left input.old }))
-        r (S.left input.new) shelf
-        (sunk K.Sink out.old out.new) (sunk N.Sink notes.old notes.new)) }
+        journal decision (S.left devices.new.input)
+        (sunk K.Sink devices.old.out devices.new.out) (sunk N.Sink devices.old.notes devices.new.notes)) }
+    ensures calm { WhenMade result (λ decision journal.
+        S.faults devices.new.input ≡ S.faults devices.old.input) }
+    ensures over { WhenOver result (λ r. (force : Bool) (name : List ℕ)
+        → IsImage wild.old.machine.image → (force ≡ false → IsAccepted wild.old.machine.image.words)
+        → Does H.Shelf S.Source K.Sink N.Sink (recordings.on options force name
+        (plan_by wild.old.machine.image (ahead_in chooser.old.chooser))) r devices.old devices.new) }
     ensures status { WhenOver result (λ r. IsOver (status_in r)) }
-    ensures source { CountStays (drawn S.Source input.old input.new)
-        (WhenOver result (λ r. IfOk r (λ decision. decision.status ≢ Status.InputFault))) }
+    ensures shelf { devices.new.shelf ≡ devices.old.shelf }
 {
-    match make_journal(alloc, wild, chooser, input, out, notes, options.steps) {
+    match make_journal(
+        alloc,
+        wild,
+        chooser,
+        &mut devices.input,
+        &mut devices.out,
+        &mut devices.notes,
+        options.steps,
+    ) {
         JournalEnd::Made(last, journal) => {
             Recorded::Made(Decision::behind(last, chooser.drawn()), journal)
         }

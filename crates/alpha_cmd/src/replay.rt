@@ -4,19 +4,19 @@ ghost use Rattle.std.specs.Prelude.{◌≡◌, ◌≢◌, ◌⊎◌, Err, IfOk, 
 ghost use Rattle.alpha_io.specs.Faults.{Rose};
 ghost use Rattle.alpha_io.specs.Shelved.{shelved, OnlyReads};
 ghost use Rattle.alpha_replay.specs.JournalFault.{first_fault};
-ghost use Rattle.alpha_seq.specs.Devices.{Drawn};
 ghost use Rattle.alpha_cmd.specs.Outcome.{goes, stops};
 ghost use Rattle.alpha_cmd.specs.Status.{status_line};
 ghost use Rattle.alpha_cmd.specs.Commands.Replay as replays;
 ghost use Rattle.alpha_cmd.specs.Commands.Replay.{SpellsJournal, JournalOf, Plays, RunOf};
-ghost use Rattle.alpha_cmd.specs.Decision.{answer_in};
-ghost use Rattle.alpha_cmd.specs.Tries.{CutBy, TriesBy};
+ghost use Rattle.alpha_cmd.specs.Does.{Does};
+ghost use Rattle.alpha_cmd.specs.Tries.{CutBy};
 
 use crate::Status;
 use crate::decision::Decision;
+use crate::devices::Devices;
 use crate::image::{load, read_file};
 use alpha_image::Image;
-use alpha_io::Shelf;
+use alpha_io::{Failed, Shelf, Sink, Source};
 use alpha_replay::{Journal, JournalFault, ReplayFault, Replayed, read_journal};
 use std::alloc::Global;
 
@@ -24,18 +24,18 @@ use std::alloc::Global;
 const JOURNAL_LIMIT: u64 = 33_554_432;
 
 /// Reads the image of a file and the journal of another, and replays the journal on the image.
-pub(crate) fn replay<H: Shelf>(alloc: Global, file: &str, journal: &str, shelf: &mut H) -> Decision
-    ensures tried { (input : Drawn)
-        → TriesBy (Rose (H.faults shelf.old) (H.faults shelf.new))
-        (Rose input.before input.now) (replays.form file.now journal.now)
-        (record { files = H.files shelf.old; takes = H.takes shelf.old; input = input.old })
-        (answer_in input.old result) }
-    ensures shelf { OnlyReads (shelved H.Shelf shelf.old shelf.new)
-        (result.status ≢ Status.ShelfFault) }
+pub(crate) fn replay<H: Shelf, S: Source, K: Sink, N: Sink>(
+    alloc: Global,
+    file: &str,
+    journal: &str,
+    devices: &mut Devices<H, S, K, N>,
+) -> Result<Decision, Failed>
+    ensures { Does H.Shelf S.Source K.Sink N.Sink (replays.form file.now journal.now) result
+        devices.old devices.new }
 {
-    match run_of(alloc, file, journal, shelf) {
-        Ok(replayed) => Decision::replayed(&replayed),
-        Err(status) => Decision::said(status),
+    match run_of(alloc, file, journal, &mut devices.shelf) {
+        Ok(replayed) => Ok(Decision::replayed(&replayed)),
+        Err(status) => Ok(Decision::said(status)),
     }
 }
 

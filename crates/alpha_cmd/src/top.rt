@@ -17,6 +17,7 @@ ghost use Rattle.alpha_cmd.specs.Commands.Debug.{LeavesTail, script_most};
 ghost use Rattle.alpha_cmd.specs.Commands.Link.{KeepsLinks};
 ghost use Rattle.alpha_cmd.specs.Commands.Module.{KeepsModules};
 ghost use Rattle.alpha_cmd.specs.Commands.Record.{KeepsUnder};
+ghost use Rattle.alpha_cmd.specs.Does.{Does};
 ghost use Rattle.alpha_cmd.specs.Ends.{Decides, status_in};
 ghost use Rattle.alpha_cmd.specs.Fixed.{Fixes};
 ghost use Rattle.alpha_cmd.specs.Kept.{Serves};
@@ -27,7 +28,7 @@ ghost use Rattle.alpha_cmd.specs.Restarts.{Restarts};
 ghost use Rattle.alpha_cmd.specs.Accepts.{Accepts};
 ghost use Rattle.alpha_cmd.specs.ToldRun.{Ran};
 ghost use Rattle.alpha_cmd.specs.Tried.{TriedBy};
-ghost use Rattle.alpha_cmd.specs.Tries.{CountStays, TriesBy};
+ghost use Rattle.alpha_cmd.specs.Tries.{CountStays};
 
 use crate::Status;
 use crate::decision::Decision;
@@ -193,41 +194,18 @@ fn perform<H: Shelf, S: Source, K: Sink, N: Sink>(
     devices: &mut Devices<H, S, K, N>,
 ) -> Result<Decision, Failed>
     requires blocks { (n : ℕ) → command_of request ≡ commands.trial n → (0 < n) × (n ≤ 20000) }
-    ensures tried { Decides (TriesBy (Rose (H.faults devices.old.shelf) (H.faults devices.new.shelf))
-        (Rose (S.faults devices.old.input) (S.faults devices.new.input)) (form_of (command_of request.entry))
-        (world H.Shelf S.Source devices.old.shelf devices.old.input)) result (S.left devices.new.input)
-        (shelved H.Shelf devices.old.shelf devices.new.shelf)
-        (sunk K.Sink devices.old.out devices.new.out) (sunk N.Sink devices.old.notes devices.new.notes) }
-    ensures shelf { Serves (shelved H.Shelf devices.old.shelf devices.new.shelf)
-        (IfOk result (λ decision. decision.status ≢ Status.ShelfFault)) }
-    ensures files { Spares (command_of request.entry) (status_in result)
-        (H.files devices.old.shelf) (H.files devices.new.shelf) }
-    ensures input { (devices.new.input ≡ devices.old.input) ⊎ MayTake (command_of request.entry) (status_in result) }
-    ensures source { CountStays (drawn S.Source devices.old.input devices.new.input)
-        (IfOk result (λ decision. decision.status ≢ Status.InputFault)) }
+    ensures does { Does H.Shelf S.Source K.Sink N.Sink (form_of (command_of request.entry)) result
+        devices.old devices.new }
     ensures script { (file : List ℕ) → command_of request.entry ≡ commands.debug file
         → LeavesTail script_most (S.left devices.old.input) (S.left devices.new.input) }
     ensures recorded { KeepsUnder (λ command. command_of request.entry ≡ command) (status_in result)
         (world H.Shelf S.Source devices.old.shelf devices.old.input) (H.files devices.new.shelf) }
 {
     match request {
-        Request::OfImage { what, file } => of_image(
-            alloc,
-            what,
-            file,
-            &mut devices.shelf,
-            &mut devices.input,
-            &mut devices.out,
-        ),
-        Request::Make { what, file, out } => Ok(make(alloc, what, file, out, &mut devices.shelf)),
-        Request::Link { entry, out, files } => Ok(link(
-            alloc,
-            entry,
-            out,
-            files.as_slice(),
-            &mut devices.shelf,
-        )),
-        Request::Replay { file, journal } => Ok(replay(alloc, file, journal, &mut devices.shelf)),
+        Request::OfImage { what, file } => of_image(alloc, what, file, devices),
+        Request::Make { what, file, out } => make(alloc, what, file, out, devices),
+        Request::Link { entry, out, files } => link(alloc, entry, out, files.as_slice(), devices),
+        Request::Replay { file, journal } => replay(alloc, file, journal, devices),
         Request::RunImprecise {
             options,
             choices,
@@ -240,21 +218,14 @@ fn perform<H: Shelf, S: Source, K: Sink, N: Sink>(
                 force,
                 file,
             };
-            imprecise(
-                alloc,
-                asked,
-                &mut devices.shelf,
-                &mut devices.input,
-                &mut devices.out,
-                &mut devices.notes,
-            )
+            imprecise(alloc, asked, devices)
         }
         Request::Record {
             options,
             choices,
             force,
             file,
-            out: name,
+            out,
         } => {
             let asked = Asked {
                 options,
@@ -262,25 +233,9 @@ fn perform<H: Shelf, S: Source, K: Sink, N: Sink>(
                 force,
                 file,
             };
-            record(
-                alloc,
-                asked,
-                name,
-                &mut devices.shelf,
-                &mut devices.input,
-                &mut devices.out,
-                &mut devices.notes,
-            )
+            record(alloc, asked, out, devices)
         }
-        Request::Run { options, file } => run(
-            alloc,
-            options,
-            file,
-            &mut devices.shelf,
-            &mut devices.input,
-            &mut devices.out,
-            &mut devices.notes,
-        ),
-        Request::Trial { blocks } => trial(alloc, blocks, &mut devices.out),
+        Request::Run { options, file } => run(alloc, options, file, devices),
+        Request::Trial { blocks } => trial(alloc, blocks, devices),
     }
 }

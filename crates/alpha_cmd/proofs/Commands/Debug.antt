@@ -1,4 +1,4 @@
--- The laws of `debug`, and what leads to its answers.
+-- The laws of `debug`.
 use Rattle.std.proofs.Common.{◌≡◌, ◌⊎◌, ◌∙◌, ℕ, List, [], Bool, true, false, if◌then◌else◌, Option, None, Some, IsSome, refl, sym, ap, subst, inl, inr}
 use Rattle.alpha_image.specs.Parts.{Parts}
 use Rattle.alpha_shadow.specs.declared.broken.Broken.{Broken}
@@ -8,14 +8,11 @@ use Rattle.alpha_debug.specs.Script.{Transcript, transcript}
 use Rattle.alpha_debug.specs.Session.{Setting, IsVerdict}
 use Rattle.alpha_debug.proofs.Transcripts.{one_transcript, some_transcript}
 use Rattle.alpha_cmd.specs.Outcome.{goes}
-use Rattle.alpha_cmd.specs.Image.{ImageOf}
 use Rattle.alpha_cmd.specs.Answer.{Answer}
-use Rattle.alpha_cmd.specs.AnswerBy.{World, AnswerBy}
-use Rattle.alpha_cmd.specs.Form.{MayTakeBy}
-use Rattle.alpha_cmd.specs.Commands.Debug.{MayTell, session_status, answer_told, Debugs, steps, IsEndStatus, kind, form, there}
-use Rattle.alpha_cmd.proofs.Lawful.{Lawful, Then-lawful, Goes-lawful}
-use Rattle.alpha_cmd.proofs.Stages.{ImageOf-lawful, same_least}
-use Rattle.alpha_cmd.proofs.Forms.{IsLawfulForm, is_fault}
+use Rattle.alpha_cmd.specs.Commands.Debug.{MayTell, session_status, answer_told, Debugs, IsEndStatus}
+use Rattle.alpha_cmd.proofs.Lawful.{Lawful, Goes-lawful}
+use Rattle.alpha_cmd.proofs.Stages.{same_least}
+use Rattle.alpha_cmd.proofs.Forms.{is_fault}
 
 -- ---- a session has one transcript, and some
 
@@ -35,7 +32,7 @@ some_told : (input : Option (List ℕ)) (image : Parts) → (t : Transcript) × 
 some_told None image = let (t, is) = some_transcript image [] in (t, ([], is))
 some_told (Some script) image = some_transcript image script
 
-Debugs-lawful : (told whole there : Type 0) (input : Option (List ℕ)) (image : Parts) → (told → IsSome input) → Lawful told whole there (Debugs input image)
+pub Debugs-lawful : (told whole there : Type 0) (input : Option (List ℕ)) (image : Parts) → (told → IsSome input) → Lawful told whole there (Debugs input image)
 Debugs-lawful told whole there input image has =
     Goes-lawful (λ (a : Answer). (t : Transcript) × MayTell input image t × (a ≡ answer_told t))
     (λ h a b p q. p.2 ∙ (ap answer_told (same_told input image p.0 q.0 (has h) p.1 q.1) ∙ sym q.2))
@@ -66,23 +63,8 @@ end_ends : (end : DebugEnd) → IsEnd end → IsEndStatus (session_status end)
 end_ends end (inl is) = inl (ap session_status is)
 end_ends end (inr is) = inr (ap session_status is)
 
-pub lawful : (file : List ℕ) (w : World) → IsLawfulForm (form file) (there file) w
-lawful file w = record {
-  stages =
-      Then-lawful {R = ImageOf w.files file} {S = Debugs w.input} (ImageOf-lawful _ _ _ w.files file (λ h. h.0) (λ h. h) (λ h. h))
-      (λ image found. Debugs-lawful _ _ _ w.input image (λ h. h.1));
-  ends = λ a h. inl (ap (λ (x : Answer). is_fault x.status) h.2.2 ∙ end_plain h.2.0.end (told_end w.input h.0 h.2.0 h.2.1));
-  status = λ a h. subst IsEndStatus (sym (ap (λ (x : Answer). x.status) h.2.2)) (end_ends h.2.0.end (told_end w.input h.0 h.2.0 h.2.1));
-}
-
-pub told_answer : (w : World) (file : List ℕ) (image : Parts) (t : Transcript) → ImageOf w.files file (goes image) → MayTell w.input image t
-    → AnswerBy (steps file) w (answer_told t)
-told_answer w file image t found may = (goes (answer_told t), (image, found, (t, may, refl)), refl)
-
--- ---- the statuses of an end
-
-pub takes_done : MayTakeBy kind (session_status ends.Done)
-takes_done = (refl, inl (inl refl))
-
-pub takes_large : MayTakeBy kind (session_status ends.TooLarge)
-takes_large = (refl, inl (inr refl))
+pub told_ends : (input : Option (List ℕ)) (image : Parts) (a : Answer) → Debugs input image (goes a) → (is_fault a.status ≡ false) × IsEndStatus a.status
+told_ends input image a (t, may, is) =
+    let end = told_end input image t may in
+    let e = ap (λ (x : Answer). x.status) is in
+    (ap is_fault e ∙ end_plain t.end end, subst IsEndStatus (sym e) (end_ends t.end end))

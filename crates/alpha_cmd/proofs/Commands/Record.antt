@@ -25,8 +25,8 @@ use Rattle.alpha_cmd.specs.Answer.{Answer}
 use Rattle.alpha_cmd.specs.AnswerBy.{World, AnswerBy, said}
 use Rattle.alpha_cmd.specs.Keeping.{Untaken}
 use Rattle.alpha_cmd.specs.RunAnswer.{program_by}
-use Rattle.alpha_cmd.specs.Commands.Imprecise.{Plan, PlanOf, Passes, MadeByReads, MayShowBy, MayShowWild, answer_wild}
-use Rattle.alpha_cmd.specs.Commands.Record.{unwatched, unstarted, RecordedByReads, HasRecorded, HasJournal, ShowsMaking, HasItsJournal, IsStopped, KeepsBehind, IsKeptRun, full_answer, IsFullRun, Records, Planned, IsEndStatus, form, there}
+use Rattle.alpha_cmd.specs.Commands.Imprecise.{Plan, PlanOf, Passes, MadeByReads, MayShowBy, MayShowWild, answer_wild, Planned}
+use Rattle.alpha_cmd.specs.Commands.Record.{unwatched, unstarted, RecordedByReads, HasRecorded, HasJournal, ShowsMaking, HasItsJournal, IsStopped, KeepsBehind, IsKeptRun, full_answer, IsFullRun, Records, IsEndStatus, form, there}
 use Rattle.alpha_cmd.proofs.Untold.{reads_show}
 use Rattle.alpha_cmd.proofs.Lawful.{Lawful, Then-lawful, Goes-lawful}
 use Rattle.alpha_cmd.proofs.Stages.{taken_or_not, refused_there}

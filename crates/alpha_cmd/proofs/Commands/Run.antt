@@ -12,13 +12,12 @@ use Rattle.alpha_cmd.specs.Outcome.{goes}
 use Rattle.alpha_cmd.specs.Image.{ImageOf}
 use Rattle.alpha_cmd.specs.Answer.{Answer}
 use Rattle.alpha_cmd.specs.AnswerBy.{World, AnswerBy}
-use Rattle.alpha_cmd.specs.Form.{MayTakeBy}
+use Rattle.alpha_cmd.specs.Form.{MayTakeBy, needs_files_and_input}
 use Rattle.alpha_cmd.specs.Commands.Run.{run_by_reads, MayShow, Runs, steps, kind, form, there}
 use Rattle.alpha_cmd.specs.Commands.Imprecise.{drawn_status}
 use Rattle.alpha_cmd.specs.RunAnswer.{run_status, program_by, answer_shown}
-use Rattle.alpha_cmd.proofs.Lawful.{Lawful, Then-lawful, Goes-lawful}
-use Rattle.alpha_cmd.proofs.Stages.{ImageOf-lawful}
-use Rattle.alpha_cmd.proofs.Forms.{IsLawfulForm, is_fault}
+use Rattle.alpha_cmd.proofs.Lawful.{Lawful, Goes-lawful}
+use Rattle.alpha_cmd.proofs.Forms.{IsLawfulForm, is_fault, of_file_lawful}
 
 pub some_shown : (options : RunOptions) (input : Option (List ℕ)) (image : Parts) → (s : Shown) × MayShow options input image s
 some_shown options None image =
@@ -47,13 +46,9 @@ run_plain (Some (ends.Align pc addr)) = refl
 run_plain (Some (ends.Overflow pc)) = refl
 
 pub lawful : (options : RunOptions) (file : List ℕ) (w : World) → IsLawfulForm (form options file) (there file) w
-lawful options file w = record {
-  stages =
-      Then-lawful {R = ImageOf w.files file} {S = Runs options w.input} (ImageOf-lawful _ _ _ w.files file (λ h. h.0) (λ h. h) (λ h. h))
-      (λ image found. Runs-lawful _ _ _ options w.input image (λ h. h.1));
-  ends = λ a h. inl (ap (λ (x : Answer). is_fault x.status) h.2.2 ∙ run_plain h.2.0.end);
-  status = λ a h. (h.2.0.end, ap (λ (x : Answer). x.status) h.2.2);
-}
+lawful options file w =
+    of_file_lawful (Runs options) needs_files_and_input kind file w (λ h. h.0) (λ image. Runs-lawful _ _ _ options w.input image (λ h. h.1))
+    (λ image a h. (ap (λ (x : Answer). is_fault x.status) h.2 ∙ run_plain h.0.end, (h.0.end, ap (λ (x : Answer). x.status) h.2)))
 
 pub shown_answer : (w : World) (options : RunOptions) (file : List ℕ) (image : Parts) (s : Shown) → ImageOf w.files file (goes image) → MayShow options w.input image s
     → AnswerBy (steps options file) w (answer_shown w.input s)

@@ -9,7 +9,6 @@ use Rattle.alpha_cmd.specs.declared.status.Status.{Status}
 use Rattle.alpha_cmd.specs.declared.status.Status.TheVariants.{Done, InputFault, SinkFault, TooLarge, NoMemory}
 use Rattle.alpha_cmd.specs.Status.{status_line}
 use Rattle.alpha_cmd.specs.Outcome.{Outcome, Either, Never, Then}
-use Rattle.alpha_cmd.specs.Image.{ImageOf}
 use Rattle.alpha_cmd.specs.Kept.{nothing}
 use Rattle.alpha_cmd.specs.Answer.{Answer}
 use Rattle.alpha_cmd.specs.AnswerBy.{World}
@@ -54,18 +53,6 @@ answer_told t = record {
 abbrev pub Debugs : Option (List ℕ) → Parts → Outcome Answer → Type 0
 Debugs input image = Either (λ a. (t : Transcript) × MayTell input image t × (a ≡ answer_told t)) Never
 
-abbrev pub steps : List ℕ → World → Outcome Answer → Type 0
-steps file w = Then (ImageOf w.files file) (Debugs w.input)
-
 -- the statuses of a session's end
 abbrev pub IsEndStatus : Status → Type 0
 IsEndStatus status = (status ≡ Done 0) ⊎ (status ≡ TooLarge script_limit)
-
-abbrev pub kind : Kind
-kind = streams IsEndStatus
-
-abbrev pub form : List ℕ → Form
-form file = record { steps = steps file; needs = needs_files_and_input; kind = kind }
-
-abbrev pub there : List ℕ → World → Type 0
-there file = IsThere file

@@ -51,6 +51,10 @@ abbrev pub Passes : Bool → Plan → Outcome Plan → Type 0
 Passes true plan = Gives plan
 Passes false plan = Then (Judges plan.image) (λ image. Gives plan)
 
+-- both, one after the other
+abbrev pub Planned : Origin → Bool → List ℕ → Files → Outcome Plan → Type 0
+Planned choices force file files = Then (PlanOf files file choices) (Passes force)
+
 -- ---- the run
 
 -- what the sequential run shows, by so many words
@@ -138,8 +142,7 @@ RunsWild options force input plan =
     Either (λ a. (s : ShownWild) × MayShowWild options force input plan s × (a ≡ answer_wild input s)) Never
 
 abbrev pub steps : RunOptions → Origin → Bool → List ℕ → World → Outcome Answer → Type 0
-steps options choices force file w =
-    Then (Then (PlanOf w.files file choices) (Passes force)) (RunsWild options force w.input)
+steps options choices force file w = Then (Planned choices force file w.files) (RunsWild options force w.input)
 
 -- a trap is lost only where the verdict is passed over
 abbrev pub MayLose : Bool → Option LostTrap → Type 0
@@ -153,6 +156,11 @@ IsEndStatus force status =
 
 abbrev pub kind : Bool → Kind
 kind force = streams (IsEndStatus force)
+
+-- of a plan that was made, and of a named file
+abbrev pub on : RunOptions → Bool → Plan → Form
+on options force plan =
+    record { steps = λ w. RunsWild options force w.input plan; needs = needs_files_and_input; kind = kind force }
 
 abbrev pub form : RunOptions → Origin → Bool → List ℕ → Form
 form options choices force file =

@@ -22,7 +22,7 @@ use Rattle.alpha_cmd.specs.declared.status.Status.{Status}
 use Rattle.alpha_cmd.specs.declared.status.Status.TheVariants.{ShelfFault, InputFault, SinkFault, NoMemory, JournalFull}
 use Rattle.alpha_cmd.specs.Answer.{Answer}
 use Rattle.alpha_cmd.specs.AnswerBy.{World, said}
-use Rattle.alpha_cmd.specs.Commands.Imprecise.{Plan, PlanOf, Passes, MayShowWild, wild_status, wild_line, answer_wild, HasChoices}
+use Rattle.alpha_cmd.specs.Commands.Imprecise.{Plan, Planned, MayShowWild, wild_status, wild_line, answer_wild, HasChoices}
 use Rattle.alpha_cmd.specs.Commands.Imprecise as wilds
 use Rattle.alpha_cmd.specs.RunAnswer.{program_by}
 use Rattle.alpha_cmd.specs.Decision.{answer_in}
@@ -127,10 +127,6 @@ Records options force out w plan = Either (λ a. IsKeptRun options force out w p
 
 -- ---- the command
 
--- an image, and the words by which it is run, where the verdict lets it through or is passed over
-abbrev pub Planned : Origin → Bool → List ℕ → Files → Outcome Plan → Type 0
-Planned choices force file files = Then (PlanOf files file choices) (Passes force)
-
 abbrev pub steps : RunOptions → Origin → Bool → List ℕ → List ℕ → World → Outcome Answer → Type 0
 steps options choices force file out w = Then (Planned choices force file w.files) (Records options force out w)
 
@@ -140,6 +136,11 @@ IsEndStatus force status = wilds.IsEndStatus force status ⊎ ((status ≡ Journ
 
 abbrev pub kind : Bool → List ℕ → Kind
 kind force out = records (IsEndStatus force) out
+
+-- of a plan that was made, and of a named file
+abbrev pub on : RunOptions → Bool → List ℕ → Plan → Form
+on options force out plan =
+    record { steps = λ w. Records options force out w plan; needs = needs_files_and_input; kind = kind force out }
 
 abbrev pub form : RunOptions → Origin → Bool → List ℕ → List ℕ → Form
 form options choices force file out =
@@ -152,11 +153,14 @@ there options choices force file out w =
     × ((plan : Plan) (p : Parts) → Planned choices force file w.files (goes plan) → HasJournal options w.input plan p
     → w.takes out (length (spelling p)) ≡ true)
 
--- what is kept of a call: the spelling of a good journal, which is that of the run
+-- the name has the spelling of a good journal, which is that of the run of this plan
+abbrev pub KeepsJournal : RunOptions → List ℕ → Plan → Option (List ℕ) → Files → Type 0
+KeepsJournal options out plan input new = (p : Parts) × IsJournal p × HasJournal options input plan p × HasFile new out (spelling p)
+
+-- what is kept of a call
 abbrev pub KeepsRun : RunOptions → Origin → Bool → List ℕ → List ℕ → World → Files → Type 0
 KeepsRun options choices force file out w new =
-    (plan : Plan) × Planned choices force file w.files (goes plan)
-    × ((p : Parts) × IsJournal p × HasJournal options w.input plan p × HasFile new out (spelling p))
+    (plan : Plan) × Planned choices force file w.files (goes plan) × KeepsJournal options out plan w.input new
 
 -- That is so of each call that asks for it, under the status of a run's end.
 abbrev pub KeepsUnder : (Command → Type 0) → Status → World → Files → Type 0

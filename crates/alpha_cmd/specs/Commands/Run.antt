@@ -42,6 +42,10 @@ IsEndStatus status = (end : Option End) × (status ≡ run_status end)
 abbrev pub kind : Kind
 kind = streams IsEndStatus
 
+-- of an image that was read, and of the one of a named file
+abbrev pub on : RunOptions → Parts → Form
+on options image = record { steps = λ w. Runs options w.input image; needs = needs_files_and_input; kind = kind }
+
 abbrev pub form : RunOptions → List ℕ → Form
 form options file = record { steps = steps options file; needs = needs_files_and_input; kind = kind }
 

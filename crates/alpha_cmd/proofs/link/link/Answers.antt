@@ -1,36 +1,23 @@
 use Rattle.std.proofs.Common.{map}
-use Rattle.alpha_io.specs.Faults.{Rose}
-use Rattle.alpha_cmd.specs.AnswerBy.{World}
-use Rattle.alpha_cmd.specs.Commands.Link.{Makes, form, kind}
-use Rattle.alpha_cmd.specs.Decision.{answer_in}
+use Rattle.alpha_cmd.specs.AnswerBy.{told}
+use Rattle.alpha_cmd.specs.Commands.Link.{Makes, form}
 use Rattle.alpha_cmd.specs.Keeping.{KeepsAs}
-use Rattle.alpha_cmd.specs.Kept.{nothing}
 use Rattle.alpha_cmd.specs.Status.{status_line}
-use Rattle.alpha_cmd.proofs.Keeping.{settled, SparesBy-after}
+use Rattle.alpha_cmd.proofs.Doing.{does_make, does_refused, shelf_call}
 use Rattle.alpha_cmd.proofs.Lawful.{first_stops}
-use Rattle.alpha_cmd.proofs.Trying.{stopped}
 use Rattle.alpha_cmd.proofs.link.link.Goals as goal
 
-pub returns-in-Ok-clause-tried : goal.returns-in-Ok-clause-tried
-returns-in-Ok-clause-tried g c = λ input.
+pub returns-in-Ok : goal.returns-in-Ok
+returns-in-Ok g c =
     let names = map (λ name. name.now) c.args.files.now in
-    settled g.H.Shelf c.args.shelf.now c.made.new.shelf c.keep_as.new.shelf (λ w. Makes w.files c.args.entry.now names) c.args.out.now c.in-Ok.bytes.items c.as_slice.result.now input
-    (answer_in input.old c.keep_as.result) _ c.in-Ok.ensures.ok c.in-Ok.ensures.shelf
-    c.as_slice.ensures.value (c.keep_as.ensures.tried input.old)
+    does_make g.H.Shelf g.S.Source g.K.Sink g.N.Sink c.args.devices.now c.made.new.shelf c.keep_as.new.shelf (λ w. Makes w.files c.args.entry.now names)
+    c.args.out.now c.in-Ok.bytes.items c.as_slice.result.now c.keep_as.result _ (λ e. cc) c.in-Ok.ensures.ok c.in-Ok.ensures.shelf c.as_slice.ensures.value
+    c.keep_as.ensures.tried c.keep_as.ensures.shelf c.keep_as.ensures.files
 
-pub returns-in-Ok-clause-files : goal.returns-in-Ok-clause-files
-returns-in-Ok-clause-files g c =
-    SparesBy-after (kind c.args.out.now) _ (g.H.Shelf.files c.args.shelf.now) (g.H.Shelf.files c.made.new.shelf) (g.H.Shelf.files c.keep_as.new.shelf)
-    c.in-Ok.ensures.shelf.files c.keep_as.ensures.files
-
-pub returns-in-Err-clause-tried : goal.returns-in-Err-clause-tried
-returns-in-Err-clause-tried g c = λ input.
+pub returns-in-Err : goal.returns-in-Err
+returns-in-Err g c =
     let names = map (λ name. name.now) c.args.files.now in
-    let w : World = record { files = g.H.Shelf.files c.args.shelf.now; takes = g.H.Shelf.takes c.args.shelf.now; input = input.old } in
-    let shelf = Rose (g.H.Shelf.faults c.args.shelf.now) (g.H.Shelf.faults c.made.new.shelf) in (
-      nothing,
-      stopped shelf (Rose input.before input.now) (form c.args.entry.now c.args.out.now names) w c.in-Err.status (answer_in input.old c.said.result)
-          (first_stops (Makes w.files c.args.entry.now names) (KeepsAs w c.args.out.now) c.in-Err.status (status_line c.in-Err.status) c.in-Err.ensures.refused)
-          (c.said.ensures.answer input.old),
-      c.in-Err.ensures.shelf.files,
-    )
+    let w = told (shelf_call g.H.Shelf g.S.Source g.K.Sink g.N.Sink c.args.devices.now c.made.new.shelf) in
+    let s = c.in-Err.status in
+    does_refused g.H.Shelf g.S.Source g.K.Sink g.N.Sink c.args.devices.now c.made.new.shelf (form c.args.entry.now c.args.out.now names) c.said.result s
+    (first_stops (Makes w.files c.args.entry.now names) (KeepsAs w c.args.out.now) s (status_line s) c.in-Err.ensures.refused) c.said.ensures.answer c.in-Err.ensures.shelf

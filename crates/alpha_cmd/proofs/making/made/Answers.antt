@@ -1,13 +1,20 @@
+use Rattle.std.proofs.Common.{◌⊎◌, Ok, Err, subst, inl, inr}
+use Rattle.alpha_io.specs.Shelved.{shelved}
 use Rattle.alpha_cmd.specs.Image.{Reads}
 use Rattle.alpha_cmd.specs.Makings.{source_limit, Bytes}
 use Rattle.alpha_cmd.specs.Status.{status_line}
+use Rattle.alpha_cmd.proofs.Doing.{stage_computes, stage_refused}
 use Rattle.alpha_cmd.proofs.Lawful.{first_stops}
-use Rattle.alpha_cmd.proofs.Trying.{cut_line, says_by}
 use Rattle.alpha_cmd.proofs.making.made.Goals as goal
 
-pub returns-in-Err-clause-refused : goal.returns-in-Err-clause-refused
-returns-in-Err-clause-refused g c =
+pub returns-in-Ok : goal.returns-in-Ok
+returns-in-Ok g c =
+    stage_computes (Reads (g.H.Shelf.files c.args.shelf.now) c.args.name.now source_limit) (Bytes c.args.what) (λ v. v.items) c.in-Ok.source.items c.as_slice.result.now c.bytes_of.result
+    (shelved g.H.Shelf c.args.shelf.now c.read_file.new.shelf) _ (λ e. cc) c.in-Ok.ensures.ok c.in-Ok.ensures.shelf c.as_slice.ensures.value c.bytes_of.ensures.ok
+    c.bytes_of.ensures.refused
+
+pub returns-in-Err : goal.returns-in-Err
+returns-in-Err g c =
     let s = c.in-Err.status in
-    let files = g.H.Shelf.files c.args.shelf.now in
-    says_by _ c.said.result s (status_line s) c.said.ensures.answer
-    (cut_line _ _ s (first_stops (Reads files c.args.name.now source_limit) (Bytes c.args.what) s (status_line s) c.in-Err.ensures.refused))
+    stage_refused _ (λ v. v.items) c.said.result s (shelved g.H.Shelf c.args.shelf.now c.read_file.new.shelf) c.said.ensures.answer
+    (first_stops (Reads (g.H.Shelf.files c.args.shelf.now) c.args.name.now source_limit) (Bytes c.args.what) s (status_line s) c.in-Err.ensures.refused) c.in-Err.ensures.shelf

@@ -1,24 +1,25 @@
-use Rattle.alpha_io.specs.Faults.{Rose}
-use Rattle.alpha_io.specs.Shelved.{shelved}
-use Rattle.alpha_seq.specs.Devices.{drawn}
-use Rattle.alpha_cmd.specs.AnswerBy.{world}
-use Rattle.alpha_cmd.specs.Decision.{answer_in}
-use Rattle.alpha_cmd.specs.Commands.Check as checks
-use Rattle.alpha_cmd.specs.Tries.{TriesBy}
-use Rattle.alpha_cmd.proofs.Endings.{Leaves-all}
+use Rattle.std.proofs.Common.{refl}
+use Rattle.alpha_cmd.specs.Image.{ImageOf}
+use Rattle.alpha_cmd.specs.OfImage.{Answers, needs, kind, form}
+use Rattle.alpha_cmd.specs.Status.{status_line}
+use Rattle.alpha_cmd.proofs.After.{does_after}
+use Rattle.alpha_cmd.proofs.Doing.{does_refused}
+use Rattle.alpha_cmd.proofs.Lawful.{first_stops}
+use Rattle.alpha_cmd.proofs.Told.{tail_same}
 use Rattle.alpha_cmd.proofs.of_image.of_image.Goals as goal
 
-pub returns-in-Check-clause-tried : goal.returns-in-Check-clause-tried
-returns-in-Check-clause-tried g c =
-    let w = world g.H.Shelf g.S.Source c.args.shelf.now c.args.input.now in
-    let shelf = Rose (g.H.Shelf.faults c.args.shelf.now) (g.H.Shelf.faults c.check.new.shelf) in
-    let input = Rose (g.S.Source.faults c.args.input.now) (g.S.Source.faults c.args.input.now) in
-    rw c.in-Check.is
-    (λ told count. Leaves-all (TriesBy shelf input (checks.form c.args.file.now) w) (answer_in (g.S.Source.left c.args.input.now) c.check.result)
-    (shelved g.H.Shelf c.args.shelf.now c.check.new.shelf)
-    (g.K.Sink.written c.args.out.now) told (g.K.Sink.faults c.args.out.now) count
-    (c.check.ensures.tried (drawn g.S.Source c.args.input.now c.args.input.now)) c.check.ensures.shelf.files)
+pub returns-in-Ok-clause-does : goal.returns-in-Ok-clause-does
+returns-in-Ok-clause-does g c =
+    does_after g.H.Shelf g.S.Source g.K.Sink g.N.Sink c.args.devices.now c.load.new.shelf c.on_image.new.devices (λ files. ImageOf files c.args.file.now)
+    (λ w. Answers c.args.what w.input) (needs c.args.what) (kind c.args.what) c.in-Ok.image c.on_image.result _ (λ e. cc) c.in-Ok.ensures.ok c.in-Ok.ensures.shelf
+    c.on_image.ensures.does
 
-pub returns-in-Dis-clause-tried : goal.returns-in-Dis-clause-tried
-returns-in-Dis-clause-tried g c =
-    rw c.in-Dis.is (λ told count. c.dis.ensures.tried (drawn g.S.Source c.args.input.now c.args.input.now) told count)
+pub returns-in-Err-clause-does : goal.returns-in-Err-clause-does
+returns-in-Err-clause-does g c =
+    does_refused g.H.Shelf g.S.Source g.K.Sink g.N.Sink c.args.devices.now c.load.new.shelf (form c.args.what c.args.file.now) c.said.result c.in-Err.status
+    (first_stops (ImageOf (g.H.Shelf.files c.args.devices.now.shelf) c.args.file.now) (Answers c.args.what (g.S.Source.left c.args.devices.now.input)) c.in-Err.status
+    (status_line c.in-Err.status) c.in-Err.ensures.refused)
+    c.said.ensures.answer c.in-Err.ensures.shelf
+
+pub returns-in-Err-clause-script : goal.returns-in-Err-clause-script
+returns-in-Err-clause-script g c = λ is. tail_same (g.S.Source.left c.args.devices.now.input) (g.S.Source.left c.args.devices.now.input) refl

@@ -1,4 +1,4 @@
-use Rattle.std.proofs.Common.{◌≡◌, ◌∙◌, Some, refl, sym, ap, inl, inr, ⊎_elim}
+use Rattle.std.proofs.Common.{◌≡◌, ◌∙◌, Some, refl, sym, ap, subst, inl, inr, ⊎_elim}
 use Rattle.alpha_io.specs.Faults.{Rose}
 use Rattle.alpha_io.specs.Shelved.{shelved}
 use Rattle.alpha_io.specs.Sunk.{sunk}
@@ -9,12 +9,13 @@ use Rattle.alpha_request.proofs.Blocks.{asked_blocks}
 use Rattle.alpha_cmd.specs.AnswerBy.{world}
 use Rattle.alpha_cmd.specs.Decision.{answer_in}
 use Rattle.alpha_cmd.specs.Ends.{status_in}
-use Rattle.alpha_cmd.specs.Commands.{form_of, MayTake}
+use Rattle.alpha_cmd.specs.Commands.{form_of}
+use Rattle.alpha_cmd.specs.Form.{Kind, MayTakeBy, SparesBy}
 use Rattle.alpha_cmd.specs.Tried.{TriedBy}
 use Rattle.alpha_cmd.specs.Tries.{TriesBy}
 use Rattle.alpha_cmd.proofs.Endings.{Leaves-all, Decides-map}
 use Rattle.alpha_cmd.proofs.Told.{tail_same}
-use Rattle.alpha_cmd.proofs.Tried.{asked_tried}
+use Rattle.alpha_cmd.proofs.Tried.{asked_tried, kind_is}
 use Rattle.alpha_cmd.proofs.top.decide.Goals as goal
 
 pub returns-in-Ok-clause-tried : goal.returns-in-Ok-clause-tried
@@ -27,17 +28,29 @@ returns-in-Ok-clause-tried g c =
     (λ t. asked_tried shelf input c.args.words.now command w t c.in-Ok.ensures)
     c.perform.result (g.S.Source.left c.perform.new.devices.input)
     (shelved g.H.Shelf c.args.devices.now.shelf c.perform.new.devices.shelf) (sunk g.K.Sink c.args.devices.now.out c.perform.new.devices.out)
-    (sunk g.N.Sink c.args.devices.now.notes c.perform.new.devices.notes) c.perform.ensures.tried
+    (sunk g.N.Sink c.args.devices.now.notes c.perform.new.devices.notes) c.perform.ensures.does.tried
+
+pub returns-in-Ok-clause-shelf : goal.returns-in-Ok-clause-shelf
+returns-in-Ok-clause-shelf g c = c.perform.ensures.does.shelf
+
+pub returns-in-Ok-clause-files : goal.returns-in-Ok-clause-files
+returns-in-Ok-clause-files g c =
+    let command = command_of c.in-Ok.request in
+    let old = g.H.Shelf.files c.args.devices.now.shelf in
+    let new = g.H.Shelf.files c.perform.new.devices.shelf in
+    inr (command, c.in-Ok.ensures, subst (λ (k : Kind). SparesBy k (status_in c.perform.result) old new) (kind_is command) c.perform.ensures.does.files)
 
 pub returns-in-Ok-clause-input : goal.returns-in-Ok-clause-input
 returns-in-Ok-clause-input g c =
+    let command = command_of c.in-Ok.request in
     ⊎_elim
     (λ (h : c.perform.new.devices.input ≡ c.args.devices.now.input). inl h)
-    (λ (h : MayTake (command_of c.in-Ok.request) (status_in c.perform.result)). inr (command_of c.in-Ok.request, c.in-Ok.ensures, h))
-    c.perform.ensures.input
+    (λ (h : MayTakeBy (form_of command).kind (status_in c.perform.result)).
+    inr (command, c.in-Ok.ensures, subst (λ (k : Kind). MayTakeBy k (status_in c.perform.result)) (kind_is command) h))
+    c.perform.ensures.does.input
 
-pub returns-in-Ok-clause-files : goal.returns-in-Ok-clause-files
-returns-in-Ok-clause-files g c = inr (command_of c.in-Ok.request, c.in-Ok.ensures, c.perform.ensures.files)
+pub returns-in-Ok-clause-source : goal.returns-in-Ok-clause-source
+returns-in-Ok-clause-source g c = c.perform.ensures.does.source
 
 pub returns-in-Err-BadWords-clause-tried : goal.returns-in-Err-BadWords-clause-tried
 returns-in-Err-BadWords-clause-tried g c =

@@ -1,0 +1,120 @@
+-- From what a command did behind the stage that read its files to what it did.
+use Rattle.std.proofs.Common.{◌≡◌, ℕ, List, Bool, Option, Result, Ok, Err, refl, subst, inl, inr}
+use Rattle.alpha_io.specs.declared.Failed.{Failed}
+use Rattle.alpha_io.specs.declared.shelf.Shelf as shelves
+use Rattle.alpha_io.specs.declared.source.Source as sources
+use Rattle.alpha_io.specs.declared.sink.Sink as sinks
+use Rattle.alpha_io.specs.Files.{Files}
+use Rattle.alpha_io.specs.Shelved.{shelved, OnlyReads}
+use Rattle.alpha_io.proofs.Counts.{Rose-earlier}
+use Rattle.alpha_cmd.specs.declared.decision.Decision.{Decision}
+use Rattle.alpha_cmd.specs.declared.devices.Devices.{Devices}
+use Rattle.alpha_cmd.specs.Answer.{Answer}
+use Rattle.alpha_cmd.specs.AnswerBy.{World, AnswerBy, world}
+use Rattle.alpha_cmd.specs.Call.{Call, called}
+use Rattle.alpha_cmd.specs.Does.{Does, TriesIn}
+use Rattle.alpha_cmd.specs.Ends.{Decides}
+use Rattle.alpha_cmd.specs.Form.{Form, Kind, Needs}
+use Rattle.alpha_cmd.specs.Outcome.{Outcome, goes, stops, Then}
+use Rattle.alpha_cmd.specs.Tries.{TriesBy}
+use Rattle.alpha_cmd.proofs.Doing.{Serves-after}
+use Rattle.alpha_cmd.proofs.Keeping.{HasKept-after, SparesBy-after}
+use Rattle.alpha_cmd.proofs.Stages.{kept_same}
+use Rattle.alpha_cmd.proofs.Trying.{CutBy-map}
+
+module _ {X : Type 0} (R : Files → Outcome X → Type 0) (T : World → X → Outcome Answer → Type 0) (needs : Needs) (kind : Kind) where
+  -- a command whose first stages read, and what it does of what was read
+  abbrev pub row : Form
+  row = record { steps = λ w. Then (R w.files) (T w); needs = needs; kind = kind }
+
+  abbrev pub rest : X → Form
+  rest x = record { steps = λ w. T w x; needs = needs; kind = kind }
+
+  -- where that does the same in the world behind these stages
+  module _ (x : X) (a b : Files) (p q : List ℕ → ℕ → Bool) (input : Option (List ℕ)) (found : R a (goes x)) where
+    abbrev pub before : World
+    before = record { files = a; takes = p; input = input }
+
+    abbrev pub later : World
+    later = record { files = b; takes = q; input = input }
+
+    module _ (move : (o : Outcome Answer) → T later x o → T before x o) where
+      answers_after : (t : Answer) → AnswerBy (rest x).steps later t → AnswerBy row.steps before t
+      answers_after t (goes y, h, is) = (goes y, (x, found, move (goes y) h), is)
+      answers_after t (stops s line, h, is) = (stops s line, inr (x, found, move (stops s line) h), is)
+
+      pub tries_after : (shelf sooner fed : Type 0) → (shelf → sooner) → (t : Answer) → TriesBy shelf fed (rest x) later t → TriesBy sooner fed row before t
+      tries_after shelf sooner fed f t (inl h) = inl (answers_after t h)
+      tries_after shelf sooner fed f t (inr (inl h)) = inr (inl (record { cause = CutBy-map shelf sooner f t.status h.cause; kept = h.kept; is = h.is }))
+      tries_after shelf sooner fed f t (inr (inr (inl h))) = inr (inr (inl (record {
+        cause = h.cause;
+        takes = h.takes;
+        status_is = h.status_is;
+        answer = h.answer;
+        is = answers_after h.answer h.is;
+        output = h.output;
+        trace = h.trace;
+        line = h.line;
+        left = h.left;
+        kept = h.kept;
+      })))
+      tries_after shelf sooner fed f t (inr (inr (inr h))) = inr (inr (inr (record {
+        cause = CutBy-map shelf sooner f t.status h.cause;
+        streams = h.streams;
+        kept = h.kept;
+        answer = h.answer;
+        is = answers_after h.answer h.is;
+        same = h.same;
+      })))
+
+module _ {H S K N : Type 0} (h : shelves.Ghosts H) (s : sources.Ghosts S) (k : sinks.Ghosts K) (n : sinks.Ghosts N) (old : Devices H S K N) (middle : H) (new : Devices H S K N) where
+  abbrev second : Call
+  second = called h s k n (record old { shelf = middle }) new
+
+  abbrev both : Call
+  both = called h s k n old new
+
+  decides_after : (stays : Type 0) → OnlyReads (shelved h old.shelf middle) stays → (P Q : Answer → Type 0) → ((t : Answer) → P t → Q t) → (r : Result Decision Failed)
+      → Decides P r second.input.new second.shelf second.out second.notes → Decides Q r both.input.new both.shelf both.out both.notes
+  decides_after stays reads P Q f (Ok d) did = record {
+    tried = did.tried;
+    is = f did.tried did.is;
+    status_is = did.status_is;
+    left_is = did.left_is;
+    files = HasKept-after h old.shelf middle new.shelf reads.files did.tried.kept did.files;
+    output = did.output;
+    put = did.put;
+    output_is = did.output_is;
+    trace = did.trace;
+    noted = did.noted;
+    notes_are = did.notes_are;
+  }
+  decides_after stays reads P Q f (Err e) did = record {
+    tried = did.tried;
+    is = f did.tried did.is;
+    files = HasKept-after h old.shelf middle new.shelf reads.files did.tried.kept did.files;
+    output = did.output;
+    line = did.line;
+    failed = did.failed;
+  }
+
+  -- the world is then what it was
+  world_same : (stays : Type 0) → OnlyReads (shelved h old.shelf middle) stays → world h s middle old.input ≡ world h s old.shelf old.input
+  world_same stays reads = λ i. record { files = kept_same (h.files old.shelf) (h.files middle) reads.files i; takes = reads.takes i; input = s.left old.input }
+
+  -- a command that reads first, and then does the rest
+  pub does_after : {X : Type 0} (R : Files → Outcome X → Type 0) (T : World → X → Outcome Answer → Type 0) (needs : Needs) (kind : Kind) (x : X) (r : Result Decision Failed) (stays : Type 0)
+      → stays → R (h.files old.shelf) (goes x) → OnlyReads (shelved h old.shelf middle) stays
+      → Does h s k n (rest R T needs kind x) r (record old { shelf = middle }) new → Does h s k n (row R T needs kind) r old new
+  does_after R T needs kind x r stays is found reads did = record {
+    tried =
+        decides_after stays reads (TriesIn (rest R T needs kind x) second) (TriesIn (row R T needs kind) both)
+        (tries_after R T needs kind x (h.files old.shelf) (h.files middle) (h.takes old.shelf) (h.takes middle) (s.left old.input) found
+        (λ o. subst (λ (w : World). T w x o) (world_same stays reads)) _ _ _
+        (Rose-earlier (h.faults old.shelf) (h.faults middle) (h.faults new.shelf) reads.later))
+        r did.tried;
+    shelf = Serves-after (shelved h old.shelf middle) (shelved h middle new.shelf) stays _ refl refl refl is reads did.shelf;
+    files = SparesBy-after kind _ (h.files old.shelf) (h.files middle) (h.files new.shelf) reads.files did.files;
+    input = did.input;
+    source = did.source;
+  }

@@ -1,0 +1,44 @@
+use Rattle.std.proofs.Common.{length}
+use Rattle.alpha_io.specs.Faults.{Rose}
+use Rattle.alpha_io.specs.Files.{Refuses}
+use Rattle.alpha_io.specs.Shelved.{shelved}
+use Rattle.alpha_io.specs.Sunk.{sunk}
+use Rattle.alpha_replay.specs.Journal.{spelling}
+use Rattle.alpha_cmd.specs.Chooser.{ahead_in}
+use Rattle.alpha_cmd.specs.Commands.Imprecise.{plan_by}
+use Rattle.alpha_cmd.specs.Ends.{status_in}
+use Rattle.alpha_cmd.proofs.Commands.Record.{has_of}
+use Rattle.alpha_cmd.proofs.JournalKept.{kept_does}
+use Rattle.alpha_cmd.proofs.JournalStatus.{kept_keeps, over_no_end}
+use Rattle.alpha_cmd.proofs.record.record_plan.Goals as goal
+
+pub returns-in-Made-clause-does : goal.returns-in-Made-clause-does
+returns-in-Made-clause-does g c = λ force fine good.
+    kept_does g.H.Shelf g.S.Source g.K.Sink g.N.Sink c.args.devices.now c.run_plan.new.devices c.keep_journal.new.shelf c.args.options force c.args.name.now
+    (plan_by c.args.plan.image (ahead_in c.args.plan.chooser)) c.in-Made.journal c.in-Made.decision c.keep_journal.result c.run_plan.ensures.shelf c.in-Made.ensures.calm
+    (c.in-Made.ensures.made force fine good) (c.keep_journal.ensures.kept, c.keep_journal.ensures.shelf)
+
+pub returns-in-Made-clause-keeps : goal.returns-in-Made-clause-keeps
+returns-in-Made-clause-keeps g c = λ force fine good end lost n is.
+    let old = c.args.devices.now in
+    let middle = c.run_plan.new.devices in
+    let name = c.args.name.now in
+    let plan = plan_by c.args.plan.image (ahead_in c.args.plan.chooser) in
+    let p = c.in-Made.journal in
+    let input = g.S.Source.left old.input in
+    let run = c.in-Made.ensures.made force fine good in
+    let out = sunk g.K.Sink old.out middle.out in
+    let notes = sunk g.N.Sink old.notes middle.notes in (
+      p,
+      c.keep_journal.ensures.good,
+      has_of c.args.options input plan run.shown p run.has,
+      kept_keeps c.args.options force name input plan p c.in-Made.decision c.keep_journal.result (g.S.Source.left middle.input) out notes run
+          (Refuses (g.H.Shelf.files middle.shelf) (g.H.Shelf.takes middle.shelf name (length (spelling p)))) (Rose (g.H.Shelf.faults middle.shelf) (g.H.Shelf.faults c.keep_journal.new.shelf))
+          (shelved g.H.Shelf middle.shelf c.keep_journal.new.shelf) end lost n is c.keep_journal.ensures.kept,
+    )
+
+pub returns-in-Over-clause-does : goal.returns-in-Over-clause-does
+returns-in-Over-clause-does g c = λ force fine good. c.in-Over.ensures.over force c.args.name.now fine good
+
+pub returns-in-Over-clause-keeps : goal.returns-in-Over-clause-keeps
+returns-in-Over-clause-keeps g c = λ force fine good end lost n is. absurd (over_no_end end lost n (status_in c.in-Over.result) is c.in-Over.ensures.status)
