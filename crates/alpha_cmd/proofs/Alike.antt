@@ -70,21 +70,14 @@ sequential_by : (input : Option (List ℕ)) (end : Option End) (steps : ℕ) (ou
 unfolding answer_by
 sequential_by input None steps output left notes drawn = refl
 sequential_by input (Some (ends.Exit v)) steps output left notes drawn = refl
-sequential_by input (Some (ends.Signal code pc)) steps output left notes drawn = refl
-sequential_by input (Some (ends.Fetch pc)) steps output left notes drawn = refl
-sequential_by input (Some (ends.Access pc addr)) steps output left notes drawn = refl
-sequential_by input (Some (ends.Align pc addr)) steps output left notes drawn = refl
-sequential_by input (Some (ends.Overflow pc)) steps output left notes drawn = refl
+sequential_by input (Some end) steps output left notes drawn = refl
 
 answers_alike : (input : Option (List ℕ)) (s : Shown) (t : ShownWild) → ShowsSame s t → undrawn (answer_wild input t) ≡ answer_shown input s
 unfolding answer_by
 answers_alike input s t h =
-    ap (λ end. answer_by input end t.lost t.output t.left t.notes t.drawn) h.end
-    ∙ (ap (λ lost. answer_by input s.end lost t.output t.left t.notes t.drawn) h.lost
-    ∙ (ap (λ output. answer_by input s.end None output t.left t.notes t.drawn) h.output
-    ∙ (ap (λ left. answer_by input s.end None s.output left t.notes t.drawn) h.left
-    ∙ (ap (λ notes. answer_by input s.end None s.output s.left notes t.drawn) h.notes
-    ∙ sequential_by input s.end s.steps s.output s.left s.notes t.drawn))))
+    let same : answer_by input t.end t.lost t.output t.left t.notes t.drawn ≡ answer_by input s.end None s.output s.left s.notes t.drawn =
+    λ i. answer_by input (h.end i) (h.lost i) (h.output i) (h.left i) (h.notes i) t.drawn in
+    same ∙ sequential_by input s.end s.steps s.output s.left s.notes t.drawn
 
 runs_same : (force : Bool) (g : Program) (input : List ℕ) (ahead : ℕ → ℕ) (n : ℕ) (watch : Bool) → IsRestartable g.image
     → ShowsSame (sequential g input n watch) (run_by force g input ahead n watch)

@@ -29,11 +29,7 @@ use Rattle.alpha_cmd.proofs.Lawful.{IsRefusal}
 
 drawn_ends : (n : ℕ) (end : End) → (class_of (drawn_status n end) ≡ done) ⊎ (class_of (drawn_status n end) ≡ ended)
 drawn_ends n (ended_by.Exit v) = inl refl
-drawn_ends n (ended_by.Signal code pc) = inr refl
-drawn_ends n (ended_by.Fetch pc) = inr refl
-drawn_ends n (ended_by.Access pc addr) = inr refl
-drawn_ends n (ended_by.Align pc addr) = inr refl
-drawn_ends n (ended_by.Overflow pc) = inr refl
+drawn_ends n end = inr refl
 
 wild_ends : (end : Option End) (trap : Option LostTrap) (n : ℕ) → (class_of (wild_status end trap n) ≡ done) ⊎ (class_of (wild_status end trap n) ≡ ended)
 wild_ends (Some end) trap n = drawn_ends n end
@@ -52,11 +48,7 @@ no_end end trap n s e h =
 
 drawn_not_full : (n : ℕ) (end : End) → drawn_status n end ≢ JournalFull
 drawn_not_full n (ended_by.Exit v) e = cc
-drawn_not_full n (ended_by.Signal code pc) e = cc
-drawn_not_full n (ended_by.Fetch pc) e = cc
-drawn_not_full n (ended_by.Access pc addr) e = cc
-drawn_not_full n (ended_by.Align pc addr) e = cc
-drawn_not_full n (ended_by.Overflow pc) e = cc
+drawn_not_full n end e = cc
 
 not_full : (end : Option End) (trap : Option LostTrap) (n : ℕ) → wild_status end trap n ≢ JournalFull
 not_full (Some end) trap n e = drawn_not_full n end e

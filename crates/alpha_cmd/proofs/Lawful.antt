@@ -44,6 +44,23 @@ Either-single Good Why one (stops s l) (stops t m) h g = let same = one.why s t 
 pub Says-one : (Why : Status → Type 0) → ((s t : Status) → Why s → Why t → s ≡ t) → (s t : Status) (l m : List ℕ) → Says Why s l → Says Why t m → (s ≡ t) × (l ≡ m)
 Says-one Why one s t l m h g = let same = one s t h.0 g.0 in (same, h.1 ∙ (ap status_line same ∙ sym g.1))
 
+-- the statuses of a stage that stops by the fault which a value has
+abbrev pub IsFault : {F V : Type 0} → (F → Status) → V → (F → V) → Status → Type 0
+IsFault {F = F} bad value has status = (fault : F) × (status ≡ bad fault) × (value ≡ has fault)
+
+pub Faults-lawful : {X F V told whole there : Type 0} (Good : X → Type 0) (bad : F → Status) (value : V) (has : F → V) → ((f g : F) → has f ≡ has g → f ≡ g)
+    → ((f : F) → class_of (bad f) ≡ refused) → ((a b : X) → Good a → Good b → a ≡ b) → ((a : X) (f : F) → Good a → value ≡ has f → ⊥)
+    → (whole → HasOutcome (Either Good (Says (IsFault bad value has)))) → Lawful told whole there (Either Good (Says (IsFault bad value has)))
+Faults-lawful Good bad value has same refuses one apart some = record {
+  single = λ h. Either-single Good (Says (IsFault bad value has)) (record {
+    good = one;
+    why = Says-one (IsFault bad value has) (λ s t f g. f.1 ∙ (ap bad (same f.0 g.0 (sym f.2 ∙ g.2)) ∙ sym g.1));
+    apart = λ a s l good f. apart a f.0.0 good f.0.2;
+  });
+  some = some;
+  plain = λ s l f. inl (ap class_of f.0.1 ∙ refuses f.0.0);
+}
+
 -- a stage that never stops
 pub Goes-lawful : {X : Type 0} {told whole there : Type 0} (Good : X → Type 0) → (told → (a b : X) → Good a → Good b → a ≡ b) → (whole → (a : X) × Good a)
     → Lawful told whole there (Either Good Never)

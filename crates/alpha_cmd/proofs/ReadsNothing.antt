@@ -7,7 +7,7 @@ use Rattle.alpha_image.specs.Parts.{Parts}
 use Rattle.alpha_request.specs.Command.{run, imprecise}
 use Rattle.alpha_request.specs.Origin.{Origin}
 use Rattle.alpha_request.specs.declared.options.RunOptions.{RunOptions}
-use Rattle.alpha_seq.specs.State.{Program, State, Event, Went, Barriered, Overflowed, Ends, Stepped, stepped}
+use Rattle.alpha_seq.specs.State.{Program, State, Event, Went, Ends, Stepped, stepped}
 use Rattle.alpha_seq.specs.Start.{start}
 use Rattle.alpha_seq.specs.Step.{next_class, step_from}
 use Rattle.alpha_seq.specs.Run.{Run, Mark, marks_of, started, end_of, is_over, extended_by, advance, after, Shown, shown}
@@ -47,9 +47,7 @@ looks_away g r = takes_input (next_class g r.state.pc) r.state ≡ false
 
 marks-over : (event : Event) (input : List ℕ) (s : State) → marks_of event (over_input input s) ≡ marks_of event s
 marks-over Went input s = refl
-marks-over Barriered input s = refl
-marks-over (Overflowed at) input s = refl
-marks-over (Ends end) input s = refl
+marks-over event input s = refl
 
 -- a step over another input is the one that was made, over that input
 extended-over : (r : Run) (input : List ℕ) (t : Stepped)
@@ -100,10 +98,8 @@ run_over-steps g (input ∷ inputs) r = let rest = run_over-steps g inputs (adva
     by false rest = omega arith
 
 going_no_end : (event : Event) → is_over event ≡ false → end_of event ≡ None
-going_no_end Went e = refl
-going_no_end Barriered e = refl
-going_no_end (Overflowed at) e = refl
 going_no_end (Ends end) e = cc
+going_no_end event e = refl
 
 -- It has made its steps, or is over: so it is the run of so many steps, but for what is left of the input.
 by_reads : (g : Program) (s : State) (n : ℕ) → IsUnread g s n → (inputs : List (List ℕ)) (k : ℕ) (r : Run) → k ≤ n → over_run [] r ≡ after g s k → HasMade n (run_over g inputs r)

@@ -7,10 +7,10 @@ use Rattle.alpha_shadow.specs.Broken.{IsAccepted}
 use Rattle.alpha_request.specs.declared.options.RunOptions.{RunOptions}
 use Rattle.alpha_request.specs.Origin.{Origin}
 use Rattle.alpha_restart.proofs.Agreeing.{accepted_restarts}
-use Rattle.alpha_seq.specs.State.{Program, State, Went, Barriered, Overflowed, Ends}
+use Rattle.alpha_seq.specs.State.{Program, State, Went}
 use Rattle.alpha_seq.specs.Start.{start}
 use Rattle.alpha_seq.specs.Run.{Shown, sequential}
-use Rattle.alpha_imprecise.specs.Moment.{Trap, Happening, Precisely, Triggered, Waited, Reported, Lost}
+use Rattle.alpha_imprecise.specs.Moment.{Trap, Happening, Precisely}
 use Rattle.alpha_imprecise.specs.Restart.{IsRestartable}
 use Rattle.alpha_imprecise.specs.Run.{finished, unit_of}
 use Rattle.alpha_imprecise.specs.Shown.{ShowsSame}
@@ -122,13 +122,8 @@ module _ (n : ℕ) (g : Program) (s : State) (words : List ℕ) (k : Journaled) 
 
 ending_is : (h : Happening) → ending_of h ≡ ending_shown (wild_end h) (lost_trap h)
 ending_is (Precisely Went) = refl
-ending_is (Precisely Barriered) = refl
-ending_is (Precisely (Overflowed at)) = refl
-ending_is (Precisely (Ends end)) = refl
-ending_is Triggered = refl
-ending_is Waited = refl
-ending_is (Reported at) = refl
-ending_is (Lost pc mask) = refl
+ending_is (Precisely event) = refl
+ending_is moment = refl
 
 module _ (options : RunOptions) (image : Image) (bytes : List ℕ) (ahead : ℕ → ℕ) where
   abbrev g : Program
@@ -173,12 +168,9 @@ module _ (options : RunOptions) (image : Image) (bytes : List ℕ) (ahead : ℕ 
 
   same_wild : (s : Shown) (w : ShownWild) → ShowsSame s w → with_drawn s w.drawn ≡ w
   same_wild s w h =
-      ap (λ end. record { end = end; lost = None; units = s.steps; output = s.output; left = s.left; notes = s.notes; drawn = w.drawn }) (sym h.end)
-      ∙ (ap (λ lost. record { end = w.end; lost = lost; units = s.steps; output = s.output; left = s.left; notes = s.notes; drawn = w.drawn }) (sym h.lost)
-      ∙ (ap (λ units. record { end = w.end; lost = w.lost; units = units; output = s.output; left = s.left; notes = s.notes; drawn = w.drawn }) (sym h.steps)
-      ∙ (ap (λ output. record { end = w.end; lost = w.lost; units = w.units; output = output; left = s.left; notes = s.notes; drawn = w.drawn }) (sym h.output)
-      ∙ (ap (λ left. record { end = w.end; lost = w.lost; units = w.units; output = w.output; left = left; notes = s.notes; drawn = w.drawn }) (sym h.left)
-      ∙ ap (λ notes. record { end = w.end; lost = w.lost; units = w.units; output = w.output; left = w.left; notes = notes; drawn = w.drawn }) (sym h.notes)))))
+      let back : w ≡ with_drawn s w.drawn =
+      λ i. record { end = h.end i; lost = h.lost i; units = h.steps i; output = h.output i; left = h.left i; notes = h.notes i; drawn = w.drawn } in
+      sym back
 
   shows_made : (force : Bool) (s : ShownWild) → (force ≡ false → IsRestartable image)
       → MayShowWild (unwatched options) force (Some bytes) (record { image = image; ahead = ahead }) s

@@ -18,11 +18,11 @@ use Rattle.alpha_shadow.proofs.Decided.{verdict}
 use Rattle.alpha_cmd.specs.declared.status.Status.{Status}
 use Rattle.alpha_cmd.specs.declared.status.Status.TheVariants.{NotRestartable, BadImage, ShelfFault, TooLarge}
 use Rattle.alpha_cmd.specs.Status.{class_of, status_line, Says}
-use Rattle.alpha_cmd.specs.Outcome.{goes, stops}
-use Rattle.alpha_cmd.specs.Image.{Unread, Reads, NoImage, Spells, ImageOf, IsRefused, Judges, image_limit}
+use Rattle.alpha_cmd.specs.Outcome.{goes, stops, Either}
+use Rattle.alpha_cmd.specs.Image.{Unread, Reads, Spells, ImageOf, Judges, image_limit}
 use Rattle.alpha_cmd.specs.AnswerBy.{World, HaveBytes, kept_as}
 use Rattle.alpha_cmd.specs.Keeping.{Untaken, KeepsAs}
-use Rattle.alpha_cmd.proofs.Lawful.{Lawful, HasOutcome, IsSingle, IsRefusal, Either-single, Says-one, Then-lawful}
+use Rattle.alpha_cmd.proofs.Lawful.{Lawful, HasOutcome, IsSingle, IsRefusal, Either-single, Says-one, Faults-lawful, Then-lawful}
 
 -- ---- a file
 
@@ -105,26 +105,15 @@ kept_same (Some f) (Some g) kept = λ i. Some (λ name. kept name i)
 
 -- ---- an image
 
-spelled_apart : (bytes : List ℕ) (image : Parts) (s : Status) → IsImage image → bytes ≡ spelling image → NoImage bytes s → ⊥
-spelled_apart bytes image s good e (fault, is, first) = let none = ap first_fault e ∙ first_fault-spelling image good in cc
-
-same_fault : (bytes : List ℕ) (s t : Status) → NoImage bytes s → NoImage bytes t → s ≡ t
-same_fault bytes s t (f, is, first) (g, also, second) = let same : f ≡ g = cc in is ∙ (ap BadImage same ∙ sym also)
-
 spells_some : (bytes : List ℕ) → All IsByte bytes → (fault : Option ImageFault) → first_fault bytes ≡ fault → HasOutcome (Spells bytes)
 spells_some bytes all None e = (goes (parts_of bytes), no_fault bytes (IsBytes-All bytes all) e)
 spells_some bytes all (Some fault) e = (stops (BadImage fault) (status_line (BadImage fault)), ((fault, refl, e), refl))
 
 pub Spells-lawful : (told whole there : Type 0) (bytes : List ℕ) → (whole → All IsByte bytes) → Lawful told whole there (Spells bytes)
-Spells-lawful told whole there bytes all = record {
-  single = λ h. Either-single (λ image. IsImage image × (bytes ≡ spelling image)) (Says (NoImage bytes)) (record {
-    good = λ a b h g. one_image a b h.0 g.0 (sym h.1 ∙ g.1);
-    why = Says-one (NoImage bytes) (same_fault bytes);
-    apart = λ a s l h g. spelled_apart bytes a s h.0 h.1 g.0;
-  });
-  some = λ h. spells_some bytes (all h) (first_fault bytes) refl;
-  plain = λ s line h. inl (ap class_of h.0.1);
-}
+Spells-lawful told whole there bytes all =
+    Faults-lawful (λ image. IsImage image × (bytes ≡ spelling image)) BadImage (first_fault bytes) Some (λ f g e. cc) (λ f. refl)
+    (λ a b h g. one_image a b h.0 g.0 (sym h.1 ∙ g.1)) (λ a f h first. let none = ap first_fault h.1 ∙ first_fault-spelling a h.0 in cc)
+    (λ h. spells_some bytes (all h) (first_fault bytes) refl)
 
 pub ImageOf-lawful : (told whole there : Type 0) (files : Files) (name : List ℕ) → (told → IsSome files) → (whole → IsSome files × HaveBytes files)
     → (there → IfTold files name (λ bytes. Unit {0})) → Lawful told whole there (ImageOf files name)
@@ -156,28 +145,38 @@ same_least code b c x y = go (x.least c.trigger c.at c.condition y.broken) (y.le
         q)
         p
 
-same_refusal : (image : Parts) (s t : Status) (l m : List ℕ) → IsRefused image s l → IsRefused image t m → (s ≡ t) × (l ≡ m)
-same_refusal image s t l m (b, is, why) (c, also, because) =
-    let same = same_least image.words b c why.0 because.0 in
-    (is ∙ (ap NotRestartable same ∙ sym also), why.1 ∙ (ap (λ place. broken_line place image.code_base) same ∙ sym because.1))
+-- why code with this base is refused, and what is let through where it isn't
+abbrev pub IsRefusedBy : List ℕ → ℕ → Status → List ℕ → Type 0
+IsRefusedBy code base status line = (b : Broken) × (status ≡ NotRestartable b) × (IsLeastBroken code b × (line ≡ broken_line b base))
 
-judged_some : (image : Parts) → HasOutcome (Judges image)
-judged_some image =
+abbrev pub Lets : {X : Type 0} → List ℕ → X → X → Type 0
+Lets code x y = IsAccepted code × (y ≡ x)
+
+same_refusal : (code : List ℕ) (base : ℕ) (s t : Status) (l m : List ℕ) → IsRefusedBy code base s l → IsRefusedBy code base t m → (s ≡ t) × (l ≡ m)
+same_refusal code base s t l m (b, is, why) (c, also, because) =
+    let same = same_least code b c why.0 because.0 in
+    (is ∙ (ap NotRestartable same ∙ sym also), why.1 ∙ (ap (λ place. broken_line place base) same ∙ sym because.1))
+
+judged_some : {X : Type 0} (code : List ℕ) (base : ℕ) (x : X) → HasOutcome (Either (Lets code x) (IsRefusedBy code base))
+judged_some code base x =
     ⊎_elim
-    (λ (good : IsAccepted image.words). (goes image, (good, refl)))
-    (λ (bad : (b : Broken) × IsLeastBroken image.words b). (stops (NotRestartable bad.0) (broken_line bad.0 image.code_base), (bad.0, refl, (bad.1, refl))))
-    (verdict image.words)
+    (λ (good : IsAccepted code). (goes x, (good, refl)))
+    (λ (bad : (b : Broken) × IsLeastBroken code b). (stops (NotRestartable bad.0) (broken_line bad.0 base), (bad.0, refl, (bad.1, refl))))
+    (verdict code)
 
-pub Judges-lawful : (told whole there : Type 0) (image : Parts) → Lawful told whole there (Judges image)
-Judges-lawful told whole there image = record {
-  single = λ h. Either-single (λ same. IsAccepted image.words × (same ≡ image)) (IsRefused image) (record {
+pub Verdict-lawful : {X told whole there : Type 0} (code : List ℕ) (base : ℕ) (x : X) → Lawful told whole there (Either (Lets code x) (IsRefusedBy code base))
+Verdict-lawful code base x = record {
+  single = λ h. Either-single (Lets code x) (IsRefusedBy code base) (record {
     good = λ a b h g. h.1 ∙ sym g.1;
-    why = same_refusal image;
+    why = same_refusal code base;
     apart = λ a s l h g. h.0 g.0.trigger g.0.at g.0.condition g.2.0.broken;
   });
-  some = λ h. judged_some image;
+  some = λ h. judged_some code base x;
   plain = λ s line h. inl (ap class_of h.1);
 }
+
+pub Judges-lawful : (told whole there : Type 0) (image : Parts) → Lawful told whole there (Judges image)
+Judges-lawful told whole there image = Verdict-lawful image.words image.code_base image
 
 -- ---- a file that is kept
 

@@ -52,11 +52,7 @@ same_words files choices = (has_words files choices, have_words files choices)
 run_undrawn : (end : Option End) → but_drawn (run_status end) ≡ run_status end
 run_undrawn None = refl
 run_undrawn (Some (ends.Exit v)) = refl
-run_undrawn (Some (ends.Signal code pc)) = refl
-run_undrawn (Some (ends.Fetch pc)) = refl
-run_undrawn (Some (ends.Access pc addr)) = refl
-run_undrawn (Some (ends.Align pc addr)) = refl
-run_undrawn (Some (ends.Overflow pc)) = refl
+run_undrawn (Some end) = refl
 
 told_undrawn : (options : RunOptions) (image : Parts) (bytes : List ℕ) → undrawn (answer_told options image bytes) ≡ answer_told options image bytes
 told_undrawn options image bytes =

@@ -50,23 +50,13 @@ use Rattle.alpha_cmd.proofs.Untold.{reads_show}
 
 status_by : (h : Happening) (n : ℕ) → answer_status (ended_as h) n ≡ wild_status (wild_end h) (lost_trap h) n
 status_by (Precisely Went) n = refl
-status_by (Precisely Barriered) n = refl
-status_by (Precisely (Overflowed at)) n = refl
-status_by (Precisely (Ends end)) n = refl
-status_by Triggered n = refl
-status_by Waited n = refl
-status_by (Reported at) n = refl
-status_by (Lost pc mask) n = refl
+status_by (Precisely event) n = refl
+status_by moment n = refl
 
 line_by : (h : Happening) → answer_line (ended_as h) ≡ wild_line (wild_end h) (lost_trap h)
 line_by (Precisely Went) = refl
-line_by (Precisely Barriered) = refl
-line_by (Precisely (Overflowed at)) = refl
-line_by (Precisely (Ends end)) = refl
-line_by Triggered = refl
-line_by Waited = refl
-line_by (Reported at) = refl
-line_by (Lost pc mask) = refl
+line_by (Precisely event) = refl
+line_by moment = refl
 
 -- the image of a plan that may be run is a good one, and it is accepted unless the verdict is passed over
 pub planned_good : (force : Bool) (drawn : choices.Origin) (name : List ℕ) (files : Files) (plan : Plan) → Planned drawn force name files (goes plan)

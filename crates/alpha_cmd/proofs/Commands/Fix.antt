@@ -21,7 +21,6 @@ use Rattle.alpha_cmd.specs.declared.status.Status.TheVariants.{BadSource, Unfixa
 use Rattle.alpha_cmd.specs.Status.{class_of, status_line, unfixable_line}
 use Rattle.alpha_cmd.specs.Outcome.{goes, stops}
 use Rattle.alpha_cmd.specs.Commands.Fix.{IsUnfixable, Unfixed, Unfixes, Fixes}
-use Rattle.alpha_cmd.proofs.Commands.Asm.{same_refused}
 use Rattle.alpha_cmd.proofs.Lawful.{Lawful, HasOutcome, IsRefusal, Either-single}
 
 -- ---- a source has one image, and that one list of cuts
@@ -58,7 +57,7 @@ unfixable_apart source s t l (p, h, (b, is, (least, line))) (inr (inl (n, also, 
 unfixable_apart source s t l (p, h, (b, is, (least, line))) (inr (inr (fault, also, (q, cuts, has, some, free, none)))) = not_alone source q p cuts b has h least
 
 same_unfixed : (source : List ℕ) (s t : Status) → Unfixed source s → Unfixed source t → s ≡ t
-same_unfixed source s t (inl h) (inl g) = same_refused source s t h g
+same_unfixed source s t (inl (f, is, first)) (inl (g, also, second)) = let same : f ≡ g = cc in is ∙ (ap BadSource same ∙ sym also)
 same_unfixed source s t (inl (fault, is, none)) (inr (inl (n, also, (q, cuts, has, some, first)))) = absurd (no_image source q fault has.has_image none)
 same_unfixed source s t (inl (fault, is, none)) (inr (inr (far, also, (q, cuts, has, some, free, gone)))) = absurd (no_image source q fault has.has_image none)
 same_unfixed source s t (inr (inl (n, also, (q, cuts, has, some, first)))) (inl (fault, is, none)) = absurd (no_image source q fault has.has_image none)

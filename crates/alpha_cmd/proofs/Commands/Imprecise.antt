@@ -100,11 +100,7 @@ RunsWild-lawful told whole there options force input plan has =
 
 pub drawn_plain : (n : ℕ) (end : End) → is_fault (drawn_status n end) ≡ false
 drawn_plain n (ends.Exit v) = refl
-drawn_plain n (ends.Signal code pc) = refl
-drawn_plain n (ends.Fetch pc) = refl
-drawn_plain n (ends.Access pc addr) = refl
-drawn_plain n (ends.Align pc addr) = refl
-drawn_plain n (ends.Overflow pc) = refl
+drawn_plain n end = refl
 
 pub wild_plain : (end : Option End) (lost : Option LostTrap) (n : ℕ) → is_fault (wild_status end lost n) ≡ false
 wild_plain (Some end) lost n = drawn_plain n end
@@ -161,11 +157,7 @@ found_end lost (Some end, (trap, (n, none, is))) = by end is
   where
     by : (end : End) → statuses.Lost lost ≡ drawn_status n end → ⊥
     by (ends.Exit v) e = cc
-    by (ends.Signal code pc) e = cc
-    by (ends.Fetch pc) e = cc
-    by (ends.Access pc addr) e = cc
-    by (ends.Align pc addr) e = cc
-    by (ends.Overflow pc) e = cc
+    by end e = cc
 found_end lost (None, (trap, (n, none, is))) =
     let spent : wild_status None trap n ≡ statuses.StepsSpent = ap (λ (t : Option LostTrap). wild_status None t n) none in
     let no = is ∙ spent in cc

@@ -1,5 +1,5 @@
 -- The laws of `link`, and what leads to its answers.
-use Rattle.std.proofs.Common.{◌≡◌, ◌∙◌, ℕ, List, [], ◌∷◌, ◌++◌, length, map, drop, get_or, suc, Bor, Vec, Global, ◌<◌, ◌+◌, All, Result, Ok, Err, IsSome, refl, sym, ap, subst, inl}
+use Rattle.std.proofs.Common.{◌≡◌, ◌∙◌, ℕ, List, [], ◌∷◌, ◌++◌, length, map, drop, get_or, suc, Bor, Vec, Global, ◌<◌, ◌+◌, All, Result, Ok, Err, IsSome, refl, sym, ap, subst}
 use Rattle.std.specs.List.{AllByRecursion}
 use Rattle.std.proofs.lemmas.List.{map-append}
 use Rattle.std.proofs.lemmas.List.Elements.{All-nil, All-cons}
@@ -20,13 +20,13 @@ use Rattle.alpha_link.proofs.ModuleBytes.{bytes_of_all, module_takes, module_aga
 use Rattle.alpha_link.proofs.Results.{ok_is}
 use Rattle.alpha_cmd.specs.declared.status.Status.{Status}
 use Rattle.alpha_cmd.specs.declared.status.Status.TheVariants.{BadModule, BadLink}
-use Rattle.alpha_cmd.specs.Status.{class_of, status_line, Says}
+use Rattle.alpha_cmd.specs.Status.{status_line}
 use Rattle.alpha_cmd.specs.Outcome.{goes, stops, Then}
 use Rattle.alpha_cmd.specs.Image.{Reads}
 use Rattle.alpha_cmd.specs.AnswerBy.{World, HaveBytes}
 use Rattle.alpha_cmd.specs.Form.{IsThere}
-use Rattle.alpha_cmd.specs.Commands.Link.{module_limit, FilesOf, NoModule, ModuleOf, ModulesOf, NoLink, IsLinked, Links, Makes, Spell, form, there}
-use Rattle.alpha_cmd.proofs.Lawful.{Lawful, HasOutcome, Either-single, Says-one, Then-lawful}
+use Rattle.alpha_cmd.specs.Commands.Link.{module_limit, FilesOf, ModuleOf, ModulesOf, IsLinked, Links, Makes, Spell, form, there}
+use Rattle.alpha_cmd.proofs.Lawful.{Lawful, HasOutcome, Faults-lawful, Then-lawful}
 use Rattle.alpha_cmd.proofs.Listed.{Each-lawful, Each-zip, Zip, Rest, drop_at, rest_next, rest_stops}
 use Rattle.alpha_cmd.proofs.Stages.{Reads-lawful, read_bytes, kept_same}
 use Rattle.alpha_cmd.proofs.Forms.{IsLawfulForm, making_lawful}
@@ -36,26 +36,15 @@ use Rattle.alpha_cmd.proofs.Forms.{IsLawfulForm, making_lawful}
 one_module : (m n : ModuleParts) → IsModule m → IsModule n → spelling m ≡ spelling n → m ≡ n
 one_module m n good other e = ok_is m n (sym (module_again m good) ∙ (ap module_at e ∙ module_again n other))
 
-module_apart : (number : ℕ) (bytes : List ℕ) (m : ModuleParts) (s : Status) → IsModule m → bytes ≡ spelling m → NoModule number bytes s → ⊥
-module_apart number bytes m s good e (fault, is, first) = let ok = ap module_at e ∙ module_again m good in cc
-
-same_fault : (number : ℕ) (bytes : List ℕ) (s t : Status) → NoModule number bytes s → NoModule number bytes t → s ≡ t
-same_fault number bytes s t (f, is, first) (g, also, second) = let same : f ≡ g = cc in is ∙ (ap (BadModule number) same ∙ sym also)
-
 module_some : (number : ℕ) (bytes : List ℕ) → All IsByte bytes → (r : Result ModuleParts ModuleFault) → module_at bytes ≡ r → HasOutcome (ModuleOf number bytes)
 module_some number bytes all (Ok m) e = (goes m, module_takes bytes m (bytes_of_all bytes all) e)
 module_some number bytes all (Err fault) e = (stops (BadModule number fault) (status_line (BadModule number fault)), ((fault, refl, e), refl))
 
 ModuleOf-lawful : (told whole there : Type 0) (number : ℕ) (bytes : List ℕ) → (whole → All IsByte bytes) → Lawful told whole there (ModuleOf number bytes)
-ModuleOf-lawful told whole there number bytes all = record {
-  single = λ h. Either-single (λ m. IsModule m × (bytes ≡ spelling m)) (Says (NoModule number bytes)) (record {
-    good = λ a b h g. one_module a b h.0 g.0 (sym h.1 ∙ g.1);
-    why = Says-one (NoModule number bytes) (same_fault number bytes);
-    apart = λ a s l h g. module_apart number bytes a s h.0 h.1 g.0;
-  });
-  some = λ h. module_some number bytes (all h) (module_at bytes) refl;
-  plain = λ s line h. inl (ap class_of h.0.1);
-}
+ModuleOf-lawful told whole there number bytes all =
+    Faults-lawful (λ m. IsModule m × (bytes ≡ spelling m)) (BadModule number) (module_at bytes) Err (λ f g e. cc) (λ f. refl)
+    (λ a b h g. one_module a b h.0 g.0 (sym h.1 ∙ g.1)) (λ m f h first. let ok = ap module_at h.1 ∙ module_again m h.0 in cc)
+    (λ h. module_some number bytes (all h) (module_at bytes) refl)
 
 -- ---- the image
 
@@ -73,12 +62,6 @@ same_linked : (entry : List ℕ) (ms : List ModuleParts) (a b : List ℕ) → Is
 same_linked entry ms a b (p, good, (h, s)) (q, other, (g, t)) =
     s ∙ (ap images.spelling (same_image p q good other (one_program entry ms (program_of p) (program_of q) h g)) ∙ sym t)
 
-same_refused : (entry : List ℕ) (ms : List ModuleParts) (s t : Status) → NoLink entry ms s → NoLink entry ms t → s ≡ t
-same_refused entry ms s t (f, is, first) (g, also, second) = let same : f ≡ g = cc in is ∙ (ap BadLink same ∙ sym also)
-
-linked_apart : (entry : List ℕ) (ms : List ModuleParts) (a : List ℕ) (s : Status) → IsLinked entry ms a → NoLink entry ms s → ⊥
-linked_apart entry ms a s (p, good, (h, is)) (f, so, first) = cc
-
 links_some : (entry : List ℕ) (ms : List ModuleParts) → All IsModule ms → (r : Result Program LinkFault) → linked ms entry ≡ r → HasOutcome (Links entry ms)
 links_some entry ms good (Ok p) e =
     let (image, is, same) = linked_image ms entry p good e in
@@ -86,15 +69,9 @@ links_some entry ms good (Ok p) e =
 links_some entry ms good (Err fault) e = (stops (BadLink fault) (status_line (BadLink fault)), ((fault, refl, e), refl))
 
 Links-lawful : (told whole there : Type 0) (entry : List ℕ) (ms : List ModuleParts) → All IsModule ms → Lawful told whole there (Links entry ms)
-Links-lawful told whole there entry ms good = record {
-  single = λ h. Either-single (IsLinked entry ms) (Says (NoLink entry ms)) (record {
-    good = same_linked entry ms;
-    why = Says-one (NoLink entry ms) (same_refused entry ms);
-    apart = λ a s l h g. linked_apart entry ms a s h g.0;
-  });
-  some = λ h. links_some entry ms good (linked ms entry) refl;
-  plain = λ s line h. inl (ap class_of h.0.1);
-}
+Links-lawful told whole there entry ms good =
+    Faults-lawful (IsLinked entry ms) BadLink (linked ms entry) Err (λ f g e. cc) (λ f. refl) (same_linked entry ms) (λ a f h first. let ok = h.2.0 in cc)
+    (λ h. links_some entry ms good (linked ms entry) refl)
 
 -- ---- what was read
 

@@ -13,65 +13,39 @@ use Rattle.alpha_replay.specs.Replay.{replayed}
 use Rattle.alpha_replay.proofs.Spelled.{one_journal, first_fault-spelling, no_fault}
 use Rattle.alpha_cmd.specs.declared.status.Status.{Status}
 use Rattle.alpha_cmd.specs.declared.status.Status.TheVariants.{BadJournal, NotARun, NoMemory}
-use Rattle.alpha_cmd.specs.Status.{class_of, status_line, Says}
+use Rattle.alpha_cmd.specs.Status.{status_line}
 use Rattle.alpha_cmd.specs.Outcome.{goes, stops, Then, Gives}
 use Rattle.alpha_cmd.specs.Image.{Reads, ImageOf}
 use Rattle.alpha_cmd.specs.Answer.{Answer}
 use Rattle.alpha_cmd.specs.AnswerBy.{World, AnswerBy}
-use Rattle.alpha_cmd.specs.Commands.Replay.{journal_limit, NoJournal, SpellsJournal, JournalOf, NoRun, Plays, RunOf, shown, steps, form, there}
+use Rattle.alpha_cmd.specs.Commands.Replay.{journal_limit, SpellsJournal, JournalOf, Plays, RunOf, shown, steps, form, there}
 use Rattle.alpha_cmd.specs.Tries.{CutBy}
-use Rattle.alpha_cmd.proofs.Lawful.{Lawful, HasOutcome, Either-single, Says-one, Then-lawful, Gives-lawful}
+use Rattle.alpha_cmd.proofs.Lawful.{Lawful, HasOutcome, Faults-lawful, Then-lawful, Gives-lawful}
 use Rattle.alpha_cmd.proofs.Stages.{Reads-lawful, ImageOf-lawful, read_bytes, kept_same}
 use Rattle.alpha_cmd.proofs.Forms.{IsLawfulForm, is_fault}
 
 -- ---- a journal
-
-spelled_apart : (bytes : List ℕ) (p : Parts) (s : Status) → IsJournal p → bytes ≡ spelling p → NoJournal bytes s → ⊥
-spelled_apart bytes p s good e (fault, is, first) = let none = ap first_fault e ∙ first_fault-spelling p good in cc
-
-same_fault : (bytes : List ℕ) (s t : Status) → NoJournal bytes s → NoJournal bytes t → s ≡ t
-same_fault bytes s t (f, is, first) (g, also, second) = let same : f ≡ g = cc in is ∙ (ap BadJournal same ∙ sym also)
 
 spells_some : (bytes : List ℕ) → All IsByte bytes → (fault : Option JournalFault) → first_fault bytes ≡ fault → HasOutcome (SpellsJournal bytes)
 spells_some bytes all None e = (goes (parts_of bytes), no_fault bytes (IsBytes-All bytes all) e)
 spells_some bytes all (Some fault) e = (stops (BadJournal fault) (status_line (BadJournal fault)), ((fault, refl, e), refl))
 
 SpellsJournal-lawful : (told whole there : Type 0) (bytes : List ℕ) → (whole → All IsByte bytes) → Lawful told whole there (SpellsJournal bytes)
-SpellsJournal-lawful told whole there bytes all = record {
-  single = λ h. Either-single (λ p. IsJournal p × (bytes ≡ spelling p)) (Says (NoJournal bytes)) (record {
-    good = λ a b h g. one_journal a b h.0 g.0 (sym h.1 ∙ g.1);
-    why = Says-one (NoJournal bytes) (same_fault bytes);
-    apart = λ a s l h g. spelled_apart bytes a s h.0 h.1 g.0;
-  });
-  some = λ h. spells_some bytes (all h) (first_fault bytes) refl;
-  plain = λ s line h. inl (ap class_of h.0.1);
-}
+SpellsJournal-lawful told whole there bytes all =
+    Faults-lawful (λ p. IsJournal p × (bytes ≡ spelling p)) BadJournal (first_fault bytes) Some (λ f g e. cc) (λ f. refl)
+    (λ a b h g. one_journal a b h.0 g.0 (sym h.1 ∙ g.1)) (λ a f h first. let none = ap first_fault h.1 ∙ first_fault-spelling a h.0 in cc)
+    (λ h. spells_some bytes (all h) (first_fault bytes) refl)
 
 -- ---- its run
-
-one_run : (image : Image) (p : Parts) (r t : Replayed) → replayed image p ≡ Ok r → replayed image p ≡ Ok t → r ≡ t
-one_run image p r t h g = cc
-
-same_norun : (image : Image) (p : Parts) (s t : Status) → NoRun image p s → NoRun image p t → s ≡ t
-same_norun image p s t (f, is, first) (g, also, second) = let same : f ≡ g = cc in is ∙ (ap NotARun same ∙ sym also)
-
-run_apart : (image : Image) (p : Parts) (r : Replayed) (s : Status) → replayed image p ≡ Ok r → NoRun image p s → ⊥
-run_apart image p r s h (f, is, first) = cc
 
 plays_some : (image : Image) (p : Parts) (answer : Result Replayed ReplayFault) → replayed image p ≡ answer → HasOutcome (Plays image p)
 plays_some image p (Ok r) e = (goes r, e)
 plays_some image p (Err fault) e = (stops (NotARun fault) (status_line (NotARun fault)), ((fault, refl, e), refl))
 
 Plays-lawful : (told whole there : Type 0) (image : Image) (p : Parts) → Lawful told whole there (Plays image p)
-Plays-lawful told whole there image p = record {
-  single = λ h. Either-single (λ r. replayed image p ≡ Ok r) (Says (NoRun image p)) (record {
-    good = one_run image p;
-    why = Says-one (NoRun image p) (same_norun image p);
-    apart = λ r s l h g. run_apart image p r s h g.0;
-  });
-  some = λ h. plays_some image p (replayed image p) refl;
-  plain = λ s line h. inl (ap class_of h.0.1);
-}
+Plays-lawful told whole there image p =
+    Faults-lawful (λ r. replayed image p ≡ Ok r) NotARun (replayed image p) Err (λ f g e. cc) (λ f. refl) (λ r t h g. cc) (λ r f h none. cc)
+    (λ h. plays_some image p (replayed image p) refl)
 
 -- ---- the command
 

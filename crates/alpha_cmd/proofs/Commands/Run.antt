@@ -39,11 +39,7 @@ Runs-lawful told whole there options input image has =
 pub run_plain : (end : Option End) → is_fault (run_status end) ≡ false
 run_plain None = refl
 run_plain (Some (ends.Exit v)) = refl
-run_plain (Some (ends.Signal code pc)) = refl
-run_plain (Some (ends.Fetch pc)) = refl
-run_plain (Some (ends.Access pc addr)) = refl
-run_plain (Some (ends.Align pc addr)) = refl
-run_plain (Some (ends.Overflow pc)) = refl
+run_plain (Some end) = refl
 
 pub lawful : (options : RunOptions) (file : List ℕ) (w : World) → IsLawfulForm (form options file) (there file) w
 lawful options file w =
@@ -62,11 +58,7 @@ end_not_shelf end e = let x = sym (run_plain (Some end)) ∙ ap is_fault e in cc
 -- an end that no words were drawn for
 pub none_drawn : (end : End) → drawn_status 0 end ≡ run_status (Some end)
 none_drawn (ends.Exit v) = refl
-none_drawn (ends.Signal code pc) = refl
-none_drawn (ends.Fetch pc) = refl
-none_drawn (ends.Access pc addr) = refl
-none_drawn (ends.Align pc addr) = refl
-none_drawn (ends.Overflow pc) = refl
+none_drawn end = refl
 
 pub takes_end : (end : Option End) → MayTakeBy kind (run_status end)
 takes_end end = (refl, inl (end, refl))
