@@ -1,5 +1,5 @@
 -- From a run that a device's fault cut short to what a command tries then.
-use Rattle.std.proofs.Common.{◌≡◌, ◌≢◌, ◌⊎◌, None, Result, Ok, Err, IfOk, IsTrue, IsSome, ◌∙◌, refl, sym, ap, subst, inl, inr, ⊎_elim, append-nil, arith}
+use Rattle.std.proofs.Common.{◌≡◌, ◌≢◌, ◌⊎◌, None, Result, Ok, Err, IfOk, IsTrue, IsSome, refl, sym, ap, subst, inl, inr, ⊎_elim, append-nil, arith}
 use Rattle.alpha_io.specs.declared.Failed.{Failed}
 use Rattle.alpha_io.specs.Faults.{Rose}
 use Rattle.alpha_io.specs.Files.{KeepsFiles}
@@ -12,7 +12,7 @@ use Rattle.alpha_pal.specs.declared.fault.Fault.TheVariants as faults
 use Rattle.alpha_seq.specs.Devices.{Drawn, HasInputFault, HasOutputFault, HasNotesFault}
 use Rattle.alpha_seq.specs.StepEffect.{Causes}
 use Rattle.alpha_cmd.specs.declared.decision.Decision.{Decision}
-use Rattle.alpha_cmd.specs.declared.status.Status.TheVariants.{ShelfFault, InputFault, SinkFault, NoMemory}
+use Rattle.alpha_cmd.specs.declared.status.Status.TheVariants.{InputFault, SinkFault, NoMemory}
 use Rattle.alpha_cmd.specs.Status.{status_line}
 use Rattle.alpha_cmd.specs.Kept.{Kept, nothing, HasKept}
 use Rattle.alpha_cmd.specs.Answer.{Answer}
@@ -114,14 +114,6 @@ cut_status faults.Output (Ok decision) says = absurd says
 cut_status faults.Output (Err failed) says = inr refl
 cut_status faults.Notes (Ok decision) says = absurd says
 cut_status faults.Notes (Err failed) says = inr refl
-
-pub cut_not_shelf : (fault : Fault) (r : Result Decision Failed) → IsCutShort fault r → IfOk r (λ decision. decision.status ≢ ShelfFault)
-cut_not_shelf fault (Ok decision) says = λ e.
-    ⊎_elim
-    (λ (is : decision.status ≡ InputFault). let no : InputFault ≡ ShelfFault = sym is ∙ e in cc)
-    (λ (is : decision.status ≡ SinkFault). let no : SinkFault ≡ ShelfFault = sym is ∙ e in cc)
-    (cut_status fault (Ok decision) says)
-cut_not_shelf fault (Err failed) says = tt
 
 pub cut_takes : (k : Kind) → IsTrue k.takes → (fault : Fault) (r : Result Decision Failed) → IsCutShort fault r → MayTakeBy k (status_in r)
 cut_takes k takes fault r says =

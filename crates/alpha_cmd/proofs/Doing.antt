@@ -13,15 +13,15 @@ use Rattle.alpha_seq.specs.Devices.{drawn}
 use Rattle.alpha_cmd.specs.declared.decision.Decision.{Decision}
 use Rattle.alpha_cmd.specs.declared.devices.Devices.{Devices}
 use Rattle.alpha_cmd.specs.declared.status.Status.{Status}
-use Rattle.alpha_cmd.specs.declared.status.Status.TheVariants.{Done, ShelfFault, NoMemory}
+use Rattle.alpha_cmd.specs.declared.status.Status.TheVariants.{ShelfFault, NoMemory}
 use Rattle.alpha_cmd.specs.Answer.{Answer}
 use Rattle.alpha_cmd.specs.AnswerBy.{World, AnswerBy, done_with, said, told}
 use Rattle.alpha_cmd.specs.Call.{Call, called}
-use Rattle.alpha_cmd.specs.Decision.{answer_in, SaysBy}
+use Rattle.alpha_cmd.specs.Decision.{answer_in, SaysAlone, SaysBy}
 use Rattle.alpha_cmd.specs.Does.{Does, Stage, StopsBy, TriesIn}
 use Rattle.alpha_cmd.specs.Ends.{Leaves, Settles}
 use Rattle.alpha_cmd.specs.Form.{Form, SparesBy, making, keeps_last}
-use Rattle.alpha_cmd.specs.Keeping.{KeepsAs, TriesKeep}
+use Rattle.alpha_cmd.specs.Keeping.{TriesKeep}
 use Rattle.alpha_cmd.specs.Kept.{nothing, Serves}
 use Rattle.alpha_cmd.specs.Outcome.{Outcome, goes, stops, Then}
 use Rattle.alpha_cmd.specs.Status.{status_line}
@@ -38,11 +38,11 @@ pub StopsBy-first : {X Y : Type 0} (R : Outcome X → Type 0) (T : X → Outcome
 StopsBy-first R T shelf d says = record { why = first_stops R T d.status d.line says.why; alone = says.alone }
 
 -- one that stops by a status alone
-pub says_refused : {X : Type 0} (R : Outcome X → Type 0) (shelf : Type 0) (d : Decision) (status : Status) → ((left : Option (List ℕ)) → answer_in left d ≡ said left status (status_line status))
+pub says_refused : {X : Type 0} (R : Outcome X → Type 0) (shelf : Type 0) (d : Decision) (status : Status) → SaysAlone status d
     → R (stops status (status_line status)) ⊎ CutBy shelf status → SaysBy (StopsBy R shelf) d
 says_refused R shelf d status is why = says_by (StopsBy R shelf) d status (status_line status) is (cut_line shelf (R (stops status (status_line status))) status why)
 
-pub reads_refused : {Y : Type 0} (s : Shelved) (d : Decision) (status : Status) → ((left : Option (List ℕ)) → answer_in left d ≡ said left status (status_line status))
+pub reads_refused : {Y : Type 0} (s : Shelved) (d : Decision) (status : Status) → SaysAlone status d
     → OnlyReads s (◌≢◌ {A = Result Y Status} (Err status) (Err ShelfFault)) → OnlyReads s (d.status ≢ ShelfFault)
 reads_refused s d status is reads = record {
   files = reads.files;
@@ -53,10 +53,24 @@ reads_refused s d status is reads = record {
 
 -- a stage that stops by a status alone
 pub stage_refused : {X Y Z : Type 0} (R : Outcome X → Type 0) (of : Z → X) (d : Decision) (status : Status) (s : Shelved)
-    → ((left : Option (List ℕ)) → answer_in left d ≡ said left status (status_line status)) → R (stops status (status_line status)) ⊎ CutBy (Rose s.before s.now) status
+    → SaysAlone status d → R (stops status (status_line status)) ⊎ CutBy (Rose s.before s.now) status
     → OnlyReads s (◌≢◌ {A = Result Y Status} (Err status) (Err ShelfFault)) → Stage R of (Err d) s
 stage_refused R of d status s is why reads =
     record { ok = tt; refused = says_refused R (Rose s.before s.now) d status is why; shelf = reads_refused s d status is reads }
+
+-- one that goes on with what was read, unless memory runs out
+pub stage_made : {X Z : Type 0} (R : Outcome X → Type 0) (of : Z → X) (x : X) (r : Result Z Decision) (s : Shelved) (stays : Type 0) → stays → R (goes x) → OnlyReads s stays
+    → IfOk r (λ v. of v ≡ x) → IfErr r (SaysAlone NoMemory) → Stage R of r s
+stage_made R of x (Ok v) s stays is found reads same none = record {
+  ok = subst (λ y. R (goes y)) (sym same) found;
+  refused = tt;
+  shelf = record { files = reads.files; takes = reads.takes; later = reads.later; calm = λ h. reads.calm is };
+}
+stage_made R of x (Err d) s stays is found reads same none = record {
+  ok = tt;
+  refused = says_by (StopsBy R (Rose s.before s.now)) d NoMemory (status_line NoMemory) none (inr (inl refl, refl));
+  shelf = record { files = reads.files; takes = reads.takes; later = reads.later; calm = λ h. reads.calm is };
+}
 
 -- one that computes from what the first one read
 pub stage_computes : {X Y Z : Type 0} (R : Outcome X → Type 0) (T : X → Outcome Y → Type 0) (of : Z → Y) (x slice : X) (r : Result Z Decision) (s : Shelved) (stays : Type 0)
@@ -117,7 +131,7 @@ module _ {H S K N : Type 0} (h : shelves.Ghosts H) (s : sources.Ghosts S) (k : s
 
   -- by a status alone
   pub does_refused : {Y : Type 0} (f : Form) (d : Decision) (status : Status) → f.steps (told shelf_call) (stops status (status_line status)) ⊎ CutBy (Rose (h.faults old.shelf) (h.faults shelf)) status
-      → ((left : Option (List ℕ)) → answer_in left d ≡ said left status (status_line status))
+      → SaysAlone status d
       → OnlyReads (shelved h old.shelf shelf) (◌≢◌ {A = Result Y Status} (Err status) (Err ShelfFault)) → Does h s k n f (Ok d) old (record old { shelf = shelf })
   does_refused f d status why is reads =
       does_stop f d (says_refused (f.steps (told shelf_call)) (Rose (h.faults old.shelf) (h.faults shelf)) d status is why) (reads_refused (shelved h old.shelf shelf) d status is reads)
@@ -155,7 +169,7 @@ module _ {H S K N : Type 0} (h : shelves.Ghosts H) (s : sources.Ghosts S) (k : s
   does_at_once f d is = does_answer h s k n old old.shelf f d (is (told (called h s k n old old))) (untouched (d.status ≢ ShelfFault))
 
   -- without memory
-  pub does_not_start : (f : Form) (d : Decision) → ((left : Option (List ℕ)) → answer_in left d ≡ said left NoMemory (status_line NoMemory)) → Does h s k n f (Ok d) old old
+  pub does_not_start : (f : Form) (d : Decision) → SaysAlone NoMemory d → Does h s k n f (Ok d) old old
   does_not_start f d is =
       does_stop h s k n old old.shelf f d (says_by _ d NoMemory (status_line NoMemory) is (inr (inl refl, refl))) (untouched (d.status ≢ ShelfFault))
 
@@ -165,7 +179,7 @@ module _ {H S K N : Type 0} (h : shelves.Ghosts H) (s : sources.Ghosts S) (k : s
 
     -- a status with this text was tried, and the text was written
     pub does_put : (d : Decision) (status : Status) → TriesIn f put_call (record (said (s.left old.input) status (status_line status)) { output = text })
-        → ((left : Option (List ℕ)) → answer_in left d ≡ said left status (status_line status)) → Puts (sunk k old.out out) text → Does h s k n f (Ok d) old (record old { out = out })
+        → SaysAlone status d → Puts (sunk k old.out out) text → Does h s k n f (Ok d) old (record old { out = out })
     does_put d status is says put =
         let t : Answer = record (said (s.left old.input) status (status_line status)) { output = text } in
         record {

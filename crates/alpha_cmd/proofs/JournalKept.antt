@@ -1,5 +1,5 @@
 -- The keep of a journal behind its run.
-use Rattle.std.proofs.Common.{◌≡◌, ◌≢◌, ◌++◌, ◌∙◌, length, ℕ, Bool, List, Option, Some, IfSome, option_map, Ok, refl, sym, ap, subst, inl, inr, append-nil, arith}
+use Rattle.std.proofs.Common.{◌≡◌, ◌≢◌, ◌++◌, ◌∙◌, ℕ, Bool, List, Option, Some, IfSome, option_map, Ok, refl, sym, ap, subst, inl, inr, append-nil, arith}
 use Rattle.alpha_io.specs.declared.shelf.Shelf as shelves
 use Rattle.alpha_io.specs.declared.source.Source as sources
 use Rattle.alpha_io.specs.declared.sink.Sink as sinks
@@ -14,7 +14,7 @@ use Rattle.alpha_cmd.specs.declared.status.Status.{Status}
 use Rattle.alpha_cmd.specs.declared.status.Status.TheVariants.{ShelfFault, NoMemory}
 use Rattle.alpha_cmd.specs.Answer.{Answer}
 use Rattle.alpha_cmd.specs.AnswerBy.{World, AnswerBy, said, world}
-use Rattle.alpha_cmd.specs.Decision.{answer_in}
+use Rattle.alpha_cmd.specs.Decision.{answer_in, SaysAlone}
 use Rattle.alpha_cmd.specs.Does.{Does}
 use Rattle.alpha_cmd.specs.Keeping.{Untaken}
 use Rattle.alpha_cmd.specs.Kept.{Kept, nothing, spoilt, HasKept, Serves}
@@ -24,7 +24,7 @@ use Rattle.alpha_cmd.specs.Outcome.{goes}
 use Rattle.alpha_cmd.specs.Status.{status_line}
 use Rattle.alpha_cmd.specs.Tries.{TriesBy, CutBy, MaySpoilBy}
 use Rattle.alpha_cmd.specs.Commands.Imprecise.{Plan, answer_wild}
-use Rattle.alpha_cmd.specs.Commands.Record.{KeepsBehind, IsKeptRun, on, kind, SaysAlone, RunsOn, KeptBehind, stands, untaken, lost, spent}
+use Rattle.alpha_cmd.specs.Commands.Record.{KeepsBehind, on, kind, RunsOn, KeptBehind, stands, untaken, lost, spent}
 use Rattle.alpha_cmd.proofs.Commands.Record.{keeps_some}
 use Rattle.alpha_cmd.proofs.JournalStatus.{kept_takes, kept_spares, decision_not_shelf}
 

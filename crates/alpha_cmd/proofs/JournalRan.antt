@@ -1,5 +1,5 @@
 -- From what a run with its journal did to what is done of a plan by it.
-use Rattle.std.proofs.Common.{◌≡◌, ◌⊎◌, ◌++◌, ◌∷◌, ◌∙◌, ◌<◌, ◌≤◌, ◌+◌, ◌-◌, length, ℕ, ◌^◌, Bool, true, false, List, [], Option, None, Some, IfSome, option_map, unwrap_or, Result, Ok, refl, sym, ap, subst, inl, inr, append-nil, arith}
+use Rattle.std.proofs.Common.{◌≡◌, ◌⊎◌, ◌++◌, ◌∷◌, ◌∙◌, ◌<◌, ◌≤◌, ◌+◌, ◌-◌, length, ℕ, ◌^◌, Bool, true, false, List, [], Option, None, Some, IfSome, option_map, unwrap_or, Result, Ok, refl, sym, ap, subst, inl, inr, arith}
 use Rattle.std.specs.Io.KnownBytes.{Appends}
 use Rattle.std.proofs.KnownBytes.{Appends-nil}
 use Rattle.alpha_io.specs.declared.Failed.{Failed}
@@ -43,7 +43,7 @@ use Rattle.alpha_cmd.specs.declared.record.Recorded.TheVariants as outcomes
 use Rattle.alpha_cmd.specs.declared.status.Status.TheVariants.{NoMemory, JournalFull}
 use Rattle.alpha_cmd.specs.Answer.{Answer}
 use Rattle.alpha_cmd.specs.AnswerBy.{World, said, world}
-use Rattle.alpha_cmd.specs.Decision.{answer_in}
+use Rattle.alpha_cmd.specs.Decision.{answer_in, SaysAlone}
 use Rattle.alpha_cmd.specs.Does.{Does}
 use Rattle.alpha_cmd.specs.Ends.{Leaves}
 use Rattle.alpha_cmd.specs.Outcome.{goes}
@@ -361,7 +361,7 @@ module _ (options : RunOptions) (m : WildState) (ahead : ℕ → ℕ) (how : m.m
   module _ {H S K N : Type 0} (h : shelves.Ghosts H) (s : sources.Ghosts S) (k : sinks.Ghosts K) (n : sinks.Ghosts N) (old : Devices H S K N) (input : S) (out : K) (notes : N)
       (force : Bool) (name : List ℕ) (d : Decision) where
     -- a run that was stopped, with its line still to be written
-    pub stopped_does : ((left : Option (List ℕ)) → answer_in left d ≡ said left JournalFull (status_line JournalFull))
+    pub stopped_does : SaysAlone JournalFull d
         → Stopped (s.left old.input) (s.left input) (sunk k old.out out) (sunk n old.notes notes) → s.faults input ≡ s.faults old.input
         → Does h s k n (on options force name (plan_by m.machine.image ahead)) (Ok d) old (streamed h s k n old input out notes)
     stopped_does says did same =
@@ -371,7 +371,7 @@ module _ (options : RunOptions) (m : WildState) (ahead : ℕ → ℕ) (how : m.m
         (over_takes force name JournalFull (inl refl)) same
 
     -- one without memory, which touched no device
-    pub unbegun_does : ((left : Option (List ℕ)) → answer_in left d ≡ said left NoMemory (status_line NoMemory))
+    pub unbegun_does : SaysAlone NoMemory d
         → Rests (drawn s old.input input) → Idles (sunk k old.out out) → Idles (sunk n old.notes notes)
         → Does h s k n (on options force name (plan_by m.machine.image ahead)) (Ok d) old (streamed h s k n old input out notes)
     unbegun_does says rests put noted =

@@ -14,12 +14,13 @@ use Rattle.alpha_cmd.specs.declared.status.Status.{Status}
 use Rattle.alpha_cmd.specs.declared.status.Status.TheVariants.{ShelfFault, InputFault, NoMemory, JournalFull}
 use Rattle.alpha_cmd.specs.Answer.{Answer}
 use Rattle.alpha_cmd.specs.AnswerBy.{World}
+use Rattle.alpha_cmd.specs.Decision.{SaysAlone}
 use Rattle.alpha_cmd.specs.Form.{MayTakeBy, SparesBy}
 use Rattle.alpha_cmd.specs.Outcome.{stops}
 use Rattle.alpha_cmd.specs.Status.{done, refused, ended, class_of}
 use Rattle.alpha_cmd.specs.Tries.{CutBy}
 use Rattle.alpha_cmd.specs.Commands.Imprecise.{Plan, drawn_status, wild_status, Planned}
-use Rattle.alpha_cmd.specs.Commands.Record.{unwatched, IsEndStatus, kind, there, SaysAlone, RunsOn, IsOver, KeptBehind, stands, untaken, lost, spent}
+use Rattle.alpha_cmd.specs.Commands.Record.{unwatched, IsEndStatus, kind, there, RunsOn, IsOver, KeptBehind, stands, untaken, lost, spent}
 use Rattle.alpha_cmd.proofs.Commands.Imprecise.{may_lose, wild_plain}
 use Rattle.alpha_cmd.proofs.Commands.Record.{lawful}
 use Rattle.alpha_cmd.proofs.Forms.{is_fault}

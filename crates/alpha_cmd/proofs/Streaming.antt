@@ -1,10 +1,9 @@
 -- What a command did that writes while it takes input, and calls the shelf no more.
-use Rattle.std.proofs.Common.{◌≡◌, ◌≢◌, ◌⊎◌, ◌∙◌, ◌++◌, ℕ, List, Option, Result, Ok, Err, IfOk, IsTrue, refl, sym, ap, subst, inl, inr, append-nil, arith}
+use Rattle.std.proofs.Common.{◌≡◌, ◌≢◌, ◌++◌, ℕ, List, Option, Result, Ok, IfOk, IsTrue, refl, sym, ap, subst, inl, inr, append-nil, arith}
 use Rattle.alpha_io.specs.declared.Failed.{Failed}
 use Rattle.alpha_io.specs.declared.shelf.Shelf as shelves
 use Rattle.alpha_io.specs.declared.source.Source as sources
 use Rattle.alpha_io.specs.declared.sink.Sink as sinks
-use Rattle.alpha_io.specs.Shelved.{shelved}
 use Rattle.alpha_io.specs.Sunk.{Puts}
 use Rattle.alpha_io.proofs.Shelved.{KeepsFiles-refl}
 use Rattle.alpha_pal.specs.declared.fault.Fault.{Fault}
@@ -12,7 +11,7 @@ use Rattle.alpha_seq.specs.StepEffect.{Causes}
 use Rattle.alpha_cmd.specs.declared.decision.Decision.{Decision}
 use Rattle.alpha_cmd.specs.declared.devices.Devices.{Devices}
 use Rattle.alpha_cmd.specs.declared.status.Status.{Status}
-use Rattle.alpha_cmd.specs.declared.status.Status.TheVariants.{ShelfFault, InputFault}
+use Rattle.alpha_cmd.specs.declared.status.Status.TheVariants.{InputFault}
 use Rattle.alpha_cmd.specs.Answer.{Answer, IsLeft}
 use Rattle.alpha_cmd.specs.AnswerBy.{AnswerBy, said, told}
 use Rattle.alpha_cmd.specs.Call.{Call, called}

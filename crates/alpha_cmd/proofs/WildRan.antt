@@ -1,5 +1,5 @@
 -- From what a run of the imprecise machine did to what is done of a plan by it.
-use Rattle.std.proofs.Common.{◌≡◌, ◌≢◌, ◌++◌, ◌∙◌, ◌<◌, ◌≤◌, length, ℕ, ◌%◌, ◌^◌, Bool, true, false, List, [], Option, None, Some, IfSome, option_map, unwrap_or, Ok, refl, sym, ap, subst, inl, arith}
+use Rattle.std.proofs.Common.{◌≡◌, ◌++◌, ◌∙◌, ◌<◌, ◌≤◌, length, ℕ, ◌%◌, ◌^◌, Bool, true, false, List, [], Option, None, Some, IfSome, option_map, unwrap_or, Ok, refl, sym, ap, subst, inl, arith}
 use Rattle.alpha_io.specs.declared.shelf.Shelf as shelves
 use Rattle.alpha_io.specs.declared.source.Source as sources
 use Rattle.alpha_io.specs.declared.sink.Sink as sinks
@@ -36,7 +36,7 @@ use Rattle.alpha_cmd.specs.declared.decision.Decision.{Decision}
 use Rattle.alpha_cmd.specs.declared.devices.Devices.{Devices}
 use Rattle.alpha_cmd.specs.Outcome.{goes}
 use Rattle.alpha_cmd.specs.RunAnswer.{program_by}
-use Rattle.alpha_cmd.specs.Commands.Imprecise.{Plan, plan_by, Planned, with_drawn, MadeByReads, MayShowWild, wild_status, wild_line, answer_status, answer_line, answer_wild, kind, on}
+use Rattle.alpha_cmd.specs.Commands.Imprecise.{Plan, plan_by, Planned, MayRun, with_drawn, MadeByReads, MayShowWild, wild_status, wild_line, answer_status, answer_line, answer_wild, kind, on}
 use Rattle.alpha_cmd.specs.AnswerBy.{World, said}
 use Rattle.alpha_cmd.specs.Form.{MayTakeBy}
 use Rattle.alpha_cmd.specs.Decision.{answer_in}
@@ -58,9 +58,9 @@ line_by (Precisely Went) = refl
 line_by (Precisely event) = refl
 line_by moment = refl
 
--- the image of a plan that may be run is a good one, and it is accepted unless the verdict is passed over
+-- a plan that the verdict lets through may be run
 pub planned_good : (force : Bool) (drawn : choices.Origin) (name : List ℕ) (files : Files) (plan : Plan) → Planned drawn force name files (goes plan)
-    → IsImage plan.image × (force ≡ false → IsAccepted plan.image.words)
+    → MayRun force plan
 planned_good true drawn name files plan (q, (image, found, (ahead, chosen, is)), passes) =
     let same : plan.image ≡ image = ap (λ (x : Plan). x.image) (passes ∙ is) in
     (subst IsImage (sym same) found.2.0, λ no. cc)
@@ -73,8 +73,8 @@ pub record RunsAlone (image : Parts) : Type 0 where
   pub free : FreeAlike image
   pub restarts : IsRestartable image
 
-pub accepted_alone : (image : Parts) → IsImage image → IsAccepted image.words → RunsAlone image
-accepted_alone image fine good = record { free = accepted_free image fine good; restarts = accepted_restarts image fine good }
+pub may_alone : (force : Bool) (plan : Plan) → MayRun force plan → force ≡ false → RunsAlone plan.image
+may_alone force plan (fine, good) judges = record { free = accepted_free plan.image fine (good judges); restarts = accepted_restarts plan.image fine (good judges) }
 
 module _ (options : RunOptions) (m : WildState) (ahead : ℕ → ℕ) (how : m.machine.how ≡ options.complete) (fresh : IsFresh m) where
   pub same_program : program_of m.machine ≡ program_by options m.machine.image

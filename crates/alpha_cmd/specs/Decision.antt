@@ -20,6 +20,10 @@ pub record SaysBy (Why : Status → List ℕ → Type 0) (d : Decision) : Type 0
   pub why : Why d.status d.line
   pub alone : d.output ≡ []
 
+-- a decision that says a status by the line of that status
+abbrev pub SaysAlone : Status → Decision → Type 0
+SaysAlone status d = (left : Option (List ℕ)) → answer_in left d ≡ said left status (status_line status)
+
 -- what is decided of a run that a device's fault cut short: the line of the input's fault, and nothing where a sink failed
 abbrev pub IsCutShort : Fault → Result Decision Failed → Type 0
 IsCutShort faults.Input (Ok d) = (left : Option (List ℕ)) → answer_in left d ≡ said left InputFault (status_line InputFault)

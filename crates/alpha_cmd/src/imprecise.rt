@@ -3,16 +3,15 @@
 ghost use Rattle.std.specs.Prelude.{◌≡◌, ◌≢◌, ◌⊎◌, Bool, false, Err, IfOk, IfErr, OnOk};
 ghost use Rattle.alpha_io.specs.Faults.{Rose};
 ghost use Rattle.alpha_io.specs.Shelved.{shelved, OnlyReads};
-ghost use Rattle.alpha_image.specs.Parts.{IsImage};
 ghost use Rattle.alpha_shadow.specs.Broken.{IsAccepted};
 ghost use Rattle.alpha_shadow.specs.Least.{IsLeastBroken};
 ghost use Rattle.alpha_request.specs.Options.{origin_of};
-ghost use Rattle.alpha_imprecise.specs.Wild.{IsFresh};
 ghost use Rattle.alpha_cmd.specs.Outcome.{goes, stops};
 ghost use Rattle.alpha_cmd.specs.Status.{status_line};
 ghost use Rattle.alpha_cmd.specs.Chooser.{ahead_in};
 ghost use Rattle.alpha_cmd.specs.Commands.Imprecise as wilds;
-ghost use Rattle.alpha_cmd.specs.Commands.Imprecise.{PlanOf, Planned, plan_by};
+ghost use Rattle.alpha_cmd.specs.Commands.Imprecise.{IsBegun, MayRun, PlanOf, Planned, plan_by, plan_in};
+ghost use Rattle.alpha_cmd.specs.Decision.{SaysAlone};
 ghost use Rattle.alpha_cmd.specs.Does.{Does, Stage};
 ghost use Rattle.alpha_cmd.specs.Tries.{CutBy};
 
@@ -43,13 +42,20 @@ pub(crate) struct Asked<'a> {
     pub(crate) file: &'a str,
 }
 
-/// What is run: an image, and the words by which the machine chooses.
+// An image, and the words by which the machine chooses.
 #[derive(Drop)]
-pub(crate) struct Plan {
-    /// The image.
-    pub(crate) image: Image,
+struct Plan {
+    image: Image,
+    chooser: Choosing,
+}
+
+/// A machine at the start of its program, and the words by which it chooses.
+#[derive(Drop)]
+pub(crate) struct Begun {
+    /// The machine.
+    pub(crate) wild: Wild,
     /// The words.
-    pub(crate) chooser: Choosing,
+    pub(crate) chooser: CountingChooser<Choosing>,
 }
 
 /// Reads the image of a file and the choices, judges the image unless the verdict is passed over, and
@@ -63,26 +69,27 @@ pub(crate) fn imprecise<H: Shelf, S: Source, K: Sink, N: Sink>(
         (wilds.form asked.entry.options (origin_of asked.entry.choices) asked.entry.force asked.entry.file.now)
         result devices.old devices.new }
 {
-    match passed(alloc, &asked, &mut devices.shelf) {
-        Ok(plan) => run_plan(alloc, plan, asked.options, devices),
+    match prepared(alloc, &asked, &mut devices.shelf) {
+        Ok(mut begun) => run_begun(&mut begun, asked.options, devices),
         Err(decision) => Ok(decision),
     }
 }
 
-/// Reads the image of a file and then the choices, and judges the image unless the verdict is passed over.
-pub(crate) fn passed<H: Shelf>(
+/// Reads the image of a file and then the choices, judges the image unless the verdict is passed over, and
+/// makes the machine. So nothing is put and nothing taken before it has all of its memory.
+pub(crate) fn prepared<H: Shelf>(
     alloc: Global,
     asked: &Asked<'_>,
     shelf: &mut H,
-) -> Result<Plan, Decision>
-    ensures { Stage
+) -> Result<Begun, Decision>
+    ensures stage { Stage
         (Planned (origin_of asked.now.choices) asked.now.force asked.now.file.now (H.files shelf.old))
-        (λ plan. plan_by plan.image (ahead_in plan.chooser)) result
-        (shelved H.Shelf shelf.old shelf.new) }
+        (λ begun. plan_in begun) result (shelved H.Shelf shelf.old shelf.new) }
+    ensures begun { IfOk result (IsBegun asked.now.options) }
 {
     match planned(alloc, asked.file, &asked.choices, shelf) {
         Ok(plan) => match judged(&plan.image, asked.force) {
-            Ok(()) => Ok(plan),
+            Ok(()) => begin(alloc, plan, asked.options),
             Err(broken) => Err(Decision::broken(broken, plan.image.code_base())),
         },
         Err(status) => Err(Decision::said(status)),
@@ -128,56 +135,44 @@ fn judged(image: &Image, force: bool) -> Result<(), Broken>
     }
 }
 
-// Runs an image's program from the start, where it may be run. Nothing is put and nothing taken before the
-// machine has all of its memory.
-fn run_plan<H: Shelf, S: Source, K: Sink, N: Sink>(
-    alloc: Global,
-    plan: Plan,
-    options: RunOptions,
-    devices: &mut Devices<H, S, K, N>,
-) -> Result<Decision, Failed>
-    ensures { (force : Bool) → IsImage plan.image → (force ≡ false → IsAccepted plan.image.words)
-        → Does H.Shelf S.Source K.Sink N.Sink
-        (wilds.on options force (plan_by plan.image (ahead_in plan.chooser))) result
-        devices.old devices.new }
+// A machine at the start of an image's program.
+fn begin(alloc: Global, plan: Plan, options: RunOptions) -> Result<Begun, Decision>
+    ensures ok { IfOk result (λ begun. plan_in begun ≡ plan_by plan.image (ahead_in plan.chooser)) }
+    ensures begun { IfOk result (IsBegun options) }
+    ensures refused { IfErr result (SaysAlone Status.NoMemory) }
 {
     match Machine::new(alloc, plan.image, options.complete) {
         Ok(machine) => {
-            let mut wild = Wild::new(machine);
-            let mut chooser = CountingChooser::new(plan.chooser);
-            run_wild(&mut wild, &mut chooser, options, devices)
+            let wild = Wild::new(machine);
+            let chooser = CountingChooser::new(plan.chooser);
+            Ok(Begun { wild, chooser })
         }
-        Err(_) => Ok(Decision::said(Status::NoMemory)),
+        Err(_) => Err(Decision::said(Status::NoMemory)),
     }
 }
 
-// Runs a machine from the start, by words of which none was drawn.
-fn run_wild<H: Shelf, S: Source, K: Sink, N: Sink>(
-    wild: &mut Wild,
-    chooser: &mut CountingChooser<Choosing>,
+// Runs a machine from the start.
+fn run_begun<H: Shelf, S: Source, K: Sink, N: Sink>(
+    begun: &mut Begun,
     options: RunOptions,
     devices: &mut Devices<H, S, K, N>,
 ) -> Result<Decision, Failed>
-    requires fresh { IsFresh wild.old }
-    requires how { wild.old.machine.how ≡ options.complete }
-    requires none { chooser.old.drawn ≡ 0 }
-    ensures { (force : Bool) → IsImage wild.old.machine.image
-        → (force ≡ false → IsAccepted wild.old.machine.image.words)
-        → Does H.Shelf S.Source K.Sink N.Sink
-        (wilds.on options force (plan_by wild.old.machine.image (ahead_in chooser.old.chooser))) result
+    requires { IsBegun options begun.old }
+    ensures { (force : Bool) → MayRun force (plan_in begun.old)
+        → Does H.Shelf S.Source K.Sink N.Sink (wilds.on options force (plan_in begun.old)) result
         devices.old devices.new }
 {
     let mut left = options.steps;
     match run_imprecise(
-        wild,
-        chooser,
+        &mut begun.wild,
+        &mut begun.chooser,
         &mut devices.input,
         &mut devices.out,
         &mut devices.notes,
         &mut left,
         options.watch,
     ) {
-        Ok(last) => Ok(Decision::behind(last, chooser.drawn())),
+        Ok(last) => Ok(Decision::behind(last, begun.chooser.drawn())),
         Err(fault) => Decision::cut_short(fault),
     }
 }

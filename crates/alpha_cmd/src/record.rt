@@ -1,37 +1,30 @@
 //! `record FILE OUT`: a run of the image's program by the imprecise machine, whose journal is kept as a
 //! file.
 
-ghost use Rattle.std.specs.Prelude.{◌≡◌, ◌≢◌, ℕ, List, Bool, false, Option, length};
+ghost use Rattle.std.specs.Prelude.{◌≡◌, ◌≢◌, ℕ, List, Bool, Option, length};
 ghost use Rattle.alpha_io.specs.Faults.{Rose};
-ghost use Rattle.alpha_io.specs.Files.{Refuses};
+ghost use Rattle.alpha_io.specs.Files.{HasFile, Refuses};
 ghost use Rattle.alpha_io.specs.Shelved.{shelved};
 ghost use Rattle.alpha_io.specs.Sunk.{sunk};
-ghost use Rattle.alpha_image.specs.Parts.{IsImage};
-ghost use Rattle.alpha_shadow.specs.Broken.{IsAccepted};
 ghost use Rattle.alpha_request.specs.Options.{origin_of};
 ghost use Rattle.alpha_seq.specs.declared.end.End.{End};
 ghost use Rattle.alpha_imprecise.specs.Made.{LostTrap};
-ghost use Rattle.alpha_imprecise.specs.Wild.{IsFresh};
-ghost use Rattle.alpha_replay.specs.Journal.{IsJournal, spelling};
+ghost use Rattle.alpha_replay.specs.Journal.{IsJournal, Parts, spelling};
 ghost use Rattle.alpha_cmd.specs.AnswerBy.{world};
-ghost use Rattle.alpha_cmd.specs.Chooser.{ahead_in};
-ghost use Rattle.alpha_cmd.specs.Commands.Imprecise.{plan_by, wild_status};
+ghost use Rattle.alpha_cmd.specs.Commands.Imprecise.{IsBegun, MayRun, plan_in, wild_status};
 ghost use Rattle.alpha_cmd.specs.Commands.Record as recordings;
-ghost use Rattle.alpha_cmd.specs.Commands.Record.{IsOver, KeepsJournal, KeepsRun, KeptBehind, RunsOn, WhenMade, WhenOver};
+ghost use Rattle.alpha_cmd.specs.Commands.Record.{HasJournal, IsOver, KeepsRun, KeptBehind, RunsOn, WhenMade, WhenOver};
 ghost use Rattle.alpha_cmd.specs.Does.{Does};
 ghost use Rattle.alpha_cmd.specs.Ends.{status_in};
 ghost use Rattle.alpha_cmd.specs.Kept.{Serves};
 
 use crate::Status;
-use crate::choosing::Choosing;
 use crate::decision::Decision;
 use crate::devices::Devices;
-use crate::imprecise::{Asked, Plan, passed};
-use alpha_imprecise::{CountingChooser, Wild};
+use crate::imprecise::{Asked, Begun, prepared};
 use alpha_io::{Failed, Shelf, Sink, Source};
 use alpha_replay::{Journal, JournalEnd, journal_bytes, make_journal};
 use alpha_request::RunOptions;
-use alpha_seq::Machine;
 use std::alloc::Global;
 
 // A run with its journal, or why there is none.
@@ -60,32 +53,32 @@ pub(crate) fn record<H: Shelf, S: Source, K: Sink, N: Sink>(
         asked.entry.file.now name.now (world H.Shelf S.Source devices.old.shelf devices.old.input)
         (H.files devices.new.shelf) }
 {
-    match passed(alloc, &asked, &mut devices.shelf) {
-        Ok(plan) => record_plan(alloc, plan, asked.options, name, devices),
+    match prepared(alloc, &asked, &mut devices.shelf) {
+        Ok(mut begun) => record_begun(alloc, &mut begun, asked.options, name, devices),
         Err(decision) => Ok(decision),
     }
 }
 
-// Runs an image's program, where it may be run, and keeps the journal of the run. The keep comes behind the
-// run: before it no file is changed. What the run puts and notes is written while it is made.
-fn record_plan<H: Shelf, S: Source, K: Sink, N: Sink>(
+// Runs a machine from the start, and keeps the journal of the run. The keep comes behind the run: before it
+// no file is changed. What the run puts and notes is written while it is made.
+fn record_begun<H: Shelf, S: Source, K: Sink, N: Sink>(
     alloc: Global,
-    plan: Plan,
+    begun: &mut Begun,
     options: RunOptions,
     name: &str,
     devices: &mut Devices<H, S, K, N>,
 ) -> Result<Decision, Failed>
-    ensures does { (force : Bool) → IsImage plan.image → (force ≡ false → IsAccepted plan.image.words)
+    requires { IsBegun options begun.old }
+    ensures does { (force : Bool) → MayRun force (plan_in begun.old)
         → Does H.Shelf S.Source K.Sink N.Sink
-        (recordings.on options force name.now (plan_by plan.image (ahead_in plan.chooser))) result
-        devices.old devices.new }
-    ensures keeps { (force : Bool) → IsImage plan.image → (force ≡ false → IsAccepted plan.image.words)
+        (recordings.on options force name.now (plan_in begun.old)) result devices.old devices.new }
+    ensures keeps { (force : Bool) → MayRun force (plan_in begun.old)
         → (end : Option End) (lost : Option LostTrap) (n : ℕ)
         → status_in result ≡ wild_status end lost n
-        → KeepsJournal options name.now (plan_by plan.image (ahead_in plan.chooser))
-        (S.left devices.old.input) (H.files devices.new.shelf) }
+        → (p : Parts) × IsJournal p × HasJournal options (S.left devices.old.input) (plan_in begun.old) p
+        × HasFile (H.files devices.new.shelf) name.now (spelling p) }
 {
-    match run_plan(alloc, plan, options, devices) {
+    match run_begun(alloc, begun, options, devices) {
         Recorded::Made(decision, journal) => {
             Ok(keep_journal(alloc, &journal, name, decision, &mut devices.shelf))
         }
@@ -119,75 +112,39 @@ fn keep_journal<H: Shelf>(
     }
 }
 
-// Runs an image's program from the start, with its journal.
-fn run_plan<H: Shelf, S: Source, K: Sink, N: Sink>(
+// Runs a machine from the start, with its journal.
+fn run_begun<H: Shelf, S: Source, K: Sink, N: Sink>(
     alloc: Global,
-    plan: Plan,
+    begun: &mut Begun,
     options: RunOptions,
     devices: &mut Devices<H, S, K, N>,
 ) -> Recorded
+    requires { IsBegun options begun.old }
     ensures made { WhenMade result (λ decision journal. (force : Bool)
-        → IsImage plan.image → (force ≡ false → IsAccepted plan.image.words)
-        → RunsOn options force (S.left devices.old.input) (plan_by plan.image (ahead_in plan.chooser))
-        journal decision (S.left devices.new.input)
-        (sunk K.Sink devices.old.out devices.new.out) (sunk N.Sink devices.old.notes devices.new.notes)) }
+        → MayRun force (plan_in begun.old)
+        → RunsOn options force (S.left devices.old.input) (plan_in begun.old) journal decision
+        (S.left devices.new.input) (sunk K.Sink devices.old.out devices.new.out)
+        (sunk N.Sink devices.old.notes devices.new.notes)) }
     ensures calm { WhenMade result (λ decision journal.
         S.faults devices.new.input ≡ S.faults devices.old.input) }
     ensures over { WhenOver result (λ r. (force : Bool) (name : List ℕ)
-        → IsImage plan.image → (force ≡ false → IsAccepted plan.image.words)
-        → Does H.Shelf S.Source K.Sink N.Sink
-        (recordings.on options force name (plan_by plan.image (ahead_in plan.chooser))) r
+        → MayRun force (plan_in begun.old)
+        → Does H.Shelf S.Source K.Sink N.Sink (recordings.on options force name (plan_in begun.old)) r
         devices.old devices.new) }
-    ensures status { WhenOver result (λ r. IsOver (status_in r)) }
-    ensures shelf { devices.new.shelf ≡ devices.old.shelf }
-{
-    match Machine::new(alloc, plan.image, options.complete) {
-        Ok(machine) => {
-            let mut wild = Wild::new(machine);
-            let mut chooser = CountingChooser::new(plan.chooser);
-            run_wild(alloc, &mut wild, &mut chooser, options, devices)
-        }
-        Err(_) => Recorded::Over(Ok(Decision::said(Status::NoMemory))),
-    }
-}
-
-// Runs a machine from the start, by words of which none was drawn, with its journal.
-fn run_wild<H: Shelf, S: Source, K: Sink, N: Sink>(
-    alloc: Global,
-    wild: &mut Wild,
-    chooser: &mut CountingChooser<Choosing>,
-    options: RunOptions,
-    devices: &mut Devices<H, S, K, N>,
-) -> Recorded
-    requires fresh { IsFresh wild.old }
-    requires how { wild.old.machine.how ≡ options.complete }
-    requires none { chooser.old.drawn ≡ 0 }
-    ensures made { WhenMade result (λ decision journal. (force : Bool)
-        → IsImage wild.old.machine.image → (force ≡ false → IsAccepted wild.old.machine.image.words)
-        → RunsOn options force (S.left devices.old.input)
-        (plan_by wild.old.machine.image (ahead_in chooser.old.chooser))
-        journal decision (S.left devices.new.input)
-        (sunk K.Sink devices.old.out devices.new.out) (sunk N.Sink devices.old.notes devices.new.notes)) }
-    ensures calm { WhenMade result (λ decision journal.
-        S.faults devices.new.input ≡ S.faults devices.old.input) }
-    ensures over { WhenOver result (λ r. (force : Bool) (name : List ℕ)
-        → IsImage wild.old.machine.image → (force ≡ false → IsAccepted wild.old.machine.image.words)
-        → Does H.Shelf S.Source K.Sink N.Sink (recordings.on options force name
-        (plan_by wild.old.machine.image (ahead_in chooser.old.chooser))) r devices.old devices.new) }
     ensures status { WhenOver result (λ r. IsOver (status_in r)) }
     ensures shelf { devices.new.shelf ≡ devices.old.shelf }
 {
     match make_journal(
         alloc,
-        wild,
-        chooser,
+        &mut begun.wild,
+        &mut begun.chooser,
         &mut devices.input,
         &mut devices.out,
         &mut devices.notes,
         options.steps,
     ) {
         JournalEnd::Made(last, journal) => {
-            Recorded::Made(Decision::behind(last, chooser.drawn()), journal)
+            Recorded::Made(Decision::behind(last, begun.chooser.drawn()), journal)
         }
         JournalEnd::Failed(fault) => Recorded::Over(Decision::cut_short(fault)),
         JournalEnd::Full => Recorded::Over(Ok(Decision::said(Status::JournalFull))),

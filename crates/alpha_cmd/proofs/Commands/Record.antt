@@ -18,14 +18,12 @@ use Rattle.alpha_replay.proofs.JournaledRuns.{one_place}
 use Rattle.alpha_replay.proofs.Recording.{recorded-making}
 use Rattle.alpha_replay.proofs.Untold.{stopped_used, units_over, ends}
 use Rattle.alpha_replay.proofs.Stopping.{some_place}
-use Rattle.alpha_cmd.specs.declared.status.Status.{Status}
-use Rattle.alpha_cmd.specs.Outcome.{goes, stops}
-use Rattle.alpha_cmd.specs.Image.{IsRefused}
+use Rattle.alpha_cmd.specs.Outcome.{goes}
 use Rattle.alpha_cmd.specs.Answer.{Answer}
-use Rattle.alpha_cmd.specs.AnswerBy.{World, AnswerBy, said}
+use Rattle.alpha_cmd.specs.AnswerBy.{World}
 use Rattle.alpha_cmd.specs.Keeping.{Untaken}
 use Rattle.alpha_cmd.specs.RunAnswer.{program_by}
-use Rattle.alpha_cmd.specs.Commands.Imprecise.{Plan, PlanOf, Passes, MadeByReads, MayShowBy, MayShowWild, answer_wild, Planned}
+use Rattle.alpha_cmd.specs.Commands.Imprecise.{Plan, MadeByReads, MayShowBy, MayShowWild, answer_wild, Planned}
 use Rattle.alpha_cmd.specs.Commands.Record.{unwatched, unstarted, RecordedByReads, HasRecorded, HasJournal, ShowsMaking, HasItsJournal, IsStopped, KeepsBehind, IsKeptRun, full_answer, IsFullRun, Records, IsEndStatus, form, there}
 use Rattle.alpha_cmd.proofs.Untold.{reads_show}
 use Rattle.alpha_cmd.proofs.Lawful.{Lawful, Then-lawful, Goes-lawful}
@@ -248,17 +246,3 @@ lawful options choices force file out w = record {
   ends = λ a h. plain options force out w h.0 (there options choices force file out w) (λ p has t. t.2 h.0 p h.1 has) a h.2;
   status = λ a h. has_status options force out w h.0 a h.2;
 }
-
--- ---- its answers
-
-pub recorded_answer : (w : World) (options : RunOptions) (choices : Origin) (force : Bool) (file out : List ℕ) (plan : Plan) (a : Answer)
-    → PlanOf w.files file choices (goes plan) → Passes force plan (goes plan) → IsKeptRun options force out w plan a ⊎ IsFullRun options w plan a
-    → AnswerBy (form options choices force file out).steps w a
-recorded_answer w options choices force file out plan a found passes run = (goes a, (plan, (plan, found, passes), run), refl)
-
--- the verdict, unless it is passed over
-pub broken_answer : (w : World) (options : RunOptions) (choices : Origin) (force : Bool) (file out : List ℕ) (plan : Plan) (s : Status) (line : List ℕ) (t : Answer)
-    → PlanOf w.files file choices (goes plan) → force ≡ false → IsRefused plan.image s line → t ≡ said w.input s line
-    → AnswerBy (form options choices force file out).steps w t
-broken_answer w options choices force file out plan s line t found judges refused is =
-    subst (λ b. AnswerBy (form options choices b file out).steps w t) (sym judges) (stops s line, inl (inr (plan, found, inl refused)), is)

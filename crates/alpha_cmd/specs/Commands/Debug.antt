@@ -8,11 +8,9 @@ use Rattle.alpha_debug.specs.Script.{Transcript, IsTranscript, script_limit}
 use Rattle.alpha_cmd.specs.declared.status.Status.{Status}
 use Rattle.alpha_cmd.specs.declared.status.Status.TheVariants.{Done, InputFault, SinkFault, TooLarge, NoMemory}
 use Rattle.alpha_cmd.specs.Status.{status_line}
-use Rattle.alpha_cmd.specs.Outcome.{Outcome, Either, Never, Then}
+use Rattle.alpha_cmd.specs.Outcome.{Outcome, Either, Never}
 use Rattle.alpha_cmd.specs.Kept.{nothing}
 use Rattle.alpha_cmd.specs.Answer.{Answer}
-use Rattle.alpha_cmd.specs.AnswerBy.{World}
-use Rattle.alpha_cmd.specs.Form.{Form, Kind, IsThere, needs_files_and_input, streams}
 
 -- the transcript at an image of the script that the input tells; where it tells nothing, that of some script
 abbrev pub MayTell : Option (List ℕ) → Parts → Transcript → Type 0

@@ -2,7 +2,7 @@
 -- lead to it.
 use Rattle.std.specs.Prelude.{◌≡◌, ◌≤◌, ℕ, ◌%◌, ◌^◌, Bool, true, false, List, [], Option, Some, None, option_map}
 use Rattle.alpha_io.specs.Files.{Files}
-use Rattle.alpha_image.specs.Parts.{Parts}
+use Rattle.alpha_image.specs.Parts.{Parts, IsImage}
 use Rattle.alpha_request.specs.declared.options.RunOptions.{RunOptions}
 use Rattle.alpha_request.specs.Origin.{Origin}
 use Rattle.alpha_request.specs.Origin as choices_of
@@ -17,11 +17,15 @@ use Rattle.alpha_seq.specs.Run.{Shown, sequential}
 use Rattle.alpha_imprecise.specs.Used.{HasUsed}
 use Rattle.alpha_imprecise.specs.Made.{Making, begun, first_words, LostTrap, ShownWild, shown_making, imprecise_by}
 use Rattle.alpha_imprecise.specs.Free.{run_making_over}
+use Rattle.alpha_imprecise.specs.Wild.{IsFresh}
+use Rattle.alpha_shadow.specs.Broken.{IsAccepted}
+use Rattle.alpha_cmd.specs.declared.imprecise.Begun.{Begun}
 use Rattle.alpha_cmd.specs.declared.status.Status.{Status}
 use Rattle.alpha_cmd.specs.declared.status.Status.TheVariants.{Done, Stopped, StepsSpent, Lost}
 use Rattle.alpha_cmd.specs.Status.{status_line}
 use Rattle.alpha_cmd.specs.Outcome.{Outcome, Either, Never, Then, Gives}
 use Rattle.alpha_cmd.specs.Image.{ImageOf, Judges}
+use Rattle.alpha_cmd.specs.Chooser.{ahead_in}
 use Rattle.alpha_cmd.specs.Choosing.{ChoicesOf}
 use Rattle.alpha_cmd.specs.Kept.{nothing}
 use Rattle.alpha_cmd.specs.Answer.{Answer}
@@ -173,3 +177,19 @@ HasChoices (choices_of.file name) w = IsThere name w
 
 abbrev pub there : Origin → List ℕ → World → Type 0
 there choices file w = IsThere file w × HasChoices choices w
+
+-- ---- what the code does
+
+-- a machine at the start of its program, of whose words none was drawn
+pub record IsBegun (options : RunOptions) (b : Begun) : Type 0 where
+  pub fresh : IsFresh b.wild
+  pub how : b.wild.machine.how ≡ options.complete
+  pub none : b.chooser.drawn ≡ 0
+
+-- its image and its words
+abbrev pub plan_in : Begun → Plan
+plan_in b = plan_by b.wild.machine.image (ahead_in b.chooser.chooser)
+
+-- a plan that may be run: its image is a good one, and it is accepted unless the verdict is passed over
+abbrev pub MayRun : Bool → Plan → Type 0
+MayRun force plan = IsImage plan.image × (force ≡ false → IsAccepted plan.image.words)

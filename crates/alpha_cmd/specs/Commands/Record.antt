@@ -25,7 +25,7 @@ use Rattle.alpha_cmd.specs.AnswerBy.{World, said}
 use Rattle.alpha_cmd.specs.Commands.Imprecise.{Plan, Planned, MayShowWild, wild_status, wild_line, answer_wild, HasChoices}
 use Rattle.alpha_cmd.specs.Commands.Imprecise as wilds
 use Rattle.alpha_cmd.specs.RunAnswer.{program_by}
-use Rattle.alpha_cmd.specs.Decision.{answer_in}
+use Rattle.alpha_cmd.specs.Decision.{answer_in, SaysAlone}
 use Rattle.alpha_cmd.specs.Form.{Form, Kind, IsThere, needs_files_and_input, records}
 use Rattle.alpha_cmd.specs.Keeping.{Untaken}
 use Rattle.alpha_cmd.specs.Kept.{nothing, spoilt, HasKept}
@@ -153,14 +153,11 @@ there options choices force file out w =
     × ((plan : Plan) (p : Parts) → Planned choices force file w.files (goes plan) → HasJournal options w.input plan p
     → w.takes out (length (spelling p)) ≡ true)
 
--- the name has the spelling of a good journal, which is that of the run of this plan
-abbrev pub KeepsJournal : RunOptions → List ℕ → Plan → Option (List ℕ) → Files → Type 0
-KeepsJournal options out plan input new = (p : Parts) × IsJournal p × HasJournal options input plan p × HasFile new out (spelling p)
-
--- what is kept of a call
+-- what is kept of a call: the spelling of a good journal, which is that of the run
 abbrev pub KeepsRun : RunOptions → Origin → Bool → List ℕ → List ℕ → World → Files → Type 0
 KeepsRun options choices force file out w new =
-    (plan : Plan) × Planned choices force file w.files (goes plan) × KeepsJournal options out plan w.input new
+    (plan : Plan) × Planned choices force file w.files (goes plan)
+    × ((p : Parts) × IsJournal p × HasJournal options w.input plan p × HasFile new out (spelling p))
 
 -- That is so of each call that asks for it, under the status of a run's end.
 abbrev pub KeepsUnder : (Command → Type 0) → Status → World → Files → Type 0
@@ -170,10 +167,6 @@ KeepsUnder IsAsked status w new = (options : RunOptions) (choices : Origin) (for
     → KeepsRun options choices force file out w new
 
 -- ---- what the code does
-
--- a decision that says a status by its line alone
-abbrev pub SaysAlone : Status → Decision → Type 0
-SaysAlone status d = (left : Option (List ℕ)) → answer_in left d ≡ said left status (status_line status)
 
 -- What a run did that was made: what it shows was written, but for the line of its end, which the decision has; and this is its
 -- journal.

@@ -1,4 +1,3 @@
-use Rattle.std.proofs.Common.{◌⊎◌, Ok, Err, subst, inl, inr}
 use Rattle.alpha_io.specs.Shelved.{shelved}
 use Rattle.alpha_cmd.specs.Image.{Reads}
 use Rattle.alpha_cmd.specs.Makings.{source_limit, Bytes}

@@ -4,29 +4,28 @@ use Rattle.alpha_io.specs.Files.{Refuses}
 use Rattle.alpha_io.specs.Shelved.{shelved}
 use Rattle.alpha_io.specs.Sunk.{sunk}
 use Rattle.alpha_replay.specs.Journal.{spelling}
-use Rattle.alpha_cmd.specs.Chooser.{ahead_in}
-use Rattle.alpha_cmd.specs.Commands.Imprecise.{plan_by}
+use Rattle.alpha_cmd.specs.Commands.Imprecise.{plan_in}
 use Rattle.alpha_cmd.specs.Ends.{status_in}
 use Rattle.alpha_cmd.proofs.Commands.Record.{has_of}
 use Rattle.alpha_cmd.proofs.JournalKept.{kept_does}
 use Rattle.alpha_cmd.proofs.JournalStatus.{kept_keeps, over_no_end}
-use Rattle.alpha_cmd.proofs.record.record_plan.Goals as goal
+use Rattle.alpha_cmd.proofs.record.record_begun.Goals as goal
 
 pub returns-in-Made-clause-does : goal.returns-in-Made-clause-does
-returns-in-Made-clause-does g c = λ force fine good.
-    kept_does g.H.Shelf g.S.Source g.K.Sink g.N.Sink c.args.devices.now c.run_plan.new.devices c.keep_journal.new.shelf c.args.options force c.args.name.now
-    (plan_by c.args.plan.image (ahead_in c.args.plan.chooser)) c.in-Made.journal c.in-Made.decision c.keep_journal.result c.run_plan.ensures.shelf c.in-Made.ensures.calm
-    (c.in-Made.ensures.made force fine good) (c.keep_journal.ensures.kept, c.keep_journal.ensures.shelf)
+returns-in-Made-clause-does g c = λ force may.
+    kept_does g.H.Shelf g.S.Source g.K.Sink g.N.Sink c.args.devices.now c.run_begun.new.devices c.keep_journal.new.shelf c.args.options force c.args.name.now
+    (plan_in c.args.begun.now) c.in-Made.journal c.in-Made.decision c.keep_journal.result c.run_begun.ensures.shelf c.in-Made.ensures.calm
+    (c.in-Made.ensures.made force may) (c.keep_journal.ensures.kept, c.keep_journal.ensures.shelf)
 
 pub returns-in-Made-clause-keeps : goal.returns-in-Made-clause-keeps
-returns-in-Made-clause-keeps g c = λ force fine good end lost n is.
+returns-in-Made-clause-keeps g c = λ force may end lost n is.
     let old = c.args.devices.now in
-    let middle = c.run_plan.new.devices in
+    let middle = c.run_begun.new.devices in
     let name = c.args.name.now in
-    let plan = plan_by c.args.plan.image (ahead_in c.args.plan.chooser) in
+    let plan = plan_in c.args.begun.now in
     let p = c.in-Made.journal in
     let input = g.S.Source.left old.input in
-    let run = c.in-Made.ensures.made force fine good in
+    let run = c.in-Made.ensures.made force may in
     let out = sunk g.K.Sink old.out middle.out in
     let notes = sunk g.N.Sink old.notes middle.notes in (
       p,
@@ -38,7 +37,7 @@ returns-in-Made-clause-keeps g c = λ force fine good end lost n is.
     )
 
 pub returns-in-Over-clause-does : goal.returns-in-Over-clause-does
-returns-in-Over-clause-does g c = λ force fine good. c.in-Over.ensures.over force c.args.name.now fine good
+returns-in-Over-clause-does g c = λ force may. c.in-Over.ensures.over force c.args.name.now may
 
 pub returns-in-Over-clause-keeps : goal.returns-in-Over-clause-keeps
-returns-in-Over-clause-keeps g c = λ force fine good end lost n is. absurd (over_no_end end lost n (status_in c.in-Over.result) is c.in-Over.ensures.status)
+returns-in-Over-clause-keeps g c = λ force may end lost n is. absurd (over_no_end end lost n (status_in c.in-Over.result) is c.in-Over.ensures.status)

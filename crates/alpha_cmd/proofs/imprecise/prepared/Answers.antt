@@ -4,27 +4,25 @@ use Rattle.alpha_shadow.specs.Report.{broken_line}
 use Rattle.alpha_request.specs.Options.{origin_of}
 use Rattle.alpha_cmd.specs.declared.status.Status.TheVariants.{NotRestartable}
 use Rattle.alpha_cmd.specs.Chooser.{ahead_in}
-use Rattle.alpha_cmd.specs.Commands.Imprecise.{PlanOf, Passes, plan_by}
+use Rattle.alpha_cmd.specs.Commands.Imprecise.{PlanOf, Planned, Passes, plan_by, plan_in}
 use Rattle.alpha_cmd.specs.Outcome.{stops}
 use Rattle.alpha_cmd.specs.Status.{status_line}
 use Rattle.alpha_cmd.proofs.Commands.Imprecise.{passed}
-use Rattle.alpha_cmd.proofs.Doing.{stage_refused}
+use Rattle.alpha_cmd.proofs.Doing.{stage_made, stage_refused}
 use Rattle.alpha_cmd.proofs.Lawful.{first_stops}
 use Rattle.alpha_cmd.proofs.Trying.{says_by}
-use Rattle.alpha_cmd.proofs.imprecise.passed.Goals as goal
+use Rattle.alpha_cmd.proofs.imprecise.prepared.Goals as goal
 
-pub returns-in-Ok-judged : goal.returns-in-Ok-judged
-returns-in-Ok-judged g c =
+pub returns-in-Ok-judged-clause-stage : goal.returns-in-Ok-judged-clause-stage
+returns-in-Ok-judged-clause-stage g c =
+    let a = c.args.asked.now in
     let plan = plan_by c.in-Ok.plan.image (ahead_in c.in-Ok.plan.chooser) in
-    let reads = c.in-Ok.ensures.shelf in
-    record {
-      ok = (plan, c.in-Ok.ensures.ok, passed c.args.asked.now.force plan c.in-Ok-judged.ensures.ok);
-      refused = tt;
-      shelf = record { files = reads.files; takes = reads.takes; later = reads.later; calm = λ h. reads.calm (λ e. cc) };
-    }
+    stage_made (Planned (origin_of a.choices) a.force a.file.now (g.H.Shelf.files c.args.shelf.now)) (λ begun. plan_in begun) plan c.begin.result
+    (shelved g.H.Shelf c.args.shelf.now c.planned.new.shelf) _ (λ e. cc) (plan, c.in-Ok.ensures.ok, passed a.force plan c.in-Ok-judged.ensures.ok) c.in-Ok.ensures.shelf
+    c.begin.ensures.ok c.begin.ensures.refused
 
-pub returns-in-Err-judged : goal.returns-in-Err-judged
-returns-in-Err-judged g c =
+pub returns-in-Err-judged-clause-stage : goal.returns-in-Err-judged-clause-stage
+returns-in-Err-judged-clause-stage g c =
     let plan = plan_by c.in-Ok.plan.image (ahead_in c.in-Ok.plan.chooser) in
     let reads = c.in-Ok.ensures.shelf in
     let place = c.in-Err-judged.broken in
@@ -38,9 +36,9 @@ returns-in-Err-judged g c =
       shelf = record { files = reads.files; takes = reads.takes; later = reads.later; calm = λ h. reads.calm (λ e. cc) };
     }
 
-pub returns-in-Err : goal.returns-in-Err
-returns-in-Err g c =
+pub returns-in-Err-clause-stage : goal.returns-in-Err-clause-stage
+returns-in-Err-clause-stage g c =
     let a = c.args.asked.now in
     let s = c.in-Err.status in
-    stage_refused _ (λ plan. plan_by plan.image (ahead_in plan.chooser)) c.said.result s (shelved g.H.Shelf c.args.shelf.now c.planned.new.shelf) c.said.ensures.answer
+    stage_refused _ (λ begun. plan_in begun) c.said.result s (shelved g.H.Shelf c.args.shelf.now c.planned.new.shelf) c.said.ensures.answer
     (first_stops (PlanOf (g.H.Shelf.files c.args.shelf.now) a.file.now (origin_of a.choices)) (Passes a.force) s (status_line s) c.in-Err.ensures.refused) c.in-Err.ensures.shelf

@@ -4,49 +4,51 @@ use Rattle.alpha_seq.specs.Devices.{drawn}
 use Rattle.alpha_cmd.specs.declared.status.Status.TheVariants.{InputFault, SinkFault}
 use Rattle.alpha_cmd.specs.AnswerBy.{world}
 use Rattle.alpha_cmd.specs.Chooser.{ahead_in}
-use Rattle.alpha_cmd.specs.Commands.Imprecise.{plan_by}
+use Rattle.alpha_cmd.specs.Commands.Imprecise.{plan_in}
 use Rattle.alpha_cmd.specs.Commands.Record.{on, unwatched}
 use Rattle.alpha_cmd.specs.Ends.{status_in}
 use Rattle.alpha_cmd.proofs.CutShort.{cut_status}
 use Rattle.alpha_cmd.proofs.Streaming.{does_cut}
-use Rattle.alpha_cmd.proofs.WildRan.{accepted_alone, cut_begins}
+use Rattle.alpha_cmd.proofs.WildRan.{may_alone, cut_begins}
 use Rattle.alpha_cmd.proofs.JournalRan.{runs_on, moment, stopped_by, fronts_by, stopped_does, unbegun_does, cut_fronts}
-use Rattle.alpha_cmd.proofs.record.run_wild.Goals as goal
+use Rattle.alpha_cmd.proofs.record.run_begun.Goals as goal
 
 pub returns-in-Made-clause-made : goal.returns-in-Made-clause-made
-returns-in-Made-clause-made g c = λ force fine good.
+returns-in-Made-clause-made g c = λ force may.
     let old = c.args.devices.now in
     let new = c.make_journal.new in
-    let from = c.args.wild.now in
-    let ahead = ahead_in c.args.chooser.now.chooser in
+    let begun = c.args.begun.now in
+    let from = begun.wild in
+    let ahead = ahead_in begun.chooser.chooser in
     let input = drawn g.S.Source old.input new.input in
     let did = c.in-Made.ensures in
     runs_on c.args.options from ahead c.requires.how c.requires.fresh force c.in-Made.last c.drawn.result c.in-Made.journal c.behind.result new.wild _ _ input (sunk g.K.Sink old.out new.out)
     (sunk g.N.Sink old.notes new.notes) did.made (λ bytes told. did.told bytes ahead told refl c.requires.fresh) (c.behind.ensures input.new)
     refl (ap (λ (k : ℕ). Some k) c.requires.none) (ap (λ (k : ℕ). Some k) (sym c.drawn.ensures)) c.drawn.type_inv
-    (λ judges. accepted_alone from.machine.image fine (good judges))
+    (may_alone force (plan_in begun) may)
 
 pub returns-in-Made-clause-calm : goal.returns-in-Made-clause-calm
 returns-in-Made-clause-calm g c = c.in-Made.ensures.made.stops.ran.same
 
 pub returns-in-Failed-clause-over : goal.returns-in-Failed-clause-over
-returns-in-Failed-clause-over g c = λ force name fine good.
+returns-in-Failed-clause-over g c = λ force name may.
     let old = c.args.devices.now in
     let new = c.make_journal.new in
-    let from = c.args.wild.now in
-    let ahead = ahead_in c.args.chooser.now.chooser in
+    let begun = c.args.begun.now in
+    let from = begun.wild in
+    let ahead = ahead_in begun.chooser.chooser in
     let input = drawn g.S.Source old.input new.input in
     let out = sunk g.K.Sink old.out new.out in
     let notes = sunk g.N.Sink old.notes new.notes in
     let w = world g.H.Shelf g.S.Source old.shelf old.input in
     let did = c.in-Failed.ensures in
     let cut = did.made.cut in
-    does_cut g.H.Shelf g.S.Source g.K.Sink g.N.Sink old new.input new.out new.notes (on c.args.options force name (plan_by from.machine.image ahead)) c.in-Failed.fault c.cut_short.result refl
+    does_cut g.H.Shelf g.S.Source g.K.Sink g.N.Sink old new.input new.out new.notes (on c.args.options force name (plan_in begun)) c.in-Failed.fault c.cut_short.result refl
     (cut_fronts c.args.options from ahead c.requires.how c.requires.fresh force name w out notes
     (fronts_by c.args.options from ahead c.requires.how c.requires.fresh force name c.in-Failed.fault w _ _ input out notes
-    (λ judges. (accepted_alone from.machine.image fine (good judges)).free) refl did.made (λ bytes told. did.told bytes ahead told refl c.requires.fresh)
+    (λ judges. (may_alone force (plan_in begun) may judges).free) refl did.made (λ bytes told. did.told bytes ahead told refl c.requires.fresh)
     (cut_begins (unwatched c.args.options) from ahead c.requires.how c.requires.fresh force c.in-Failed.fault _ _ input out notes cut refl
-    (λ judges. accepted_alone from.machine.image fine (good judges)) w.input refl)))
+    (may_alone force (plan_in begun) may) w.input refl)))
     c.cut_short.ensures cut.cause
 
 pub returns-in-Failed-clause-status : goal.returns-in-Failed-clause-status
@@ -57,11 +59,12 @@ returns-in-Failed-clause-status g c =
     (cut_status c.in-Failed.fault c.cut_short.result c.cut_short.ensures)
 
 pub returns-in-Full-clause-over : goal.returns-in-Full-clause-over
-returns-in-Full-clause-over g c = λ force name fine good.
+returns-in-Full-clause-over g c = λ force name may.
     let old = c.args.devices.now in
     let new = c.make_journal.new in
-    let from = c.args.wild.now in
-    let ahead = ahead_in c.args.chooser.now.chooser in
+    let begun = c.args.begun.now in
+    let from = begun.wild in
+    let ahead = ahead_in begun.chooser.chooser in
     let input = drawn g.S.Source old.input new.input in
     let out = sunk g.K.Sink old.out new.out in
     let notes = sunk g.N.Sink old.notes new.notes in
@@ -73,8 +76,8 @@ returns-in-Full-clause-over g c = λ force name fine good.
     did.made.stops.ran.same
 
 pub returns-in-NoMemory-clause-over : goal.returns-in-NoMemory-clause-over
-returns-in-NoMemory-clause-over g c = λ force name fine good.
+returns-in-NoMemory-clause-over g c = λ force name may.
     let new = c.make_journal.new in
     let none = c.in-NoMemory.ensures.made in
-    unbegun_does c.args.options c.args.wild.now (ahead_in c.args.chooser.now.chooser) c.requires.how c.requires.fresh g.H.Shelf g.S.Source g.K.Sink g.N.Sink c.args.devices.now
+    unbegun_does c.args.options c.args.begun.now.wild (ahead_in c.args.begun.now.chooser.chooser) c.requires.how c.requires.fresh g.H.Shelf g.S.Source g.K.Sink g.N.Sink c.args.devices.now
     new.input new.out new.notes force name c.said-in-NoMemory.result c.said-in-NoMemory.ensures.answer none.source none.sink none.lines
