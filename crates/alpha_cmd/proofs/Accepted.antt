@@ -27,7 +27,7 @@ use Rattle.alpha_cmd.specs.Asks.{Asks}
 use Rattle.alpha_cmd.specs.Answer.{Answer, IsAnswered}
 use Rattle.alpha_cmd.specs.AnswerBy.{World}
 use Rattle.alpha_cmd.specs.Commands.{IsTold}
-use Rattle.alpha_cmd.specs.Commands.Check.{accepted}
+use Rattle.alpha_cmd.specs.OfImage.Check.{accepted}
 use Rattle.alpha_cmd.specs.Tried.{AreTold, IsAnswer}
 use Rattle.alpha_cmd.specs.AlikeByAnswers.{IsChecked, HasWords}
 

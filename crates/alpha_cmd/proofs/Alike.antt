@@ -5,7 +5,6 @@ use Rattle.alpha_io.specs.Files.{Files, HasFile}
 use Rattle.alpha_image.specs.Parts.{Parts, IsImage, spelling}
 use Rattle.alpha_shadow.specs.Broken.{IsAccepted}
 use Rattle.alpha_request.specs.Command.{check, run}
-use Rattle.alpha_request.specs.declared.request.ImageCommand.TheVariants as asked
 use Rattle.alpha_request.specs.declared.options.RunOptions.{RunOptions}
 use Rattle.alpha_request.specs.Origin.{Origin}
 use Rattle.alpha_restart.proofs.Agreeing.{accepted_restarts}
@@ -26,7 +25,8 @@ use Rattle.alpha_cmd.specs.Image.{ImageOf}
 use Rattle.alpha_cmd.specs.Asks.{Asks}
 use Rattle.alpha_cmd.specs.Answer.{Answer}
 use Rattle.alpha_cmd.specs.AnswerBy.{World, AnswerBy, answer_of}
-use Rattle.alpha_cmd.specs.OfImage as images
+use Rattle.alpha_cmd.specs.Form.{IsThere, reads}
+use Rattle.alpha_cmd.specs.OfImage.Check.{Checks}
 use Rattle.alpha_cmd.specs.Commands.Run as runs
 use Rattle.alpha_cmd.specs.Commands.Run.{run_by_reads, MayShow}
 use Rattle.alpha_cmd.specs.RunAnswer.{program_by, answer_shown}
@@ -34,8 +34,8 @@ use Rattle.alpha_cmd.specs.Commands.Imprecise as wilds
 use Rattle.alpha_cmd.specs.Commands.Imprecise.{Plan, plan_by, PlanOf, Passes, with_drawn, run_by, MayShowWild, answer_wild, RunsWild}
 use Rattle.alpha_cmd.specs.Tried.{TriedBy}
 use Rattle.alpha_cmd.specs.AlikeByAnswers.{undrawn, IsChecked, HasWords}
-use Rattle.alpha_cmd.proofs.Forms.{done_goes}
-use Rattle.alpha_cmd.proofs.OfImages.{lawful}
+use Rattle.alpha_cmd.proofs.Forms.{done_goes, of_file}
+use Rattle.alpha_cmd.proofs.OfImage.Check.{lawful}
 use Rattle.alpha_cmd.proofs.Commands.Run.{shown_answer}
 use Rattle.alpha_cmd.proofs.Commands.Imprecise.{Planned-lawful, passed, some_shown, wild_answer}
 use Rattle.alpha_cmd.proofs.Lawful.{Then-found}
@@ -52,7 +52,7 @@ pub record IsGood (file : List ℕ) (files : Files) : Type 0 where
 
 pub checked_good : (file : List ℕ) (w : World) → IsChecked file w → IsGood file w.files
 checked_good file w h =
-    let (image, found, (same, judged, is)) = done_goes (images.form asked.Check file) (images.there file) w (lawful asked.Check file w) h.answer h.is (ap class_of h.done) in
+    let (image, found, (same, judged, is)) = done_goes (of_file Checks reads file) (IsThere file) w (lawful file w) h.answer h.is (ap class_of h.done) in
     record { image = image; found = found; accepted = judged.0 }
 
 pub good_restarts : (file : List ℕ) (files : Files) (h : IsGood file files) → IsRestartable h.image

@@ -10,15 +10,9 @@ use Rattle.alpha_cmd.proofs.Commands.Replay as replays
 use Rattle.alpha_cmd.proofs.Commands.Run as runs
 use Rattle.alpha_cmd.proofs.Commands.Trial as trials
 use Rattle.alpha_cmd.proofs.Makings as makings
-use Rattle.alpha_cmd.proofs.OfImages as images
-pub mod Asm
-pub mod Check
-pub mod Debug
-pub mod Dis
-pub mod Fix
+use Rattle.alpha_cmd.proofs.OfImage as images
 pub mod Imprecise
 pub mod Link
-pub mod Module
 pub mod Record
 pub mod Replay
 pub mod Run

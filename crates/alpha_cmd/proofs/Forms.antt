@@ -9,7 +9,7 @@ use Rattle.alpha_cmd.specs.Answer.{Answer}
 use Rattle.alpha_cmd.specs.AnswerBy.{World, AnswerBy, HaveBytes, answer_of}
 use Rattle.alpha_cmd.specs.Image.{ImageOf, OfFile}
 use Rattle.alpha_cmd.specs.Keeping.{KeepsAs}
-use Rattle.alpha_cmd.specs.Form.{Form, Kind, Needs, IsThere, IsToldFor, making, making_there}
+use Rattle.alpha_cmd.specs.Form.{Form, Kind, IsThere, IsToldFor, needs_by, making, making_there}
 use Rattle.alpha_cmd.proofs.Lawful.{Lawful, IsRefusal, Then-lawful}
 use Rattle.alpha_cmd.proofs.Stages.{ImageOf-lawful, KeepsAs-lawful}
 
@@ -72,12 +72,15 @@ ended_ends f there w law a (stops s line, h, e) is =
 
 -- ---- a command of an image
 
-pub of_file_lawful : (Answers : Option (List ℕ) → Parts → Outcome Answer → Type 0) (needs : Needs) (kind : Kind) (file : List ℕ) (w : World)
-    → (IsToldFor needs w → IsSome w.files)
-    → ((image : Parts) → Lawful (IsToldFor needs w) (IsSome w.files × HaveBytes w.files) (IsThere file w) (Answers w.input image))
+abbrev pub of_file : (Option (List ℕ) → Parts → Outcome Answer → Type 0) → Kind → List ℕ → Form
+of_file Answers kind file = record { steps = OfFile Answers file; needs = needs_by kind; kind = kind }
+
+pub of_file_lawful : (Answers : Option (List ℕ) → Parts → Outcome Answer → Type 0) (kind : Kind) (file : List ℕ) (w : World)
+    → (IsToldFor (needs_by kind) w → IsSome w.files)
+    → ((image : Parts) → Lawful (IsToldFor (needs_by kind) w) (IsSome w.files × HaveBytes w.files) (IsThere file w) (Answers w.input image))
     → ((image : Parts) (a : Answer) → Answers w.input image (goes a) → (is_fault a.status ≡ false) × kind.ends a.status)
-    → IsLawfulForm (record { steps = OfFile Answers file; needs = needs; kind = kind }) (IsThere file) w
-of_file_lawful Answers needs kind file w told law ends = record {
+    → IsLawfulForm (of_file Answers kind file) (IsThere file) w
+of_file_lawful Answers kind file w told law ends = record {
   stages = Then-lawful {R = ImageOf w.files file} {S = Answers w.input} (ImageOf-lawful _ _ _ w.files file told (λ h. h) (λ h. h)) (λ image found. law image);
   ends = λ a h. inl (ends h.0 a h.2).0;
   status = λ a h. (ends h.0 a h.2).1;

@@ -8,7 +8,7 @@ use Rattle.alpha_cmd.specs.declared.status.Status.TheVariants.{Done}
 use Rattle.alpha_cmd.specs.Answer.{Answer}
 use Rattle.alpha_cmd.specs.AnswerBy.{World}
 use Rattle.alpha_cmd.specs.Asks.{Asks}
-use Rattle.alpha_cmd.specs.Commands.Module.{KeepsModule}
+use Rattle.alpha_cmd.specs.Makings.Module.{KeepsModule}
 use Rattle.alpha_cmd.specs.Makings.{form, there}
 use Rattle.alpha_cmd.specs.Kept.{Kept, HasKept}
 use Rattle.alpha_cmd.specs.Status.{class_of}

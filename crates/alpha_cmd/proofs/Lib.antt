@@ -18,7 +18,7 @@ pub mod Lawful
 pub mod Listed
 pub mod Makings
 pub mod ModuleWords
-pub mod OfImages
+pub mod OfImage
 pub mod Promised
 pub mod Ran
 pub mod ReadsNothing

@@ -18,7 +18,7 @@ use Rattle.alpha_cmd.specs.declared.decision.Decision.{Decision}
 use Rattle.alpha_cmd.specs.declared.devices.Devices.{Devices}
 use Rattle.alpha_cmd.specs.Status.{status_line}
 use Rattle.alpha_cmd.specs.Outcome.{goes}
-use Rattle.alpha_cmd.specs.Commands.Debug.{MayTell, session_status, LeavesTail, script_most, answer_told, IsEndStatus}
+use Rattle.alpha_cmd.specs.OfImage.Debug.{MayTell, session_status, LeavesTail, script_most, answer_told, IsEndStatus}
 use Rattle.alpha_cmd.specs.AnswerBy.{AnswerBy, said, told}
 use Rattle.alpha_cmd.specs.Call.{called}
 use Rattle.alpha_cmd.specs.Decision.{answer_in, IsCutShort}

@@ -13,7 +13,7 @@ use Rattle.alpha_cmd.specs.AnswerBy.{World, AnswerBy, told}
 use Rattle.alpha_cmd.specs.Call.{Call, Quiet}
 use Rattle.alpha_cmd.specs.Drawn.{but_drawn}
 use Rattle.alpha_cmd.specs.Gave.{Gave}
-use Rattle.alpha_cmd.specs.Commands.Check as checks
+use Rattle.alpha_cmd.specs.OfImage.Check as checks
 use Rattle.alpha_cmd.specs.Commands.Run as runs
 
 -- an answer but for the number of words that its status carries

@@ -13,14 +13,8 @@ use Rattle.alpha_cmd.specs.Commands.Run as runs
 use Rattle.alpha_cmd.specs.Commands.Trial as trials
 use Rattle.alpha_cmd.specs.Makings as makings
 use Rattle.alpha_cmd.specs.OfImage as images
-pub mod Asm
-pub mod Check
-pub mod Debug
-pub mod Dis
-pub mod Fix
 pub mod Imprecise
 pub mod Link
-pub mod Module
 pub mod Record
 pub mod Replay
 pub mod Run

@@ -1,5 +1,5 @@
 -- What is the same of all commands: the form of one is its stages, what it needs to be told, and its kind.
-use Rattle.std.specs.Prelude.{◌≡◌, ◌⊎◌, ℕ, List, length, Bool, true, false, Option, Some, None, IsTrue, IsSome}
+use Rattle.std.specs.Prelude.{◌≡◌, ◌⊎◌, ℕ, List, length, if◌then◌else◌, Bool, true, false, Option, Some, None, IsTrue, IsSome}
 use Rattle.std.specs.List.{AllByRecursion}
 use Rattle.alpha_io.specs.Files.{Files, IfTold, KeepsFiles, KeepsOtherFiles}
 use Rattle.alpha_cmd.specs.declared.status.Status.{Status}
@@ -49,6 +49,10 @@ streams IsEndStatus = record { ends = IsEndStatus; takes = true; keeps = None }
 -- one that does so, and then keeps a file
 abbrev pub records : (Status → Type 0) → List ℕ → Kind
 records IsEndStatus out = record { ends = IsEndStatus; takes = true; keeps = Some out }
+
+-- what one of these needs to be told that reads files
+abbrev pub needs_by : Kind → Needs
+needs_by k = if k.takes then needs_files_and_input else needs_files
 
 -- The statuses under which input may have been taken: those of the end, of a stream that failed on the way, and of a file that
 -- was to be kept behind it.

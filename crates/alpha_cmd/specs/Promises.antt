@@ -17,7 +17,7 @@ use Rattle.alpha_cmd.specs.Answer.{Answer}
 use Rattle.alpha_cmd.specs.Asks.{Asks}
 use Rattle.alpha_cmd.specs.Call.{Call, Quiet}
 use Rattle.alpha_cmd.specs.Commands.{EndsBy, MayTake, Spares}
-use Rattle.alpha_cmd.specs.Commands.Debug.{LeavesTail, script_most}
+use Rattle.alpha_cmd.specs.OfImage.Debug.{LeavesTail, script_most}
 use Rattle.alpha_cmd.specs.Ends.{Ends, EndsPart}
 use Rattle.alpha_cmd.specs.Gave.{Gave}
 use Rattle.alpha_cmd.specs.AnswerBy.{told}

@@ -4,7 +4,7 @@ ghost use Rattle.alpha_shadow.specs.Report.{broken_line};
 ghost use Rattle.alpha_seq.specs.Notes.{end_line};
 ghost use Rattle.alpha_cmd.specs.Status.{status_line, unfixable_line};
 ghost use Rattle.alpha_cmd.specs.AnswerBy.{said};
-ghost use Rattle.alpha_cmd.specs.Commands.Check.{accepted};
+ghost use Rattle.alpha_cmd.specs.OfImage.Check.{accepted};
 ghost use Rattle.alpha_cmd.specs.Commands.Replay.{shown};
 ghost use Rattle.alpha_cmd.specs.Commands.Imprecise.{drawn_status, answer_status, answer_line};
 ghost use Rattle.alpha_cmd.specs.Decision.{answer_in, IsCutShort};

@@ -10,7 +10,7 @@ ghost use Rattle.alpha_cmd.specs.Call.{called};
 ghost use Rattle.alpha_cmd.specs.Called.{words_in};
 ghost use Rattle.alpha_cmd.specs.Checked.{Checked};
 ghost use Rattle.alpha_cmd.specs.Commands.Link.{KeepsLinks};
-ghost use Rattle.alpha_cmd.specs.Commands.Module.{KeepsModules};
+ghost use Rattle.alpha_cmd.specs.Makings.Module.{KeepsModules};
 ghost use Rattle.alpha_cmd.specs.Commands.Record.{KeepsUnder};
 ghost use Rattle.alpha_cmd.specs.Fixed.{Fixes};
 ghost use Rattle.alpha_cmd.specs.Promises.{EndsWhole, EndsCut, GivesOne, GivesThe, ServesUnder, SparesFiles, TakesInput, DrawsUnder, LeavesScript, EndsAsked, LosesNone};

@@ -28,24 +28,20 @@
 //!   accepted.
 //!
 //! A command decides, and `Decision::deliver` writes what is then still to be written: all of it, but
-//! for a command that writes while it works, as `dis.rt`, `run.rt` and `debug.rt`. `alpha_request`
-//! reads the words, `image.rt` has the stages that lead to an image and `choosing.rt` the one that
-//! leads to the words of an imprecise run, each command has a module, as `check.rt`, and `top.rt`
-//! matches what is asked. What is made of a source and kept is one command, `making.rt`, by a value
-//! that says what, and `of_image.rt` has a row for each that is asked of an image. `line.rt` and
+//! for a command that writes while it works, as `run.rt`. `alpha_request` reads the words, `image.rt`
+//! has the stages that lead to an image and `choosing.rt` the one that leads to the words of an
+//! imprecise run, each command has a module, as `run.rt`, and `top.rt` matches what is asked. What is
+//! made of a source and kept is one command, `making.rt`, and what is asked of an image is another,
+//! `of_image.rt`: a value says what, and the stage of each has a module below, as `making/asm.rt`.
+//! What a command did to the devices is one relation, `specs/Does.antt`. `line.rt` and
 //! `specs/Status.antt` have the line, the number and the class of each status, `specs/Kept.antt` says
 //! what becomes of files. What a further command or status touches is listed in docs/ARCHITECTURE.md.
 #![tactic(auto)]
 
-mod asm;
-mod check;
 mod choosing;
-mod debug;
 mod decision;
 mod devices;
-mod dis;
 mod entry;
-mod fix;
 mod image;
 mod imprecise;
 mod keep;
@@ -53,7 +49,6 @@ mod laws;
 mod line;
 mod link;
 mod making;
-mod module;
 mod of_image;
 mod record;
 mod replay;

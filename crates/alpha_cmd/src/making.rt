@@ -10,16 +10,17 @@ ghost use Rattle.alpha_cmd.specs.Makings as makings;
 ghost use Rattle.alpha_cmd.specs.Makings.{Bytes, Makes};
 
 use crate::Status;
-use crate::asm::assembled;
 use crate::decision::Decision;
 use crate::devices::Devices;
-use crate::fix::fixed;
 use crate::image::read_file;
 use crate::keep::keep_as;
-use crate::module::module_of;
 use alpha_io::{Failed, Shelf, Sink, Source};
 use alpha_request::SourceCommand;
 use std::alloc::Global;
+
+mod asm;
+mod fix;
+mod module;
 
 /// The most bytes of a source.
 pub const SOURCE_LIMIT: u64 = 16_777_216;
@@ -66,8 +67,8 @@ fn bytes_of(alloc: Global, what: SourceCommand, source: &[u8]) -> Result<Vec<u8>
         ⊎ ((status ≡ Status.NoMemory) × (line ≡ status_line Status.NoMemory)))) }
 {
     match what {
-        SourceCommand::Asm => assembled(alloc, source),
-        SourceCommand::Fix => fixed(alloc, source),
-        SourceCommand::Module => module_of(alloc, source),
+        SourceCommand::Asm => asm::assembled(alloc, source),
+        SourceCommand::Fix => fix::fixed(alloc, source),
+        SourceCommand::Module => module::module_of(alloc, source),
     }
 }

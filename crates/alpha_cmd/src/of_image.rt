@@ -2,20 +2,21 @@
 
 ghost use Rattle.std.specs.Prelude.{◌≡◌};
 ghost use Rattle.alpha_request.specs.declared.request.ImageCommand.TheVariants as asked;
-ghost use Rattle.alpha_cmd.specs.Commands.Debug.{LeavesTail, script_most};
+ghost use Rattle.alpha_cmd.specs.OfImage.Debug.{LeavesTail, script_most};
 ghost use Rattle.alpha_cmd.specs.Does.{Does};
 ghost use Rattle.alpha_cmd.specs.OfImage as images;
 
-use crate::check::judged;
-use crate::debug::session;
 use crate::decision::Decision;
 use crate::devices::Devices;
-use crate::dis::listed;
 use crate::image::load;
 use alpha_image::Image;
 use alpha_io::{Failed, Shelf, Sink, Source};
 use alpha_request::ImageCommand;
 use std::alloc::Global;
+
+mod check;
+mod debug;
+mod dis;
 
 /// Reads the image of a file, and does what is asked of it.
 pub(crate) fn of_image<H: Shelf, S: Source, K: Sink, N: Sink>(
@@ -46,8 +47,8 @@ fn on_image<H: Shelf, S: Source, K: Sink, N: Sink>(
         → LeavesTail script_most (S.left devices.old.input) (S.left devices.new.input) }
 {
     match what {
-        ImageCommand::Check => Ok(judged(&image)),
-        ImageCommand::Dis => listed(&image, devices),
-        ImageCommand::Debug => session(alloc, image, devices),
+        ImageCommand::Check => Ok(check::judged(&image)),
+        ImageCommand::Dis => dis::listed(&image, devices),
+        ImageCommand::Debug => debug::session(alloc, image, devices),
     }
 }

@@ -12,7 +12,7 @@ use Rattle.alpha_cmd.specs.Outcome.{goes}
 use Rattle.alpha_cmd.specs.Image.{ImageOf}
 use Rattle.alpha_cmd.specs.Answer.{Answer}
 use Rattle.alpha_cmd.specs.AnswerBy.{World, AnswerBy}
-use Rattle.alpha_cmd.specs.Form.{MayTakeBy, needs_files_and_input}
+use Rattle.alpha_cmd.specs.Form.{MayTakeBy}
 use Rattle.alpha_cmd.specs.Commands.Run.{run_by_reads, MayShow, Runs, steps, kind, form, there}
 use Rattle.alpha_cmd.specs.Commands.Imprecise.{drawn_status}
 use Rattle.alpha_cmd.specs.RunAnswer.{run_status, program_by, answer_shown}
@@ -43,7 +43,7 @@ run_plain (Some end) = refl
 
 pub lawful : (options : RunOptions) (file : List ℕ) (w : World) → IsLawfulForm (form options file) (there file) w
 lawful options file w =
-    of_file_lawful (Runs options) needs_files_and_input kind file w (λ h. h.0) (λ image. Runs-lawful _ _ _ options w.input image (λ h. h.1))
+    of_file_lawful (Runs options) kind file w (λ h. h.0) (λ image. Runs-lawful _ _ _ options w.input image (λ h. h.1))
     (λ image a h. (ap (λ (x : Answer). is_fault x.status) h.2 ∙ run_plain h.0.end, (h.0.end, ap (λ (x : Answer). x.status) h.2)))
 
 pub shown_answer : (w : World) (options : RunOptions) (file : List ℕ) (image : Parts) (s : Shown) → ImageOf w.files file (goes image) → MayShow options w.input image s

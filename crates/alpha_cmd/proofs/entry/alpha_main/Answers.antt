@@ -8,7 +8,7 @@ use Rattle.alpha_cmd.specs.Asks.{Asks}
 use Rattle.alpha_cmd.specs.Call.{called}
 use Rattle.alpha_cmd.specs.Checked.{Checked}
 use Rattle.alpha_cmd.specs.Commands.Link.{KeepsLinks}
-use Rattle.alpha_cmd.specs.Commands.Module.{KeepsModules}
+use Rattle.alpha_cmd.specs.Makings.Module.{KeepsModules}
 use Rattle.alpha_cmd.specs.Commands.Record.{KeepsUnder}
 use Rattle.alpha_cmd.specs.Fixed.{Fixes}
 use Rattle.alpha_cmd.specs.Promises.{EndsWhole, EndsCut, GivesOne, GivesThe, SparesFiles, TakesInput, LeavesScript, EndsAsked, LosesNone}

@@ -1,6 +1,7 @@
 use Rattle.std.proofs.Common.{refl}
 use Rattle.alpha_cmd.specs.Image.{ImageOf}
-use Rattle.alpha_cmd.specs.OfImage.{Answers, needs, kind, form}
+use Rattle.alpha_cmd.specs.Form.{needs_by}
+use Rattle.alpha_cmd.specs.OfImage.{Answers, kind, form}
 use Rattle.alpha_cmd.specs.Status.{status_line}
 use Rattle.alpha_cmd.proofs.After.{does_after}
 use Rattle.alpha_cmd.proofs.Doing.{does_refused}
@@ -11,7 +12,7 @@ use Rattle.alpha_cmd.proofs.of_image.of_image.Goals as goal
 pub returns-in-Ok-clause-does : goal.returns-in-Ok-clause-does
 returns-in-Ok-clause-does g c =
     does_after g.H.Shelf g.S.Source g.K.Sink g.N.Sink c.args.devices.now c.load.new.shelf c.on_image.new.devices (λ files. ImageOf files c.args.file.now)
-    (λ w. Answers c.args.what w.input) (needs c.args.what) (kind c.args.what) c.in-Ok.image c.on_image.result _ (λ e. cc) c.in-Ok.ensures.ok c.in-Ok.ensures.shelf
+    (λ w. Answers c.args.what w.input) (needs_by (kind c.args.what)) (kind c.args.what) c.in-Ok.image c.on_image.result _ (λ e. cc) c.in-Ok.ensures.ok c.in-Ok.ensures.shelf
     c.on_image.ensures.does
 
 pub returns-in-Err-clause-does : goal.returns-in-Err-clause-does

@@ -1,0 +1,31 @@
+-- The laws of `asm`.
+use Rattle.std.proofs.Common.{◌≡◌, ◌∙◌, ℕ, List, Result, Ok, Err, refl, sym, ap}
+use Rattle.alpha_image.specs.Parts.{spelling}
+use Rattle.alpha_asm.specs.declared.fault.AsmFault.{AsmFault}
+use Rattle.alpha_asm.specs.Program.{Program}
+use Rattle.alpha_asm.specs.Assembled.{assembled}
+use Rattle.alpha_round.proofs.Same.{one-image}
+use Rattle.alpha_round.proofs.Sources.{some-image}
+use Rattle.alpha_cmd.specs.declared.status.Status.TheVariants.{BadSource}
+use Rattle.alpha_cmd.specs.Status.{status_line}
+use Rattle.alpha_cmd.specs.Outcome.{goes, stops}
+use Rattle.alpha_cmd.specs.Makings.Asm.{NoProgram, IsMade, Assembles}
+use Rattle.alpha_cmd.proofs.Lawful.{Lawful, HasOutcome, Either-single, Says-one}
+
+pub same_refused : (source : List ℕ) (s t : Status) → NoProgram source s → NoProgram source t → s ≡ t
+same_refused source s t (f, is, first) (g, also, second) = let same : f ≡ g = cc in is ∙ (ap BadSource same ∙ sym also)
+
+made_apart : (source bytes : List ℕ) (s : Status) → IsMade source bytes → NoProgram source s → ⊥
+made_apart source bytes s made (f, is, first) = let some = made.1.1 in cc
+
+same_made : (source a b : List ℕ) → IsMade source a → IsMade source b → a ≡ b
+same_made source a b (p, x, s) (q, y, t) = s ∙ (ap spelling (one-image source p q x y) ∙ sym t)
+
+assembles_some : (source : List ℕ) (r : Result Program AsmFault) → assembled source ≡ r → HasOutcome (Assembles source)
+assembles_some source (Ok p) e = let (image, is) = some-image source p e in (goes (spelling image), (image, is, refl))
+assembles_some source (Err fault) e = (stops (BadSource fault) (status_line (BadSource fault)), ((fault, refl, e), refl))
+
+pub Assembles-lawful : (told whole there : Type 0) (source : List ℕ) → Lawful told whole there (Assembles source)
+Assembles-lawful told whole there source =
+    Faults-lawful (IsMade source) BadSource (assembled source) Err (λ f g e. cc) (λ f. refl) (same_made source) (λ a f made none. let some = made.1.1 in cc)
+    (λ h. assembles_some source (assembled source) refl)

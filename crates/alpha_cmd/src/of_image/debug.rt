@@ -1,0 +1,33 @@
+//! `debug`: a session of the debugger on an image's program.
+
+ghost use Rattle.alpha_request.specs.declared.request.ImageCommand.TheVariants as asked;
+ghost use Rattle.alpha_cmd.specs.OfImage.Debug.{LeavesTail, script_most};
+ghost use Rattle.alpha_cmd.specs.Does.{Does};
+ghost use Rattle.alpha_cmd.specs.OfImage as images;
+
+use crate::Status;
+use crate::decision::Decision;
+use crate::devices::Devices;
+use alpha_debug::{DebugEnd, SCRIPT_LIMIT, debug};
+use alpha_image::Image;
+use alpha_io::{Failed, Shelf, Sink, Source};
+use std::alloc::Global;
+
+/// Answers the commands of the input on an image's program. Nothing is put and nothing taken before the
+/// session has all of its memory.
+pub(crate) fn session<H: Shelf, S: Source, K: Sink, N: Sink>(
+    alloc: Global,
+    image: Image,
+    devices: &mut Devices<H, S, K, N>,
+) -> Result<Decision, Failed>
+    ensures does { Does H.Shelf S.Source K.Sink N.Sink (images.on asked.Debug image) result devices.old devices.new }
+    ensures script { LeavesTail script_most (S.left devices.old.input) (S.left devices.new.input) }
+{
+    match debug(alloc, image, &mut devices.input, &mut devices.out) {
+        DebugEnd::Done => Ok(Decision::said(Status::Done(0))),
+        DebugEnd::TooLarge => Ok(Decision::said(Status::TooLarge(SCRIPT_LIMIT as u64))),
+        DebugEnd::InputFault => Ok(Decision::said(Status::InputFault)),
+        DebugEnd::SinkFault => Err(Failed),
+        DebugEnd::NoMemory => Ok(Decision::said(Status::NoMemory)),
+    }
+}
