@@ -62,16 +62,3 @@ seeds files n = (pcg_word (seeded n), refl)
 
 pub listed : (files : Files) (name bytes : List ℕ) → HasFile files name bytes → length bytes ≤ choices_limit → HasWords files (file name)
 listed files name bytes there short = (listed_word bytes, (bytes, (there, short), refl))
-
--- ---- a call
-
-pub accepted_call : (words : List (List ℕ)) (image : Parts) (name : List ℕ) (w : World) (status : Status) (left : Option (List ℕ)) (s : Shelved) (out notes : Sunk)
-    → Asks words (check name) → IsImage image → IsAccepted image.words → IsSome w.files → HasFile w.files name (spelling image)
-    → ((a : Answer) → AreTold words w → IsAnswer words w a → IsAnswered a status left s out notes ⊎ (status ≡ NoMemory))
-    → (status ≡ Done 0) ⊎ (status ≡ NoMemory)
-unfolding checked
-accepted_call words image name w status left s out notes asks good safe told there exact =
-    let same : (command : Command) → Asks words command → check name ≡ command = λ command also. (let x = sym asks ∙ also in cc) in
-    let is = checked image w name good safe there in
-    ⊎_elim (λ (h : IsAnswered (accepted w.input) status left s out notes). inl h.status_is) (λ (h : status ≡ NoMemory). inr h)
-    (exact (accepted w.input) (λ command also. subst (λ (c : Command). IsTold c w) (same command also) told) (inr (check name, asks, is.is)))

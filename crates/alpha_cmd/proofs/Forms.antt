@@ -49,26 +49,23 @@ pub plain_answer : (f : Form) (there : World → Type 0) (w : World) → IsLawfu
 plain_answer f there w law a (goes b, h, e) = subst (λ (x : Answer). IsPlain (there w) x.status) (sym e) (law.ends b h)
 plain_answer f there w law a (stops s line, h, e) = subst (λ (x : Answer). IsPlain (there w) x.status) (sym e) (refusal_plain (there w) s (law.stages.plain s line h))
 
-done_not : (there : Type 0) (s : Status) → class_of s ≡ done → IsRefusal there s → ⊥
-done_not there s e (inl h) = let x = sym e ∙ h in cc
-done_not there s e (inr h) = let x : done ≡ failed = sym e ∙ ap class_of h.0 in cc
+-- an answer of a class that no refusal has is one that the stages went on with
+answer_goes : (f : Form) (there : World → Type 0) (w : World) → IsLawfulForm f there w → (c : Class) → (c ≡ refused → ⊥) → (c ≡ failed → ⊥) → (a : Answer) → AnswerBy f.steps w a
+    → class_of a.status ≡ c → f.steps w (goes a)
+answer_goes f there w law c fine calm a (goes b, h, e) is = subst (λ (x : Answer). f.steps w (goes x)) (sym e) h
+answer_goes f there w law c fine calm a (stops s line, h, e) is = absurd (by (law.stages.plain s line h))
+  where
+    by : IsRefusal (there w) s → ⊥
+    by (inl r) = fine (sym is ∙ (ap (λ (x : Answer). class_of x.status) e ∙ r))
+    by (inr r) = calm (sym is ∙ (ap (λ (x : Answer). class_of x.status) e ∙ ap class_of r.0))
 
--- no refusal is done
+-- as is one that is done
 pub done_goes : (f : Form) (there : World → Type 0) (w : World) → IsLawfulForm f there w → (a : Answer) → AnswerBy f.steps w a → class_of a.status ≡ done → f.steps w (goes a)
-done_goes f there w law a (goes b, h, e) is = subst (λ (x : Answer). f.steps w (goes x)) (sym e) h
-done_goes f there w law a (stops s line, h, e) is =
-    absurd (done_not (there w) s (sym (ap (λ (x : Answer). class_of x.status) e) ∙ is) (law.stages.plain s line h))
+done_goes f there w law = answer_goes f there w law done (λ e. cc) (λ e. cc)
 
--- a program's end is no refusal
-ended_not : (there : Type 0) (s : Status) → class_of s ≡ ended → IsRefusal there s → ⊥
-ended_not there s e (inl h) = let x = sym e ∙ h in cc
-ended_not there s e (inr h) = let x : ended ≡ failed = sym e ∙ ap class_of h.0 in cc
-
--- so its status is one of the command's end
+-- and one of a program's end, so that its status is one of the command's end
 pub ended_ends : (f : Form) (there : World → Type 0) (w : World) → IsLawfulForm f there w → (a : Answer) → AnswerBy f.steps w a → class_of a.status ≡ ended → f.kind.ends a.status
-ended_ends f there w law a (goes b, h, e) is = subst (λ (x : Answer). f.kind.ends x.status) (sym e) (law.status b h)
-ended_ends f there w law a (stops s line, h, e) is =
-    absurd (ended_not (there w) s (sym (ap (λ (x : Answer). class_of x.status) e) ∙ is) (law.stages.plain s line h))
+ended_ends f there w law a h is = law.status a (answer_goes f there w law ended (λ e. cc) (λ e. cc) a h is)
 
 -- ---- a command of an image
 

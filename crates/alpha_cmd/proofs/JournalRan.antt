@@ -53,30 +53,11 @@ use Rattle.alpha_cmd.specs.Commands.Imprecise.{Plan, plan_by, MayShowWild, answe
 use Rattle.alpha_cmd.specs.Commands.Record.{unwatched, RecordedByReads, ShowsMaking, HasItsJournal, IsStopped, KeepsBehind, IsKeptRun, full_answer, IsFullRun, on, RunsOn, WhenMade, WhenOver}
 use Rattle.alpha_cmd.proofs.CutShort.{Fronts}
 use Rattle.alpha_cmd.proofs.Endings.{IsLeft-own}
-use Rattle.alpha_cmd.proofs.Commands.Record.{keeps_some, some_end, journals}
+use Rattle.alpha_cmd.proofs.Commands.Record.{HasAnswer, kept_answer, stopped_answer, untold_answer, some_end}
 use Rattle.alpha_cmd.proofs.JournalStatus.{over_takes}
 use Rattle.alpha_cmd.proofs.Streaming.{streamed, does_stream, does_whole}
 use Rattle.alpha_cmd.proofs.Trying.{starts_not}
 use Rattle.alpha_cmd.proofs.WildRan.{RunsAlone, ShowsOf, ran_shows_of, Begins, same_program, draws_most}
-
--- the answer of a run but for its keep
-same_output : (w : World) (out bytes : List ℕ) (a b : Answer) → KeepsBehind w out bytes a b → b.output ≡ a.output
-same_output w out bytes a b (inl h) = ap (λ (x : Answer). x.output) h.1
-same_output w out bytes a b (inr h) = ap (λ (x : Answer). x.output) h.1
-
-same_trace : (w : World) (out bytes : List ℕ) (a b : Answer) → KeepsBehind w out bytes a b → b.trace ≡ a.trace
-same_trace w out bytes a b (inl h) = ap (λ (x : Answer). x.trace) h.1
-same_trace w out bytes a b (inr h) = ap (λ (x : Answer). x.trace) h.1
-
--- ---- by whether a run was made
-
-pub made_map : (r : Ran) (P Q : Decision → Parts → Type 0) → ((d : Decision) (p : Parts) → P d p → Q d p) → WhenMade r P → WhenMade r Q
-made_map (outcomes.Made d journal) P Q f h = f d journal h
-made_map (outcomes.Over r) P Q f h = tt
-
-pub over_map : (r : Ran) (P Q : Result Decision Failed → Type 0) → ((x : Result Decision Failed) → P x → Q x) → WhenOver r P → WhenOver r Q
-over_map (outcomes.Made d journal) P Q f h = tt
-over_map (outcomes.Over r) P Q f h = f r h
 
 -- a sink that wasn't called
 idle_puts : (s : Sunk) → Idles s → Puts s []
@@ -248,53 +229,20 @@ module _ (options : RunOptions) (m : WildState) (ahead : ℕ → ℕ) (how : m.m
 
   -- ---- one that a device's fault cut short
 
-  -- fronts of what some answer has were written
-  pub record RunFronts (force : Bool) (name : List ℕ) (w : World) (out notes : Sunk) : Type 0 where
-    pub answer : Answer
-    pub run : IsKeptRun options force name w (plan_by m.machine.image ahead) answer ⊎ IsFullRun options w (plan_by m.machine.image ahead) answer
-    pub bytes : WritesPrefix out.old out.new answer.output
-    pub lines : WritesPrefix notes.old notes.new answer.trace
+  -- fronts of what an answer has were written
+  fronts_of : (force : Bool) (name : List ℕ) (w : World) (out notes : Sunk) (output trace : List ℕ) → HasAnswer options force name w (plan_by m.machine.image ahead) output trace
+      → WritesPrefix out.old out.new output → WritesPrefix notes.old notes.new trace → Fronts (on options force name (plan_by m.machine.image ahead)) w out notes
+  fronts_of force name w out notes output trace a bytes lines = record {
+    answer = a.answer;
+    kept = inr refl;
+    is = (goes a.answer, a.run, refl);
+    bytes = subst (WritesPrefix out.old out.new) (sym a.output_is) bytes;
+    lines = subst (WritesPrefix notes.old notes.new) (sym a.trace_is) lines;
+  }
 
   -- where the run goes on over inputs of its own to where it stops
-  untold_fronts : (force : Bool) (name : List ℕ) (w : World) (out notes : Sunk) → w.input ≡ None → (force ≡ false → FreeAlike m.machine.image)
-      → (r : Recorded) → RecordedByReads options (plan_by m.machine.image ahead) r
-      → WritesPrefix out.old out.new r.making.run.state.outside.output → WritesPrefix notes.old notes.new (notes_of false r.making.run.trace)
-      → RunFronts force name w out notes
-  untold_fronts force name w out notes untold alone r by bytes lines = at (is_within (journal_in options.complete r)) refl
-    where
-      plan : Plan
-      plan = plan_by m.machine.image ahead
-
-      at : (b : Bool) → is_within (journal_in options.complete r) ≡ b → RunFronts force name w out notes
-      at true within =
-          let j = journals options force (plan_by m.machine.image ahead) r by within alone in
-          let p = journal_in options.complete r in
-          let a = keeps_some w name (spelling p) (answer_wild w.input j.what) in
-          record {
-            answer = a.0;
-            run = inl (record {
-              shown = j.what;
-              may = subst (λ (o : Option (List ℕ)). MayShowWild (unwatched options) force o (plan_by m.machine.image ahead) j.what) (sym untold) j.may;
-              journal = p;
-              has = subst (λ (o : Option (List ℕ)). HasItsJournal options o (plan_by m.machine.image ahead) j.what p) (sym untold) (r, j.has, j.shows);
-              keeps = a.1;
-            });
-            bytes = subst (WritesPrefix out.old out.new) (sym (same_output w name (spelling p) (answer_wild w.input j.what) a.0 a.1 ∙ j.shows.output)) bytes;
-            lines = subst (WritesPrefix notes.old notes.new) (sym (same_trace w name (spelling p) (answer_wild w.input j.what) a.0 a.1 ∙ j.shows.notes)) lines;
-          }
-      at false past = record {
-        answer = full_answer w.input r.making;
-        run = inr (record {
-          making = r.making;
-          stopped = subst (λ (o : Option (List ℕ)). IsStopped options o (plan_by m.machine.image ahead) r.making) (sym untold) (r, by, past, refl);
-          is = refl;
-        });
-        bytes = bytes;
-        lines = lines;
-      }
-
-  cut_untold : (force : Bool) (name : List ℕ) (fault : Fault) (w : World) {new : WildState} (before after : Telling) (d : Drawn) (out notes : Sunk) → w.input ≡ None → (force ≡ false → FreeAlike m.machine.image)
-      → before.ahead ≡ Some ahead → IsShort options.steps fault m new before after d out notes → RunFronts force name w out notes
+  cut_untold : (force : Bool) (name : List ℕ) (fault : Fault) (w : World) (before after : Telling) (d : Drawn) (out notes : Sunk) → w.input ≡ None → (force ≡ false → FreeAlike m.machine.image)
+      → before.ahead ≡ Some ahead → IsShort options.steps fault m before after d out notes → Fronts (on options force name (plan_by m.machine.image ahead)) w out notes
   cut_untold force name fault w before after d out notes untold alone tells short =
       let n = options.steps in
       let g = program_of m.machine in
@@ -314,7 +262,8 @@ module _ (options : RunOptions) (m : WildState) (ahead : ℕ → ℕ) (how : m.m
       let begins = begins_over n g end.inputs mid in
       let by = by_reads (inputs ++ end.inputs) cut.drawn s.coming s.is (goes-append n g inputs end.inputs from (short.goes [] s.coming) end.goes)
       (ap (stops_at n g.how) whole ∙ end.stopped) in
-      untold_fronts force name w out notes untold alone r (subst (λ (x : Recorded). RecordedByReads options (plan_by m.machine.image ahead) x) whole by)
+      fronts_of force name w out notes r.making.run.state.outside.output (notes_of false r.making.run.trace)
+      (untold_answer options force name w (plan_by m.machine.image ahead) untold alone r (subst (λ (x : Recorded). RecordedByReads options (plan_by m.machine.image ahead) x) whole by))
       (front out.old out.new cut.put cut.put' r.making.run.state.outside.output cut.output
       (subst (λ (l : List ℕ). Grows l r.making.run.state.outside.output) (ap (λ (k : Making). k.run.state.outside.output) making) begins.output))
       (front notes.old notes.new cut.lines cut.lines' (notes_of false r.making.run.trace) cut.noted
@@ -324,7 +273,7 @@ module _ (options : RunOptions) (m : WildState) (ahead : ℕ → ℕ) (how : m.m
   pub fronts_by : (force : Bool) (name : List ℕ) (fault : Fault) (w : World) {new : WildState} (before after : Telling) (d : Drawn) (out notes : Sunk) → (force ≡ false → FreeAlike m.machine.image)
       → before.ahead ≡ Some ahead → IsShort options.steps fault m new before after d out notes
       → ((bytes : List ℕ) → w.input ≡ Some bytes → (k : Journaled) → StopsAt options.steps (program_of m.machine) bytes ahead k → ShowsWildPart (shown_making false k.making) out notes)
-      → Begins (unwatched options) m ahead how fresh force w.input out notes → RunFronts force name w out notes
+      → Begins (unwatched options) m ahead how fresh force w.input out notes → Fronts (on options force name (plan_by m.machine.image ahead)) w out notes
   fronts_by force name fault w before after d out notes alone tells short told b = by w.input refl
     where
       past : (bytes : List ℕ) → w.input ≡ Some bytes → (k : Making) → IsPast options.steps (program_by options m.machine.image) bytes ahead k → ShowsWildPart (shown_making false k) out notes
@@ -334,25 +283,19 @@ module _ (options : RunOptions) (m : WildState) (ahead : ℕ → ℕ) (how : m.m
 
       at : (bytes : List ℕ) → w.input ≡ Some bytes
           → ((p : Parts) × IsRecorded options.steps (program_by options m.machine.image) bytes ahead p) ⊎ ((k : Making) × IsPast options.steps (program_by options m.machine.image) bytes ahead k)
-          → RunFronts force name w out notes
+          → Fronts (on options force name (plan_by m.machine.image ahead)) w out notes
       at bytes is (inl (p, has)) =
-          let a = keeps_some w name (spelling p) (answer_wild w.input b.what) in
-          record {
-            answer = a.0;
-            run = inl (record { shown = b.what; may = b.may; journal = p; has = subst (λ (o : Option (List ℕ)). HasItsJournal options o (plan_by m.machine.image ahead) b.what p) (sym is) has; keeps = a.1 });
-            bytes = subst (WritesPrefix out.old out.new) (sym (same_output w name (spelling p) (answer_wild w.input b.what) a.0 a.1)) b.bytes;
-            lines = subst (WritesPrefix notes.old notes.new) (sym (same_trace w name (spelling p) (answer_wild w.input b.what) a.0 a.1)) b.lines;
-          }
+          fronts_of force name w out notes b.what.output b.what.notes
+          (kept_answer options force name w (plan_by m.machine.image ahead) b.what p b.may
+          (subst (λ (o : Option (List ℕ)). HasItsJournal options o (plan_by m.machine.image ahead) b.what p) (sym is) has))
+          b.bytes b.lines
       at bytes is (inr (k, h)) =
           let shows = past bytes is k h in
-          record {
-            answer = full_answer w.input k;
-            run = inr (record { making = k; stopped = subst (λ (l : Option (List ℕ)). IsStopped options l (plan_by m.machine.image ahead) k) (sym is) h; is = refl });
-            bytes = shows.bytes;
-            lines = shows.lines;
-          }
+          fronts_of force name w out notes k.run.state.outside.output (notes_of false k.run.trace)
+          (stopped_answer options force name w (plan_by m.machine.image ahead) k (subst (λ (l : Option (List ℕ)). IsStopped options l (plan_by m.machine.image ahead) k) (sym is) h))
+          shows.bytes shows.lines
 
-      by : (input : Option (List ℕ)) → w.input ≡ input → RunFronts force name w out notes
+      by : (input : Option (List ℕ)) → w.input ≡ input → Fronts (on options force name (plan_by m.machine.image ahead)) w out notes
       by None is = cut_untold force name fault w before after d out notes is alone tells short
       by (Some bytes) is = at bytes is (some_end options.steps (program_by options m.machine.image) bytes ahead)
 
@@ -381,13 +324,3 @@ module _ (options : RunOptions) (m : WildState) (ahead : ℕ → ℕ) (how : m.m
         (starts_not _ _ (on options force name (plan_by m.machine.image ahead)) w _ refl) (KeepsFiles-refl (h.files old.shelf)) refl rests put noted (says (s.left input)))
         (over_takes force name d.status (inr (inr (inr (ap (λ (a : Answer). a.status) (says None))))))
         (record { later = omega (arith, rests.same); calm = λ stays. rests.same })
-
-  -- one that was cut short
-  pub cut_fronts : (force : Bool) (name : List ℕ) (w : World) (out notes : Sunk) → RunFronts force name w out notes → Fronts (on options force name (plan_by m.machine.image ahead)) w out notes
-  cut_fronts force name w out notes f = record {
-    answer = f.answer;
-    kept = inr refl;
-    is = (goes f.answer, f.run, refl);
-    bytes = f.bytes;
-    lines = f.lines;
-  }

@@ -116,6 +116,3 @@ module _ (options : RunOptions) (force : Bool) (out : List ℕ) (input : Option 
   -- the decision of a run is no shelf's fault
   pub decision_not_shelf : d.status ≢ ShelfFault
   decision_not_shelf e = no_end run.shown.end run.shown.lost (run.shown.drawn % 2 ^ 64) d.status end_is (inr (ap is_fault e))
-
-  pub decision_not_input : d.status ≢ InputFault
-  decision_not_input e = no_end run.shown.end run.shown.lost (run.shown.drawn % 2 ^ 64) d.status end_is (inr (ap is_fault e))

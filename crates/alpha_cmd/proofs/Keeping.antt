@@ -18,22 +18,17 @@ use Rattle.alpha_cmd.specs.Ends.{Settles}
 use Rattle.alpha_cmd.specs.Form.{Kind, SparesBy, making}
 use Rattle.alpha_cmd.specs.Keeping.{KeepsAs, TriesKeep, Untaken}
 use Rattle.alpha_cmd.specs.Tries.{IsCutBy, TriesBy}
+use Rattle.alpha_cmd.proofs.Stages.{kept_same}
 
 -- ---- files that were read before
 
 -- what is refused then was refused at first
 pub Refuses-kept : (a b : Files) (taken : Bool) → KeepsFiles a b → Refuses b taken → Refuses a taken
-Refuses-kept None None taken p h = h
-Refuses-kept None (Some g) taken p h = absurd p
-Refuses-kept (Some f) None taken p h = absurd p
-Refuses-kept (Some f) (Some g) taken p h = h
+Refuses-kept a b taken p h = subst (λ (f : Files). Refuses f taken) (kept_same a b p) h
 
 -- and the other way round
 pub Refuses-told : (a b : Files) (taken : Bool) → KeepsFiles a b → Refuses a taken → Refuses b taken
-Refuses-told None None taken p h = h
-Refuses-told None (Some g) taken p h = absurd h
-Refuses-told (Some f) None taken p h = absurd p
-Refuses-told (Some f) (Some g) taken p h = h
+Refuses-told a b taken p h = subst (λ (f : Files). Refuses f taken) (sym (kept_same a b p)) h
 
 pub SparesBy-after : (k : Kind) (status : Status) (a b c : Files) → KeepsFiles a b → SparesBy k status b c → SparesBy k status a c
 SparesBy-after k status a b c first (inl same) = inl (KeepsFiles-trans a b c first same)

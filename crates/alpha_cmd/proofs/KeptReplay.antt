@@ -22,42 +22,31 @@ use Rattle.alpha_cmd.specs.Outcome.{goes}
 use Rattle.alpha_cmd.specs.Answer.{Answer}
 use Rattle.alpha_cmd.specs.AnswerBy.{World, AnswerBy}
 use Rattle.alpha_cmd.specs.Image.{ImageOf}
-use Rattle.alpha_cmd.specs.Commands.Imprecise.{Plan, Passes}
+use Rattle.alpha_cmd.specs.Commands.Imprecise.{Plan}
 use Rattle.alpha_cmd.specs.Commands.Record.{HasJournal, KeepsRun}
 use Rattle.alpha_cmd.specs.Commands.Replay as replays
 use Rattle.alpha_cmd.specs.RunAnswer.{program_by}
+use Rattle.alpha_cmd.proofs.Commands.Imprecise.{planned_image}
 use Rattle.alpha_cmd.proofs.Commands.Replay.{lawful}
 use Rattle.alpha_cmd.proofs.Forms.{one_answer}
 
 -- ---- a good journal is short enough for a file of a call
 
 item_most : (i : Item) → length (item_bytes i) ≤ 10
-item_most (Units n) = let size = length-item_bytes (Units n) in omega (arith, size)
-item_most (Trigger value) = let size = length-item_bytes (Trigger value) in omega (arith, size)
-item_most (Wait adds value) = let size = length-item_bytes (Wait adds value) in omega (arith, size)
-item_most Report = let size = length-item_bytes Report in omega (arith, size)
+item_most (Units n) = omega (arith, length-item_bytes (Units n))
+item_most i = omega (arith, length-item_bytes i)
 
 items_most : (is : List Item) → length (flat_map item_bytes is) ≤ 10 * length is
 items_most [] = omega arith
-items_most (i ∷ is) =
-    let both = length-append (item_bytes i) (flat_map item_bytes is) in
-    let one = item_most i in
-    let more = items_most is in
-    omega (arith, both, one, more)
+items_most (i ∷ is) = omega (arith, length-append (item_bytes i) (flat_map item_bytes is), item_most i, items_most is)
 
 short_enough : (p : Parts) → IsJournal p → length (spelling p) ≤ replays.journal_limit
 unfolding spelling
 short_enough p good =
     let items = flat_map item_bytes p.items in
-    let one = length-append (front (numbers p)) (p.input ++ (p.output ++ items)) in
-    let two = length-append p.input (p.output ++ items) in
-    let three = length-append p.output items in
-    let head = length-front (numbers p) in
-    let most = items_most p.items in
-    let few = good.few_items in
-    let input = good.few_input in
-    let output = good.few_output in
-    omega (arith, one, two, three, head, most, few, input, output)
+    omega
+    (arith, length-append (front (numbers p)) (p.input ++ (p.output ++ items)), length-append p.input (p.output ++ items), length-append p.output items, length-front (numbers p),
+    items_most p.items, good.few_items, good.few_input, good.few_output)
 
 -- ---- the journal of a run
 
@@ -71,10 +60,6 @@ recorded_replays options image input ahead p h =
       ap (replayed image) h.is ∙ journaled_replays options.steps image options.complete input words h.place h.stops h.within (journaled_lists options.steps g input words h.place h.stops),
     )
 
-passed_same : (force : Bool) (q plan : Plan) → Passes force q (goes plan) → plan ≡ q
-passed_same true q plan h = h
-passed_same false q plan h = h.2
-
 told_journal : (options : RunOptions) (input : Option (List ℕ)) (plan : Plan) (p : Parts) → IsSome input → HasJournal options input plan p → (r : Replayed) × (replayed plan.image p ≡ Ok r)
 told_journal options None plan p told has = cc
 told_journal options (Some input) plan p told has = recorded_replays options plan.image input plan.ahead p has
@@ -82,9 +67,8 @@ told_journal options (Some input) plan p told has = recorded_replays options pla
 pub kept_replay : (options : RunOptions) (choices : Origin) (force : Bool) (file out : List ℕ) (w v : World) (a : Answer) → IsSome w.input → IsSome v.files
     → KeepsRun options choices force file out w v.files → ((image : Image) → ImageOf w.files file (goes image) → ImageOf v.files file (goes image))
     → AnswerBy (replays.steps file out) v a → a.status ≡ Done 0
-kept_replay options choices force file out w v a told files (plan, (q, found, passes), (p, good, has, there)) stays is =
-    let same : plan.image ≡ found.0 = ap (λ (x : Plan). x.image) (passed_same force q plan passes ∙ found.2.2) in
-    let image : ImageOf v.files file (goes plan.image) = subst (λ (x : Image). ImageOf v.files file (goes x)) (sym same) (stays found.0 found.1) in
+kept_replay options choices force file out w v a told files (plan, planned, (p, good, has, there)) stays is =
+    let image = stays plan.image (planned_image force choices file w.files plan planned) in
     let run = told_journal options w.input plan p told has in
     let b : Answer = replays.shown v.input run.0 in
     let answers : AnswerBy (replays.steps file out) v b =

@@ -75,29 +75,33 @@ Gives-lawful x = Goes-lawful (λ y. y ≡ x) (λ told a b h g. h ∙ sym g) (λ 
 
 -- ---- one stage after another
 
+-- where the first stage's outcome is known, the row has one of the second
+pub Then-found : {X Y : Type 0} (R : Outcome X → Type 0) (S : X → Outcome Y → Type 0) → IsSingle R → (x : X) → R (goes x) → (o : Outcome Y) → Then R S o → S x o
+Then-found {X = X} {Y = Y} R S first x r = go
+  where
+    moved : (z : X) (o : Outcome Y) → R (goes z) → S z o → S x o
+    moved z o h s =
+        let e = first (goes z) (goes x) h r in
+        let same : z ≡ x = cc in subst (λ v. S v o) same s
+
+    go : (o : Outcome Y) → Then R S o → S x o
+    go (goes y) h = moved h.0 (goes y) h.1 h.2
+    go (stops s l) (inl h) = absurd (let e = first (goes x) (stops s l) r h in cc)
+    go (stops s l) (inr h) = moved h.0 (stops s l) h.1 h.2
+
 Then-single : {X Y : Type 0} (R : Outcome X → Type 0) (S : X → Outcome Y → Type 0) → IsSingle R → ((x : X) → R (goes x) → IsSingle (S x)) → IsSingle (Then R S)
 Then-single {X = X} {Y = Y} R S first second = go
   where
-    same : (x z : X) → R (goes x) → R (goes z) → x ≡ z
-    same x z h g = let e = first (goes x) (goes z) h g in cc
-
-    moved : (x z : X) (o : Outcome Y) → R (goes x) → R (goes z) → S z o → S x o
-    moved x z o h g s = subst (λ v. S v o) (sym (same x z h g)) s
-
     apart : (x : X) (s : Status) (l : List ℕ) → R (goes x) → R (stops s l) → ⊥
     apart x s l h g = let e = first (goes x) (stops s l) h g in cc
 
     go : (o p : Outcome Y) → Then R S o → Then R S p → o ≡ p
-    go (goes y) (goes z) h g = second h.0 h.1 (goes y) (goes z) h.2 (moved h.0 g.0 (goes z) h.1 g.1 g.2)
-    go (goes y) (stops t m) h (inl g) = absurd (apart h.0 t m h.1 g)
-    go (goes y) (stops t m) h (inr g) = second h.0 h.1 (goes y) (stops t m) h.2 (moved h.0 g.0 (stops t m) h.1 g.1 g.2)
+    go (goes y) p h g = second h.0 h.1 (goes y) p h.2 (Then-found R S first h.0 h.1 p g)
+    go (stops s l) p (inr h) g = second h.0 h.1 (stops s l) p h.2 (Then-found R S first h.0 h.1 p g)
     go (stops s l) (goes z) (inl h) g = absurd (apart g.0 s l g.1 h)
-    go (stops s l) (goes z) (inr h) g = second h.0 h.1 (stops s l) (goes z) h.2 (moved h.0 g.0 (goes z) h.1 g.1 g.2)
     go (stops s l) (stops t m) (inl h) (inl g) =
         let e = first (stops s l) (stops t m) h g in same_stop s t l m (cc) (cc)
     go (stops s l) (stops t m) (inl h) (inr g) = absurd (apart g.0 s l g.1 h)
-    go (stops s l) (stops t m) (inr h) (inl g) = absurd (apart h.0 t m h.1 g)
-    go (stops s l) (stops t m) (inr h) (inr g) = second h.0 h.1 (stops s l) (stops t m) h.2 (moved h.0 g.0 (stops t m) h.1 g.1 g.2)
 
 Then-some : {X Y : Type 0} (R : Outcome X → Type 0) (S : X → Outcome Y → Type 0) → HasOutcome R → ((x : X) → R (goes x) → HasOutcome (S x)) → HasOutcome (Then R S)
 Then-some {X = X} {Y = Y} R S first second = at first.0 first.1
@@ -122,20 +126,6 @@ Then-lawful {there = there} {R = R} {S = S} first second = record {
   some = λ whole. Then-some R S (first.some whole) (λ x h. (second x h).some whole);
   plain = Then-plain there R S first.plain (λ x h. (second x h).plain);
 }
-
--- where the first stage's outcome is known, the row has one of the second
-pub Then-found : {X Y : Type 0} (R : Outcome X → Type 0) (S : X → Outcome Y → Type 0) → IsSingle R → (x : X) → R (goes x) → (o : Outcome Y) → Then R S o → S x o
-Then-found {X = X} {Y = Y} R S first x r = go
-  where
-    moved : (z : X) (o : Outcome Y) → R (goes z) → S z o → S x o
-    moved z o h s =
-        let e = first (goes z) (goes x) h r in
-        let same : z ≡ x = cc in subst (λ v. S v o) same s
-
-    go : (o : Outcome Y) → Then R S o → S x o
-    go (goes y) h = moved h.0 (goes y) h.1 h.2
-    go (stops s l) (inl h) = absurd (let e = first (goes x) (stops s l) r h in cc)
-    go (stops s l) (inr h) = moved h.0 (stops s l) h.1 h.2
 
 -- a stage that stops, or what cuts it short, stops the row
 pub first_stops : {X Y : Type 0} {C : Type 0} (R : Outcome X → Type 0) (S : X → Outcome Y → Type 0) (s : Status) (l : List ℕ) → R (stops s l) ⊎ C → Then R S (stops s l) ⊎ C

@@ -25,18 +25,18 @@ use Rattle.alpha_cmd.specs.Call.{Call, Quiet}
 use Rattle.alpha_cmd.specs.Checked.{Checked, SpellsRestartable}
 use Rattle.alpha_cmd.specs.Restarts.{Restarts}
 use Rattle.alpha_cmd.specs.Accepts.{Accepts}
-use Rattle.alpha_cmd.specs.Commands.{kind_of, EndsBy, MayTake, Spares}
+use Rattle.alpha_cmd.specs.Commands.{kind_of, EndsBy, IsTold, MayTake, Spares}
 use Rattle.alpha_cmd.specs.Commands.Link.{KeepsLinks}
 use Rattle.alpha_cmd.specs.Makings.Module.{KeepsModules}
 use Rattle.alpha_cmd.specs.Ends.{Ends}
 use Rattle.alpha_cmd.specs.Fixed.{Fixes}
 use Rattle.alpha_cmd.specs.Gave.{Gave}
 use Rattle.alpha_cmd.specs.Promises.{tried_in, EndsWhole, EndsCut, GivesOne, GivesThe, SparesFiles, TakesInput, EndsAsked, LosesNone}
-use Rattle.alpha_cmd.specs.ReadsNothing.{Unread, UnreadAlike}
+use Rattle.alpha_cmd.specs.ReadsNothing.{answer_unread, Unread, UnreadAlike}
 use Rattle.alpha_cmd.specs.Replayed.{ShowsRuns}
 use Rattle.alpha_cmd.specs.ToldRun.{answer_told, Ran}
 use Rattle.alpha_cmd.specs.Tried.{IsAnswer}
-use Rattle.alpha_cmd.proofs.Accepted.{accepted_call}
+use Rattle.alpha_cmd.proofs.Accepted.{checked as checked_file}
 use Rattle.alpha_cmd.proofs.Alike.{tried_restarts}
 use Rattle.alpha_cmd.proofs.Endings as endings
 use Rattle.alpha_cmd.proofs.Endings.{Leaves-not_sink, given_whole, given_one, given_undrawn, calm_part}
@@ -45,10 +45,10 @@ use Rattle.alpha_cmd.proofs.Forms.{is_fault}
 use Rattle.alpha_cmd.proofs.JournalStatus.{no_end}
 use Rattle.alpha_cmd.proofs.KeptLinks.{kept_link}
 use Rattle.alpha_cmd.proofs.KeptModules.{kept_module}
-use Rattle.alpha_cmd.proofs.ReadsNothing.{unread_call, unread_alike_call}
+use Rattle.alpha_cmd.proofs.ReadsNothing.{one_unread, unread_alike as alike_unread}
 use Rattle.alpha_cmd.proofs.ReplayedRuns.{shows_run}
 use Rattle.alpha_cmd.proofs.ToldRuns.{wild_told, run_told}
-use Rattle.alpha_cmd.proofs.Tried.{IsAnswer-single, tried_ended, ended_found}
+use Rattle.alpha_cmd.proofs.Tried.{IsAnswer-single, asked_answer, tried_ended, ended_found}
 use Rattle.alpha_cmd.proofs.Trying.{MayTake-sink, Spares-sink}
 
 -- all of what was tried was written, or a sink failed
@@ -165,8 +165,11 @@ module _ {words : List (List ℕ)} {status : Status} {c : Call} (how : Ended wor
 
   pub accepted : Accepts words status c
   accepted image name asks good safe files there quiet =
-      accepted_call words image name (told c) status c.input.new c.shelf c.out c.notes (asked_rows words (check name) asks) good safe files there
-      (λ a read is. exact a read quiet is)
+      let here = asked_rows words (check name) asks in
+      let same : (command : Command) → Asks words command → check name ≡ command = λ command also. (let x = sym here ∙ also in cc) in
+      let is = checked_file image (told c) name good safe there in
+      ⊎_elim (λ h. inl (h.status_is ∙ is.done)) (λ (memory : status ≡ NoMemory). inr memory)
+      (exact is.answer (λ command also. subst (λ (x : Command). IsTold x (told c)) (same command also) files) quiet (inr (check name, here, is.is)))
 
   -- an answer, but for the number of words that were drawn
   gave_undrawn : (a : Answer) → ((b : Answer) → IsAnswer words (told c) b → undrawn b ≡ a) → Quiet c → Gave a (but_drawn status) c
@@ -194,10 +197,11 @@ module _ {words : List (List ℕ)} {status : Status} {c : Call} (how : Ended wor
 
   pub unread : Unread words status c
   unread options name image asks files found nothing quiet =
-      unread_call words options name image (told c) status c.input.new c.shelf c.out c.notes (asked_rows words (run options name) asks) files found nothing (given how quiet)
+      given_one words (told c) (answer_unread options image c.input.old) status c.input.new c.shelf c.out c.notes
+      (λ a is. one_unread options name image (told c) a files found nothing (asked_answer words (run options name) (told c) a (asked_rows words (run options name) asks) is)) (given how quiet)
 
   pub unread_alike : UnreadAlike words status c
   unread_alike options choices force name image asks files found nothing has checked quiet =
-      ⊎_elim (λ h. inl h) (λ (memory : status ≡ NoMemory). inr (ap but_drawn memory))
-      (unread_alike_call words options choices force name image (told c) status c.input.new c.shelf c.out c.notes
-      (asked_rows words (imprecise options choices force name) asks) files found nothing has checked (given how quiet))
+      let command = imprecise options choices force name in
+      gave_undrawn (answer_unread options image c.input.old)
+      (λ b is. alike_unread options choices force name image (told c) b files found nothing has checked (asked_answer words command (told c) b (asked_rows words command asks) is)) quiet

@@ -173,23 +173,3 @@ pub some_unread_alike : (options : RunOptions) (choices : Origin) (force : Bool)
 some_unread_alike options choices force file image w told found unread words checked =
     let (b, is) = some_checked_run options choices force file w words checked in
     (b, is, unread_alike options choices force file image w b told found unread words checked is)
-
--- ---- a call
-
-pub unread_call : (words : List (List ℕ)) (options : RunOptions) (file : List ℕ) (image : Parts) (w : World) (status : Status) (left : Option (List ℕ)) (s : Shelved) (out notes : Sunk)
-    → Asks words (run options file) → IsSome w.files → ImageOf w.files file (goes image) → ReadsNothing options image
-    → IsGiven words w status left s out notes → IsAnswered (answer_unread options image w.input) status left s out notes ⊎ (status ≡ NoMemory)
-unread_call words options file image w status left s out notes asks told found unread given =
-    given_one words w (answer_unread options image w.input) status left s out notes
-    (λ a is. one_unread options file image w a told found unread (asked_answer words (run options file) w a asks is))
-    given
-
-pub unread_alike_call : (words : List (List ℕ)) (options : RunOptions) (choices : Origin) (force : Bool) (file : List ℕ) (image : Parts) (w : World) (status : Status)
-    (left : Option (List ℕ)) (s : Shelved) (out notes : Sunk) → Asks words (imprecise options choices force file) → IsSome w.files → ImageOf w.files file (goes image)
-    → ReadsNothing options image → HasWords w.files choices → IsChecked file w → IsGiven words w status left s out notes
-    → IsAnswered (answer_unread options image w.input) (but_drawn status) left s out notes ⊎ (status ≡ NoMemory)
-unread_alike_call words options choices force file image w status left s out notes asks told found unread has checked given =
-    given_undrawn words w (answer_unread options image w.input) status left s out notes
-    (λ b is.
-    unread_alike options choices force file image w b told found unread has checked (asked_answer words (imprecise options choices force file) w b asks is))
-    given

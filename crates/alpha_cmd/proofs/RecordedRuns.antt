@@ -40,6 +40,7 @@ use Rattle.alpha_cmd.specs.Commands.Imprecise.{Plan, with_drawn, MayShowWild, an
 use Rattle.alpha_cmd.specs.Commands.Record.{unwatched, HasItsJournal, KeepsBehind, IsKeptRun, steps}
 use Rattle.alpha_cmd.specs.RecordedRun.{ending_shown, IsJournalOf, KeepsItsJournal}
 use Rattle.alpha_cmd.specs.RunAnswer.{program_by}
+use Rattle.alpha_cmd.proofs.Commands.Imprecise.{planned_image, planned_good}
 
 -- ---- of the moments of a run one alone has used so many units
 
@@ -192,20 +193,6 @@ module _ (options : RunOptions) (image : Image) (bytes : List ℕ) (ahead : ℕ 
 
 -- ---- an answer
 
--- the image of a plan is the file's, and it can be restarted where the verdict isn't passed over
-record IsPlanned (force : Bool) (files : Files) (file : List ℕ) (plan : Plan) : Type 0 where
-  found : ImageOf files file (goes plan.image)
-  restarts : force ≡ false → IsRestartable plan.image
-
-is_planned : (force : Bool) (choices : Origin) (file : List ℕ) (files : Files) (plan : Plan) → Planned choices force file files (goes plan) → IsPlanned force files file plan
-is_planned true choices file files plan (q, (image, found, (ahead, chosen, is)), passes) =
-    let same : plan.image ≡ image = ap (λ (x : Plan). x.image) (passes ∙ is) in
-    record { found = subst (λ (i : Image). ImageOf files file (goes i)) (sym same) found; restarts = λ no. cc }
-is_planned false choices file files plan (q, (image, found, (ahead, chosen, is)), (x, (accepted, e), passes)) =
-    let same : plan.image ≡ image = ap (λ (x : Plan). x.image) (passes ∙ is) in
-    let safe : IsRestartable image = accepted_restarts image found.2.0 (subst (λ (x : Plan). IsAccepted x.image.words) is accepted) in
-    record { found = subst (λ (i : Image). ImageOf files file (goes i)) (sym same) found; restarts = λ no. subst IsRestartable (sym same) safe }
-
 module _ (options : RunOptions) (choices : Origin) (force : Bool) (file out bytes : List ℕ) (w : World) (told : w.input ≡ Some bytes) where
   kept_run : (plan : Plan) (b : Answer) → Planned choices force file w.files (goes plan) → IsKeptRun options force out w plan b → KeepsItsJournal options file out bytes w.files b
   kept_run plan b planned k = by k.keeps
@@ -213,7 +200,7 @@ module _ (options : RunOptions) (choices : Origin) (force : Bool) (file out byte
       by : KeepsBehind w out (spelling k.journal) (answer_wild w.input k.shown) b → KeepsItsJournal options file out bytes w.files b
       by (inr h) = inl (ap (λ (a : Answer). a.kept) h.1)
       by (inl h) =
-          let plans = is_planned force choices file w.files plan planned in
+          let good = planned_good force choices file w.files plan planned in
           let may = subst (λ (o : Option (List ℕ)). MayShowWild (unwatched options) force o plan k.shown) told k.may in
           let has = subst (λ (o : Option (List ℕ)). HasItsJournal options o plan k.shown k.journal) told k.has in
           let kept = kinds.file out (spelling k.journal) in
@@ -222,9 +209,9 @@ module _ (options : RunOptions) (choices : Origin) (force : Bool) (file out byte
           inr (
             plan.image,
             k.journal,
-            plans.found,
+            planned_image force choices file w.files plan planned,
             ap (λ (a : Answer). a.kept) is,
-            subst (IsJournalOf options plan.image bytes k.journal) (sym is) (run_journal options plan.image bytes plan.ahead force k.shown k.journal plans.restarts may has kept),
+            subst (IsJournalOf options plan.image bytes k.journal) (sym is) (run_journal options plan.image bytes plan.ahead force k.shown k.journal (λ judges. accepted_restarts plan.image good.0 (good.1 judges)) may has kept),
           )
 
   pub kept_with : (a : Answer) → AnswerBy (steps options choices force file out) w a → KeepsItsJournal options file out bytes w.files a

@@ -9,7 +9,7 @@ use Rattle.alpha_request.specs.Asked.{asked}
 use Rattle.alpha_cmd.specs.declared.status.Status.{Status}
 use Rattle.alpha_cmd.specs.declared.status.Status.TheVariants.{Done, BadWords, ShelfFault, InputFault, SinkFault, NoMemory}
 use Rattle.alpha_cmd.specs.declared.status.Status.TheVariants as statuses
-use Rattle.alpha_cmd.specs.Status.{refused, ended, failed, class_of, status_line}
+use Rattle.alpha_cmd.specs.Status.{done, refused, ended, failed, class_of, status_line}
 use Rattle.alpha_cmd.specs.Asks.{Asks}
 use Rattle.alpha_cmd.specs.Answer.{Answer}
 use Rattle.alpha_cmd.specs.AnswerBy.{World, HaveBytes, said}
@@ -71,20 +71,22 @@ calm_tried shelf input words w t calm quiet (inr (inr h)) = inr (ap (λ (a : Ans
 
 -- ---- a call that is done
 
-cut_not : (shelf : Type 0) (s : Status) → s ≡ Done 0 → CutBy shelf s → ⊥
-cut_not shelf s e (inl h) = cc
-cut_not shelf s e (inr h) = let x : Done 0 ≡ ShelfFault = sym e ∙ h.0 in cc
+-- what cuts a command short is a fault of a device, or want of memory
+cut_failed : (shelf : Type 0) (s : Status) → CutBy shelf s → class_of s ≡ failed
+cut_failed shelf s (inl h) = ap class_of h
+cut_failed shelf s (inr h) = ap class_of h.0
 
-fails_not : (shelf input : Type 0) (command : Command) (w : World) (t : Answer) → t.status ≡ Done 0 → FailsBy shelf input (form_of command) w t → ⊥
-fails_not shelf input command w t e (inl h) = cut_not shelf t.status e h.cause
-fails_not shelf input command w t e (inr (inl h)) = let x = h.status_is in cc
-fails_not shelf input command w t e (inr (inr h)) = cut_not shelf t.status e h.cause
+fails_failed : (shelf input : Type 0) (f : Form) (w : World) (t : Answer) → FailsBy shelf input f w t → class_of t.status ≡ failed
+fails_failed shelf input f w t (inl h) = cut_failed shelf t.status h.cause
+fails_failed shelf input f w t (inr (inl h)) = ap class_of h.status_is
+fails_failed shelf input f w t (inr (inr h)) = cut_failed shelf t.status h.cause
 
 -- what is tried with this status is an answer
 pub done_tried : (shelf input : Type 0) (words : List (List ℕ)) (command : Command) (w : World) (t : Answer) → Asks words command → TriedBy shelf input words w t → t.status ≡ Done 0
     → AnswerOf command w t
 done_tried shelf input words command w t asks (inl h) e = asked_answer words command w t asks h
-done_tried shelf input words command w t asks (inr (inl h)) e = absurd (fails_not shelf input h.0 w t e h.2)
+done_tried shelf input words command w t asks (inr (inl h)) e =
+    absurd (let x : done ≡ failed = sym (ap class_of e) ∙ fails_failed shelf input (form_of h.0) w t h.2 in cc)
 done_tried shelf input words command w t asks (inr (inr h)) e = absurd (let x : t.status ≡ NoMemory = ap (λ (a : Answer). a.status) h in cc)
 
 -- ---- which statuses are tried
@@ -110,16 +112,6 @@ tried_not_sink shelf input words w t tried = says_not_sink shelf input ⊥ t.sta
 -- of an input that doesn't fail
 pub tried_not_input : (shelf input : Type 0) (words : List (List ℕ)) (w : World) (t : Answer) → (input → ⊥) → TriedBy shelf input words w t → t.status ≢ InputFault
 tried_not_input shelf input words w t quiet tried = says_not_input shelf input ⊥ t.status quiet (tried_says shelf input words w t ⊥ (λ no. absurd no) tried)
-
--- what cuts a command short is no end of a program
-cut_failed : (shelf : Type 0) (s : Status) → CutBy shelf s → class_of s ≡ failed
-cut_failed shelf s (inl h) = ap class_of h
-cut_failed shelf s (inr h) = ap class_of h.0
-
-fails_failed : (shelf input : Type 0) (f : Form) (w : World) (t : Answer) → FailsBy shelf input f w t → class_of t.status ≡ failed
-fails_failed shelf input f w t (inl h) = cut_failed shelf t.status h.cause
-fails_failed shelf input f w t (inr (inl h)) = ap class_of h.status_is
-fails_failed shelf input f w t (inr (inr h)) = cut_failed shelf t.status h.cause
 
 -- the kind of a command is that of its form
 pub kind_is : (command : Command) → (form_of command).kind ≡ kind_of command

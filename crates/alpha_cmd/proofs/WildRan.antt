@@ -58,16 +58,6 @@ line_by (Precisely Went) = refl
 line_by (Precisely event) = refl
 line_by moment = refl
 
--- a plan that the verdict lets through may be run
-pub planned_good : (force : Bool) (drawn : choices.Origin) (name : List ℕ) (files : Files) (plan : Plan) → Planned drawn force name files (goes plan)
-    → MayRun force plan
-planned_good true drawn name files plan (q, (image, found, (ahead, chosen, is)), passes) =
-    let same : plan.image ≡ image = ap (λ (x : Plan). x.image) (passes ∙ is) in
-    (subst IsImage (sym same) found.2.0, λ no. cc)
-planned_good false drawn name files plan (q, (image, found, (ahead, chosen, is)), (x, (accepted, e), passes)) =
-    let same : plan.image ≡ image = ap (λ (y : Plan). y.image) (passes ∙ is) in
-    (subst IsImage (sym same) found.2.0, λ no. subst (λ (i : Parts). IsAccepted i.words) (sym same) (subst (λ (y : Plan). IsAccepted y.image.words) is accepted))
-
 -- whatever words are drawn, its runs are those of the sequential machine
 pub record RunsAlone (image : Parts) : Type 0 where
   pub free : FreeAlike image

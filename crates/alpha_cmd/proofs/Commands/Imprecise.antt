@@ -27,7 +27,7 @@ use Rattle.alpha_cmd.specs.Answer.{Answer}
 use Rattle.alpha_cmd.specs.AnswerBy.{World, AnswerBy, HaveBytes, said}
 use Rattle.alpha_cmd.specs.Form.{IsThere, MayTakeBy}
 use Rattle.alpha_cmd.specs.RunAnswer.{program_by}
-use Rattle.alpha_cmd.specs.Commands.Imprecise.{Plan, plan_by, PlanOf, Passes, with_drawn, run_by, MadeByReads, MayShowWild, drawn_status, wild_status, answer_wild, RunsWild, MayLose, IsEndStatus, HasChoices, steps, kind, form, there}
+use Rattle.alpha_cmd.specs.Commands.Imprecise.{Plan, plan_by, PlanOf, Passes, Planned, MayRun, with_drawn, run_by, MadeByReads, MayShowWild, drawn_status, wild_status, answer_wild, RunsWild, MayLose, IsEndStatus, HasChoices, steps, kind, form, there}
 use Rattle.alpha_cmd.proofs.Lawful.{Lawful, Then-lawful, Goes-lawful, Gives-lawful}
 use Rattle.alpha_cmd.proofs.Stages.{Reads-lawful, ImageOf-lawful, Judges-lawful, kept_same}
 use Rattle.alpha_cmd.proofs.Forms.{IsLawfulForm, is_fault}
@@ -123,16 +123,29 @@ pub wild_answer : (w : World) (options : RunOptions) (choices : Origin) (force :
     → Passes force plan (goes plan) → MayShowWild options force w.input plan s → AnswerBy (steps options choices force name) w (answer_wild w.input s)
 wild_answer w options choices force name plan s found passes may = (goes (answer_wild w.input s), (plan, (plan, found, passes), (s, may, refl)), refl)
 
--- the verdict, unless it is passed over
-pub broken_answer : (w : World) (options : RunOptions) (choices : Origin) (force : Bool) (name : List ℕ) (plan : Plan) (s : Status) (line : List ℕ) (t : Answer)
-    → PlanOf w.files name choices (goes plan) → force ≡ false → IsRefused plan.image s line → t ≡ said w.input s line
-    → AnswerBy (steps options choices force name) w t
-broken_answer w options choices force name plan s line t found judges refused is =
-    subst (λ b. AnswerBy (steps options choices b name) w t) (sym judges) (stops s line, inl (inr (plan, found, inl refused)), is)
-
 pub passed : (force : Bool) (plan : Plan) → (force ≡ false → IsAccepted plan.image.words) → Passes force plan (goes plan)
 passed true plan good = refl
 passed false plan good = (plan.image, (good refl, refl), refl)
+
+passed_same : (force : Bool) (q plan : Plan) → Passes force q (goes plan) → plan ≡ q
+passed_same true q plan h = h
+passed_same false q plan h = h.2
+
+passed_good : (force : Bool) (q plan : Plan) → Passes force q (goes plan) → force ≡ false → IsAccepted q.image.words
+passed_good true q plan h judges = cc
+passed_good false q plan h judges = h.1.0
+
+-- the image of a plan that the verdict lets through is the file's
+pub planned_image : (force : Bool) (choices : Origin) (file : List ℕ) (files : Files) (plan : Plan) → Planned choices force file files (goes plan) → ImageOf files file (goes plan.image)
+planned_image force choices file files plan (q, (image, found, (ahead, chosen, is)), passes) =
+    subst (λ (i : Parts). ImageOf files file (goes i)) (sym (ap (λ (x : Plan). x.image) (passed_same force q plan passes ∙ is))) found
+
+-- and it may be run
+pub planned_good : (force : Bool) (choices : Origin) (file : List ℕ) (files : Files) (plan : Plan) → Planned choices force file files (goes plan) → MayRun force plan
+planned_good force choices file files plan h = (
+  (planned_image force choices file files plan h).2.0,
+  λ judges. subst (λ (x : Plan). IsAccepted x.image.words) (sym (passed_same force h.0 plan h.2)) (passed_good force h.0 plan h.2 judges),
+)
 
 -- choices that aren't read after the image was
 pub unchosen : (a b : Files) (name : List ℕ) (choices : Origin) (image : Parts) (s : Status) → KeepsFiles a b → ImageOf a name (goes image)
@@ -140,16 +153,6 @@ pub unchosen : (a b : Files) (name : List ℕ) (choices : Origin) (image : Parts
 unchosen a b name choices image s kept found h = inr (image, found, inl (subst (λ f. ChoicesOf f choices (stops s (status_line s))) (kept_same a b kept) h))
 
 -- ---- the statuses of an end
-
-pub drawn_not_shelf : (n : ℕ) (end : End) → drawn_status n end ≢ ShelfFault
-drawn_not_shelf n end e = let x = sym (drawn_plain n end) ∙ ap is_fault e in cc
-
-pub takes_wild : (force : Bool) (end : Option End) (lost : Option LostTrap) (n : ℕ) → MayLose force lost → MayTakeBy (kind force) (wild_status end lost n)
-takes_wild force end lost n may = (refl, inl (end, (lost, (n, may, refl))))
-
-pub takes_none : (force : Bool) (end : Option End) (n : ℕ) → MayTakeBy (kind force) (wild_status end None n)
-takes_none true end n = takes_wild true end None n tt
-takes_none false end n = takes_wild false end None n refl
 
 -- of an unforced run's end no status is that of a trap that was lost
 pub found_end : (lost : Lost) → IsEndStatus false (statuses.Lost lost) → ⊥

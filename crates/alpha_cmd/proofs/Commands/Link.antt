@@ -52,9 +52,6 @@ ModuleOf-lawful told whole there number bytes all =
 same_image : (p q : Parts) → IsImage p → IsImage q → program_of p ≡ program_of q → p ≡ q
 same_image p q good other e = one-image (listing p) p q (good, assembled-listing p good) (other, assembled-listing p good ∙ ap Ok e)
 
-ok_program : Program → Result Program LinkFault
-ok_program p = Ok p
-
 one_program : (entry : List ℕ) (ms : List ModuleParts) (p q : Program) → linked ms entry ≡ Ok p → linked ms entry ≡ Ok q → p ≡ q
 one_program entry ms p q h g = cc
 

@@ -7,6 +7,7 @@ use Rattle.alpha_request.specs.declared.options.RunOptions.{RunOptions}
 use Rattle.alpha_request.specs.Origin.{Origin}
 use Rattle.alpha_seq.specs.State.{Program}
 use Rattle.alpha_seq.specs.Start.{start}
+use Rattle.alpha_seq.specs.Run.{notes_of}
 use Rattle.alpha_imprecise.specs.Made.{Making, begun, first_words, most_words, ShownWild}
 use Rattle.alpha_imprecise.specs.Free.{FreeAlike}
 use Rattle.alpha_imprecise.proofs.FreeDrawing.{free_draws}
@@ -29,7 +30,7 @@ use Rattle.alpha_cmd.proofs.Untold.{reads_show}
 use Rattle.alpha_cmd.proofs.Lawful.{Lawful, Then-lawful, Goes-lawful}
 use Rattle.alpha_cmd.proofs.Stages.{taken_or_not, refused_there}
 use Rattle.alpha_cmd.proofs.Forms.{IsPlain, IsLawfulForm, is_fault}
-use Rattle.alpha_cmd.proofs.Commands.Imprecise.{Planned-lawful, some_shown, same_shown, may_lose, wild_plain}
+use Rattle.alpha_cmd.proofs.Commands.Imprecise.{Planned-lawful, planned_good, some_shown, same_shown, may_lose, wild_plain}
 
 -- ---- the place where a run stops
 
@@ -71,12 +72,12 @@ keeps_one w out bytes a b c (inl h) (inr g) = absurd (h.0 g.0)
 keeps_one w out bytes a b c (inr h) (inl g) = absurd (g.0 h.0)
 keeps_one w out bytes a b c (inr h) (inr g) = h.1 ∙ sym g.1
 
-pub keeps_some : (w : World) (out bytes : List ℕ) (a : Answer) → (b : Answer) × KeepsBehind w out bytes a b
+pub keeps_some : (w : World) (out bytes : List ℕ) (a : Answer) → (b : Answer) × KeepsBehind w out bytes a b × (b.output ≡ a.output) × (b.trace ≡ a.trace)
 keeps_some w out bytes a = by (taken_or_not w.files (w.takes out (length bytes)))
   where
-    by : Untaken w out bytes ⊎ ¬ Untaken w out bytes → (b : Answer) × KeepsBehind w out bytes a b
-    by (inl h) = (_, inr (h, refl))
-    by (inr h) = (_, inl (h, refl))
+    by : Untaken w out bytes ⊎ ¬ Untaken w out bytes → (b : Answer) × KeepsBehind w out bytes a b × (b.output ≡ a.output) × (b.trace ≡ a.trace)
+    by (inl h) = (_, inr (h, refl), refl, refl)
+    by (inr h) = (_, inl (h, refl), refl, refl)
 
 -- ---- the stage
 
@@ -161,41 +162,55 @@ module _ (options : RunOptions) (force : Bool) (out : List ℕ) (w : World) (pla
   one told a b (inr h) (inl g) = absurd (apart options w.input plan g.journal h.making told (has_of options w.input plan g.shown g.journal g.has) h.stopped)
   one told a b (inr h) (inr g) = h.is ∙ (ap (full_answer w.input) (stopped_same options w.input plan h.making g.making told h.stopped g.stopped) ∙ sym g.is)
 
-  -- a run that shows this, with such a journal
-  pub kept_run : (s : ShownWild) (p : Parts) → MayShowWild (unwatched options) force w.input plan s → HasItsJournal options w.input plan s p
-      → (a : Answer) × KeepsBehind w out (spelling p) (answer_wild w.input s) a → (a : Answer) × IsKeptRun options force out w plan a
-  kept_run s p may has keep = (keep.0, record { shown = s; may = may; journal = p; has = has; keeps = keep.1 })
+  -- an answer, and what its output and its notes are
+  pub record HasAnswer (output trace : List ℕ) : Type 0 where
+    pub answer : Answer
+    pub run : IsKeptRun options force out w plan answer ⊎ IsFullRun options w plan answer
+    pub output_is : answer.output ≡ output
+    pub trace_is : answer.trace ≡ trace
+
+  -- that of a run that shows this, with such a journal
+  pub kept_answer : (s : ShownWild) (p : Parts) → MayShowWild (unwatched options) force w.input plan s → HasItsJournal options w.input plan s p → HasAnswer s.output s.notes
+  kept_answer s p may has =
+      let a = keeps_some w out (spelling p) (answer_wild w.input s) in
+      record { answer = a.0; run = inl (record { shown = s; may = may; journal = p; has = has; keeps = a.1 }); output_is = a.2; trace_is = a.3 }
+
+  -- of one that was stopped
+  pub stopped_answer : (k : Making) → IsStopped options w.input plan k → HasAnswer k.run.state.outside.output (notes_of false k.run.trace)
+  stopped_answer k stopped =
+      record { answer = full_answer w.input k; run = inr (record { making = k; stopped = stopped; is = refl }); output_is = refl; trace_is = refl }
+
+  -- and of one over inputs of its own, where the input isn't told
+  pub untold_answer : w.input ≡ None → (force ≡ false → FreeAlike plan.image) → (r : Recorded) → RecordedByReads options plan r
+      → HasAnswer r.making.run.state.outside.output (notes_of false r.making.run.trace)
+  untold_answer untold alone r run = by (is_within (journal_in options.complete r)) refl
+    where
+      by : (b : Bool) → is_within (journal_in options.complete r) ≡ b → HasAnswer r.making.run.state.outside.output (notes_of false r.making.run.trace)
+      by true within =
+          let j = journals options force plan r run within alone in
+          let p = journal_in options.complete r in
+          let may = subst (λ (o : Option (List ℕ)). MayShowWild (unwatched options) force o plan j.what) (sym untold) j.may in
+          let a = kept_answer j.what p may (subst (λ (o : Option (List ℕ)). HasItsJournal options o plan j.what p) (sym untold) (r, j.has, j.shows)) in
+          record { answer = a.answer; run = a.run; output_is = a.output_is ∙ j.shows.output; trace_is = a.trace_is ∙ j.shows.notes }
+      by false past = stopped_answer r.making (subst (λ (o : Option (List ℕ)). IsStopped options o plan r.making) (sym untold) (r, run, past, refl))
 
   some : (force ≡ false → FreeAlike plan.image) → (a : Answer) × (IsKeptRun options force out w plan a ⊎ IsFullRun options w plan a)
   some alone = by w.input refl
     where
-      -- where it is told
       told : (bytes : List ℕ) → w.input ≡ Some bytes
           → ((p : Parts) × HasJournal options (Some bytes) plan p) ⊎ ((k : Making) × IsStopped options (Some bytes) plan k)
           → (a : Answer) × (IsKeptRun options force out w plan a ⊎ IsFullRun options w plan a)
       told bytes is (inl h) =
           let shown = some_shown (unwatched options) force w.input plan in
-          let has = subst (λ (o : Option (List ℕ)). HasItsJournal options o plan shown.0 h.0) (sym is) h.1 in
-          let run = kept_run shown.0 h.0 shown.1 has (keeps_some w out (spelling h.0) (answer_wild w.input shown.0)) in
-          (run.0, inl run.1)
+          let a = kept_answer shown.0 h.0 shown.1 (subst (λ (o : Option (List ℕ)). HasItsJournal options o plan shown.0 h.0) (sym is) h.1) in
+          (a.answer, a.run)
       told bytes is (inr h) =
-          (full_answer w.input h.0, inr (record { making = h.0; stopped = subst (λ (o : Option (List ℕ)). IsStopped options o plan h.0) (sym is) h.1; is = refl }))
-
-      -- where it isn't
-      untold : w.input ≡ None → (r : Recorded) → RecordedByReads options plan r → (b : Bool) → is_within (journal_in options.complete r) ≡ b
-          → (a : Answer) × (IsKeptRun options force out w plan a ⊎ IsFullRun options w plan a)
-      untold is r run true within =
-          let j = journals options force plan r run within alone in
-          let p = journal_in options.complete r in
-          let may = subst (λ (o : Option (List ℕ)). MayShowWild (unwatched options) force o plan j.what) (sym is) j.may in
-          let has = subst (λ (o : Option (List ℕ)). HasItsJournal options o plan j.what p) (sym is) (r, j.has, j.shows) in
-          let kept = kept_run j.what p may has (keeps_some w out (spelling p) (answer_wild w.input j.what)) in
-          (kept.0, inl kept.1)
-      untold is r run false past =
-          (full_answer w.input r.making, inr (record { making = r.making; stopped = subst (λ (o : Option (List ℕ)). IsStopped options o plan r.making) (sym is) (r, run, past, refl); is = refl }))
+          let a = stopped_answer h.0 (subst (λ (o : Option (List ℕ)). IsStopped options o plan h.0) (sym is) h.1) in (a.answer, a.run)
 
       by : (input : Option (List ℕ)) → w.input ≡ input → (a : Answer) × (IsKeptRun options force out w plan a ⊎ IsFullRun options w plan a)
-      by None is = let r = recorded_any options plan in untold is r.0 r.1 (is_within (journal_in options.complete r.0)) refl
+      by None is =
+          let r = recorded_any options plan in
+          let a = untold_answer is alone r.0 r.1 in (a.answer, a.run)
       by (Some bytes) is = told bytes is (some_end options.steps (program_by options plan.image) bytes plan.ahead)
 
   Records-lawful : (told whole there : Type 0) → (told → IsSome w.input) → (force ≡ false → FreeAlike plan.image) → Lawful told whole there (Records options force out w plan)
@@ -231,10 +246,8 @@ module _ (options : RunOptions) (force : Bool) (out : List ℕ) (w : World) (pla
 
 -- a plan that the verdict lets through runs as the sequential machine does
 planned_free : (force : Bool) (choices : Origin) (file : List ℕ) (files : Files) (plan : Plan) → Planned choices force file files (goes plan) → force ≡ false → FreeAlike plan.image
-planned_free true choices file files plan planned = λ no. cc
-planned_free false choices file files plan (q, (image, found, (ahead, chosen, is)), (x, (accepted, e), passes)) = λ no.
-    let same : plan.image ≡ image = ap (λ (y : Plan). y.image) (passes ∙ is) in
-    subst FreeAlike (sym same) (accepted_free image found.2.0 (subst (λ (y : Plan). IsAccepted y.image.words) is accepted))
+planned_free force choices file files plan planned judges =
+    let may = planned_good force choices file files plan planned in accepted_free plan.image may.0 (may.1 judges)
 
 pub lawful : (options : RunOptions) (choices : Origin) (force : Bool) (file out : List ℕ) (w : World)
     → IsLawfulForm (form options choices force file out) (there options choices force file out) w

@@ -89,7 +89,3 @@ pub played_by : (shelf : Type 0) (a : Files) (file name : List ℕ) (image : Ima
     → IfErr r (λ s. RunOf a file name (stops s (status_line s)) ⊎ CutBy shelf s)
 played_by shelf a file name image p (Ok x) found spelled h = tt
 played_by shelf a file name image p (Err s) found spelled h = played shelf a file name image p s found spelled h
-
-pub shown_answer : (w : World) (file journal : List ℕ) (r : Replayed) (t : Answer) → RunOf w.files file journal (goes r) → t ≡ shown w.input r
-    → AnswerBy (steps file journal) w t
-shown_answer w file journal r t ran is = (goes (shown w.input r), (r, ran, refl), is)

@@ -52,9 +52,6 @@ shown_answer w options file image s found may = (goes (answer_shown w.input s), 
 
 -- ---- the statuses of an end
 
-pub end_not_shelf : (end : End) → run_status (Some end) ≢ ShelfFault
-end_not_shelf end e = let x = sym (run_plain (Some end)) ∙ ap is_fault e in cc
-
 -- an end that no words were drawn for
 pub none_drawn : (end : End) → drawn_status 0 end ≡ run_status (Some end)
 none_drawn (ends.Exit v) = refl

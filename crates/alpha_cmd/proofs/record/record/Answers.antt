@@ -8,7 +8,7 @@ use Rattle.alpha_cmd.specs.Form.{needs_files_and_input}
 use Rattle.alpha_cmd.proofs.After.{does_after}
 use Rattle.alpha_cmd.proofs.Doing.{StopsBy-first, does_stop, shelf_call}
 use Rattle.alpha_cmd.proofs.JournalStatus.{stopped_no_end}
-use Rattle.alpha_cmd.proofs.WildRan.{planned_good}
+use Rattle.alpha_cmd.proofs.Commands.Imprecise.{planned_good}
 use Rattle.alpha_cmd.proofs.record.record.Goals as goal
 
 pub returns-in-Ok-clause-does : goal.returns-in-Ok-clause-does

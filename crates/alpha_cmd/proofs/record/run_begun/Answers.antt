@@ -10,7 +10,7 @@ use Rattle.alpha_cmd.specs.Ends.{status_in}
 use Rattle.alpha_cmd.proofs.CutShort.{cut_status}
 use Rattle.alpha_cmd.proofs.Streaming.{does_cut}
 use Rattle.alpha_cmd.proofs.WildRan.{may_alone, cut_begins}
-use Rattle.alpha_cmd.proofs.JournalRan.{runs_on, moment, stopped_by, fronts_by, stopped_does, unbegun_does, cut_fronts}
+use Rattle.alpha_cmd.proofs.JournalRan.{runs_on, moment, stopped_by, fronts_by, stopped_does, unbegun_does}
 use Rattle.alpha_cmd.proofs.record.run_begun.Goals as goal
 
 pub returns-in-Made-clause-made : goal.returns-in-Made-clause-made
@@ -44,11 +44,10 @@ returns-in-Failed-clause-over g c = λ force name may.
     let did = c.in-Failed.ensures in
     let cut = did.made.cut in
     does_cut g.H.Shelf g.S.Source g.K.Sink g.N.Sink old new.input new.out new.notes (on c.args.options force name (plan_in begun)) c.in-Failed.fault c.cut_short.result refl
-    (cut_fronts c.args.options from ahead c.requires.how c.requires.fresh force name w out notes
     (fronts_by c.args.options from ahead c.requires.how c.requires.fresh force name c.in-Failed.fault w _ _ input out notes
     (λ judges. (may_alone force (plan_in begun) may judges).free) refl did.made (λ bytes told. did.told bytes ahead told refl c.requires.fresh)
     (cut_begins (unwatched c.args.options) from ahead c.requires.how c.requires.fresh force c.in-Failed.fault _ _ input out notes cut refl
-    (may_alone force (plan_in begun) may) w.input refl)))
+    (may_alone force (plan_in begun) may) w.input refl))
     c.cut_short.ensures cut.cause
 
 pub returns-in-Failed-clause-status : goal.returns-in-Failed-clause-status
