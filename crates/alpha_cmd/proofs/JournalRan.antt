@@ -140,7 +140,7 @@ module _ (options : RunOptions) (m : WildState) (ahead : ℕ → ℕ) (how : m.m
           is = r.is [] coming ∙ ap (λ (c : Completion). journal_in c at) how;
         },
         subst (λ (k : Making). ShowsMaking s.shows.what k) making
-            (record { end = s.end; lost = s.lost; output = s.output; notes = s.notes_are; drawn = s.count }),
+            (record { end = sym s.has.end; lost = sym s.has.lost; output = sym s.has.output; notes = sym s.has.notes; drawn = sym s.has.drawn }),
       )
   has_journal force last count journal to before after d out notes r coming same (Some bytes) told s =
       subst (λ (g : Program). IsRecorded options.steps g bytes ahead journal) (same_program (unwatched options) m ahead how fresh) (told bytes refl)

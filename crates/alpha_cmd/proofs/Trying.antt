@@ -20,11 +20,6 @@ cut_short shelf f w s t h is =
     let whole : IsCutBy shelf f w (said w.input s (status_line s)) = record { cause = h; kept = inl refl; is = refl } in
     subst (IsCutBy shelf f w) (sym is) whole
 
-pub stopped : (shelf input : Type 0) (f : Form) (w : World) (s : Status) (t : Answer) → f.steps w (stops s (status_line s)) ⊎ CutBy shelf s → t ≡ said w.input s (status_line s)
-    → TriesBy shelf input f w t
-stopped shelf input f w s t (inl h) is = inl (stops s (status_line s), h, is)
-stopped shelf input f w s t (inr h) is = inr (inl (cut_short shelf f w s t h is))
-
 -- with a line of its own
 pub stopped_by : (shelf input : Type 0) (f : Form) (w : World) (s : Status) (line : List ℕ) (t : Answer)
     → f.steps w (stops s line) ⊎ (CutBy shelf s × (line ≡ status_line s)) → t ≡ said w.input s line → TriesBy shelf input f w t

@@ -28,26 +28,26 @@ pub same_may : (options : RunOptions) (image : Parts) (w : WildRun) (h : SameFre
     → MayShow options None image (shown options.watch (run_by_reads options image h.inputs))
 same_may options image w h = (h.inputs, h.made, refl)
 
+-- a run has what is shown
+pub record HasShown (watch : Bool) (what : ShownWild) (k : Making) : Type 0 where
+  pub end : wild_end k.run.last ≡ what.end
+  pub lost : lost_trap k.run.last ≡ what.lost
+  pub output : k.run.state.outside.output ≡ what.output
+  pub notes : notes_of watch k.run.trace ≡ what.notes
+  pub drawn : k.count ≡ what.drawn
+
 -- what may be shown of such a run
 pub record ReadsShow (options : RunOptions) (force : Bool) (plan : Plan) (k : Making) : Type 0 where
   pub what : ShownWild
   pub may : MayShowBy options force plan what
-  pub end : wild_end k.run.last ≡ what.end
-  pub lost : lost_trap k.run.last ≡ what.lost
-  pub output : k.run.state.outside.output ≡ what.output
-  pub notes : notes_of options.watch k.run.trace ≡ what.notes
-  pub drawn : k.count ≡ what.drawn
+  pub has : HasShown options.watch what k
 
 pub reads_show : (options : RunOptions) (force : Bool) (plan : Plan) (m : MadeByReads options plan)
     → (force ≡ false → FreeAlike plan.image) → ReadsShow options force plan m.making
 reads_show options true plan m alone = record {
   what = shown_making options.watch m.making;
   may = (m, refl);
-  end = refl;
-  lost = refl;
-  output = refl;
-  notes = refl;
-  drawn = refl;
+  has = record { end = refl; lost = refl; output = refl; notes = refl; drawn = refl };
 }
 reads_show options false plan m alone =
     let q = made_same options plan (alone refl) m in
@@ -55,9 +55,5 @@ reads_show options false plan m alone =
     record {
       what = with_drawn t m.making.count;
       may = (m, (t, same_may options plan.image m.making.run q, refl));
-      end = q.end;
-      lost = q.lost;
-      output = q.output;
-      notes = ap (notes_of options.watch) q.trace;
-      drawn = refl;
+      has = record { end = q.end; lost = q.lost; output = q.output; notes = ap (notes_of options.watch) q.trace; drawn = refl };
     }

@@ -44,7 +44,7 @@ use Rattle.alpha_cmd.specs.Does.{Does}
 use Rattle.alpha_cmd.proofs.Commands.Imprecise.{may_lose}
 use Rattle.alpha_cmd.proofs.CutShort.{Fronts}
 use Rattle.alpha_cmd.proofs.Streaming.{streamed, does_whole}
-use Rattle.alpha_cmd.proofs.Untold.{reads_show}
+use Rattle.alpha_cmd.proofs.Untold.{HasShown, reads_show}
 
 -- ---- the status and the line of a run's end
 
@@ -127,35 +127,18 @@ module _ (options : RunOptions) (m : WildState) (ahead : ℕ → ℕ) (how : m.m
   record MayShowOf (force : Bool) (told : Option (List ℕ)) (k : Making) : Type 0 where
     what : ShownWild
     may : MayShowWild options force told (plan_by m.machine.image ahead) what
-    end : wild_end k.run.last ≡ what.end
-    lost : lost_trap k.run.last ≡ what.lost
-    output : k.run.state.outside.output ≡ what.output
-    notes : notes_of options.watch k.run.trace ≡ what.notes
-    drawn : k.count ≡ what.drawn
+    has : HasShown options.watch what k
     left : IfSome (option_map (λ (b : List ℕ). what.left) told) (λ rest. k.run.state.outside.input ≡ rest)
 
   may_show : (force : Bool) (told : Option (List ℕ)) (k : Making) → IsRun told k → (force ≡ false → RunsAlone m.machine.image) → MayShowOf force told k
   unfolding by_reads
   may_show force None k is alone =
       let s = reads_show options force (plan_by m.machine.image ahead) (by_reads k is) (λ judges. (alone judges).free) in
-      record {
-        what = s.what;
-        may = s.may;
-        end = s.end;
-        lost = s.lost;
-        output = s.output;
-        notes = s.notes;
-        drawn = s.drawn;
-        left = tt;
-      }
+      record { what = s.what; may = s.may; has = s.has; left = tt }
   may_show true (Some bytes) k is alone = record {
     what = shown_making options.watch k;
     may = ap (shown_making options.watch) (is ∙ told_as bytes (first_words (most_words options.steps) ahead));
-    end = refl;
-    lost = refl;
-    output = refl;
-    notes = refl;
-    drawn = refl;
+    has = record { end = refl; lost = refl; output = refl; notes = refl; drawn = refl };
     left = refl;
   }
   may_show false (Some bytes) k is alone =
@@ -167,11 +150,13 @@ module _ (options : RunOptions) (m : WildState) (ahead : ℕ → ℕ) (how : m.m
       record {
         what = with_drawn (sequential g bytes options.steps options.watch) (imprecise_by g bytes ahead options.steps options.watch).drawn;
         may = refl;
-        end = ap (λ (j : Making). wild_end j.run.last) at ∙ same.end;
-        lost = ap (λ (j : Making). lost_trap j.run.last) at ∙ same.lost;
-        output = ap (λ (j : Making). j.run.state.outside.output) at ∙ same.output;
-        notes = ap (λ (j : Making). notes_of options.watch j.run.trace) at ∙ same.notes;
-        drawn = ap (λ (j : Making). j.count) at;
+        has = record {
+          end = ap (λ (j : Making). wild_end j.run.last) at ∙ same.end;
+          lost = ap (λ (j : Making). lost_trap j.run.last) at ∙ same.lost;
+          output = ap (λ (j : Making). j.run.state.outside.output) at ∙ same.output;
+          notes = ap (λ (j : Making). notes_of options.watch j.run.trace) at ∙ same.notes;
+          drawn = ap (λ (j : Making). j.count) at;
+        };
         left = ap (λ (j : Making). j.run.state.outside.input) at ∙ same.left;
       }
 
@@ -209,11 +194,7 @@ module _ (options : RunOptions) (m : WildState) (ahead : ℕ → ℕ) (how : m.m
   -- which is what this run does
   pub record ShowsOf (force : Bool) (last : Option Seen) (drawn : ℕ) (old new : Option (List ℕ)) (out notes : Sunk) (k : Making) : Type 0 where
     pub shows : Shows force last drawn old new out notes
-    pub end : shows.what.end ≡ wild_end k.run.last
-    pub lost : shows.what.lost ≡ lost_trap k.run.last
-    pub output : shows.what.output ≡ k.run.state.outside.output
-    pub notes_are : shows.what.notes ≡ notes_of options.watch k.run.trace
-    pub count : shows.what.drawn ≡ k.count
+    pub has : HasShown options.watch shows.what k
 
   pub ran_shows_of : (force : Bool) (last : Option Seen) (rest drawn : ℕ) (new : WildState) (before after : Telling) (d : Drawn) (out notes : Sunk)
       → (w : Whole last options.steps rest options.watch m new before after d out notes) (coming : List ℕ) → first_words (most_words options.steps) ahead ≡ w.ran.words ++ coming
@@ -225,10 +206,10 @@ module _ (options : RunOptions) (m : WildState) (ahead : ℕ → ℕ) (how : m.m
       let stands = w.ran.is (unwrap_or d.old []) coming in
       let may = may_show force d.old k (whole_is last rest new before after d out notes w coming same d.old refl) alone in
       let h = ap (λ (j : Making). j.run.last) stands.is ∙ stands.last_is in
-      let end : wild_end w.happened ≡ may.what.end = ap wild_end (sym h) ∙ may.end in
-      let lost : lost_trap w.happened ≡ may.what.lost = ap lost_trap (sym h) ∙ may.lost in
+      let end : wild_end w.happened ≡ may.what.end = ap wild_end (sym h) ∙ may.has.end in
+      let lost : lost_trap w.happened ≡ may.what.lost = ap lost_trap (sym h) ∙ may.has.lost in
       let all = drawn_from_none before.count after.count drawn (length w.ran.words) none now w.ran.drew.counted in
-      let count : may.what.drawn ≡ length w.ran.words = sym may.drawn ∙ ap (λ (j : Making). j.count) stands.is in
+      let count : may.what.drawn ≡ length w.ran.words = sym may.has.drawn ∙ ap (λ (j : Making). j.count) stands.is in
       let many : drawn ≡ may.what.drawn % 2 ^ 64 = omega arith in
       record {
         shows = record {
@@ -239,15 +220,11 @@ module _ (options : RunOptions) (m : WildState) (ahead : ℕ → ℕ) (how : m.m
               ∙ (status_by w.happened drawn
               ∙ λ i. wild_status (end i) (lost i) (many i));
           line_is = ap answer_line w.last_is ∙ (line_by w.happened ∙ λ i. wild_line (end i) (lost i));
-          bytes = subst (Puts out) (sym (ap (λ (j : Making). j.run.state.outside.output) stands.is) ∙ may.output) w.ran.wrote;
-          lines = subst (Puts notes) (sym (ap (λ (j : Making). notes_of options.watch j.run.trace) stands.is ∙ stands.notes) ∙ may.notes) w.ran.noted;
+          bytes = subst (Puts out) (sym (ap (λ (j : Making). j.run.state.outside.output) stands.is) ∙ may.has.output) w.ran.wrote;
+          lines = subst (Puts notes) (sym (ap (λ (j : Making). notes_of options.watch j.run.trace) stands.is ∙ stands.notes) ∙ may.has.notes) w.ran.noted;
           left = left_by last rest new before after d out notes w coming d.old refl may.what.left may.left;
         };
-        end = sym may.end;
-        lost = sym may.lost;
-        output = sym may.output;
-        notes_are = sym may.notes;
-        count = sym may.drawn;
+        has = may.has;
       }
 
   pub ran_shows : (force : Bool) (last : Option Seen) (rest drawn : ℕ) (new : WildState) (before after : Telling) (d : Drawn) (out notes : Sunk)
@@ -274,8 +251,8 @@ module _ (options : RunOptions) (m : WildState) (ahead : ℕ → ℕ) (how : m.m
       record {
         what = may.what;
         may = may.may;
-        bytes = subst (WritesPrefix out.old out.new) may.output bytes;
-        lines = subst (WritesPrefix notes.old notes.new) may.notes lines;
+        bytes = subst (WritesPrefix out.old out.new) may.has.output bytes;
+        lines = subst (WritesPrefix notes.old notes.new) may.has.notes lines;
       }
 
   pub cut_begins : (force : Bool) (fault : Fault) {new : WildState} (before after : Telling) (d : Drawn) (out notes : Sunk) → WildCut fault options.steps options.watch m new before after d out notes

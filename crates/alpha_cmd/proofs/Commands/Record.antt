@@ -125,7 +125,7 @@ journals options force plan r by within alone =
     record {
       what = s.what;
       may = s.may;
-      shows = record { end = sym s.end; lost = sym s.lost; output = sym s.output; notes = sym s.notes; drawn = sym s.drawn };
+      shows = record { end = sym s.has.end; lost = sym s.has.lost; output = sym s.has.output; notes = sym s.has.notes; drawn = sym s.has.drawn };
       has = record { by = by; within = within; is = refl };
     }
 
