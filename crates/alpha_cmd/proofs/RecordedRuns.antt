@@ -19,6 +19,7 @@ use Rattle.alpha_imprecise.specs.Made.{Making, begun, advance_making, steps_maki
 use Rattle.alpha_imprecise.proofs.Nearing.{steps-first, steps-then, calm_takes}
 use Rattle.alpha_imprecise.proofs.Settling.{advance-going, advance-over, none_of, made_is}
 use Rattle.alpha_imprecise.proofs.Showing.{runs_alike}
+use Rattle.alpha_run.proofs.WildUsed.{made_by}
 use Rattle.alpha_replay.specs.Gathered.{closed}
 use Rattle.alpha_replay.specs.Journal.{Parts, spelling}
 use Rattle.alpha_replay.specs.Journaled.{Journaled, unjournaled, taken_by, journal_at, is_within, IsJournaled}
@@ -42,53 +43,6 @@ use Rattle.alpha_cmd.specs.RecordedRun.{ending_shown, IsJournalOf, KeepsItsJourn
 use Rattle.alpha_cmd.specs.RunAnswer.{program_by}
 use Rattle.alpha_cmd.proofs.Commands.Imprecise.{planned_image, planned_good}
 
--- ---- of the moments of a run one alone has used so many units
-
-module _ (g : Program) where
-  units_rise : (k : Making) → k.run.units ≤ (advance_making g k).run.units
-  units_rise k = by (finished k.run.last) refl
-    where
-      by : (b : Bool) → finished k.run.last ≡ b → k.run.units ≤ (advance_making g k).run.units
-      by true e = subst (λ (l : Making). k.run.units ≤ l.run.units) (sym (advance-over g k e)) (omega arith)
-      by false e = subst (λ (l : Making). k.run.units ≤ l.run.units) (sym (advance-going g k e)) (omega arith)
-
-  steps_rise : (k : Making) (m : ℕ) → k.run.units ≤ (steps_making g k m).run.units
-  steps_rise k zero = omega arith
-  steps_rise k (suc m) =
-      let before = steps_rise k m in
-      let more = units_rise (steps_making g k m) in
-      omega (arith, before, more)
-
-  steps_over : (k : Making) (m : ℕ) → finished k.run.last ≡ true → steps_making g k m ≡ k
-  steps_over k zero e = refl
-  steps_over k (suc m) e = ap (advance_making g) (steps_over k m e) ∙ advance-over g k e
-
-  unit_more : (k : Making) → finished k.run.last ≡ false → k.run.pending ≡ None → (advance_making g k).run.units ≡ k.run.units + 1
-  unit_more k e calm =
-      ap (λ (l : Making). l.run.units) (advance-going g k e) ∙ ap (λ (p : Option Trap). k.run.units + unit_of p) calm
-
-  used_stays : (n : ℕ) (k : Making) (m : ℕ) → HasUsed n k.run → HasUsed n (steps_making g k m).run → steps_making g k m ≡ k
-  used_stays n k zero h i = refl
-  used_stays n k (suc m) h i = by (finished k.run.last) refl
-    where
-      by : (b : Bool) → finished k.run.last ≡ b → steps_making g k (suc m) ≡ k
-      by true e = steps_over k (suc m) e
-      by false e =
-          let calm : k.run.pending ≡ None = none_of k.run.pending (subst (λ b. (b || is_none k.run.pending) ≡ true) e h.settled) in
-          let one = unit_more k e calm in
-          let rise = steps_rise (advance_making g k) m in
-          let same = ap (λ (l : Making). l.run.units) (steps-first g k m) in
-          let full = h.full e in
-          let most = i.most in
-          absurd (omega (arith, one, rise, same, full, most))
-
-  used_once : (n : ℕ) (k : Making) (a b : ℕ) → HasUsed n (steps_making g k a).run → HasUsed n (steps_making g k b).run → a ≤ b
-      → steps_making g k b ≡ steps_making g k a
-  used_once n k a b h i low =
-      let whole : (b - a) + a ≡ b = omega (arith, low) in
-      let split : steps_making g (steps_making g k a) (b - a) ≡ steps_making g k b = steps-then g k a (b - a) ∙ ap (steps_making g k) whole in
-      sym split ∙ used_stays n (steps_making g k a) (b - a) h (subst (λ (l : Making). HasUsed n l.run) (sym split) i)
-
 -- ---- where a run with its journal stops within the limits it is the run of all units
 
 used_there : (w f c e : Bool) → w ≡ true → (not w || (f || (c && e))) ≡ true → ((f || c) ≡ true) × (f ≡ false → e ≡ true)
@@ -109,15 +63,7 @@ module _ (n : ℕ) (g : Program) (s : State) (words : List ℕ) (k : Journaled) 
       let from = begun s None 0 words in
       let run = steps_run n g (unjournaled from) is.steps in
       let here : k.making ≡ steps_making g from run.0 = ap (λ (j : Journaled). j.making) (sym is.reached) ∙ run.1 in
-      let whole = calm_takes g from n refl in
-      let one = subst (λ (l : Making). HasUsed n l.run) here place_used in
-      let other = subst (λ (l : Making). HasUsed n l.run) (sym whole.reached) (made_is g from n refl refl) in
-      here
-      ∙ (⊎_elim
-      (λ (low : run.0 < whole.steps). sym (used_once g n from run.0 whole.steps one other (omega (arith, low))))
-      (λ (low : whole.steps ≤ run.0). used_once g n from whole.steps run.0 other one low)
-      (cases_lt run.0 whole.steps)
-      ∙ whole.reached)
+      here ∙ sym (made_by g from run.0 n refl refl (subst (λ (l : Making). HasUsed n l.run) here place_used))
 
 -- ---- its journal
 
