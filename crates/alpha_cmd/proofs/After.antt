@@ -1,22 +1,27 @@
 -- From what a command did behind the stage that read its files to what it did.
-use Rattle.std.proofs.Common.{◌≡◌, ℕ, List, Bool, Option, Result, Ok, Err, refl, subst, inl, inr}
+use Rattle.std.proofs.Common.{◌≡◌, ◌⊎◌, ◌∙◌, ℕ, List, Bool, Option, Result, Ok, Err, refl, sym, subst, inl, inr, arith}
+use Rattle.std.specs.Result.{IsErrAnd}
 use Rattle.alpha_io.specs.declared.Failed.{Failed}
 use Rattle.alpha_io.specs.declared.shelf.Shelf as shelves
 use Rattle.alpha_io.specs.declared.source.Source as sources
 use Rattle.alpha_io.specs.declared.sink.Sink as sinks
+use Rattle.alpha_io.specs.Faults.{Rose}
 use Rattle.alpha_io.specs.Files.{Files}
-use Rattle.alpha_io.specs.Shelved.{shelved, OnlyReads}
+use Rattle.alpha_io.specs.Shelved.{Shelved, shelved, OnlyReads}
 use Rattle.alpha_io.proofs.Counts.{Rose-earlier}
+use Rattle.alpha_io.proofs.Shelved.{KeepsFiles-trans}
 use Rattle.alpha_cmd.specs.declared.decision.Decision.{Decision}
 use Rattle.alpha_cmd.specs.declared.devices.Devices.{Devices}
+use Rattle.alpha_cmd.specs.declared.status.Status.{Status}
 use Rattle.alpha_cmd.specs.Answer.{Answer}
 use Rattle.alpha_cmd.specs.AnswerBy.{World, AnswerBy, world}
 use Rattle.alpha_cmd.specs.Call.{Call, called}
-use Rattle.alpha_cmd.specs.Does.{Does, TriesIn}
+use Rattle.alpha_cmd.specs.Does.{Does, Finds, TriesIn}
 use Rattle.alpha_cmd.specs.Ends.{Decides}
 use Rattle.alpha_cmd.specs.Form.{Form, Kind, Needs}
 use Rattle.alpha_cmd.specs.Outcome.{Outcome, goes, stops, Then}
-use Rattle.alpha_cmd.specs.Tries.{TriesBy}
+use Rattle.alpha_cmd.specs.Status.{status_line}
+use Rattle.alpha_cmd.specs.Tries.{CutBy, TriesBy}
 use Rattle.alpha_cmd.proofs.Doing.{Serves-after}
 use Rattle.alpha_cmd.proofs.Keeping.{HasKept-after, SparesBy-after}
 use Rattle.alpha_cmd.proofs.Stages.{kept_same}
@@ -66,6 +71,31 @@ module _ {X : Type 0} (R : Files → Outcome X → Type 0) (T : World → X → 
         is = answers_after h.answer h.is;
         same = h.same;
       })))
+
+-- a second stage that stopped, of which the first found this
+pub second_stops : {H X Y : Type 0} (h : shelves.Ghosts H) (old middle new : H) (R : Files → Outcome X → Type 0) (T : Files → X → Outcome Y → Type 0) (x : X) (status : Status) (stays : Type 0)
+    → R (h.files old) (goes x) → OnlyReads (shelved h old middle) stays → T (h.files middle) x (stops status (status_line status)) ⊎ CutBy (Rose (h.faults middle) (h.faults new)) status
+    → Then (R (h.files old)) (T (h.files old)) (stops status (status_line status)) ⊎ CutBy (Rose (h.faults old) (h.faults new)) status
+second_stops h old middle new R T x status stays found reads (inl stopped) =
+    inl (inr (x, found, subst (λ (f : Files). T f x (stops status (status_line status))) (kept_same (h.files old) (h.files middle) reads.files) stopped))
+second_stops h old middle new R T x status stays found reads (inr cut) =
+    inr (CutBy-map (Rose (h.faults middle) (h.faults new)) (Rose (h.faults old) (h.faults new)) (Rose-earlier (h.faults old) (h.faults middle) (h.faults new) reads.later) status cut)
+
+-- both keep no file
+pub reads_both : {H : Type 0} (h : shelves.Ghosts H) (old middle new : H) (first second also : Type 0) → first → (also → second) → OnlyReads (shelved h old middle) first
+    → OnlyReads (shelved h middle new) second → OnlyReads (shelved h old new) also
+reads_both h old middle new first second also is f a b = record {
+  files = KeepsFiles-trans (h.files old) (h.files middle) (h.files new) a.files b.files;
+  takes = b.takes ∙ a.takes;
+  later = omega (arith, a.later, b.later);
+  calm = λ stays. b.calm (f stays) ∙ a.calm is;
+}
+
+-- a status that is handed on
+pub finds_errs : {X Y : Type 0} (R : Outcome X → Type 0) (of : Y → X) (r : Result Y Status) (status : Status) (s : Shelved) → IsErrAnd r (λ e. e ≡ status) → Finds R of (Err status) s
+    → Finds R of r s
+finds_errs R of (Ok v) status s is h = absurd is
+finds_errs R of (Err e) status s is h = subst (λ x. Finds R of (Err x) s) (sym is) h
 
 module _ {H S K N : Type 0} (h : shelves.Ghosts H) (s : sources.Ghosts S) (k : sinks.Ghosts K) (n : sinks.Ghosts N) (old : Devices H S K N) (middle : H) (new : Devices H S K N) where
   abbrev second : Call

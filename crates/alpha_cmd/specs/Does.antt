@@ -1,5 +1,5 @@
 -- What a command did, and what a stage of one did, each in one relation.
-use Rattle.std.specs.Prelude.{◌≡◌, ◌≢◌, ◌⊎◌, ℕ, List, Result, IfOk, IfErr}
+use Rattle.std.specs.Prelude.{◌≡◌, ◌≢◌, ◌⊎◌, ℕ, List, Result, Err, IfOk, IfErr}
 use Rattle.alpha_io.specs.declared.Failed.{Failed}
 use Rattle.alpha_io.specs.declared.shelf.Shelf as shelves
 use Rattle.alpha_io.specs.declared.source.Source as sources
@@ -28,6 +28,13 @@ use Rattle.alpha_cmd.specs.Tries.{CutBy, CountStays, TriesBy}
 -- it stops for its own reason, or it was cut short; the second fact is that the shelf failed
 abbrev pub StopsBy : {X : Type 0} → (Outcome X → Type 0) → Type 0 → Status → List ℕ → Type 0
 StopsBy R shelf status line = R (stops status line) ⊎ (CutBy shelf status × (line ≡ status_line status))
+
+-- It went on with a value that stands for one of its stage, or stops by a status. It kept no file, and the shelf failed only
+-- under its status.
+pub record Finds {X Y : Type 0} (R : Outcome X → Type 0) (of : Y → X) (r : Result Y Status) (s : Shelved) : Type 0 where
+  pub ok : IfOk r (λ v. R (goes (of v)))
+  pub refused : IfErr r (λ status. R (stops status (status_line status)) ⊎ CutBy (Rose s.before s.now) status)
+  pub shelf : OnlyReads s (r ≢ Err ShelfFault)
 
 -- It went on with a value that stands for one of its stage, or stops by a status and a line. It kept no file, and the shelf
 -- failed only under its status.

@@ -1,15 +1,12 @@
 //! The words by which the imprecise machine chooses.
 
-ghost use Rattle.std.specs.Prelude.{◌≢◌, ◌⊎◌, IfOk, IfErr, Some, None, Err};
-ghost use Rattle.alpha_io.specs.Faults.{Rose};
-ghost use Rattle.alpha_io.specs.Shelved.{shelved, OnlyReads};
+ghost use Rattle.std.specs.Prelude.{Some, None, Err};
+ghost use Rattle.alpha_io.specs.Shelved.{shelved};
 ghost use Rattle.alpha_request.specs.Origin as choices;
 ghost use Rattle.alpha_request.specs.Options.{origin_of};
-ghost use Rattle.alpha_cmd.specs.Outcome.{goes, stops};
-ghost use Rattle.alpha_cmd.specs.Status.{status_line};
 ghost use Rattle.alpha_cmd.specs.Chooser.{ahead_in};
 ghost use Rattle.alpha_cmd.specs.Choosing.{ChoicesOf};
-ghost use Rattle.alpha_cmd.specs.Tries.{CutBy};
+ghost use Rattle.alpha_cmd.specs.Does.{Finds};
 
 use crate::Status;
 use crate::image::read_file;
@@ -49,13 +46,8 @@ pub(crate) fn chooser_of<H: Shelf>(
     choices: &Choices<'_>,
     shelf: &mut H,
 ) -> Result<Choosing, Status>
-    ensures ok { IfOk result (λ c.
-        ChoicesOf (H.files shelf.old) (origin_of choices.now) (goes (ahead_in c))) }
-    ensures refused { IfErr result (λ status.
-        ChoicesOf (H.files shelf.old) (origin_of choices.now) (stops status (status_line status))
-        ⊎ CutBy (Rose (H.faults shelf.old) (H.faults shelf.new)) status) }
-    ensures shelf { OnlyReads (shelved H.Shelf shelf.old shelf.new)
-        (result ≢ Err Status.ShelfFault) }
+    ensures { Finds (ChoicesOf (H.files shelf.old) (origin_of choices.now)) (λ chooser. ahead_in chooser) result
+        (shelved H.Shelf shelf.old shelf.new) }
 {
     match *choices {
         Choices::Seed(seed) => Ok(Choosing::Seeded(PcgChooser::new(seed))),
@@ -65,13 +57,8 @@ pub(crate) fn chooser_of<H: Shelf>(
 
 // The words that a file writes.
 fn listed<H: Shelf>(alloc: Global, name: &str, shelf: &mut H) -> Result<Choosing, Status>
-    ensures ok { IfOk result (λ c.
-        ChoicesOf (H.files shelf.old) (choices.file name.now) (goes (ahead_in c))) }
-    ensures refused { IfErr result (λ status.
-        ChoicesOf (H.files shelf.old) (choices.file name.now) (stops status (status_line status))
-        ⊎ CutBy (Rose (H.faults shelf.old) (H.faults shelf.new)) status) }
-    ensures shelf { OnlyReads (shelved H.Shelf shelf.old shelf.new)
-        (result ≢ Err Status.ShelfFault) }
+    ensures { Finds (ChoicesOf (H.files shelf.old) (choices.file name.now)) (λ chooser. ahead_in chooser) result
+        (shelved H.Shelf shelf.old shelf.new) }
 {
     let bytes = read_file(alloc, shelf, name, CHOICES_LIMIT)?;
     match ListChooser::new(alloc, bytes.as_slice()) {

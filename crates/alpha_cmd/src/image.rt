@@ -1,14 +1,13 @@
 //! The stages that lead to a file and to its image.
 
-ghost use Rattle.std.specs.Prelude.{◌≡◌, ◌≢◌, ◌⊎◌, ◌^◌, ◌<◌, IfOk, IfErr, None};
-ghost use Rattle.alpha_io.specs.Faults.{Rose};
-ghost use Rattle.alpha_io.specs.Shelved.{shelved, OnlyReads};
+ghost use Rattle.std.specs.Prelude.{◌≡◌, ◌⊎◌, ◌^◌, ◌<◌, IfOk, IfErr, None};
+ghost use Rattle.alpha_io.specs.Shelved.{shelved};
 ghost use Rattle.alpha_image.specs.ImageFault.{first_fault};
 ghost use Rattle.alpha_image.specs.Parts.{spelling};
 ghost use Rattle.alpha_cmd.specs.Outcome.{goes, stops};
 ghost use Rattle.alpha_cmd.specs.Status.{status_line};
 ghost use Rattle.alpha_cmd.specs.Image.{Reads, Spells, ImageOf};
-ghost use Rattle.alpha_cmd.specs.Tries.{CutBy};
+ghost use Rattle.alpha_cmd.specs.Does.{Finds};
 
 use crate::Status;
 use alpha_image::{Image, ImageFault, image_bytes, take_image};
@@ -43,12 +42,8 @@ pub(crate) fn read_file<H: Shelf>(
     limit: u64,
 ) -> Result<Vec<u8>, Status>
     requires { limit < 2 ^ 32 }
-    ensures ok { IfOk result (λ v. Reads (H.files shelf.old) name.now limit (goes v.items)) }
-    ensures refused { IfErr result (λ status.
-        Reads (H.files shelf.old) name.now limit (stops status (status_line status))
-        ⊎ CutBy (Rose (H.faults shelf.old) (H.faults shelf.new)) status) }
-    ensures shelf { OnlyReads (shelved H.Shelf shelf.old shelf.new)
-        (result ≢ Err Status.ShelfFault) }
+    ensures { Finds (Reads (H.files shelf.old) name.now limit) (λ bytes. bytes.items) result
+        (shelved H.Shelf shelf.old shelf.new) }
 {
     match read_whole(alloc, shelf, name, limit) {
         Ok(bytes) => Ok(bytes),
@@ -71,12 +66,8 @@ pub(crate) fn spelled(alloc: Global, image: &Image) -> Result<Vec<u8>, Status>
 
 /// The image of a file.
 pub(crate) fn load<H: Shelf>(alloc: Global, shelf: &mut H, name: &str) -> Result<Image, Status>
-    ensures ok { IfOk result (λ image. ImageOf (H.files shelf.old) name.now (goes image)) }
-    ensures refused { IfErr result (λ status.
-        ImageOf (H.files shelf.old) name.now (stops status (status_line status))
-        ⊎ CutBy (Rose (H.faults shelf.old) (H.faults shelf.new)) status) }
-    ensures shelf { OnlyReads (shelved H.Shelf shelf.old shelf.new)
-        (result ≢ Err Status.ShelfFault) }
+    ensures { Finds (ImageOf (H.files shelf.old) name.now) (λ image. image) result
+        (shelved H.Shelf shelf.old shelf.new) }
 {
     let bytes = read_file(alloc, shelf, name, IMAGE_LIMIT)?;
     image_of(alloc, bytes)

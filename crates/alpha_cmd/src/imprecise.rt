@@ -1,19 +1,15 @@
 //! `run --imprecise FILE`: a run of the image's program by the imprecise machine.
 
-ghost use Rattle.std.specs.Prelude.{◌≡◌, ◌≢◌, ◌⊎◌, Bool, false, Err, IfOk, IfErr, OnOk};
-ghost use Rattle.alpha_io.specs.Faults.{Rose};
-ghost use Rattle.alpha_io.specs.Shelved.{shelved, OnlyReads};
+ghost use Rattle.std.specs.Prelude.{◌≡◌, Bool, false, Err, IfOk, IfErr, OnOk};
+ghost use Rattle.alpha_io.specs.Shelved.{shelved};
 ghost use Rattle.alpha_shadow.specs.Broken.{IsAccepted};
 ghost use Rattle.alpha_shadow.specs.Least.{IsLeastBroken};
 ghost use Rattle.alpha_request.specs.Options.{origin_of};
-ghost use Rattle.alpha_cmd.specs.Outcome.{goes, stops};
-ghost use Rattle.alpha_cmd.specs.Status.{status_line};
 ghost use Rattle.alpha_cmd.specs.Chooser.{ahead_in};
 ghost use Rattle.alpha_cmd.specs.Commands.Imprecise as wilds;
 ghost use Rattle.alpha_cmd.specs.Commands.Imprecise.{IsBegun, MayRun, PlanOf, Planned, plan_by, plan_in};
 ghost use Rattle.alpha_cmd.specs.Decision.{SaysAlone};
-ghost use Rattle.alpha_cmd.specs.Does.{Does, Stage};
-ghost use Rattle.alpha_cmd.specs.Tries.{CutBy};
+ghost use Rattle.alpha_cmd.specs.Does.{Does, Finds, Stage};
 
 use crate::Status;
 use crate::choosing::{Choosing, chooser_of};
@@ -103,23 +99,12 @@ fn planned<H: Shelf>(
     choices: &Choices<'_>,
     shelf: &mut H,
 ) -> Result<Plan, Status>
-    ensures ok { IfOk result (λ plan.
-        PlanOf (H.files shelf.old) file.now (origin_of choices.now)
-        (goes (plan_by plan.image (ahead_in plan.chooser)))) }
-    ensures refused { IfErr result (λ status.
-        PlanOf (H.files shelf.old) file.now (origin_of choices.now)
-        (stops status (status_line status))
-        ⊎ CutBy (Rose (H.faults shelf.old) (H.faults shelf.new)) status) }
-    ensures shelf { OnlyReads (shelved H.Shelf shelf.old shelf.new)
-        (result ≢ Err Status.ShelfFault) }
+    ensures { Finds (PlanOf (H.files shelf.old) file.now (origin_of choices.now)) (λ plan. plan_by plan.image (ahead_in plan.chooser)) result
+        (shelved H.Shelf shelf.old shelf.new) }
 {
-    match load(alloc, shelf, file) {
-        Ok(image) => match chooser_of(alloc, choices, shelf) {
-            Ok(chooser) => Ok(Plan { image, chooser }),
-            Err(status) => Err(status),
-        },
-        Err(status) => Err(status),
-    }
+    let image = load(alloc, shelf, file)?;
+    let chooser = chooser_of(alloc, choices, shelf)?;
+    Ok(Plan { image, chooser })
 }
 
 // Judges an image, unless the verdict is passed over.

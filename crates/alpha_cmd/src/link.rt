@@ -1,15 +1,13 @@
 //! `link [--entry NAME] OUT FILE...`: the image that the modules of files link to, kept as a file.
 
-ghost use Rattle.std.specs.Prelude.{◌≡◌, ◌≢◌, ◌⊎◌, ◌≤◌, Err, IfOk, IfErr, length, map};
+ghost use Rattle.std.specs.Prelude.{◌≡◌, ◌⊎◌, ◌≤◌, Err, IfOk, IfErr, length, map};
 ghost use Rattle.alpha_image.specs.Parts as images;
-ghost use Rattle.alpha_io.specs.Faults.{Rose};
-ghost use Rattle.alpha_io.specs.Shelved.{shelved, OnlyReads};
+ghost use Rattle.alpha_io.specs.Shelved.{shelved};
 ghost use Rattle.alpha_cmd.specs.Outcome.{goes, stops, Then};
 ghost use Rattle.alpha_cmd.specs.Status.{status_line};
 ghost use Rattle.alpha_cmd.specs.Commands.Link as links;
 ghost use Rattle.alpha_cmd.specs.Commands.Link.{FilesOf, ModuleOf, ModulesOf, Links, Makes};
-ghost use Rattle.alpha_cmd.specs.Does.{Does};
-ghost use Rattle.alpha_cmd.specs.Tries.{CutBy};
+ghost use Rattle.alpha_cmd.specs.Does.{Does, Finds};
 
 use crate::Status;
 use crate::decision::Decision;
@@ -52,13 +50,8 @@ fn made<H: Shelf>(
     shelf: &mut H,
 ) -> Result<Vec<u8>, Status>
     requires { length names.now ≤ 64 }
-    ensures ok { IfOk result (λ bytes. Makes (H.files shelf.old) entry.now
-        (map (λ name. name.now) names.now) (goes bytes.items)) }
-    ensures refused { IfErr result (λ status. Makes (H.files shelf.old) entry.now
-        (map (λ name. name.now) names.now) (stops status (status_line status))
-        ⊎ CutBy (Rose (H.faults shelf.old) (H.faults shelf.new)) status) }
-    ensures shelf { OnlyReads (shelved H.Shelf shelf.old shelf.new)
-        (result ≢ Err Status.ShelfFault) }
+    ensures { Finds (Makes (H.files shelf.old) entry.now (map (λ name. name.now) names.now)) (λ bytes. bytes.items) result
+        (shelved H.Shelf shelf.old shelf.new) }
 {
     let files = read_files(alloc, names, shelf)?;
     linked(alloc, entry, files)
@@ -70,14 +63,9 @@ fn read_files<H: Shelf>(
     names: &[&str],
     shelf: &mut H,
 ) -> Result<Vec<Vec<u8>>, Status>
-    ensures ok { IfOk result (λ all. FilesOf (H.files shelf.old)
-        (map (λ name. name.now) names.now) (goes (map (λ file. file.items) all.items))) }
+    ensures found { Finds (FilesOf (H.files shelf.old) (map (λ name. name.now) names.now)) (λ all. map (λ file. file.items) all.items) result
+        (shelved H.Shelf shelf.old shelf.new) }
     ensures count { IfOk result (λ all. length all.items ≡ length names.now) }
-    ensures refused { IfErr result (λ status. FilesOf (H.files shelf.old)
-        (map (λ name. name.now) names.now) (stops status (status_line status))
-        ⊎ CutBy (Rose (H.faults shelf.old) (H.faults shelf.new)) status) }
-    ensures shelf { OnlyReads (shelved H.Shelf shelf.old shelf.new)
-        (result ≢ Err Status.ShelfFault) }
 {
     let mut all = Vec::new(alloc);
     for name in names {

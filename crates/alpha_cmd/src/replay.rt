@@ -1,15 +1,13 @@
 //! `replay FILE JOURNAL`: whether a journal lists a run of an image.
 
-ghost use Rattle.std.specs.Prelude.{◌≡◌, ◌≢◌, ◌⊎◌, Err, IfOk, IfErr, None};
-ghost use Rattle.alpha_io.specs.Faults.{Rose};
-ghost use Rattle.alpha_io.specs.Shelved.{shelved, OnlyReads};
+ghost use Rattle.std.specs.Prelude.{◌≡◌, ◌⊎◌, Err, IfOk, IfErr, None};
+ghost use Rattle.alpha_io.specs.Shelved.{shelved};
 ghost use Rattle.alpha_replay.specs.JournalFault.{first_fault};
 ghost use Rattle.alpha_cmd.specs.Outcome.{goes, stops};
 ghost use Rattle.alpha_cmd.specs.Status.{status_line};
 ghost use Rattle.alpha_cmd.specs.Commands.Replay as replays;
 ghost use Rattle.alpha_cmd.specs.Commands.Replay.{SpellsJournal, JournalOf, Plays, RunOf};
-ghost use Rattle.alpha_cmd.specs.Does.{Does};
-ghost use Rattle.alpha_cmd.specs.Tries.{CutBy};
+ghost use Rattle.alpha_cmd.specs.Does.{Does, Finds};
 
 use crate::Status;
 use crate::decision::Decision;
@@ -46,31 +44,18 @@ fn run_of<H: Shelf>(
     journal: &str,
     shelf: &mut H,
 ) -> Result<Replayed, Status>
-    ensures ok { IfOk result (λ r.
-        RunOf (H.files shelf.old) file.now journal.now (goes r)) }
-    ensures refused { IfErr result (λ status.
-        RunOf (H.files shelf.old) file.now journal.now (stops status (status_line status))
-        ⊎ CutBy (Rose (H.faults shelf.old) (H.faults shelf.new)) status) }
-    ensures shelf { OnlyReads (shelved H.Shelf shelf.old shelf.new)
-        (result ≢ Err Status.ShelfFault) }
+    ensures { Finds (RunOf (H.files shelf.old) file.now journal.now) (λ replayed. replayed) result
+        (shelved H.Shelf shelf.old shelf.new) }
 {
-    match load(alloc, shelf, file) {
-        Ok(image) => match load_journal(alloc, shelf, journal) {
-            Ok(journal) => play(alloc, image, &journal),
-            Err(status) => Err(status),
-        },
-        Err(status) => Err(status),
-    }
+    let image = load(alloc, shelf, file)?;
+    let journal = load_journal(alloc, shelf, journal)?;
+    play(alloc, image, &journal)
 }
 
 // The journal of a file.
 fn load_journal<H: Shelf>(alloc: Global, shelf: &mut H, name: &str) -> Result<Journal, Status>
-    ensures ok { IfOk result (λ journal. JournalOf (H.files shelf.old) name.now (goes journal)) }
-    ensures refused { IfErr result (λ status.
-        JournalOf (H.files shelf.old) name.now (stops status (status_line status))
-        ⊎ CutBy (Rose (H.faults shelf.old) (H.faults shelf.new)) status) }
-    ensures shelf { OnlyReads (shelved H.Shelf shelf.old shelf.new)
-        (result ≢ Err Status.ShelfFault) }
+    ensures { Finds (JournalOf (H.files shelf.old) name.now) (λ journal. journal) result
+        (shelved H.Shelf shelf.old shelf.new) }
 {
     let bytes = read_file(alloc, shelf, name, JOURNAL_LIMIT)?;
     journal_of(alloc, bytes.as_slice())

@@ -1,6 +1,5 @@
 -- The law of `check`.
-use Rattle.std.proofs.Common.{ℕ, List, Option, ap}
-use Rattle.alpha_image.specs.Parts.{Parts}
+use Rattle.std.proofs.Common.{ℕ, List, ap}
 use Rattle.alpha_cmd.specs.Outcome.{Gives}
 use Rattle.alpha_cmd.specs.Image.{Judges}
 use Rattle.alpha_cmd.specs.Answer.{Answer}
