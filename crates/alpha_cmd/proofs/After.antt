@@ -1,6 +1,5 @@
 -- From what a command did behind the stage that read its files to what it did.
-use Rattle.std.proofs.Common.{◌≡◌, ◌⊎◌, ◌∙◌, ℕ, List, Bool, Option, Result, Ok, Err, refl, sym, subst, inl, inr, arith}
-use Rattle.std.specs.Result.{IsErrAnd}
+use Rattle.std.proofs.Common.{◌≡◌, ℕ, List, Bool, Option, Result, refl, subst, inl, inr}
 use Rattle.alpha_io.specs.declared.Failed.{Failed}
 use Rattle.alpha_io.specs.declared.shelf.Shelf as shelves
 use Rattle.alpha_io.specs.declared.source.Source as sources
@@ -16,13 +15,13 @@ use Rattle.alpha_cmd.specs.declared.status.Status.{Status}
 use Rattle.alpha_cmd.specs.Answer.{Answer}
 use Rattle.alpha_cmd.specs.AnswerBy.{World, AnswerBy, world}
 use Rattle.alpha_cmd.specs.Call.{Call, called}
-use Rattle.alpha_cmd.specs.Does.{Does, Finds, TriesIn}
-use Rattle.alpha_cmd.specs.Ends.{Decides}
+use Rattle.alpha_cmd.specs.Does.{Does, TriesIn}
 use Rattle.alpha_cmd.specs.Form.{Form, Kind, Needs}
 use Rattle.alpha_cmd.specs.Outcome.{Outcome, goes, stops, Then}
 use Rattle.alpha_cmd.specs.Status.{status_line}
 use Rattle.alpha_cmd.specs.Tries.{CutBy, TriesBy}
 use Rattle.alpha_cmd.proofs.Doing.{Serves-after}
+use Rattle.alpha_cmd.proofs.Endings.{Decides-map}
 use Rattle.alpha_cmd.proofs.Keeping.{HasKept-after, SparesBy-after}
 use Rattle.alpha_cmd.proofs.Stages.{kept_same}
 use Rattle.alpha_cmd.proofs.Trying.{CutBy-map}
@@ -104,30 +103,6 @@ module _ {H S K N : Type 0} (h : shelves.Ghosts H) (s : sources.Ghosts S) (k : s
   abbrev both : Call
   both = called h s k n old new
 
-  decides_after : (stays : Type 0) → OnlyReads (shelved h old.shelf middle) stays → (P Q : Answer → Type 0) → ((t : Answer) → P t → Q t) → (r : Result Decision Failed)
-      → Decides P r second.input.new second.shelf second.out second.notes → Decides Q r both.input.new both.shelf both.out both.notes
-  decides_after stays reads P Q f (Ok d) did = record {
-    tried = did.tried;
-    is = f did.tried did.is;
-    status_is = did.status_is;
-    left_is = did.left_is;
-    files = HasKept-after h old.shelf middle new.shelf reads.files did.tried.kept did.files;
-    output = did.output;
-    put = did.put;
-    output_is = did.output_is;
-    trace = did.trace;
-    noted = did.noted;
-    notes_are = did.notes_are;
-  }
-  decides_after stays reads P Q f (Err e) did = record {
-    tried = did.tried;
-    is = f did.tried did.is;
-    files = HasKept-after h old.shelf middle new.shelf reads.files did.tried.kept did.files;
-    output = did.output;
-    line = did.line;
-    failed = did.failed;
-  }
-
   -- the world is then what it was
   world_same : (stays : Type 0) → OnlyReads (shelved h old.shelf middle) stays → world h s middle old.input ≡ world h s old.shelf old.input
   world_same stays reads = λ i. record { files = kept_same (h.files old.shelf) (h.files middle) reads.files i; takes = reads.takes i; input = s.left old.input }
@@ -138,11 +113,11 @@ module _ {H S K N : Type 0} (h : shelves.Ghosts H) (s : sources.Ghosts S) (k : s
       → Does h s k n (rest R T needs kind x) r (record old { shelf = middle }) new → Does h s k n (row R T needs kind) r old new
   does_after R T needs kind x r stays is found reads did = record {
     tried =
-        decides_after stays reads (TriesIn (rest R T needs kind x) second) (TriesIn (row R T needs kind) both)
+        Decides-map (TriesIn (rest R T needs kind x) second) (TriesIn (row R T needs kind) both)
         (tries_after R T needs kind x (h.files old.shelf) (h.files middle) (h.takes old.shelf) (h.takes middle) (s.left old.input) found
         (λ o. subst (λ (w : World). T w x o) (world_same stays reads)) _ _ _
         (Rose-earlier (h.faults old.shelf) (h.faults middle) (h.faults new.shelf) reads.later))
-        r did.tried;
+        second.shelf both.shelf (HasKept-after h old.shelf middle new.shelf reads.files) r both.input.new both.out both.notes did.tried;
     shelf = Serves-after (shelved h old.shelf middle) (shelved h middle new.shelf) stays _ refl refl refl is reads did.shelf;
     files = SparesBy-after kind _ (h.files old.shelf) (h.files middle) (h.files new.shelf) reads.files did.files;
     input = did.input;

@@ -13,8 +13,6 @@ use Rattle.alpha_cmd.specs.AnswerBy.{World}
 use Rattle.alpha_cmd.specs.Kept.{Kept, nothing, HasKept}
 use Rattle.alpha_cmd.specs.Ends.{Ends, EndsPart, Leaves, Decides, still}
 use Rattle.alpha_cmd.specs.Tried.{IsAnswer, TriedBy, IsGiven}
-use Rattle.alpha_cmd.specs.Drawn.{but_drawn}
-use Rattle.alpha_cmd.specs.AlikeByAnswers.{undrawn}
 use Rattle.alpha_cmd.proofs.Tried.{calm_tried, tried_not_sink}
 
 IsLeft-same : (left : Option (List ℕ)) → IfSome left (λ rest. left ≡ Some rest)
@@ -46,15 +44,15 @@ pub Leaves-all : (P : Answer → Type 0) (t : Answer) (s : Shelved) (u v : Optio
     → Leaves P t s (still u m) (still v n)
 Leaves-all P t s u v m n is files = Leaves-kept P t nothing s u v m n is files
 
--- one that tries what another does, or more
-pub Decides-map : (P Q : Answer → Type 0) → ((t : Answer) → P t → Q t) → (r : Result Decision Failed) (left : Option (List ℕ)) (s : Shelved) (out notes : Sunk)
-    → Decides P r left s out notes → Decides Q r left s out notes
-Decides-map P Q f (Ok decision) left s out notes h = record {
+-- one that tries what another does, or more, where the files are as those that it has
+pub Decides-map : (P Q : Answer → Type 0) → ((t : Answer) → P t → Q t) → (a b : Shelved) → ((kept : Kept) → HasKept kept a → HasKept kept b) → (r : Result Decision Failed)
+    (left : Option (List ℕ)) (out notes : Sunk) → Decides P r left a out notes → Decides Q r left b out notes
+Decides-map P Q f a b has (Ok decision) left out notes h = record {
   tried = h.tried;
   is = f h.tried h.is;
   status_is = h.status_is;
   left_is = h.left_is;
-  files = h.files;
+  files = has h.tried.kept h.files;
   output = h.output;
   put = h.put;
   output_is = h.output_is;
@@ -62,10 +60,10 @@ Decides-map P Q f (Ok decision) left s out notes h = record {
   noted = h.noted;
   notes_are = h.notes_are;
 }
-Decides-map P Q f (Err failed) left s out notes h = record {
+Decides-map P Q f a b has (Err failed) left out notes h = record {
   tried = h.tried;
   is = f h.tried h.is;
-  files = h.files;
+  files = has h.tried.kept h.files;
   output = h.output;
   line = h.line;
   failed = h.failed;
@@ -129,24 +127,18 @@ given_whole shelf input words w status left s out notes calm quiet ends =
     (λ (memory : ends.tried.status ≡ NoMemory). inr (ends.status_is ∙ memory))
     (calm_tried shelf input words w ends.tried calm quiet ends.is)
 
--- where all of them are this one, it was given
-pub given_one : (words : List (List ℕ)) (w : World) (a : Answer) (status : Status) (left : Option (List ℕ)) (s : Shelved) (out notes : Sunk)
-    → ((b : Answer) → IsAnswer words w b → b ≡ a) → IsGiven words w status left s out notes → IsAnswered a status left s out notes ⊎ (status ≡ NoMemory)
-given_one words w a status left s out notes one (inl (b, is, given)) = inl (subst (λ (x : Answer). IsAnswered x status left s out notes) (one b is) given)
-given_one words w a status left s out notes one (inr memory) = inr memory
-
--- and where they are this one but for the number of words that were drawn, it was given but for that number
-pub given_undrawn : (words : List (List ℕ)) (w : World) (a : Answer) (status : Status) (left : Option (List ℕ)) (s : Shelved) (out notes : Sunk)
-    → ((b : Answer) → IsAnswer words w b → undrawn b ≡ a) → IsGiven words w status left s out notes → IsAnswered a (but_drawn status) left s out notes ⊎ (status ≡ NoMemory)
-given_undrawn words w a status left s out notes one (inl (b, is, given)) =
-    inl (subst (λ (x : Answer). IsAnswered x (but_drawn status) left s out notes) (one b is) (record {
-      status_is = ap but_drawn given.status_is;
+-- where all of them are this one, but for what a status is told as, it was given
+pub given_as : (told : Status → Status) (words : List (List ℕ)) (w : World) (a : Answer) (status : Status) (left : Option (List ℕ)) (s : Shelved) (out notes : Sunk)
+    → ((b : Answer) → IsAnswer words w b → ◌≡◌ {A = Answer} (record b { status = told b.status }) a) → IsGiven words w status left s out notes → IsAnswered a (told status) left s out notes ⊎ (status ≡ NoMemory)
+given_as told words w a status left s out notes one (inl (b, is, given)) =
+    inl (subst (λ (x : Answer). IsAnswered x (told status) left s out notes) (one b is) (record {
+      status_is = ap told given.status_is;
       left_is = given.left_is;
       files = given.files;
       output = given.output;
       line = given.line;
     }))
-given_undrawn words w a status left s out notes one (inr memory) = inr memory
+given_as told words w a status left s out notes one (inr memory) = inr memory
 
 -- no sink failed
 pub calm_part : (P : Answer → Type 0) (s : Shelved) (out notes : Sunk) → EndsPart P s out notes → IsCalm out → IsCalm notes → ⊥

@@ -39,7 +39,7 @@ use Rattle.alpha_cmd.specs.Tried.{IsAnswer}
 use Rattle.alpha_cmd.proofs.Accepted.{checked as checked_file}
 use Rattle.alpha_cmd.proofs.Alike.{tried_restarts}
 use Rattle.alpha_cmd.proofs.Endings as endings
-use Rattle.alpha_cmd.proofs.Endings.{Leaves-not_sink, given_whole, given_one, given_undrawn, calm_part}
+use Rattle.alpha_cmd.proofs.Endings.{Leaves-not_sink, given_whole, given_as, calm_part}
 use Rattle.alpha_cmd.proofs.Fixed.{tried_fixed}
 use Rattle.alpha_cmd.proofs.Forms.{is_fault}
 use Rattle.alpha_cmd.proofs.JournalStatus.{no_end}
@@ -161,7 +161,7 @@ module _ {words : List (List ℕ)} {status : Status} {c : Call} (how : Ended wor
 
   pub exact : GivesThe words status c
   exact a read quiet is =
-      given_one words (told c) a status c.input.new c.shelf c.out c.notes (λ b also. IsAnswer-single words (told c) b a read also is) (given how quiet)
+      given_as (λ s. s) words (told c) a status c.input.new c.shelf c.out c.notes (λ b also. IsAnswer-single words (told c) b a read also is) (given how quiet)
 
   pub accepted : Accepts words status c
   accepted image name asks good safe files there quiet =
@@ -175,7 +175,7 @@ module _ {words : List (List ℕ)} {status : Status} {c : Call} (how : Ended wor
   gave_undrawn : (a : Answer) → ((b : Answer) → IsAnswer words (told c) b → undrawn b ≡ a) → Quiet c → Gave a (but_drawn status) c
   gave_undrawn a same quiet =
       ⊎_elim (λ h. inl h) (λ (memory : status ≡ NoMemory). inr (ap but_drawn memory))
-      (given_undrawn words (told c) a status c.input.new c.shelf c.out c.notes same (given how quiet))
+      (given_as but_drawn words (told c) a status c.input.new c.shelf c.out c.notes same (given how quiet))
 
   pub alike : Alike words status c
   alike options name bytes image (inl asks) h quiet =
@@ -197,7 +197,7 @@ module _ {words : List (List ℕ)} {status : Status} {c : Call} (how : Ended wor
 
   pub unread : Unread words status c
   unread options name image asks files found nothing quiet =
-      given_one words (told c) (answer_unread options image c.input.old) status c.input.new c.shelf c.out c.notes
+      given_as (λ s. s) words (told c) (answer_unread options image c.input.old) status c.input.new c.shelf c.out c.notes
       (λ a is. one_unread options name image (told c) a files found nothing (asked_answer words (run options name) (told c) a (asked_rows words (run options name) asks) is)) (given how quiet)
 
   pub unread_alike : UnreadAlike words status c

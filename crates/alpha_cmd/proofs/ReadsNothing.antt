@@ -33,7 +33,6 @@ use Rattle.alpha_cmd.specs.ReadsNothing.{ReadsNothing, answer_unread}
 use Rattle.alpha_cmd.proofs.Lawful.{Then-found}
 use Rattle.alpha_cmd.proofs.Stages.{ImageOf-lawful}
 use Rattle.alpha_cmd.proofs.Tried.{asked_answer}
-use Rattle.alpha_cmd.proofs.Endings.{given_one, given_undrawn}
 use Rattle.alpha_cmd.proofs.Commands.Run.{some_shown, shown_answer}
 use Rattle.alpha_cmd.proofs.Alike.{run_answer, some_checked_run}
 

@@ -1,18 +1,17 @@
 use Rattle.std.proofs.Common.{◌≡◌, ◌∙◌, Some, refl, sym, ap, subst, inl, inr, ⊎_elim}
 use Rattle.alpha_io.specs.Faults.{Rose}
-use Rattle.alpha_io.specs.Shelved.{shelved}
-use Rattle.alpha_io.specs.Sunk.{sunk}
 use Rattle.alpha_io.proofs.Shelved.{KeepsFiles-refl}
 use Rattle.alpha_request.specs.Command.{record_run}
 use Rattle.alpha_request.specs.CommandOf.{command_of}
 use Rattle.alpha_request.proofs.Blocks.{asked_blocks}
-use Rattle.alpha_cmd.specs.AnswerBy.{world}
+use Rattle.alpha_cmd.specs.AnswerBy.{told}
+use Rattle.alpha_cmd.specs.Call.{called}
 use Rattle.alpha_cmd.specs.Decision.{answer_in}
 use Rattle.alpha_cmd.specs.Ends.{status_in}
 use Rattle.alpha_cmd.specs.Commands.{form_of}
 use Rattle.alpha_cmd.specs.Form.{Kind, MayTakeBy, SparesBy}
-use Rattle.alpha_cmd.specs.Tried.{TriedBy}
-use Rattle.alpha_cmd.specs.Tries.{TriesBy}
+use Rattle.alpha_cmd.specs.Does.{TriesIn}
+use Rattle.alpha_cmd.specs.Promises.{tried_in}
 use Rattle.alpha_cmd.proofs.Endings.{Leaves-all, Decides-map}
 use Rattle.alpha_cmd.proofs.Told.{tail_same}
 use Rattle.alpha_cmd.proofs.Tried.{asked_tried, kind_is}
@@ -20,25 +19,20 @@ use Rattle.alpha_cmd.proofs.top.decide.Goals as goal
 
 pub returns-in-Ok-clause-tried : goal.returns-in-Ok-clause-tried
 returns-in-Ok-clause-tried g c =
-    let shelf = Rose (g.H.Shelf.faults c.args.devices.now.shelf) (g.H.Shelf.faults c.perform.new.devices.shelf) in
-    let input = Rose (g.S.Source.faults c.args.devices.now.input) (g.S.Source.faults c.perform.new.devices.input) in
-    let w = world g.H.Shelf g.S.Source c.args.devices.now.shelf c.args.devices.now.input in
+    let did = called g.H.Shelf g.S.Source g.K.Sink g.N.Sink c.args.devices.now c.perform.new.devices in
     let command = command_of c.in-Ok.request in
-    Decides-map (TriesBy shelf input (form_of command) w) (TriedBy shelf input c.args.words.now w)
-    (λ t. asked_tried shelf input c.args.words.now command w t c.in-Ok.ensures)
-    c.perform.result (g.S.Source.left c.perform.new.devices.input)
-    (shelved g.H.Shelf c.args.devices.now.shelf c.perform.new.devices.shelf) (sunk g.K.Sink c.args.devices.now.out c.perform.new.devices.out)
-    (sunk g.N.Sink c.args.devices.now.notes c.perform.new.devices.notes) c.perform.ensures.does.tried
+    Decides-map (TriesIn (form_of command) did) (tried_in c.args.words.now did)
+    (λ t. asked_tried (Rose did.shelf.before did.shelf.now) (Rose did.input.before did.input.now) c.args.words.now command (told did) t c.in-Ok.ensures)
+    did.shelf did.shelf (λ kept h. h) c.perform.result did.input.new did.out did.notes c.perform.ensures.does.tried
 
 pub returns-in-Ok-clause-shelf : goal.returns-in-Ok-clause-shelf
 returns-in-Ok-clause-shelf g c = c.perform.ensures.does.shelf
 
 pub returns-in-Ok-clause-files : goal.returns-in-Ok-clause-files
 returns-in-Ok-clause-files g c =
+    let did = called g.H.Shelf g.S.Source g.K.Sink g.N.Sink c.args.devices.now c.perform.new.devices in
     let command = command_of c.in-Ok.request in
-    let old = g.H.Shelf.files c.args.devices.now.shelf in
-    let new = g.H.Shelf.files c.perform.new.devices.shelf in
-    inr (command, c.in-Ok.ensures, subst (λ (k : Kind). SparesBy k (status_in c.perform.result) old new) (kind_is command) c.perform.ensures.does.files)
+    inr (command, c.in-Ok.ensures, subst (λ (k : Kind). SparesBy k (status_in c.perform.result) did.shelf.old did.shelf.new) (kind_is command) c.perform.ensures.does.files)
 
 pub returns-in-Ok-clause-input : goal.returns-in-Ok-clause-input
 returns-in-Ok-clause-input g c =
@@ -54,27 +48,15 @@ returns-in-Ok-clause-source g c = c.perform.ensures.does.source
 
 pub returns-in-Err-BadWords-clause-tried : goal.returns-in-Err-BadWords-clause-tried
 returns-in-Err-BadWords-clause-tried g c =
-    let shelf = Rose (g.H.Shelf.faults c.args.devices.now.shelf) (g.H.Shelf.faults c.args.devices.now.shelf) in
-    let input = Rose (g.S.Source.faults c.args.devices.now.input) (g.S.Source.faults c.args.devices.now.input) in
-    let left = g.S.Source.left c.args.devices.now.input in
-    let w = world g.H.Shelf g.S.Source c.args.devices.now.shelf c.args.devices.now.input in
-    Leaves-all (TriedBy shelf input c.args.words.now w) (answer_in left c.said.result)
-    (shelved g.H.Shelf c.args.devices.now.shelf c.args.devices.now.shelf)
-    (g.K.Sink.written c.args.devices.now.out) (g.N.Sink.written c.args.devices.now.notes) (g.K.Sink.faults c.args.devices.now.out) (g.N.Sink.faults c.args.devices.now.notes)
-    (inl (inl (rw c.in-Err-BadWords.field-0-is at c.in-Err-BadWords.ensures, c.said.ensures.answer left)))
-    (KeepsFiles-refl w.files)
+    let did = called g.H.Shelf g.S.Source g.K.Sink g.N.Sink c.args.devices.now c.args.devices.now in
+    Leaves-all (tried_in c.args.words.now did) (answer_in did.input.new c.said.result) did.shelf did.out.old did.notes.old did.out.now did.notes.now
+    (inl (inl (rw c.in-Err-BadWords.field-0-is at c.in-Err-BadWords.ensures, c.said.ensures.answer did.input.new))) (KeepsFiles-refl did.shelf.old)
 
 pub returns-in-Err-NoMemory-clause-tried : goal.returns-in-Err-NoMemory-clause-tried
 returns-in-Err-NoMemory-clause-tried g c =
-    let shelf = Rose (g.H.Shelf.faults c.args.devices.now.shelf) (g.H.Shelf.faults c.args.devices.now.shelf) in
-    let input = Rose (g.S.Source.faults c.args.devices.now.input) (g.S.Source.faults c.args.devices.now.input) in
-    let left = g.S.Source.left c.args.devices.now.input in
-    let w = world g.H.Shelf g.S.Source c.args.devices.now.shelf c.args.devices.now.input in
-    Leaves-all (TriedBy shelf input c.args.words.now w) (answer_in left c.said-in-Err-NoMemory.result)
-    (shelved g.H.Shelf c.args.devices.now.shelf c.args.devices.now.shelf)
-    (g.K.Sink.written c.args.devices.now.out) (g.N.Sink.written c.args.devices.now.notes) (g.K.Sink.faults c.args.devices.now.out) (g.N.Sink.faults c.args.devices.now.notes)
-    (inr (inr (c.said-in-Err-NoMemory.ensures.answer left)))
-    (KeepsFiles-refl w.files)
+    let did = called g.H.Shelf g.S.Source g.K.Sink g.N.Sink c.args.devices.now c.args.devices.now in
+    Leaves-all (tried_in c.args.words.now did) (answer_in did.input.new c.said-in-Err-NoMemory.result) did.shelf did.out.old did.notes.old did.out.now did.notes.now
+    (inr (inr (c.said-in-Err-NoMemory.ensures.answer did.input.new))) (KeepsFiles-refl did.shelf.old)
 
 pub returns-in-Err-NoMemory-clause-script : goal.returns-in-Err-NoMemory-clause-script
 returns-in-Err-NoMemory-clause-script g c = λ file asks. tail_same (g.S.Source.left c.args.devices.now.input) (g.S.Source.left c.args.devices.now.input) refl
