@@ -185,12 +185,9 @@ taken_or_not None taken = inr (λ h. h)
 taken_or_not (Some f) true = inr (λ h. cc)
 taken_or_not (Some f) false = inl refl
 
-pub Refuses-false : (files : Files) (taken : Bool) → Refuses files taken → taken ≡ false
-Refuses-false None taken h = absurd h
-Refuses-false (Some f) taken h = h
-
 pub refused_there : (files : Files) (taken : Bool) → Refuses files taken → taken ≡ true → ⊥
-refused_there files taken h e = let no = Refuses-false files taken h in cc
+refused_there None taken h e = h
+refused_there (Some f) taken h e = let no = h in cc
 
 kept_some : (w : World) (out bytes : List ℕ) → HasOutcome (KeepsAs w out bytes)
 kept_some w out bytes =

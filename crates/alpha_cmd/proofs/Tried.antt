@@ -17,7 +17,7 @@ use Rattle.alpha_cmd.specs.Form.{Form, Kind, Needs, needs_nothing, needs_files, 
 use Rattle.alpha_cmd.specs.Tries.{CutBy, FailsBy, TriesBy}
 use Rattle.alpha_cmd.specs.Commands.{form_of, kind_of, there_of, AnswerOf, EndsBy}
 use Rattle.alpha_cmd.specs.Tried.{IsAnswer, AreTold, TriedBy}
-use Rattle.alpha_cmd.proofs.Forms.{IsPlain, one_answer, some_answer, plain_answer, ended_ends}
+use Rattle.alpha_cmd.proofs.Forms.{IsPlain, is_fault, one_answer, some_answer, plain_answer, ended_ends}
 use Rattle.alpha_cmd.proofs.Commands.Imprecise.{found_end}
 use Rattle.alpha_cmd.proofs.Trying.{Says, plain, cut, fails_calm, fails_says, says_not_sink, says_not_input, says_not_shelf}
 use Rattle.alpha_cmd.proofs.Commands.{lawful}
@@ -91,13 +91,10 @@ done_tried shelf input words command w t asks (inr (inr h)) e = absurd (let x : 
 
 -- ---- which statuses are tried
 
-words_plain : (there : Type 0) (s : Status) → s ≡ BadWords → IsPlain there s
-words_plain there s e = inl (rw e refl)
-
 -- with this said of the files that the words' command reads
 tried_says : (shelf input : Type 0) (words : List (List ℕ)) (w : World) (t : Answer) (there : Type 0) → (there → (command : Command) → Asks words command → there_of command w)
     → TriedBy shelf input words w t → Says shelf input there t.status
-tried_says shelf input words w t there has (inl (inl h)) = plain (words_plain there t.status (ap (λ (a : Answer). a.status) h.1))
+tried_says shelf input words w t there has (inl (inl h)) = plain (inl (ap (λ (a : Answer). is_fault a.status) h.1))
 tried_says shelf input words w t there has (inl (inr h)) = weaker (plain_answer (form_of h.0) (there_of h.0) w (lawful h.0 w) t h.2)
   where
     weaker : IsPlain (there_of h.0 w) t.status → Says shelf input there t.status

@@ -147,11 +147,6 @@ planned_good force choices file files plan h = (
   λ judges. subst (λ (x : Plan). IsAccepted x.image.words) (sym (passed_same force h.0 plan h.2)) (passed_good force h.0 plan h.2 judges),
 )
 
--- choices that aren't read after the image was
-pub unchosen : (a b : Files) (name : List ℕ) (choices : Origin) (image : Parts) (s : Status) → KeepsFiles a b → ImageOf a name (goes image)
-    → ChoicesOf b choices (stops s (status_line s)) → PlanOf a name choices (stops s (status_line s))
-unchosen a b name choices image s kept found h = inr (image, found, inl (subst (λ f. ChoicesOf f choices (stops s (status_line s))) (kept_same a b kept) h))
-
 -- ---- the statuses of an end
 
 -- of an unforced run's end no status is that of a trap that was lost

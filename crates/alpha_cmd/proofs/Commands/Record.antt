@@ -54,15 +54,12 @@ module _ (n : ℕ) (g : Program) (bytes : List ℕ) (ahead : ℕ → ℕ) where
 
   -- the run has a journal, or is stopped
   pub some_end : ((p : Parts) × IsRecorded n g bytes ahead p) ⊎ ((k : Making) × IsPast n g bytes ahead k)
-  some_end = by (some_place n g (start g bytes) (first_words (most_words n) ahead))
+  some_end = let (k, stops) = some_place n g (start g bytes) (first_words (most_words n) ahead) in at k stops (is_within (journal_at g.how k)) refl
     where
       at : (k : Journaled) → StopsAt n g bytes ahead k → (b : Bool) → is_within (journal_at g.how k) ≡ b
           → ((p : Parts) × IsRecorded n g bytes ahead p) ⊎ ((k : Making) × IsPast n g bytes ahead k)
       at k is true e = inl (journal_at g.how k, record { place = k; stops = is; within = e; is = refl })
       at k is false e = inr (k.making, record { place = k; stops = is; past = e; is = refl })
-
-      by : (k : Journaled) × StopsAt n g bytes ahead k → ((p : Parts) × IsRecorded n g bytes ahead p) ⊎ ((k : Making) × IsPast n g bytes ahead k)
-      by h = at h.0 h.1 (is_within (journal_at g.how h.0)) refl
 
 -- ---- the keep
 

@@ -72,20 +72,10 @@ lawful file journal w = record {
 pub journal_after : (a b : Files) (name : List ℕ) (p : Parts) → KeepsFiles a b → JournalOf b name (goes p) → JournalOf a name (goes p)
 journal_after a b name p kept h = subst (λ f. JournalOf f name (goes p)) (kept_same a b kept) h
 
--- one that isn't
-pub unread_after : (a b : Files) (file name : List ℕ) (image : Image) (s : Status) → KeepsFiles a b → ImageOf a file (goes image)
-    → JournalOf b name (stops s (status_line s)) → RunOf a file name (stops s (status_line s))
-unread_after a b file name image s kept found h =
-    inr (image, found, inl (subst (λ f. JournalOf f name (stops s (status_line s))) (kept_same a b kept) h))
-
 -- a journal that is no run, or want of memory
-played : (shelf : Type 0) (a : Files) (file name : List ℕ) (image : Image) (p : Parts) (s : Status) → ImageOf a file (goes image) → JournalOf a name (goes p)
-    → Plays image p (stops s (status_line s)) ⊎ (s ≡ NoMemory) → RunOf a file name (stops s (status_line s)) ⊎ CutBy shelf s
-played shelf a file name image p s found spelled (inl h) = inl (inr (image, found, inr (p, spelled, h)))
-played shelf a file name image p s found spelled (inr e) = inr (inl e)
-
 pub played_by : (shelf : Type 0) (a : Files) (file name : List ℕ) (image : Image) (p : Parts) (r : Result Replayed Status) → ImageOf a file (goes image)
     → JournalOf a name (goes p) → IfErr r (λ s. Plays image p (stops s (status_line s)) ⊎ (s ≡ NoMemory))
     → IfErr r (λ s. RunOf a file name (stops s (status_line s)) ⊎ CutBy shelf s)
 played_by shelf a file name image p (Ok x) found spelled h = tt
-played_by shelf a file name image p (Err s) found spelled h = played shelf a file name image p s found spelled h
+played_by shelf a file name image p (Err s) found spelled (inl h) = inl (inr (image, found, inr (p, spelled, h)))
+played_by shelf a file name image p (Err s) found spelled (inr e) = inr (inl e)

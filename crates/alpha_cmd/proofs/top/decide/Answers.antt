@@ -17,34 +17,29 @@ use Rattle.alpha_cmd.proofs.Told.{tail_same}
 use Rattle.alpha_cmd.proofs.Tried.{asked_tried, kind_is}
 use Rattle.alpha_cmd.proofs.top.decide.Goals as goal
 
-pub returns-in-Ok-clause-tried : goal.returns-in-Ok-clause-tried
-returns-in-Ok-clause-tried g c =
+pub returns-in-Ok : goal.returns-in-Ok
+returns-in-Ok g c =
     let did = called g.H.Shelf g.S.Source g.K.Sink g.N.Sink c.args.devices.now c.perform.new.devices in
     let command = command_of c.in-Ok.request in
-    Decides-map (TriesIn (form_of command) did) (tried_in c.args.words.now did)
-    (λ t. asked_tried (Rose did.shelf.before did.shelf.now) (Rose did.input.before did.input.now) c.args.words.now command (told did) t c.in-Ok.ensures)
-    did.shelf did.shelf (λ kept h. h) c.perform.result did.input.new did.out did.notes c.perform.ensures.does.tried
-
-pub returns-in-Ok-clause-shelf : goal.returns-in-Ok-clause-shelf
-returns-in-Ok-clause-shelf g c = c.perform.ensures.does.shelf
-
-pub returns-in-Ok-clause-files : goal.returns-in-Ok-clause-files
-returns-in-Ok-clause-files g c =
-    let did = called g.H.Shelf g.S.Source g.K.Sink g.N.Sink c.args.devices.now c.perform.new.devices in
-    let command = command_of c.in-Ok.request in
-    inr (command, c.in-Ok.ensures, subst (λ (k : Kind). SparesBy k (status_in c.perform.result) did.shelf.old did.shelf.new) (kind_is command) c.perform.ensures.does.files)
-
-pub returns-in-Ok-clause-input : goal.returns-in-Ok-clause-input
-returns-in-Ok-clause-input g c =
-    let command = command_of c.in-Ok.request in
-    ⊎_elim
-    (λ (h : c.perform.new.devices.input ≡ c.args.devices.now.input). inl h)
-    (λ (h : MayTakeBy (form_of command).kind (status_in c.perform.result)).
-    inr (command, c.in-Ok.ensures, subst (λ (k : Kind). MayTakeBy k (status_in c.perform.result)) (kind_is command) h))
-    c.perform.ensures.does.input
-
-pub returns-in-Ok-clause-source : goal.returns-in-Ok-clause-source
-returns-in-Ok-clause-source g c = c.perform.ensures.does.source
+    let asks = c.in-Ok.ensures in
+    let does = c.perform.ensures.does in
+    record {
+      tried =
+          Decides-map (TriesIn (form_of command) did) (tried_in c.args.words.now did)
+          (λ t. asked_tried (Rose did.shelf.before did.shelf.now) (Rose did.input.before did.input.now) c.args.words.now command (told did) t asks)
+          did.shelf did.shelf (λ kept h. h) c.perform.result did.input.new did.out did.notes does.tried;
+      shelf = does.shelf;
+      files = inr (command, asks, subst (λ (k : Kind). SparesBy k (status_in c.perform.result) did.shelf.old did.shelf.new) (kind_is command) does.files);
+      input =
+          ⊎_elim (λ (h : c.perform.new.devices.input ≡ c.args.devices.now.input). inl h)
+          (λ (h : MayTakeBy (form_of command).kind (status_in c.perform.result)). inr (command, asks, subst (λ (k : Kind). MayTakeBy k (status_in c.perform.result)) (kind_is command) h))
+          does.input;
+      source = does.source;
+      script = λ file also. c.perform.ensures.script file (let e = sym asks ∙ also in cc);
+      recorded = λ options choices force file out end lost n also is.
+          let same : command ≡ record_run options choices force file out = (let e = sym asks ∙ also in cc) in
+          c.perform.ensures.recorded options choices force file out end lost n same is;
+    }
 
 pub returns-in-Err-BadWords-clause-tried : goal.returns-in-Err-BadWords-clause-tried
 returns-in-Err-BadWords-clause-tried g c =
@@ -63,8 +58,3 @@ returns-in-Err-NoMemory-clause-script g c = λ file asks. tail_same (g.S.Source.
 
 pub perform-requires : goal.perform-requires
 perform-requires g c = record { blocks = λ n is. asked_blocks c.args.words.now n (c.in-Ok.ensures ∙ ap Some is) }
-
-pub returns-in-Ok-clause-recorded : goal.returns-in-Ok-clause-recorded
-returns-in-Ok-clause-recorded g c = λ options choices force file out end lost n asks is.
-    let same : command_of c.in-Ok.request ≡ record_run options choices force file out = (let e = sym c.in-Ok.ensures ∙ asks in cc) in
-    c.perform.ensures.recorded options choices force file out end lost n same is

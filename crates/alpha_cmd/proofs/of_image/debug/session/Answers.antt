@@ -8,40 +8,36 @@ use Rattle.alpha_cmd.proofs.Doing.{does_not_start}
 use Rattle.alpha_cmd.proofs.Told.{session_whole, session_unread, session_unwritten, tail, tail_same}
 use Rattle.alpha_cmd.proofs.of_image.debug.session.Goals as goal
 
-pub returns-in-Done-clause-does : goal.returns-in-Done-clause-does
-returns-in-Done-clause-does g c =
-    session_whole g.H.Shelf g.S.Source g.K.Sink g.N.Sink c.args.devices.now c.debug.new.script c.debug.new.out c.args.image ends.Done c.said.result (inl refl)
-    c.said.ensures.answer c.in-Done.ensures.effect
+pub returns-in-Done : goal.returns-in-Done
+returns-in-Done g c = record {
+  does =
+      session_whole g.H.Shelf g.S.Source g.K.Sink g.N.Sink c.args.devices.now c.debug.new.script c.debug.new.out c.args.image ends.Done c.said.result (inl refl)
+      c.said.ensures.answer c.in-Done.ensures.effect;
+  script = tail c.args.image (drawn g.S.Source c.args.devices.now.input c.debug.new.script) c.in-Done.ensures.effect.told c.in-Done.ensures.effect.follows;
+}
 
-pub returns-in-Done-clause-script : goal.returns-in-Done-clause-script
-returns-in-Done-clause-script g c =
-    tail c.args.image (drawn g.S.Source c.args.devices.now.input c.debug.new.script) c.in-Done.ensures.effect.told c.in-Done.ensures.effect.follows
+pub returns-in-TooLarge : goal.returns-in-TooLarge
+returns-in-TooLarge g c = record {
+  does =
+      session_whole g.H.Shelf g.S.Source g.K.Sink g.N.Sink c.args.devices.now c.debug.new.script c.debug.new.out c.args.image ends.TooLarge c.said-in-TooLarge.result (inr refl)
+      c.said-in-TooLarge.ensures.answer c.in-TooLarge.ensures.effect;
+  script = tail c.args.image (drawn g.S.Source c.args.devices.now.input c.debug.new.script) c.in-TooLarge.ensures.effect.told c.in-TooLarge.ensures.effect.follows;
+}
 
-pub returns-in-TooLarge-clause-does : goal.returns-in-TooLarge-clause-does
-returns-in-TooLarge-clause-does g c =
-    session_whole g.H.Shelf g.S.Source g.K.Sink g.N.Sink c.args.devices.now c.debug.new.script c.debug.new.out c.args.image ends.TooLarge c.said-in-TooLarge.result (inr refl)
-    c.said-in-TooLarge.ensures.answer c.in-TooLarge.ensures.effect
+pub returns-in-InputFault : goal.returns-in-InputFault
+returns-in-InputFault g c = record {
+  does =
+      session_unread g.H.Shelf g.S.Source g.K.Sink g.N.Sink c.args.devices.now c.debug.new.script c.debug.new.out c.args.image c.said-in-InputFault.result
+      c.said-in-InputFault.ensures.answer c.in-InputFault.ensures.effect;
+  script = tail c.args.image (drawn g.S.Source c.args.devices.now.input c.debug.new.script) c.in-InputFault.ensures.effect.told c.in-InputFault.ensures.effect.follows;
+}
 
-pub returns-in-TooLarge-clause-script : goal.returns-in-TooLarge-clause-script
-returns-in-TooLarge-clause-script g c =
-    tail c.args.image (drawn g.S.Source c.args.devices.now.input c.debug.new.script) c.in-TooLarge.ensures.effect.told c.in-TooLarge.ensures.effect.follows
-
-pub returns-in-InputFault-clause-does : goal.returns-in-InputFault-clause-does
-returns-in-InputFault-clause-does g c =
-    session_unread g.H.Shelf g.S.Source g.K.Sink g.N.Sink c.args.devices.now c.debug.new.script c.debug.new.out c.args.image c.said-in-InputFault.result
-    c.said-in-InputFault.ensures.answer c.in-InputFault.ensures.effect
-
-pub returns-in-InputFault-clause-script : goal.returns-in-InputFault-clause-script
-returns-in-InputFault-clause-script g c =
-    tail c.args.image (drawn g.S.Source c.args.devices.now.input c.debug.new.script) c.in-InputFault.ensures.effect.told c.in-InputFault.ensures.effect.follows
-
-pub returns-in-SinkFault-clause-does : goal.returns-in-SinkFault-clause-does
-returns-in-SinkFault-clause-does g c =
-    session_unwritten g.H.Shelf g.S.Source g.K.Sink g.N.Sink c.args.devices.now c.debug.new.script c.debug.new.out c.args.image _ c.in-SinkFault.ensures.effect
-
-pub returns-in-SinkFault-clause-script : goal.returns-in-SinkFault-clause-script
-returns-in-SinkFault-clause-script g c =
-    tail c.args.image (drawn g.S.Source c.args.devices.now.input c.debug.new.script) c.in-SinkFault.ensures.effect.told c.in-SinkFault.ensures.effect.follows
+pub returns-in-SinkFault : goal.returns-in-SinkFault
+returns-in-SinkFault g c = record {
+  does =
+      session_unwritten g.H.Shelf g.S.Source g.K.Sink g.N.Sink c.args.devices.now c.debug.new.script c.debug.new.out c.args.image _ c.in-SinkFault.ensures.effect;
+  script = tail c.args.image (drawn g.S.Source c.args.devices.now.input c.debug.new.script) c.in-SinkFault.ensures.effect.told c.in-SinkFault.ensures.effect.follows;
+}
 
 -- neither device was called
 pub returns-in-NoMemory-clause-does : goal.returns-in-NoMemory-clause-does
