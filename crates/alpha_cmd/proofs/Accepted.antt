@@ -1,9 +1,7 @@
 -- A file that spells an accepted image meets what the laws of restarts ask.
-use Rattle.std.proofs.Common.{◌≡◌, ◌≤◌, ◌⊎◌, ◌∙◌, ℕ, List, [], ◌∷◌, length, sum_by, Option, IsSome, refl, sym, subst, inl, inr, ⊎_elim, arith}
+use Rattle.std.proofs.Common.{◌≤◌, ℕ, List, [], ◌∷◌, length, sum_by, refl, arith}
 use Rattle.std.proofs.lemmas.List.Sums.{sum_by-cons}
 use Rattle.alpha_io.specs.Files.{Files, HasFile}
-use Rattle.alpha_io.specs.Shelved.{Shelved}
-use Rattle.alpha_io.specs.Sunk.{Sunk}
 use Rattle.alpha_image.specs.declared.segment.Segment.{Segment}
 use Rattle.alpha_image.specs.declared.version.Version.{Version}
 use Rattle.alpha_image.specs.declared.version.Version.TheVariants.{One, Two}
@@ -14,21 +12,14 @@ use Rattle.alpha_image.specs.Rules.{FieldsFit, size_of_segment}
 use Rattle.alpha_image.specs.Parts.{Parts, IsImage, numbers, spelling}
 use Rattle.alpha_image.proofs.Spelled.{length-spelling}
 use Rattle.alpha_shadow.specs.Broken.{IsAccepted}
-use Rattle.alpha_request.specs.Command.{Command, check}
 use Rattle.alpha_request.specs.Origin.{seed, file}
 use Rattle.alpha_imprecise.specs.Pcg.{pcg_word, seeded}
-use Rattle.alpha_cmd.specs.declared.status.Status.{Status}
-use Rattle.alpha_cmd.specs.declared.status.Status.TheVariants.{Done, NoMemory}
 use Rattle.alpha_cmd.specs.Outcome.{goes}
 use Rattle.alpha_cmd.specs.Image.{ImageOf, image_limit}
 use Rattle.alpha_cmd.specs.Choosing.{listed_word}
 use Rattle.alpha_cmd.specs.ChoicesLimit.{choices_limit}
-use Rattle.alpha_cmd.specs.Asks.{Asks}
-use Rattle.alpha_cmd.specs.Answer.{Answer, IsAnswered}
 use Rattle.alpha_cmd.specs.AnswerBy.{World}
-use Rattle.alpha_cmd.specs.Commands.{IsTold}
 use Rattle.alpha_cmd.specs.OfImage.Check.{accepted}
-use Rattle.alpha_cmd.specs.Tried.{AreTold, IsAnswer}
 use Rattle.alpha_cmd.specs.AlikeByAnswers.{IsChecked, HasWords}
 
 -- ---- the spelling of a good image is within the limit of an image file

@@ -1,8 +1,7 @@
 -- From what a run with its journal did to what is done of a plan by it.
-use Rattle.std.proofs.Common.{◌≡◌, ◌⊎◌, ◌++◌, ◌∷◌, ◌∙◌, ◌<◌, ◌≤◌, ◌+◌, ◌-◌, length, ℕ, ◌^◌, Bool, true, false, List, [], Option, None, Some, IfSome, option_map, unwrap_or, Result, Ok, refl, sym, ap, subst, inl, inr, arith}
+use Rattle.std.proofs.Common.{◌≡◌, ◌⊎◌, ◌++◌, ◌∷◌, ◌∙◌, ◌<◌, ◌≤◌, ◌+◌, ◌-◌, length, ℕ, ◌^◌, Bool, true, false, List, [], Option, None, Some, IfSome, option_map, unwrap_or, Ok, refl, sym, ap, subst, inl, inr, arith}
 use Rattle.std.specs.Io.KnownBytes.{Appends}
 use Rattle.std.proofs.KnownBytes.{Appends-nil}
-use Rattle.alpha_io.specs.declared.Failed.{Failed}
 use Rattle.alpha_io.specs.declared.shelf.Shelf as shelves
 use Rattle.alpha_io.specs.declared.source.Source as sources
 use Rattle.alpha_io.specs.declared.sink.Sink as sinks
@@ -29,7 +28,7 @@ use Rattle.alpha_imprecise.proofs.Fresh.{begun_fresh, told_starts}
 use Rattle.alpha_run.specs.WildRan.{making_from}
 use Rattle.alpha_run.proofs.WildShown.{few_drawn, few_cut}
 use Rattle.alpha_words.specs.declared.Completion.{Completion}
-use Rattle.alpha_replay.specs.Journal.{Parts, spelling}
+use Rattle.alpha_replay.specs.Journal.{Parts}
 use Rattle.alpha_replay.specs.Journaled.{Journaled, is_within}
 use Rattle.alpha_replay.specs.JournalEnd.{Records, IsFull, IsShort, StopsAt, ShowsWildPart, IsRecorded, IsPast, Shows}
 use Rattle.alpha_replay.specs.Recorded.{Recorded, unrecorded, recorded_over, recorded_from, journal_in, stops_at, GoesOver, GoesFrom}
@@ -38,8 +37,6 @@ use Rattle.alpha_replay.proofs.Recording.{recorded-making}
 use Rattle.alpha_replay.proofs.Untold.{units_over, begins_over, ends, recorded-append, goes-append}
 use Rattle.alpha_cmd.specs.declared.decision.Decision.{Decision}
 use Rattle.alpha_cmd.specs.declared.devices.Devices.{Devices}
-use Rattle.alpha_cmd.specs.declared.record.Recorded.{Recorded as Ran}
-use Rattle.alpha_cmd.specs.declared.record.Recorded.TheVariants as outcomes
 use Rattle.alpha_cmd.specs.declared.status.Status.TheVariants.{NoMemory, JournalFull}
 use Rattle.alpha_cmd.specs.Answer.{Answer}
 use Rattle.alpha_cmd.specs.AnswerBy.{World, said, world}
@@ -49,8 +46,8 @@ use Rattle.alpha_cmd.specs.Ends.{Leaves}
 use Rattle.alpha_cmd.specs.Outcome.{goes}
 use Rattle.alpha_cmd.specs.Status.{status_line}
 use Rattle.alpha_cmd.specs.RunAnswer.{program_by}
-use Rattle.alpha_cmd.specs.Commands.Imprecise.{Plan, plan_by, MayShowWild, answer_wild, answer_status, answer_line}
-use Rattle.alpha_cmd.specs.Commands.Record.{unwatched, RecordedByReads, ShowsMaking, HasItsJournal, IsStopped, KeepsBehind, IsKeptRun, full_answer, IsFullRun, on, RunsOn, WhenMade, WhenOver}
+use Rattle.alpha_cmd.specs.Commands.Imprecise.{plan_by, answer_status, answer_line}
+use Rattle.alpha_cmd.specs.Commands.Record.{unwatched, RecordedByReads, ShowsMaking, HasItsJournal, IsStopped, full_answer, on, RunsOn}
 use Rattle.alpha_cmd.proofs.CutShort.{Fronts}
 use Rattle.alpha_cmd.proofs.Endings.{IsLeft-own}
 use Rattle.alpha_cmd.proofs.Commands.Record.{HasAnswer, kept_answer, stopped_answer, untold_answer, some_end}

@@ -11,7 +11,7 @@ use Rattle.alpha_imprecise.specs.Made.{LostTrap}
 use Rattle.alpha_replay.specs.Journal.{Parts, spelling}
 use Rattle.alpha_cmd.specs.declared.decision.Decision.{Decision}
 use Rattle.alpha_cmd.specs.declared.status.Status.{Status}
-use Rattle.alpha_cmd.specs.declared.status.Status.TheVariants.{ShelfFault, InputFault, NoMemory, JournalFull}
+use Rattle.alpha_cmd.specs.declared.status.Status.TheVariants.{ShelfFault, NoMemory, JournalFull}
 use Rattle.alpha_cmd.specs.Answer.{Answer}
 use Rattle.alpha_cmd.specs.AnswerBy.{World}
 use Rattle.alpha_cmd.specs.Decision.{SaysAlone}

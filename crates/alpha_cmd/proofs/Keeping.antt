@@ -1,5 +1,5 @@
 -- What a command tries that makes bytes and keeps them.
-use Rattle.std.proofs.Common.{◌≡◌, ℕ, List, length, Bool, None, Some, refl, sym, subst, inl, inr}
+use Rattle.std.proofs.Common.{◌≡◌, ℕ, List, length, Bool, refl, sym, subst, inl, inr}
 use Rattle.alpha_io.specs.declared.shelf.Shelf.{Ghosts}
 use Rattle.alpha_io.specs.Faults.{Rose}
 use Rattle.alpha_io.specs.Files.{Files, Refuses, KeepsFiles}

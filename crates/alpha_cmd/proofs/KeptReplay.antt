@@ -1,5 +1,5 @@
 -- A journal that was kept is replayed.
-use Rattle.std.proofs.Common.{◌≡◌, ◌≤◌, ◌*◌, ◌∙◌, ◌++◌, ℕ, Bool, true, false, List, [], ◌∷◌, length, Option, Some, None, Ok, IsSome, refl, sym, ap, subst, arith}
+use Rattle.std.proofs.Common.{◌≡◌, ◌≤◌, ◌*◌, ◌∙◌, ◌++◌, ℕ, Bool, List, [], ◌∷◌, length, Option, Some, None, Ok, IsSome, refl, ap, arith}
 use Rattle.std.proofs.lemmas.List.{length-append}
 use Rattle.std.specs.List.{flat_map}
 use Rattle.alpha_image.specs.Parts.{Parts as Image}
@@ -7,7 +7,7 @@ use Rattle.alpha_request.specs.declared.options.RunOptions.{RunOptions}
 use Rattle.alpha_request.specs.Origin.{Origin}
 use Rattle.alpha_imprecise.specs.Made.{first_words, most_words}
 use Rattle.alpha_replay.specs.declared.item.Item.{Item}
-use Rattle.alpha_replay.specs.declared.item.Item.TheVariants.{Units, Trigger, Wait, Report}
+use Rattle.alpha_replay.specs.declared.item.Item.TheVariants.{Units}
 use Rattle.alpha_replay.specs.declared.replaying.Replayed.{Replayed}
 use Rattle.alpha_replay.specs.Items.{item_bytes}
 use Rattle.alpha_replay.specs.Journal.{Parts, IsJournal, numbers, front, spelling}
@@ -44,9 +44,17 @@ short_enough : (p : Parts) → IsJournal p → length (spelling p) ≤ replays.j
 unfolding spelling
 short_enough p good =
     let items = flat_map item_bytes p.items in
-    omega
-    (arith, length-append (front (numbers p)) (p.input ++ (p.output ++ items)), length-append p.input (p.output ++ items), length-append p.output items, length-front (numbers p),
-    items_most p.items, good.few_items, good.few_input, good.few_output)
+    omega (
+      arith,
+      length-append (front (numbers p)) (p.input ++ (p.output ++ items)),
+      length-append p.input (p.output ++ items),
+      length-append p.output items,
+      length-front (numbers p),
+      items_most p.items,
+      good.few_items,
+      good.few_input,
+      good.few_output,
+    )
 
 -- ---- the journal of a run
 

@@ -1,10 +1,7 @@
 -- A program that reads nothing has one answer, whatever its source tells.
-use Rattle.std.proofs.Common.{◌≡◌, ◌⊎◌, ◌<◌, ◌≤◌, ◌+◌, ◌∙◌, ℕ, zero, suc, Bool, true, false, cond, List, [], ◌∷◌, ◌++◌, Option, None, Some, IsSome, refl, sym, ap, subst, ⊎_elim, arith}
+use Rattle.std.proofs.Common.{◌≡◌, ◌<◌, ◌≤◌, ◌+◌, ◌∙◌, ℕ, zero, suc, Bool, true, false, cond, List, [], ◌∷◌, ◌++◌, Option, None, Some, IsSome, refl, sym, ap, subst, ⊎_elim, arith}
 use Rattle.std.proofs.lemmas.Bool.{cases_Bool}
-use Rattle.alpha_io.specs.Shelved.{Shelved}
-use Rattle.alpha_io.specs.Sunk.{Sunk}
 use Rattle.alpha_image.specs.Parts.{Parts}
-use Rattle.alpha_request.specs.Command.{run, imprecise}
 use Rattle.alpha_request.specs.Origin.{Origin}
 use Rattle.alpha_request.specs.declared.options.RunOptions.{RunOptions}
 use Rattle.alpha_seq.specs.State.{Program, State, Event, Went, Ends, Stepped, stepped}
@@ -15,24 +12,18 @@ use Rattle.alpha_seq.specs.Inputs.{over_input, advance_over, run_over, HasMade, 
 use Rattle.alpha_seq.proofs.Inputs.{advance_over-going, advance_over-over}
 use Rattle.alpha_seq.proofs.Running.{after-over, after-steps}
 use Rattle.alpha_seq.proofs.Unread.{step_over}
-use Rattle.alpha_cmd.specs.declared.status.Status.{Status}
-use Rattle.alpha_cmd.specs.declared.status.Status.TheVariants.{NoMemory}
 use Rattle.alpha_cmd.specs.Outcome.{Outcome, goes, stops}
 use Rattle.alpha_cmd.specs.Image.{ImageOf}
-use Rattle.alpha_cmd.specs.Asks.{Asks}
-use Rattle.alpha_cmd.specs.Drawn.{but_drawn}
 use Rattle.alpha_cmd.specs.AlikeByAnswers.{undrawn, HasWords, IsChecked}
-use Rattle.alpha_cmd.specs.Answer.{Answer, IsAnswered}
+use Rattle.alpha_cmd.specs.Answer.{Answer}
 use Rattle.alpha_cmd.specs.AnswerBy.{World, AnswerBy, answer_of}
 use Rattle.alpha_cmd.specs.Commands.Imprecise as wilds
 use Rattle.alpha_cmd.specs.Commands.Run as runs
 use Rattle.alpha_cmd.specs.Commands.Run.{MayShow, Runs}
 use Rattle.alpha_cmd.specs.RunAnswer.{program_by, answer_shown}
-use Rattle.alpha_cmd.specs.Tried.{IsGiven}
 use Rattle.alpha_cmd.specs.ReadsNothing.{ReadsNothing, answer_unread}
 use Rattle.alpha_cmd.proofs.Lawful.{Then-found}
 use Rattle.alpha_cmd.proofs.Stages.{ImageOf-lawful}
-use Rattle.alpha_cmd.proofs.Tried.{asked_answer}
 use Rattle.alpha_cmd.proofs.Commands.Run.{some_shown, shown_answer}
 use Rattle.alpha_cmd.proofs.Alike.{run_answer, some_checked_run}
 

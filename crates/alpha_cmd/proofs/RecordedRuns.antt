@@ -1,23 +1,19 @@
 -- The journal that is kept with an answer over a told input is that of the run that has this answer.
-use Rattle.std.proofs.Common.{◌≡◌, ◌∙◌, ◌<◌, ◌≤◌, ◌+◌, ◌-◌, ◌&&◌, ◌||◌, ◌++◌, ◌^◌, ◌%◌, not, ℕ, zero, suc, Bool, true, false, List, [], Option, None, Some, is_none, refl, sym, ap, subst, inl, inr, ⊎_elim, arith}
-use Rattle.std.proofs.lemmas.Bool.{eqb-true, cases_lt}
-use Rattle.alpha_io.specs.Files.{Files}
+use Rattle.std.proofs.Common.{◌≡◌, ◌∙◌, ◌&&◌, ◌||◌, ◌++◌, ◌^◌, ◌%◌, not, ℕ, Bool, true, false, List, [], Option, None, Some, refl, sym, ap, subst, inl, inr}
+use Rattle.std.proofs.lemmas.Bool.{eqb-true}
 use Rattle.alpha_image.specs.Parts.{Parts as Image}
-use Rattle.alpha_shadow.specs.Broken.{IsAccepted}
 use Rattle.alpha_request.specs.declared.options.RunOptions.{RunOptions}
 use Rattle.alpha_request.specs.Origin.{Origin}
 use Rattle.alpha_restart.proofs.Agreeing.{accepted_restarts}
 use Rattle.alpha_seq.specs.State.{Program, State, Went}
 use Rattle.alpha_seq.specs.Start.{start}
 use Rattle.alpha_seq.specs.Run.{Shown, sequential}
-use Rattle.alpha_imprecise.specs.Moment.{Trap, Happening, Precisely}
+use Rattle.alpha_imprecise.specs.Moment.{Happening, Precisely}
 use Rattle.alpha_imprecise.specs.Restart.{IsRestartable}
-use Rattle.alpha_imprecise.specs.Run.{finished, unit_of}
 use Rattle.alpha_imprecise.specs.Shown.{ShowsSame}
 use Rattle.alpha_imprecise.specs.Used.{HasUsed}
-use Rattle.alpha_imprecise.specs.Made.{Making, begun, advance_making, steps_making, made, first_words, most_words, wild_end, lost_trap, ShownWild, shown_making, imprecise_by}
-use Rattle.alpha_imprecise.proofs.Nearing.{steps-first, steps-then, calm_takes}
-use Rattle.alpha_imprecise.proofs.Settling.{advance-going, advance-over, none_of, made_is}
+use Rattle.alpha_imprecise.specs.Made.{Making, begun, steps_making, made, first_words, most_words, wild_end, lost_trap, ShownWild, shown_making, imprecise_by}
+use Rattle.alpha_imprecise.proofs.Settling.{made_is}
 use Rattle.alpha_imprecise.proofs.Showing.{runs_alike}
 use Rattle.alpha_run.proofs.WildUsed.{made_by}
 use Rattle.alpha_replay.specs.Gathered.{closed}
@@ -32,7 +28,6 @@ use Rattle.alpha_replay.proofs.JournaledRuns.{played_in, steps_run}
 use Rattle.alpha_replay.proofs.Recording.{taken_is}
 use Rattle.alpha_replay.proofs.Stopping.{few_words}
 use Rattle.alpha_cmd.specs.Outcome.{goes, stops}
-use Rattle.alpha_cmd.specs.Image.{ImageOf}
 use Rattle.alpha_cmd.specs.Answer.{Answer}
 use Rattle.alpha_cmd.specs.AnswerBy.{World, AnswerBy}
 use Rattle.alpha_cmd.specs.Kept.{Kept, nothing}

@@ -3,21 +3,18 @@ use Rattle.std.proofs.Common.{◌≡◌, ◌++◌, ◌∙◌, ◌<◌, ◌≤◌
 use Rattle.alpha_io.specs.declared.shelf.Shelf as shelves
 use Rattle.alpha_io.specs.declared.source.Source as sources
 use Rattle.alpha_io.specs.declared.sink.Sink as sinks
-use Rattle.alpha_io.specs.Files.{Files}
 use Rattle.alpha_io.specs.Sunk.{Sunk, sunk, Puts}
 use Rattle.alpha_io.specs.Written.{WritesPrefix}
-use Rattle.alpha_image.specs.Parts.{Parts, IsImage}
-use Rattle.alpha_shadow.specs.Broken.{IsAccepted}
+use Rattle.alpha_image.specs.Parts.{Parts}
 use Rattle.alpha_request.specs.declared.options.RunOptions.{RunOptions}
-use Rattle.alpha_request.specs.Origin as choices
 use Rattle.alpha_seq.specs.declared.event.Event.{Event as Seen}
 use Rattle.alpha_pal.specs.declared.fault.Fault.{Fault}
-use Rattle.alpha_seq.specs.State.{Program, Went, Barriered, Overflowed, Ends}
+use Rattle.alpha_seq.specs.State.{Program, Went}
 use Rattle.alpha_seq.specs.Start.{start}
 use Rattle.alpha_seq.specs.Run.{notes_of, sequential}
 use Rattle.alpha_seq.specs.Machine.{program_of}
 use Rattle.alpha_seq.specs.Devices.{Drawn}
-use Rattle.alpha_imprecise.specs.Moment.{Happening, Precisely, Triggered, Waited, Reported, Lost}
+use Rattle.alpha_imprecise.specs.Moment.{Happening, Precisely}
 use Rattle.alpha_imprecise.specs.Used.{HasUsed}
 use Rattle.alpha_imprecise.specs.Made.{Making, begun, made, wild_end, lost_trap, ShownWild, shown_making, first_words, most_words, imprecise_by}
 use Rattle.alpha_imprecise.specs.Restart.{IsRestartable}
@@ -36,7 +33,7 @@ use Rattle.alpha_cmd.specs.declared.decision.Decision.{Decision}
 use Rattle.alpha_cmd.specs.declared.devices.Devices.{Devices}
 use Rattle.alpha_cmd.specs.Outcome.{goes}
 use Rattle.alpha_cmd.specs.RunAnswer.{program_by}
-use Rattle.alpha_cmd.specs.Commands.Imprecise.{Plan, plan_by, Planned, MayRun, with_drawn, MadeByReads, MayShowWild, wild_status, wild_line, answer_status, answer_line, answer_wild, kind, on}
+use Rattle.alpha_cmd.specs.Commands.Imprecise.{Plan, plan_by, MayRun, with_drawn, MadeByReads, MayShowWild, wild_status, wild_line, answer_status, answer_line, answer_wild, kind, on}
 use Rattle.alpha_cmd.specs.AnswerBy.{World, said}
 use Rattle.alpha_cmd.specs.Form.{MayTakeBy}
 use Rattle.alpha_cmd.specs.Decision.{answer_in}

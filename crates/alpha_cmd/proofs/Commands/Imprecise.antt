@@ -1,6 +1,6 @@
 -- The laws of `run --imprecise`, and what leads to its answers.
-use Rattle.std.proofs.Common.{◌≡◌, ◌≢◌, ◌∙◌, ◌*◌, ℕ, suc, ◌%◌, ◌^◌, Bool, true, false, List, [], Option, None, Some, IsSome, refl, sym, ap, subst, inl, inr, arith}
-use Rattle.alpha_io.specs.Files.{Files, KeepsFiles}
+use Rattle.std.proofs.Common.{◌≡◌, ◌∙◌, ◌*◌, ℕ, suc, ◌%◌, ◌^◌, Bool, true, false, List, [], Option, None, Some, IsSome, refl, sym, ap, subst, inl, arith}
+use Rattle.alpha_io.specs.Files.{Files}
 use Rattle.alpha_image.specs.Parts.{Parts}
 use Rattle.alpha_shadow.specs.Broken.{IsAccepted}
 use Rattle.alpha_request.specs.declared.options.RunOptions.{RunOptions}
@@ -15,21 +15,19 @@ use Rattle.alpha_imprecise.specs.Made.{begun, ShownWild, LostTrap, shown_making,
 use Rattle.alpha_imprecise.specs.Free.{run_making_over}
 use Rattle.alpha_imprecise.proofs.FreeFilling.{filled}
 use Rattle.alpha_imprecise.proofs.FreeDrawing.{free_draws}
-use Rattle.alpha_cmd.specs.declared.status.Status.{Status}
 use Rattle.alpha_cmd.specs.declared.status.Status.TheVariants.{ShelfFault}
 use Rattle.alpha_cmd.specs.declared.status.Status.TheVariants as statuses
-use Rattle.alpha_cmd.specs.Status.{status_line}
-use Rattle.alpha_cmd.specs.Outcome.{goes, stops, Then, Gives}
-use Rattle.alpha_cmd.specs.Image.{Reads, ImageOf, IsRefused, Judges}
+use Rattle.alpha_cmd.specs.Outcome.{goes, Then, Gives}
+use Rattle.alpha_cmd.specs.Image.{Reads, ImageOf, Judges}
 use Rattle.alpha_cmd.specs.Choosing.{listed_word, ChoicesOf}
 use Rattle.alpha_cmd.specs.ChoicesLimit.{choices_limit}
 use Rattle.alpha_cmd.specs.Answer.{Answer}
-use Rattle.alpha_cmd.specs.AnswerBy.{World, AnswerBy, HaveBytes, said}
-use Rattle.alpha_cmd.specs.Form.{IsThere, MayTakeBy}
+use Rattle.alpha_cmd.specs.AnswerBy.{World, AnswerBy, HaveBytes}
+use Rattle.alpha_cmd.specs.Form.{IsThere}
 use Rattle.alpha_cmd.specs.RunAnswer.{program_by}
-use Rattle.alpha_cmd.specs.Commands.Imprecise.{Plan, plan_by, PlanOf, Passes, Planned, MayRun, with_drawn, run_by, MadeByReads, MayShowWild, drawn_status, wild_status, answer_wild, RunsWild, MayLose, IsEndStatus, HasChoices, steps, kind, form, there}
+use Rattle.alpha_cmd.specs.Commands.Imprecise.{Plan, plan_by, PlanOf, Passes, Planned, MayRun, with_drawn, run_by, MadeByReads, MayShowWild, drawn_status, wild_status, answer_wild, RunsWild, MayLose, IsEndStatus, HasChoices, steps, form, there}
 use Rattle.alpha_cmd.proofs.Lawful.{Lawful, Then-lawful, Goes-lawful, Gives-lawful}
-use Rattle.alpha_cmd.proofs.Stages.{Reads-lawful, ImageOf-lawful, Judges-lawful, kept_same}
+use Rattle.alpha_cmd.proofs.Stages.{Reads-lawful, ImageOf-lawful, Judges-lawful}
 use Rattle.alpha_cmd.proofs.Forms.{IsLawfulForm, is_fault}
 use Rattle.alpha_cmd.proofs.Commands.Run.{some_shown as some_run}
 

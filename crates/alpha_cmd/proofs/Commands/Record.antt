@@ -1,7 +1,6 @@
 -- The laws of `record`, and what leads to its answers.
 use Rattle.std.proofs.Common.{◌≡◌, ◌⊎◌, ◌∙◌, ℕ, ◌%◌, ◌^◌, Bool, true, false, List, [], length, Option, None, Some, IsSome, refl, sym, ap, subst, inl, inr, arith}
 use Rattle.alpha_io.specs.Files.{Files}
-use Rattle.alpha_shadow.specs.Broken.{IsAccepted}
 use Rattle.alpha_restart.proofs.FreeTogether.{accepted_free}
 use Rattle.alpha_request.specs.declared.options.RunOptions.{RunOptions}
 use Rattle.alpha_request.specs.Origin.{Origin}

@@ -17,8 +17,8 @@ use Rattle.alpha_cmd.specs.Status.{status_line}
 use Rattle.alpha_cmd.specs.Outcome.{goes, stops, Then, Gives}
 use Rattle.alpha_cmd.specs.Image.{Reads, ImageOf}
 use Rattle.alpha_cmd.specs.Answer.{Answer}
-use Rattle.alpha_cmd.specs.AnswerBy.{World, AnswerBy}
-use Rattle.alpha_cmd.specs.Commands.Replay.{journal_limit, SpellsJournal, JournalOf, Plays, RunOf, shown, steps, form, there}
+use Rattle.alpha_cmd.specs.AnswerBy.{World}
+use Rattle.alpha_cmd.specs.Commands.Replay.{journal_limit, SpellsJournal, JournalOf, Plays, RunOf, shown, form, there}
 use Rattle.alpha_cmd.specs.Tries.{CutBy}
 use Rattle.alpha_cmd.proofs.Lawful.{Lawful, HasOutcome, Faults-lawful, Then-lawful, Gives-lawful}
 use Rattle.alpha_cmd.proofs.Stages.{Reads-lawful, ImageOf-lawful, read_bytes, kept_same}
