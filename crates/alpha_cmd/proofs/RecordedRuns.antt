@@ -58,7 +58,7 @@ module _ (n : ℕ) (g : Program) (s : State) (words : List ℕ) (k : Journaled) 
       let from = begun s None 0 words in
       let run = steps_run n g (unjournaled from) is.steps in
       let here : k.making ≡ steps_making g from run.0 = ap (λ (j : Journaled). j.making) (sym is.reached) ∙ run.1 in
-      here ∙ sym (made_by g from run.0 n refl refl (subst (λ (l : Making). HasUsed n l.run) here place_used))
+      here ∙ sym (made_by g from run.0 n (made_is g from n refl refl) (subst (λ (l : Making). HasUsed n l.run) here place_used))
 
 -- ---- its journal
 
