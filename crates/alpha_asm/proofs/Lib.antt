@@ -1,4 +1,5 @@
-pub mod Cutting
+pub mod Splitting
+pub mod Lining
 pub mod Pushing
 pub mod Growing
 pub mod Reaching

@@ -1,44 +1,25 @@
 -- Addresses are put in one after the other.
-use Rattle.std.proofs.Common.{◌≡◌, ℕ, ◌+◌, ◌-◌, ◌/◌, ◌%◌, ◌<◌, ◌≤◌, List, [], ◌∷◌, ◌++◌, length, map, take, drop, set, get_or, Bool, true, false, cond, nat_le, Option, None, Some, is_some, refl, sym, ◌∙◌, ap, append_assoc, drop-cons, add-one, arith}
+use Rattle.std.proofs.Common.{◌≡◌, ℕ, ◌+◌, ◌<◌, ◌≤◌, List, [], ◌∷◌, ◌++◌, length, map, take, drop, get_or, Bool, true, false, cond, nat_le, Option, None, Some, is_some, refl, sym, ◌∙◌, ap, drop-cons, add-one, arith}
 use Rattle.std.specs.Option.{option_or}
 use Rattle.std.proofs.lemmas.Bool.Decides.{nat_tests}
-use Rattle.std.proofs.lemmas.List.{drop-set-lt, length-set, take-append-drop}
-use Rattle.std.proofs.lemmas.Grind.{take-set_at}
+use Rattle.std.proofs.lemmas.List.{drop-drop}
 use Rattle.std.proofs.Math.ListN.{drop_of_length-le}
-use Rattle.alpha_words.specs.Digits.{digits, low_bytes}
+use Rattle.std.specs.Int.{w64, to_le_bytes}
+use Rattle.alpha_words.specs.Digits.{low_bytes}
+use Rattle.alpha_words.proofs.DigitLemmas.{bytes_low_first-digits}
 use Rattle.alpha_table.specs.declared.form.Form.{Form}
 use Rattle.alpha_asm.specs.declared.patch.Patch.{Patch}
 use Rattle.alpha_asm.specs.Layout.{first}
 use Rattle.alpha_asm.specs.Program.{Known, undefined_line, unmet_line, is_met, address_of}
 use Rattle.alpha_asm.specs.Patches.{fix_of, reference_of, need_of, offset_of, names_of, overlaid, code_with, bytes_with, code_after, bytes_after}
-use Rattle.alpha_asm.proofs.Pushing.{low_bytes-step}
 use Rattle.alpha_asm.proofs.Growing.{option_or-none}
 
--- so many bytes of a number are written, and the rest makes up for it
-pub record Written (at n k rest : ℕ) (old now : List ℕ) : Type 0 where
-  pub size : length now ≡ length old
-  pub all : take (at + k) now ++ (low_bytes (8 - k) rest ++ drop (at + 8) now) ≡ take at old ++ (low_bytes 8 n ++ drop (at + 8) old)
-
-pub begins : (at n : ℕ) (old : List ℕ) → Written at n 0 n old old
-begins at n old = let z : at + 0 ≡ at = omega arith in record { size = refl; all = rw z refl }
-
-pub writes : (at n k rest : ℕ) (old now : List ℕ) → k < 8 → at + 8 ≤ length old → Written at n k rest old now → Written at n (k + 1) (rest / 256) old (set now (at + k) (rest % 256))
-writes at n k rest old now h room w =
-    let within : at + k < length now = omega (arith, w.size) in
-    record {
-      size = length-set now (at + k) (rest % 256) ∙ w.size;
-      all = rw (take-set_at now (at + k) (at + (k + 1)) (rest % 256) (omega arith) within, drop-set-lt (at + 8) now (at + k) (rest % 256) (omega arith))
-          (append_assoc (take (at + k) now) (rest % 256 ∷ []) (low_bytes (8 - (k + 1)) (rest / 256) ++ drop (at + 8) now)
-          ∙ (ap (λ x. take (at + k) now ++ (x ++ drop (at + 8) now)) (sym (low_bytes-step k 8 rest h)) ∙ w.all));
-    }
-
-pub written : (at n k rest : ℕ) (old now : List ℕ) → 8 ≤ k → k ≤ 8 → at + 8 ≤ length old → Written at n k rest old now → now ≡ overlaid at n old
-unfolding digits
-written at n k rest old now h g room w =
-    let e : k ≡ 8 = omega arith in
-    let whole : take (at + 8) now ++ drop (at + 8) now ≡ take at old ++ (low_bytes 8 n ++ drop (at + 8) old) = rw e at w.all in
+-- the bytes of a number in place of others
+pub written : (at n : ℕ) (old part : List ℕ) → at + 8 ≤ length old → part ≡ to_le_bytes w64 n → take at old ++ (part ++ drop 8 (drop at old)) ≡ overlaid at n old
+written at n old part room e =
     let t : nat_le (at + 8) (length old) ≡ true = grind (arith, nat_tests) in
-    rw t (sym (take-append-drop (at + 8) now) ∙ whole)
+    rw t
+    (ap (λ l. take at old ++ (l ++ drop 8 (drop at old))) (e ∙ bytes_low_first-digits 8 n) ∙ ap (λ l. take at old ++ (low_bytes 8 n ++ l)) (drop-drop 8 at old))
 
 pub unwritten : (at n : ℕ) (old : List ℕ) → length old < at + 8 → old ≡ overlaid at n old
 unwritten at n old h = let t : nat_le (at + 8) (length old) ≡ false = grind (arith, nat_tests) in rw t refl

@@ -1,4 +1,5 @@
 pub mod Statement
+pub mod SourceLines
 pub mod Unlinked
 pub mod Layout
 pub mod Labels

@@ -12,6 +12,7 @@ use Rattle.alpha_asm.specs.declared.fields.Entry.{Entry as EntryHere}
 use Rattle.alpha_asm.specs.declared.fields.Entry.TheVariants as entries
 use Rattle.alpha_asm.specs.declared.patch.Need.{Need as NeedHere}
 use Rattle.alpha_asm.specs.declared.patch.Need.TheVariants as needs
+use Rattle.alpha_asm.specs.declared.patch.RelocationKind.TheVariants as kinds
 use Rattle.alpha_asm.specs.declared.patch.Patch.{Patch}
 use Rattle.alpha_asm.specs.declared.patch.Displacement.{Displacement}
 use Rattle.alpha_asm.specs.declared.patch.Displacement.TheVariants.{Words, Bytes}
@@ -40,13 +41,13 @@ fix at n = record { name = n; at = at }
 
 -- behind so many instructions or data bytes
 abbrev pub need_of : ℕ → NeedHere → Need
-need_of at (needs.Insn by) = by_insn by at
-need_of at needs.Quad = by_cell
+need_of at (needs.Put (kinds.Insn by)) = by_insn by at
+need_of at (needs.Put kinds.Quad) = by_cell
 need_of at needs.Entry = by_entry
 
 abbrev pub offset_of : ℕ → NeedHere → ℕ
-offset_of at (needs.Insn by) = 0
-offset_of at needs.Quad = at
+offset_of at (needs.Put (kinds.Insn by)) = 0
+offset_of at (needs.Put kinds.Quad) = at
 offset_of at needs.Entry = 0
 
 abbrev pub fix_of : Patch → Fix

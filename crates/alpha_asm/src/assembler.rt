@@ -9,7 +9,7 @@ ghost use Rattle.alpha_asm.specs.declared.fault.AsmFault.TheVariants as faults;
 use crate::AsmFault;
 use crate::kind::SourceKind;
 use crate::line_kind::LineKinds;
-use crate::lines::first_line;
+use crate::lines::Line;
 use crate::pass::Pass;
 use crate::program::made;
 use alpha_image::Image;
@@ -52,9 +52,9 @@ pub(crate) fn read_lines<'a>(
     let mut pass = Pass::new(alloc);
     let mut rest = source;
     while !rest.is_empty() {
-        let (line, more) = first_line(rest);
-        pass.take_line(kind, line, kinds)?;
-        rest = more;
+        let line = Line::first(rest);
+        pass.take_line(kind, line.text, kinds)?;
+        rest = line.rest;
     }
     Ok(pass)
 }

@@ -9,7 +9,7 @@ ghost use Rattle.alpha_asm.specs.declared.fault.AsmFault.TheVariants as faults;
 use crate::AsmFault;
 use crate::fields::Entry;
 use crate::label::Labels;
-use crate::patch::{Displacement, Need, Patch, displaced, quadword_of};
+use crate::patch::{Displacement, Need, Patch, RelocationKind, displaced, quadword_of};
 use crate::place::Spot;
 use crate::statement::Use;
 use alpha_image::Segment;
@@ -90,20 +90,14 @@ fn displace(code: &mut Vec<Insn>, place: usize, displacement: Displacement)
     }
 }
 
-// Puts an address into an instruction, and answers whether it fits there.
-fn put_insn(
-    bases: &Bases<'_, '_>,
-    by: Use,
-    place: usize,
-    address: i128,
-    code: &mut Vec<Insn>,
-) -> bool
-    requires { IsNear address }
-    ensures fits { result ≡ is_some (reached by (bases.now.code_base + 4 * place) address) }
-    ensures code { code.new.items
-        ≡ code_at (reached by (bases.now.code_base + 4 * place) address) place code.old.items }
+/// Puts an address into the instruction at a place, which stands at `pc`, if there is one. It answers whether the
+/// instruction reaches it.
+pub fn put_insn(by: Use, pc: u128, place: usize, address: i128, code: &mut Vec<Insn>) -> bool
+    requires pc { pc ≤ 2 ^ 70 }
+    requires near { IsNear address }
+    ensures fits { result ≡ is_some (reached by pc address) }
+    ensures code { code.new.items ≡ code_at (reached by pc address) place code.old.items }
 {
-    let pc = u128::from(bases.code_base) + 4 * place as u128;
     match by.displacement(pc, address) {
         Some(displacement) => {
             displace(code, place, displacement);
@@ -114,17 +108,13 @@ fn put_insn(
 }
 
 // Writes the eight bytes of a number, the lowest first, behind so many bytes, if they are there.
-fn put_quadword(bytes: &mut Vec<u8>, at: usize, n: u64)
-    ensures { bytes.new.items ≡ overlaid at n bytes.old.items }
+fn put_quadword(bytes: &mut [u8], at: usize, n: u64)
+    ensures { bytes.new ≡ overlaid at n bytes.old }
 {
     if bytes.len() < 8 || at > bytes.len() - 8 {
         return;
     }
-    let mut rest = n;
-    for k in 0..8usize {
-        bytes[at + k] = (rest % 256) as u8;
-        rest /= 256;
-    }
+    bytes[at..at + 8].copy_from_slice(&n.to_le_bytes());
 }
 
 /// Writes the quadword of an address, the lowest byte first, behind so many bytes, where eight bytes
@@ -161,8 +151,11 @@ fn put(
         (need_of at need) bytes.old.items }
 {
     match need {
-        Need::Insn(by) => put_insn(bases, by, at, address, code),
-        Need::Quad => put_quad(address, at, bytes),
+        Need::Put(RelocationKind::Insn(by)) => {
+            let pc = u128::from(bases.code_base) + 4 * at as u128;
+            put_insn(by, pc, at, address, code)
+        }
+        Need::Put(RelocationKind::Quad) => put_quad(address, at, bytes),
         Need::Entry => true,
     }
 }

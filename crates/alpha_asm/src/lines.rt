@@ -1,25 +1,48 @@
-ghost use Rattle.std.specs.Prelude.{◌≡◌, ◌<◌, ◌∷◌, ◌==◌, length, position};
+//! The lines of a source.
+
+ghost use Rattle.std.specs.Prelude.{◌≡◌, ◌<◌, ◌∷◌, length};
 ghost use Rattle.std.specs.Str.Lines.{lines};
+ghost use Rattle.alpha_asm.specs.SourceLines.{IsFirst};
 
 use alpha_token::without_return;
 use memchr::memchr;
 
-// Where the first line feed is.
-fn line_feed(source: &[u8]) -> Option<usize>
-    ensures { result ≡ position (λ b. b == 10) source.now }
-{
-    memchr(b'\n', source)
+/// The first line of a source, and the source behind it.
+#[derive(Clone, Copy)]
+pub struct Line<'a> {
+    /// What it says, without its end: a line feed, before which one carriage return may stand. The last line may do
+    /// without.
+    pub text: &'a [u8],
+    /// Its bytes with its end.
+    pub bytes: &'a [u8],
+    /// Whether it ends with a line feed.
+    pub ended: bool,
+    /// What stands behind it.
+    pub rest: &'a [u8],
 }
 
-/// The first line of a source that isn't empty, and the source behind it. A line ends with a line
-/// feed, before which one carriage return may stand; the last line may do without.
-pub(crate) fn first_line(source: &[u8]) -> (&[u8], &[u8])
-    requires { 0 < length source.now }
-    ensures value { lines source.now ≡ result.0.now ∷ lines result.1.now }
-    ensures shorter { length result.1.now < length source.now }
-{
-    match line_feed(source) {
-        Some(n) => (without_return(&source[..n]), &source[n + 1..]),
-        None => (source, &[]),
+impl<'a> Line<'a> {
+    /// The first line of a source that isn't empty.
+    #[inline(always)]
+    pub fn first(source: &'a [u8]) -> Line<'a>
+        requires { 0 < length source.now }
+        ensures first { IsFirst source.now result }
+        ensures lines { lines source.now ≡ result.text.now ∷ lines result.rest.now }
+        ensures shorter { length result.rest.now < length source.now }
+    {
+        match memchr(b'\n', source) {
+            Some(n) => Line {
+                text: without_return(&source[..n]),
+                bytes: &source[..n + 1],
+                ended: true,
+                rest: &source[n + 1..],
+            },
+            None => Line {
+                text: source,
+                bytes: source,
+                ended: false,
+                rest: &[],
+            },
+        }
     }
 }

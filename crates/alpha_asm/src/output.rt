@@ -8,7 +8,7 @@ ghost use Rattle.alpha_asm.specs.Patches.{fix, fix_of, need_of, offset_of, refer
 
 use crate::data::Data;
 use crate::fields::{Entry, entry_in};
-use crate::patch::{Need, Patch};
+use crate::patch::{Need, Patch, RelocationKind};
 use crate::statement::Coded;
 use alpha_table::Insn;
 use alpha_text::{Expr, ListValue, Statement, next_byte, next_value};
@@ -51,7 +51,13 @@ fn push_reach<'a>(
         ++ map (fix 0) (list_of (insn_name line place (coded_of coded.now)))) }
 {
     match coded.reach {
-        Some((by, to)) => push_patch(patches, line, to, Need::Insn(by), place),
+        Some((by, to)) => push_patch(
+            patches,
+            line,
+            to,
+            Need::Put(RelocationKind::Insn(by)),
+            place,
+        ),
         None => Ok(()),
     }
 }
@@ -141,7 +147,13 @@ impl<'a> Output<'a> {
             (AddsCells line (address (reference_of to.entry) ∷ []) self.old self.new) }
     {
         let at = self.bytes.len();
-        push_patch(&mut self.patches, line, to, Need::Quad, at)?;
+        push_patch(
+            &mut self.patches,
+            line,
+            to,
+            Need::Put(RelocationKind::Quad),
+            at,
+        )?;
         self.bytes.push_number(8, 0)
     }
 

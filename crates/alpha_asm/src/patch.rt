@@ -17,14 +17,21 @@ pub enum Displacement {
     Bytes(i16),
 }
 
+/// What an address is put into.
+#[derive(Clone, Copy, Debug, PartialEq, Eq)]
+pub enum RelocationKind {
+    /// The displacement of an instruction, which uses it so.
+    Insn(Use),
+    /// A quadword, eight data bytes.
+    Quad,
+}
+
 /// What an address that a statement names is for.
 #[derive(Clone, Copy, Debug, PartialEq, Eq)]
 pub enum Need {
-    /// An instruction.
-    Insn(Use),
-    /// A quadword.
-    Quad,
-    /// The entry.
+    /// It is put into the code or the data.
+    Put(RelocationKind),
+    /// It is the entry.
     Entry,
 }
 
@@ -89,7 +96,7 @@ fn low_half(address: u32) -> i16
 impl Use {
     /// The displacement by which an instruction at `pc` reaches an address, `None` exactly where it
     /// doesn't.
-    pub fn displacement(self, pc: u128, address: i128) -> Option<Displacement>
+    pub(crate) fn displacement(self, pc: u128, address: i128) -> Option<Displacement>
         requires pc { pc ≤ 2 ^ 70 }
         requires near { IsNear address }
         ensures value { result ≡ reached self pc address }
@@ -125,7 +132,7 @@ fn with_bytes(insn: &Insn, disp: i16) -> Insn
 }
 
 /// An instruction with another displacement, where it has one of that kind.
-pub fn displaced(insn: &Insn, displacement: Displacement) -> Insn
+pub(crate) fn displaced(insn: &Insn, displacement: Displacement) -> Insn
     requires { IsField displacement }
     ensures { result ≡ displaced insn.now displacement }
 {

@@ -9,14 +9,15 @@ use Rattle.alpha_text.specs.Statements.{Said}
 use Rattle.alpha_text.specs.Reading.{LineSaid}
 use Rattle.alpha_asm.specs.declared.kind.SourceKind.TheVariants as source_kinds
 use Rattle.alpha_asm.specs.Assembled.{item_at, first_refused}
-use Rattle.alpha_fix.specs.declared.line.Line.{Line}
+use Rattle.alpha_asm.specs.declared.lines.Line.{Line}
 use Rattle.alpha_fix.specs.declared.barriers.Role.TheVariants.{FixedLine, Insn, Other}
 use Rattle.alpha_fix.specs.Cuts.{Rise}
-use Rattle.alpha_fix.specs.SourceLines.{SourceLine, line_bytes, line_text, source_lines, line_item}
+use Rattle.alpha_asm.specs.SourceLines.{SourceLine, line_bytes, line_text, source_lines, line_item}
 use Rattle.alpha_fix.specs.FixedSource.{is_cut, trapb_line, has_insn, has_word, word_count, bar_if, then_bar, fixed_lines, fixed_source}
 use Rattle.alpha_fix.specs.FixedLines.{items_of, is_fixed, least_line, names_code, code_base, fixed_line}
-use Rattle.alpha_fix.specs.Lines.{Is, IsFirst, role}
-use Rattle.alpha_fix.proofs.Splitting.{texts_of}
+use Rattle.alpha_asm.specs.SourceLines.{Is, IsFirst}
+use Rattle.alpha_fix.specs.Lines.{role}
+use Rattle.alpha_asm.proofs.Splitting.{texts_of}
 use Rattle.alpha_fix.proofs.FixedItems.{items_by_lines}
 use Rattle.alpha_fix.proofs.Marks.{below_cuts}
 use Rattle.alpha_fix.proofs.Sources.{AllRead, all_read}

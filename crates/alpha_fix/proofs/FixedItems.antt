@@ -7,10 +7,10 @@ use Rattle.alpha_table.specs.declared.rows.MiscOp.TheVariants.{Trapb}
 use Rattle.alpha_text.specs.Statements.{Said, code}
 use Rattle.alpha_text.specs.Reading.{LineSaid}
 use Rattle.alpha_asm.specs.Assembled.{item_at}
-use Rattle.alpha_fix.specs.SourceLines.{SourceLine, ended, unended, line_bytes, line_text, with_feed, source_lines, line_item}
+use Rattle.alpha_asm.specs.SourceLines.{SourceLine, ended, unended, line_bytes, line_text, with_feed, source_lines, line_item}
 use Rattle.alpha_fix.specs.FixedSource.{is_cut, trapb_line, has_insn, has_word, word_count, bar_if, then_bar, fixed_lines, fixed_source}
 use Rattle.alpha_fix.specs.FixedLines.{items_of}
-use Rattle.alpha_fix.proofs.Splitting.{joined, texts_of, NoFeed, AreLines, lines_back, lines_are}
+use Rattle.alpha_asm.proofs.Splitting.{joined, texts_of, NoFeed, AreLines, lines_back, lines_are}
 
 abbrev pub trapb_said : Said
 trapb_said = code (Misc Trapb)

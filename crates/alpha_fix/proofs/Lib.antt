@@ -1,7 +1,6 @@
 pub mod Alike
 pub mod Barring
 pub mod Walking
-pub mod Splitting
 pub mod FixedItems
 pub mod Cores
 pub mod Steady
@@ -9,7 +8,6 @@ pub mod Marks
 pub mod Transfer
 pub mod Sources
 pub mod Values
-pub mod Lining
 pub mod Building
 pub mod Answering
 pub mod FixedSources

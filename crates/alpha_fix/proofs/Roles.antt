@@ -12,11 +12,12 @@ use Rattle.alpha_asm.specs.LineKinds.{is_nothing, is_branch, insn_if, line_kind,
 use Rattle.alpha_asm.specs.Layout.{is_lda, is_ldah}
 use Rattle.alpha_asm.specs.Statement.{Reference, to, coded, cells}
 use Rattle.alpha_asm.specs.Assembled.{item_at}
-use Rattle.alpha_fix.specs.declared.line.Line.{Line}
+use Rattle.alpha_asm.specs.declared.lines.Line.{Line}
 use Rattle.alpha_fix.specs.declared.barriers.Role.TheVariants as roles
-use Rattle.alpha_fix.specs.SourceLines.{SourceLine, source_lines, line_item}
+use Rattle.alpha_asm.specs.SourceLines.{SourceLine, source_lines, line_item}
 use Rattle.alpha_fix.specs.FixedLines.{is_address, is_off, is_fixed}
-use Rattle.alpha_fix.specs.Lines.{IsFirst, role}
+use Rattle.alpha_asm.specs.SourceLines.{IsFirst}
+use Rattle.alpha_fix.specs.Lines.{role}
 use Rattle.alpha_fix.proofs.Values.{none_in_text}
 
 free : (b : Bool) → insn_if b ≡ kinds.Insn → b ≡ true

@@ -26,12 +26,12 @@ use Rattle.alpha_asm.specs.declared.kind.SourceKind.TheVariants as source_kinds
 use Rattle.alpha_asm.specs.Assembled.{item_at, refused_read, refused, first_refused, unless, made_at, made, assembled}
 use Rattle.alpha_image.specs.FieldTests.{least_bad_field}
 use Rattle.alpha_fix.specs.Cuts.{trapb, barred, without, HasBroken}
-use Rattle.alpha_fix.specs.SourceLines.{SourceLine, ended, unended, line_bytes, line_text, with_feed, source_lines, line_item}
+use Rattle.alpha_asm.specs.SourceLines.{SourceLine, ended, unended, line_bytes, line_text, with_feed, source_lines, line_item}
 use Rattle.alpha_fix.specs.FixedSource.{is_cut, trapb_line, has_insn, has_word, word_count, bar_if, then_bar, fixed_lines, fixed_source}
 use Rattle.alpha_fix.specs.FixedLines.{items_of, is_over_distance, is_address, takes_half, enters_within, is_fixed, least_line, names_code, code_base, fixed_line}
 use Rattle.alpha_fix.specs.Fix.{HasImage, HasCuts, IsFixedSource}
 use Rattle.alpha_fix.proofs.Barring.{accepted, needed}
-use Rattle.alpha_fix.proofs.Splitting.{joined, texts_of}
+use Rattle.alpha_asm.proofs.Splitting.{joined, texts_of}
 use Rattle.alpha_fix.proofs.FixedItems.{trapb_item, fixed_items, EndsAlike, items_by_lines, items_of_fixed, unchanged}
 use Rattle.alpha_fix.proofs.Cores.{spots_same, code_base_same, segments_same}
 use Rattle.alpha_fix.proofs.Steady.{word_class, AreAlike, accepted_alike, has_broken_alike}

@@ -3,7 +3,7 @@ use Rattle.std.specs.Prelude.{ℕ, ◌+◌, ◌==◌, ◌&&◌, ◌++◌, Bool, 
 use Rattle.std.specs.List.{flat_map, list_any}
 use Rattle.alpha_text.specs.Reading.{LineSaid}
 use Rattle.alpha_asm.specs.Statement.{coded}
-use Rattle.alpha_fix.specs.SourceLines.{SourceLine, ended, line_bytes, with_feed, source_lines, line_item}
+use Rattle.alpha_asm.specs.SourceLines.{SourceLine, ended, line_bytes, with_feed, source_lines, line_item}
 
 -- whether a place is among the cuts
 abbrev pub is_cut : List ℕ → ℕ → Bool

@@ -1,5 +1,4 @@
 pub mod Cuts
-pub mod SourceLines
 pub mod FixedSource
 pub mod FixedLines
 pub mod Fix

@@ -8,15 +8,14 @@ ghost use Rattle.alpha_asm.specs.Statement.{coded};
 ghost use Rattle.alpha_asm.specs.Assembled.{item_at, first_refused};
 ghost use Rattle.alpha_asm.specs.declared.kind.SourceKind.TheVariants as source_kinds;
 ghost use Rattle.alpha_fix.specs.Cuts.{Rise};
-ghost use Rattle.alpha_fix.specs.SourceLines.{SourceLine, line_bytes};
+ghost use Rattle.alpha_asm.specs.SourceLines.{SourceLine, Is, line_bytes};
 ghost use Rattle.alpha_fix.specs.FixedSource.{is_cut, has_insn, word_count, trapb_line, bar_if, then_bar, fixed_source};
 ghost use Rattle.alpha_fix.specs.FixedLines.{items_of, is_fixed, names_code, code_base, fixed_line};
-ghost use Rattle.alpha_fix.specs.Lines.{Is, role, Hinders};
+ghost use Rattle.alpha_fix.specs.Lines.{role, Hinders};
 
 use crate::FixFault;
 use crate::fixed_line::is_fixed;
-use crate::line::Line;
-use alpha_asm::{LineKind, Symbols};
+use alpha_asm::{Line, LineKind, Symbols};
 use alpha_text::{Statement, read_line};
 use std::alloc::{AllocError, Global};
 

@@ -32,13 +32,15 @@ use Rattle.alpha_asm.specs.Layout.{padding}
 use Rattle.alpha_asm.specs.Program.{reached, displaced}
 use Rattle.alpha_asm.specs.Patches.{overlaid}
 use Rattle.alpha_asm.proofs.Reaching.{reaches-like}
-use Rattle.alpha_link.specs.declared.relocation.RelocationKind.{RelocationKind}
+use Rattle.alpha_asm.specs.declared.patch.RelocationKind.{RelocationKind}
 use Rattle.alpha_link.specs.declared.relocation.Relocation.{Relocation}
 use Rattle.alpha_link.specs.Relocations.{is_taken_by}
 use Rattle.alpha_link.specs.Parts.{ModuleParts, IsModule}
-use Rattle.alpha_link.specs.Output.{StandBehind}
+use Rattle.alpha_link.specs.declared.output.Output.{Output}
+use Rattle.alpha_link.specs.Output.{StandBehind, JoinsOne}
 use Rattle.alpha_link.proofs.Linked.{known_insns, image_known, unless_ok, links_to}
-use Rattle.alpha_link.proofs.Shifting.{length-code_after, length-bytes_after}
+use Rattle.alpha_link.proofs.Shifting.{length-bytes_after}
+use Rattle.alpha_link.proofs.Taking.{length-code_after}
 use Rattle.alpha_link.specs.declared.fault.LinkFault.{LinkFault}
 use Rattle.alpha_link.specs.declared.fault.LinkFault.TheVariants.{Duplicate, Undefined, ImageField, Reach}
 use Rattle.alpha_link.specs.Linked.{Located, located, places, size, room, last_of, words_in, filled_in, addresses_of, use_of, target, displacement, quadword, insn_with, code_at, code_after, bytes_after, code_of, bytes_of, data_in, numbers_with, repeated, missing, unmet, entry_of, unless_refused, linked_at, linked}
@@ -63,7 +65,7 @@ pub record Reaches (d : Displacement) : Type 0 where
   pub address : ℤ
   pub reached_so : reached by pc address ≡ Some d
 
-pub displacement_reaches : (addresses : List (Option ℕ)) (l : Located) (r : Relocation) (d : Displacement) → displacement addresses l r ≡ Some d → Reaches d
+displacement_reaches : (addresses : List (Option ℕ)) (l : Located) (r : Relocation) (d : Displacement) → displacement addresses l r ≡ Some d → Reaches d
 displacement_reaches addresses l r d e = go (use_of r.kind) (target addresses r) e
   where
     go : (u : Option Use) (a : Option ℤ) → option_and_then (λ by. option_and_then (reached by (0x10000 + 4 * l.words + r.offset)) a) u ≡ Some d → Reaches d
@@ -81,7 +83,7 @@ insn_allowed kind d i h good = either (is_taken_by kind i)
 there : (code : List Form) (place : ℕ) (i : Form) → slice_get code place ≡ Some i → All IsAllowed code → IsAllowed i
 there code place i e all = subst IsAllowed (get_or_from_slice_get code place i i e) (all place i (slice_get_within code place i e))
 
-pub code_at_allowed : (kind : RelocationKind) (place : ℕ) (o : Option Displacement) (code : List Form) → ((d : Displacement) → o ≡ Some d → Reaches d) → All IsAllowed code → All IsAllowed (code_at kind place o code)
+code_at_allowed : (kind : RelocationKind) (place : ℕ) (o : Option Displacement) (code : List Form) → ((d : Displacement) → o ≡ Some d → Reaches d) → All IsAllowed code → All IsAllowed (code_at kind place o code)
 code_at_allowed kind place None code h all = all
 code_at_allowed kind place (Some d) code h all = go (slice_get code place) refl
   where
@@ -103,13 +105,20 @@ word_allowed w i good e = (
 )
 
 -- and those of good words
-pub words_allowed : (words : List ℕ) → All (IsCodeWord levels.One) words → All IsAllowed (filter_map decoded words)
+words_allowed : (words : List ℕ) → All (IsCodeWord levels.One) words → All IsAllowed (filter_map decoded words)
 words_allowed [] all = All-nil IsAllowed
 words_allowed (w ∷ words) all = go (decoded w) refl (words_allowed words (All-tail (IsCodeWord levels.One) w words all))
   where
     go : (o : Option Form) → decoded w ≡ o → All IsAllowed (filter_map decoded words) → All IsAllowed (cons_option o (filter_map decoded words))
     go None e later = later
     go (Some i) e later = All-cons IsAllowed i (filter_map decoded words) (word_allowed w i (All-head (IsCodeWord levels.One) w words all) e) later
+
+-- those of a module that is joined
+pub joined_allowed : (addresses : List (Option ℕ)) (l : Located) (old new : Output) → IsModule l.parts → JoinsOne addresses l old new → All IsAllowed old.code.items → All IsAllowed new.code.items
+joined_allowed addresses l old new good one all =
+    let own = filter_map decoded l.parts.words in
+    let rs = l.parts.relocations in
+    subst (All IsAllowed) (sym one.code) (All-append IsAllowed old.code.items (code_after addresses l rs own) all (code_after_allowed addresses l rs own (words_allowed l.parts.words good.words)))
 
 abbrev Good : Located → Type 0
 Good l = IsModule l.parts

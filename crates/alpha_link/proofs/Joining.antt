@@ -5,16 +5,19 @@ use Rattle.std.specs.List.{flat_map, filter_map}
 use Rattle.std.specs.Option.{option_map, option_map_or}
 use Rattle.std.proofs.lemmas.List.{length-append, length-replicate, append-nil}
 use Rattle.std.proofs.Math.Seq.{take-length}
+use Rattle.alpha_words.specs.declared.Level.TheVariants.{One}
 use Rattle.alpha_table.specs.declared.form.Form.{Form}
 use Rattle.alpha_table.specs.Decoded.{decoded}
 use Rattle.alpha_asm.specs.Layout.{first, padding}
-use Rattle.alpha_link.specs.Parts.{ModuleParts}
+use Rattle.alpha_link.specs.Parts.{ModuleParts, IsModule, sizes_of}
 use Rattle.alpha_link.specs.Linked.{Located, located, size, room, symbol_in, address_of, addresses_of, code_after, code_of, bytes_after, bytes_of, data_in, words_in, filled_in, is_met, unmet_in, unmet, addresses_by}
 use Rattle.alpha_link.specs.declared.output.Output.{Output}
 use Rattle.alpha_link.specs.Output.{code_with_all, bytes_with_all, StandBehind, JoinsOne, JoinsAll}
 use Rattle.alpha_link.proofs.Lists.{next, none_left, first_goes}
 use Rattle.alpha_link.proofs.Naming.{behind}
-use Rattle.alpha_link.proofs.Shifting.{code_shift, bytes_shift, length-code_after, length-bytes_after}
+use Rattle.alpha_link.proofs.Linked.{known_insns, image_known}
+use Rattle.alpha_link.proofs.Shifting.{bytes_shift, length-bytes_after}
+use Rattle.alpha_link.proofs.Taking.{takes_all, length-code_after}
 
 -- the least symbol whose name isn't found
 abbrev pub missing_in : (List ℕ → Option ℕ) → Located → Option (ℕ × ℕ)
@@ -132,18 +135,19 @@ joins_all all n output past within so_far =
     }
 
 -- what a module is joined by
-pub joins_one : (addresses wanted : List (Option ℕ)) (l : Located) (old appended new : Output) → addresses ≡ wanted → l.words ≡ length old.code.items → length old.bytes.items ≤ l.filled
+pub joins_one : (addresses wanted : List (Option ℕ)) (l : Located) (old appended new : Output) → IsModule l.parts → addresses ≡ wanted → l.words ≡ length old.code.items → length old.bytes.items ≤ l.filled
     → appended.code.items ≡ old.code.items ++ filter_map decoded l.parts.words
     → appended.bytes.items ≡ old.bytes.items ++ (replicate (l.filled - length old.bytes.items) 0 ++ l.parts.bytes)
     → length appended.code.items ≡ length old.code.items + length l.parts.words
     → new.code.items ≡ code_with_all addresses l l.parts.relocations appended.code.items
     → new.bytes.items ≡ bytes_with_all addresses l l.parts.relocations appended.bytes.items → JoinsOne wanted l old new
-joins_one addresses wanted l old appended new same words filled code bytes long put_code put_bytes =
+joins_one addresses wanted l old appended new good same words filled code bytes long put_code put_bytes =
     let rs = l.parts.relocations in
     let own = filter_map decoded l.parts.words in
+    let known = known_insns l.parts.words (image_known One l.parts.words good.words) in
     let blank : List ℕ = replicate (l.filled - length old.bytes.items) 0 in
     let start : l.filled ≡ length (old.bytes.items ++ blank) = omega (arith, length-append old.bytes.items blank, length-replicate {A = ℕ} (l.filled - length old.bytes.items) 0, filled) in
-    let code_is : new.code.items ≡ old.code.items ++ code_after addresses l rs own = put_code ∙ (ap (code_with_all addresses l rs) code ∙ code_shift addresses l rs old.code.items own words) in
+    let code_is : new.code.items ≡ old.code.items ++ code_after addresses l rs own = put_code ∙ (ap (code_with_all addresses l rs) code ∙ takes_all addresses l (sizes_of l.parts) l.parts.words l.parts.bytes own old.code.items words known [] rs own good.relocations (λ k. refl)) in
     let one : JoinsOne addresses l old new = record {
       code = code_is;
       bytes = put_bytes

@@ -20,9 +20,9 @@ pub mod MadeModules
 pub mod Lists
 pub mod Naming
 pub mod Shifting
+pub mod Taking
 pub mod Joining
 pub mod Imaged
-pub mod LinkedInsns
 pub mod MadeSizes
 pub mod MadeSymbols
 pub mod MadeRelocations

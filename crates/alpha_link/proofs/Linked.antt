@@ -26,8 +26,9 @@ use Rattle.alpha_asm.specs.declared.patch.Displacement.TheVariants.{Words, Bytes
 use Rattle.alpha_asm.specs.Program.{Program, program_of}
 use Rattle.alpha_link.specs.declared.fault.LinkFault.{LinkFault}
 use Rattle.alpha_link.specs.declared.fault.LinkFault.TheVariants.{Duplicate, Undefined, ImageField, Reach}
-use Rattle.alpha_link.specs.declared.relocation.RelocationKind.{RelocationKind}
-use Rattle.alpha_link.specs.declared.relocation.RelocationKind.TheVariants as kinds
+use Rattle.alpha_asm.specs.declared.patch.RelocationKind.{RelocationKind}
+use Rattle.alpha_asm.specs.declared.patch.RelocationKind.TheVariants as kinds
+use Rattle.alpha_asm.specs.declared.statement.Use.TheVariants as uses
 use Rattle.alpha_link.specs.declared.relocation.Relocation.{Relocation}
 use Rattle.alpha_link.specs.Alike.{HaveSameColumns, AreAlike}
 use Rattle.alpha_link.specs.Parts.{ModuleParts}
@@ -105,15 +106,15 @@ either true x y c m n = m
 either false x y c m n = n
 
 pub insn_alike : (kind : RelocationKind) (d : Displacement) (insn : Form) → HaveSameColumns (Some (class_of insn)) (Some (class_of (insn_with kind d insn)))
-insn_alike kinds.Branch (Words n) (Branch op ra disp) = either (is_zero disp) (Branch op ra n) (Branch op ra disp) (Some (class_of (Branch op ra disp))) (branch_alike op ra disp n) (same (Some (class_of (Branch op ra disp))))
-insn_alike kinds.Branch (Bytes n) (Branch op ra disp) = either (is_zero disp) (Branch op ra disp) (Branch op ra disp) (Some (class_of (Branch op ra disp))) (same (Some (class_of (Branch op ra disp)))) (same (Some (class_of (Branch op ra disp))))
-insn_alike kinds.High (Bytes n) (Mem memories.Ldah ra rb disp) =
+insn_alike (kinds.Insn uses.Branch) (Words n) (Branch op ra disp) = either (is_zero disp) (Branch op ra n) (Branch op ra disp) (Some (class_of (Branch op ra disp))) (branch_alike op ra disp n) (same (Some (class_of (Branch op ra disp))))
+insn_alike (kinds.Insn uses.Branch) (Bytes n) (Branch op ra disp) = either (is_zero disp) (Branch op ra disp) (Branch op ra disp) (Some (class_of (Branch op ra disp))) (same (Some (class_of (Branch op ra disp)))) (same (Some (class_of (Branch op ra disp))))
+insn_alike (kinds.Insn uses.High) (Bytes n) (Mem memories.Ldah ra rb disp) =
     either (is_zero disp) (Mem memories.Ldah ra rb n) (Mem memories.Ldah ra rb disp) (Some (class_of (Mem memories.Ldah ra rb disp))) (high_alike ra rb disp n) (same (Some (class_of (Mem memories.Ldah ra rb disp))))
-insn_alike kinds.High (Words n) (Mem memories.Ldah ra rb disp) =
+insn_alike (kinds.Insn uses.High) (Words n) (Mem memories.Ldah ra rb disp) =
     either (is_zero disp) (Mem memories.Ldah ra rb disp) (Mem memories.Ldah ra rb disp) (Some (class_of (Mem memories.Ldah ra rb disp))) (same (Some (class_of (Mem memories.Ldah ra rb disp)))) (same (Some (class_of (Mem memories.Ldah ra rb disp))))
-insn_alike kinds.Low (Bytes n) (Mem memories.Lda ra rb disp) =
+insn_alike (kinds.Insn uses.Low) (Bytes n) (Mem memories.Lda ra rb disp) =
     either (is_zero disp) (Mem memories.Lda ra rb n) (Mem memories.Lda ra rb disp) (Some (class_of (Mem memories.Lda ra rb disp))) (low_alike ra rb disp n) (same (Some (class_of (Mem memories.Lda ra rb disp))))
-insn_alike kinds.Low (Words n) (Mem memories.Lda ra rb disp) =
+insn_alike (kinds.Insn uses.Low) (Words n) (Mem memories.Lda ra rb disp) =
     either (is_zero disp) (Mem memories.Lda ra rb disp) (Mem memories.Lda ra rb disp) (Some (class_of (Mem memories.Lda ra rb disp))) (same (Some (class_of (Mem memories.Lda ra rb disp)))) (same (Some (class_of (Mem memories.Lda ra rb disp))))
 insn_alike kind d insn = same (Some (class_of insn))
 

@@ -24,20 +24,12 @@ use Rattle.alpha_asm.specs.Patches.{Fix, fix, raw_insns, raw_cells, raw_bytes, c
 use Rattle.alpha_asm.specs.Unlinked.{IsAddress, Takes, IsReached, IsCell, IsUnlinked}
 use Rattle.alpha_asm.proofs.Growing.{length-raw_bytes}
 use Rattle.alpha_asm.proofs.Pushing.{length-low_bytes}
-use Rattle.alpha_link.specs.declared.relocation.RelocationKind.{RelocationKind}
-use Rattle.alpha_link.specs.declared.relocation.RelocationKind.TheVariants.{Branch, High, Low}
-use Rattle.alpha_link.specs.Relocations.{Body, is_taken_by, is_taken_at, is_quad_at, stands_at, body}
-use Rattle.alpha_link.specs.Made.{kind_in}
+use Rattle.alpha_asm.specs.declared.patch.RelocationKind.TheVariants.{Insn}
+use Rattle.alpha_link.specs.Relocations.{Body, is_taken_by, is_taken_at, is_quad_at, body}
 use Rattle.alpha_link.proofs.MadeSizes.{insns_of, words_behind}
 use Rattle.alpha_link.proofs.MadeRelocations.{Chain}
 
--- the kind of relocation of a use
-abbrev kind_for : Use → RelocationKind
-kind_for uses.Branch = Branch
-kind_for uses.High = High
-kind_for uses.Low = Low
-
-takes_so : (by : Use) (insn : Form) → Takes by insn → is_taken_by (kind_for by) insn ≡ true
+takes_so : (by : Use) (insn : Form) → Takes by insn → is_taken_by (Insn by) insn ≡ true
 takes_so uses.Branch (forms.Branch op ra disp) h = rw h refl
 takes_so uses.Branch insn h = absurd h
 takes_so uses.High (forms.Mem Ldah ra rb disp) (h, k) = rw h refl
@@ -48,19 +40,13 @@ takes_so uses.Low (forms.Mem op ra rb disp) (h, k) = absurd cc
 takes_so uses.Low insn (h, k) = absurd h
 
 -- the code has the instruction where it stands
-taken_so : (code : List Form) (insn : Form) (by : Use) (words : ℕ) → map decoded (map encoded code) ≡ map Some code → slice_get code words ≡ Some insn → Takes by insn → is_taken_at (map encoded code) (kind_for by) (4 * words) ≡ true
+taken_so : (code : List Form) (insn : Form) (by : Use) (words : ℕ) → map decoded (map encoded code) ≡ map Some code → slice_get code words ≡ Some insn → Takes by insn → is_taken_at (map encoded code) (Insn by) (4 * words) ≡ true
 taken_so code insn by words known there takes =
     let aligned : 4 * words % 4 ≡ 0 = omega arith in
     let test : (4 * words % 4 == 0) ≡ true = rw aligned refl in
     let place : 4 * words / 4 ≡ words = omega arith in
     let here = decoded_there (map encoded code) code words insn known there in
     rw (test, place, here) (takes_so by insn takes)
-
-stands_so : (code : List Form) (bytes : List ℕ) (insn : Form) (by : Use) (words : ℕ) → map decoded (map encoded code) ≡ map Some code → slice_get code words ≡ Some insn → Takes by insn
-    → (kind_in sides.Code (by_insn by words) ≡ Some (kind_for by)) × (stands_at (body (map encoded code) bytes) (kind_for by) (4 * words) ≡ true)
-stands_so code bytes insn uses.Branch words known there takes = (refl, taken_so code insn uses.Branch words known there takes)
-stands_so code bytes insn uses.High words known there takes = (refl, taken_so code insn uses.High words known there takes)
-stands_so code bytes insn uses.Low words known there takes = (refl, taken_so code insn uses.Low words known there takes)
 
 get_behind : {A : Type 0} (front rest : List A) (x : A) → slice_get (front ++ x ∷ rest) (length front) ≡ Some x
 get_behind [] rest x = refl
@@ -79,8 +65,8 @@ reach_one : (code : List Form) (bytes : List ℕ) (low line words : ℕ) (insn :
     → Chain sides.Code (body (map encoded code) bytes) low (map (fix 0) (list_of (option_map (λ r. name line r.1 (by_insn r.0 words)) reach)) ++ fs)
 reach_one code bytes low line words insn None fs known few there inside behind reached rest = rest low (omega arith)
 reach_one code bytes low line words insn (Some (by, to)) fs known few there inside behind (takes, (label, offset)) rest =
-    let (kind, stands) = stands_so code bytes insn by words known there takes in
-    rw kind (record { behind = behind; stands = stands; small = omega arith; offset = offset }, rest (4 * words + 1) (omega arith))
+    let stands = taken_so code insn by words known there takes in
+    (record { behind = behind; stands = stands; small = omega arith; offset = offset }, rest (4 * words + 1) (omega arith))
 
 code_one : (code : List Form) (bytes : List ℕ) (low line words : ℕ) (o : Option Coded) (fs : List Fix) (front rest : List Form) → map decoded (map encoded code) ≡ map Some code → length code ≤ 262144
     → code ≡ front ++ (option_map_or (λ c. c.insn ∷ []) o [] ++ rest) → words ≡ length front → low ≤ 4 * words → IfSome o IsReached

@@ -10,12 +10,11 @@ use Rattle.std.proofs.lemmas.List.{append-nil}
 use Rattle.alpha_text.specs.References.{IsOffset}
 use Rattle.alpha_asm.specs.declared.place.Section.{Section}
 use Rattle.alpha_asm.specs.declared.place.Section.TheVariants as sides
-use Rattle.alpha_asm.specs.declared.statement.Use.TheVariants as uses
 use Rattle.alpha_asm.specs.Program.{Need, by_insn, by_cell, by_entry}
 use Rattle.alpha_asm.specs.Patches.{Fix}
 use Rattle.alpha_link.specs.declared.header.Sizes.{Sizes}
-use Rattle.alpha_link.specs.declared.relocation.RelocationKind.{RelocationKind}
-use Rattle.alpha_link.specs.declared.relocation.RelocationKind.TheVariants.{Branch, High, Low, Quad}
+use Rattle.alpha_asm.specs.declared.patch.RelocationKind.{RelocationKind}
+use Rattle.alpha_asm.specs.declared.patch.RelocationKind.TheVariants.{Insn, Quad}
 use Rattle.alpha_link.specs.declared.relocation.Relocation.{Relocation}
 use Rattle.alpha_link.specs.Relocations.{Body, is_addend, stands_at, follows, follows_all, relocation_fits, IsRelocation}
 use Rattle.alpha_link.specs.Parts.{AreGood}
@@ -24,13 +23,9 @@ use Rattle.alpha_link.proofs.MadeSymbols.{last_append}
 
 -- a kind of relocations of a section
 abbrev pub is_of : Section → RelocationKind → Bool
-is_of sides.Code Branch = true
-is_of sides.Code High = true
-is_of sides.Code Low = true
+is_of sides.Code (Insn by) = true
 is_of sides.Code Quad = false
-is_of sides.Data Branch = false
-is_of sides.Data High = false
-is_of sides.Data Low = false
+is_of sides.Data (Insn by) = false
 is_of sides.Data Quad = true
 
 -- how far at least the next one stands behind it
@@ -39,9 +34,7 @@ step sides.Code = 1
 step sides.Data = 8
 
 kind_of_side : (side : Section) (need : Need) (k : RelocationKind) → kind_in side need ≡ Some k → is_of side k ≡ true
-kind_of_side sides.Code (by_insn uses.Branch words) k e = let same : Branch ≡ k = cc in rw (← same) refl
-kind_of_side sides.Code (by_insn uses.High words) k e = let same : High ≡ k = cc in rw (← same) refl
-kind_of_side sides.Code (by_insn uses.Low words) k e = let same : Low ≡ k = cc in rw (← same) refl
+kind_of_side sides.Code (by_insn by words) k e = let same : Insn by ≡ k = cc in rw (← same) refl
 kind_of_side sides.Code by_cell k e = cc
 kind_of_side sides.Code by_entry k e = cc
 kind_of_side sides.Data (by_insn by words) k e = cc
@@ -74,26 +67,12 @@ ready_up side before low high h ready r k l = ready r k (omega arith)
 
 follows_code : (k l : RelocationKind) (a b : ℕ) → is_of sides.Code k ≡ true → is_of sides.Code l ≡ true → a + 1 ≤ b → follows k a l b ≡ true
 follows_code Quad l a b h g le = cc
-follows_code Branch Quad a b h g le = cc
-follows_code High Quad a b h g le = cc
-follows_code Low Quad a b h g le = cc
-follows_code Branch Branch a b h g le = grind (arith, nat_tests)
-follows_code Branch High a b h g le = grind (arith, nat_tests)
-follows_code Branch Low a b h g le = grind (arith, nat_tests)
-follows_code High Branch a b h g le = grind (arith, nat_tests)
-follows_code High High a b h g le = grind (arith, nat_tests)
-follows_code High Low a b h g le = grind (arith, nat_tests)
-follows_code Low Branch a b h g le = grind (arith, nat_tests)
-follows_code Low High a b h g le = grind (arith, nat_tests)
-follows_code Low Low a b h g le = grind (arith, nat_tests)
+follows_code (Insn by) Quad a b h g le = cc
+follows_code (Insn by) (Insn other) a b h g le = grind (arith, nat_tests)
 
 follows_data : (k l : RelocationKind) (a b : ℕ) → is_of sides.Data k ≡ true → is_of sides.Data l ≡ true → a + 8 ≤ b → follows k a l b ≡ true
-follows_data Branch l a b h g le = cc
-follows_data High l a b h g le = cc
-follows_data Low l a b h g le = cc
-follows_data Quad Branch a b h g le = cc
-follows_data Quad High a b h g le = cc
-follows_data Quad Low a b h g le = cc
+follows_data (Insn by) l a b h g le = cc
+follows_data Quad (Insn by) a b h g le = cc
 follows_data Quad Quad a b h g le = grind (arith, nat_tests)
 
 follows_side : (side : Section) (k l : RelocationKind) (a b : ℕ) → is_of side k ≡ true → is_of side l ≡ true → a + step side ≤ b → follows k a l b ≡ true
@@ -163,12 +142,8 @@ code_kind f r (Some k) (Some n) e h =
 
 quad_behind : (k l : RelocationKind) (a b : ℕ) → is_of sides.Code k ≡ true → is_of sides.Data l ≡ true → follows k a l b ≡ true
 quad_behind Quad l a b h g = cc
-quad_behind Branch Quad a b h g = refl
-quad_behind High Quad a b h g = refl
-quad_behind Low Quad a b h g = refl
-quad_behind k Branch a b h g = cc
-quad_behind k High a b h g = cc
-quad_behind k Low a b h g = cc
+quad_behind (Insn by) Quad a b h g = refl
+quad_behind (Insn by) (Insn other) a b h g = cc
 
 data_more : (names : List (List ℕ)) (before : List Relocation) (f : Fix) (fs : List Fix) (o : Option Relocation) → relocation_for sides.Code names f ≡ o → Ready sides.Data before 0
     → ((next : List Relocation) → Ready sides.Data next 0 → Ready sides.Data (next ++ filter_map (relocation_for sides.Code names) fs) 0)

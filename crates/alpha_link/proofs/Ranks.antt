@@ -21,7 +21,7 @@ use Rattle.alpha_asm.specs.declared.place.Spot.{Spot}
 use Rattle.alpha_asm.specs.Patches.{Fix, fix_of}
 use Rattle.alpha_asm.proofs.Whole.{slice_get-seam}
 use Rattle.alpha_link.specs.declared.keyed.KeyedName.{KeyedName}
-use Rattle.alpha_link.specs.declared.relocation.RelocationKind.{RelocationKind}
+use Rattle.alpha_asm.specs.declared.patch.RelocationKind.{RelocationKind}
 use Rattle.alpha_link.specs.declared.relocation.Relocation.{Relocation}
 use Rattle.alpha_link.specs.Symbols.{Named}
 use Rattle.alpha_link.specs.Rising.{Rise}

@@ -12,8 +12,9 @@ use Rattle.alpha_image.specs.Reading.{longword_at}
 use Rattle.alpha_image.proofs.Numbers.{IsBytes, IsBytes-drop, longword_at-lt, longword_at-front, drop-longword}
 use Rattle.alpha_link.specs.declared.fault.ModuleFault.TheVariants as faults
 use Rattle.alpha_link.specs.declared.header.Sizes.{Sizes}
-use Rattle.alpha_link.specs.declared.relocation.RelocationKind.{RelocationKind}
-use Rattle.alpha_link.specs.declared.relocation.RelocationKind.TheVariants.{Branch, High, Low, Quad}
+use Rattle.alpha_asm.specs.declared.patch.RelocationKind.{RelocationKind}
+use Rattle.alpha_asm.specs.declared.patch.RelocationKind.TheVariants.{Insn, Quad}
+use Rattle.alpha_asm.specs.declared.statement.Use.TheVariants.{Branch, High, Low}
 use Rattle.alpha_link.specs.declared.relocation.Relocation.{Relocation}
 use Rattle.alpha_link.specs.Relocations.{Body, kind_of, kind_number, is_addend, relocation_fits, made_relocation, relocation_in, good_relocation, relocation_at, relocation_bytes, IsRelocation}
 use Rattle.alpha_link.proofs.Results.{pair_is, unless_err, if_ok}
@@ -21,16 +22,16 @@ use Rattle.alpha_link.proofs.Formats.{IsFormat}
 use Rattle.alpha_link.proofs.Numbers.{first_byte}
 
 kind_is : (n : ℕ) (k : RelocationKind) → kind_of n ≡ Some k → n ≡ kind_number k
-kind_is zero k e = let same : Branch ≡ k = cc in ap kind_number same
-kind_is (suc zero) k e = let same : High ≡ k = cc in ap kind_number same
-kind_is (suc (suc zero)) k e = let same : Low ≡ k = cc in ap kind_number same
+kind_is zero k e = let same : Insn Branch ≡ k = cc in ap kind_number same
+kind_is (suc zero) k e = let same : Insn High ≡ k = cc in ap kind_number same
+kind_is (suc (suc zero)) k e = let same : Insn Low ≡ k = cc in ap kind_number same
 kind_is (suc (suc (suc zero))) k e = let same : Quad ≡ k = cc in ap kind_number same
 kind_is (suc (suc (suc (suc n)))) k e = absurd cc
 
 kind_again : (k : RelocationKind) → kind_of (kind_number k) ≡ Some k
-kind_again Branch = refl
-kind_again High = refl
-kind_again Low = refl
+kind_again (Insn Branch) = refl
+kind_again (Insn High) = refl
+kind_again (Insn Low) = refl
 kind_again Quad = refl
 
 good_relocation_ok : (z : Sizes) (b : Body) (before : List Relocation) (o : Option Relocation) (r : Relocation) (behind rest : List ℕ) → good_relocation z b before o behind ≡ Ok (r, rest) → (o ≡ Some r) × (relocation_fits z b before r ≡ true) × (behind ≡ rest)
@@ -88,11 +89,11 @@ addend_small : (a : ℤ) → is_addend a ≡ true → cast_unsigned w32 a < 2 ^ 
 addend_small (pos n) e = let h = ltb-true n (2 ^ 31) e in omega arith
 addend_small (negsuc n) e = let h = ltb-true n (2 ^ 31 - 1) e in omega arith
 
-second_true : (a b : Bool) → (a && b) ≡ true → b ≡ true
+pub second_true : (a b : Bool) → (a && b) ≡ true → b ≡ true
 second_true true b e = e
 second_true false b e = absurd cc
 
-first_true : (a b : Bool) → (a && b) ≡ true → a ≡ true
+pub first_true : (a b : Bool) → (a && b) ≡ true → a ≡ true
 first_true true b e = refl
 first_true false b e = absurd cc
 

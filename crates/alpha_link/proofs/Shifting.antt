@@ -1,19 +1,19 @@
 -- What a relocation puts in, behind the code and the data bytes of other modules.
-use Rattle.std.proofs.Common.{◌≡◌, ℕ, suc, ◌+◌, ◌-◌, ◌/◌, ◌<◌, ◌≤◌, Bool, true, false, cond, nat_le, List, [], ◌∷◌, ◌++◌, length, take, drop, Option, None, Some, slice_get, refl, ap, ◌∙◌, append_assoc, zero-add, arith}
+use Rattle.std.proofs.Common.{◌≡◌, ℕ, suc, ◌+◌, ◌-◌, ◌<◌, ◌≤◌, Bool, true, false, cond, nat_le, List, [], ◌∷◌, ◌++◌, length, take, drop, Option, None, Some, slice_get, refl, ap, ◌∙◌, append_assoc, zero-add, arith}
 use Rattle.std.specs.Prelude.{slice_set}
 use Rattle.std.specs.Option.{option_map_or}
 use Rattle.std.proofs.lemmas.Bool.Decides.{nat_tests}
-use Rattle.std.proofs.lemmas.List.{set-append_right, length-append, length-set}
+use Rattle.std.proofs.lemmas.List.{set-append_right, length-append}
 use Rattle.std.proofs.Math.Seq.{take-append-add, drop-append-add}
 use Rattle.alpha_words.specs.Digits.{low_bytes}
 use Rattle.alpha_table.specs.declared.form.Form.{Form}
 use Rattle.alpha_asm.specs.declared.patch.Displacement.{Displacement}
-use Rattle.alpha_asm.specs.Patches.{overlaid}
+use Rattle.alpha_asm.specs.Program.{displaced}
+use Rattle.alpha_asm.specs.Patches.{overlaid, code_at}
 use Rattle.alpha_asm.proofs.Making.{length-overlaid}
 use Rattle.alpha_link.specs.declared.relocation.Relocation.{Relocation}
-use Rattle.alpha_link.specs.declared.relocation.RelocationKind.{RelocationKind}
-use Rattle.alpha_link.specs.Linked.{Located, insn_with, code_at, code_after, bytes_after, displacement, quadword}
-use Rattle.alpha_link.specs.Output.{code_with_all, bytes_with_all}
+use Rattle.alpha_link.specs.Linked.{Located, bytes_after, quadword}
+use Rattle.alpha_link.specs.Output.{bytes_with_all}
 
 get_shift : {A : Type 0} (before xs : List A) (p : ℕ) → slice_get (before ++ xs) (length before + p) ≡ slice_get xs p
 get_shift [] xs p = ap (slice_get xs) (zero-add p)
@@ -26,24 +26,17 @@ set_shift before xs p x =
     let same : length before + p - length before ≡ p = omega arith in
     set-append_right before xs (length before) (length before + p) x refl (omega arith) ∙ ap (λ (k : ℕ). before ++ slice_set xs k x) same
 
-put_shift : (kind : RelocationKind) (d : Displacement) (before code : List Form) (p : ℕ) (o : Option Form)
-    → option_map_or (λ insn. slice_set (before ++ code) (length before + p) (insn_with kind d insn)) o (before ++ code) ≡ before ++ option_map_or (λ insn. slice_set code p (insn_with kind d insn)) o code
-put_shift kind d before code p None = refl
-put_shift kind d before code p (Some insn) = set_shift before code p (insn_with kind d insn)
-
-code_at_shift : (kind : RelocationKind) (before code : List Form) (p : ℕ) (o : Option Displacement) → code_at kind (length before + p) o (before ++ code) ≡ before ++ code_at kind p o code
-code_at_shift kind before code p None = refl
-code_at_shift kind before code p (Some d) =
-    ap (λ (o : Option Form). option_map_or (λ insn. slice_set (before ++ code) (length before + p) (insn_with kind d insn)) o (before ++ code)) (get_shift before code p)
-    ∙ put_shift kind d before code p (slice_get code p)
+put_shift : (d : Displacement) (before code : List Form) (p : ℕ) (o : Option Form)
+    → option_map_or (λ insn. slice_set (before ++ code) (length before + p) (displaced insn d)) o (before ++ code) ≡ before ++ option_map_or (λ insn. slice_set code p (displaced insn d)) o code
+put_shift d before code p None = refl
+put_shift d before code p (Some insn) = set_shift before code p (displaced insn d)
 
 -- the code
-pub code_shift : (addresses : List (Option ℕ)) (l : Located) (rs : List Relocation) (before code : List Form) → l.words ≡ length before → code_with_all addresses l rs (before ++ code) ≡ before ++ code_after addresses l rs code
-code_shift addresses l [] before code here = refl
-code_shift addresses l (r ∷ rs) before code here =
-    ap (λ (n : ℕ). code_with_all addresses l rs (code_at r.kind (n + r.offset / 4) (displacement addresses l r) (before ++ code))) here
-    ∙ (ap (code_with_all addresses l rs) (code_at_shift r.kind before code (r.offset / 4) (displacement addresses l r))
-    ∙ code_shift addresses l rs before (code_at r.kind (r.offset / 4) (displacement addresses l r) code) here)
+pub code_at_shift : (before code : List Form) (p : ℕ) (o : Option Displacement) → code_at o (length before + p) (before ++ code) ≡ before ++ code_at o p code
+code_at_shift before code p None = refl
+code_at_shift before code p (Some d) =
+    ap (λ (o : Option Form). option_map_or (λ insn. slice_set (before ++ code) (length before + p) (displaced insn d)) o (before ++ code)) (get_shift before code p)
+    ∙ put_shift d before code p (slice_get code p)
 
 overlaid_shift : (before bytes : List ℕ) (at n : ℕ) → overlaid (length before + at) n (before ++ bytes) ≡ before ++ overlaid at n bytes
 overlaid_shift before bytes at n = by (nat_le (at + 8) (length bytes)) refl
@@ -81,19 +74,6 @@ bytes_shift addresses l (r ∷ rs) before bytes here =
     ∙ bytes_shift addresses l rs before (option_map_or (λ q. overlaid r.offset q bytes) (quadword addresses r) bytes) here)
 
 -- and how many they are
-length-code_at : (kind : RelocationKind) (p : ℕ) (o : Option Displacement) (code : List Form) → length (code_at kind p o code) ≡ length code
-length-code_at kind p None code = refl
-length-code_at kind p (Some d) code = by (slice_get code p)
-  where
-    by : (o : Option Form) → length (option_map_or (λ insn. slice_set code p (insn_with kind d insn)) o code) ≡ length code
-    by None = refl
-    by (Some insn) = length-set code p (insn_with kind d insn)
-
-pub length-code_after : (addresses : List (Option ℕ)) (l : Located) (rs : List Relocation) (code : List Form) → length (code_after addresses l rs code) ≡ length code
-length-code_after addresses l [] code = refl
-length-code_after addresses l (r ∷ rs) code =
-    length-code_after addresses l rs (code_at r.kind (r.offset / 4) (displacement addresses l r) code) ∙ length-code_at r.kind (r.offset / 4) (displacement addresses l r) code
-
 pub length-bytes_after : (addresses : List (Option ℕ)) (rs : List Relocation) (bytes : List ℕ) → length (bytes_after addresses rs bytes) ≡ length bytes
 length-bytes_after addresses [] bytes = refl
 length-bytes_after addresses (r ∷ rs) bytes = length-bytes_after addresses rs (option_map_or (λ q. overlaid r.offset q bytes) (quadword addresses r) bytes) ∙ by (quadword addresses r)

@@ -9,7 +9,6 @@ use Rattle.alpha_image.specs.declared.version.Version.TheVariants.{One}
 use Rattle.alpha_image.specs.Numbers.{Numbers}
 use Rattle.alpha_image.specs.FieldTests.{least_bad_field}
 use Rattle.alpha_asm.specs.declared.statement.Use.{Use}
-use Rattle.alpha_asm.specs.declared.statement.Use.TheVariants as uses
 use Rattle.alpha_asm.specs.declared.patch.Displacement.{Displacement}
 use Rattle.alpha_asm.specs.Layout.{first, padding}
 use Rattle.alpha_asm.specs.Program.{Program, program_with, code_base, data_base, stack_bytes, reached, displaced, quadword_of}
@@ -18,8 +17,8 @@ use Rattle.alpha_link.specs.declared.fault.LinkFault.{LinkFault}
 use Rattle.alpha_link.specs.declared.fault.LinkFault.TheVariants.{Duplicate, Undefined, Entry, ImageField, Reach}
 use Rattle.alpha_link.specs.declared.symbol.SymbolSection.{SymbolSection}
 use Rattle.alpha_link.specs.declared.symbol.SymbolSection.TheVariants as sections
-use Rattle.alpha_link.specs.declared.relocation.RelocationKind.{RelocationKind}
-use Rattle.alpha_link.specs.declared.relocation.RelocationKind.TheVariants as kinds
+use Rattle.alpha_asm.specs.declared.patch.RelocationKind.{RelocationKind}
+use Rattle.alpha_asm.specs.declared.patch.RelocationKind.TheVariants as kinds
 use Rattle.alpha_link.specs.declared.relocation.Relocation.{Relocation}
 use Rattle.alpha_link.specs.Symbols.{Named}
 use Rattle.alpha_link.specs.Relocations.{is_taken_by}
@@ -79,9 +78,7 @@ target addresses r =
     option_map (λ a. pos a +ℤ r.addend) (option_and_then (λ address. address) (slice_get addresses r.symbol))
 
 abbrev pub use_of : RelocationKind → Option Use
-use_of kinds.Branch = Some uses.Branch
-use_of kinds.High = Some uses.High
-use_of kinds.Low = Some uses.Low
+use_of (kinds.Insn by) = Some by
 use_of kinds.Quad = None
 
 -- the displacement that it puts in, if it reaches

@@ -17,14 +17,13 @@ use Rattle.alpha_asm.specs.declared.place.Section.{Section}
 use Rattle.alpha_asm.specs.declared.place.Section.TheVariants as sides
 use Rattle.alpha_asm.specs.declared.place.Spot.{Spot}
 use Rattle.alpha_asm.specs.declared.place.Spot.TheVariants as spots
-use Rattle.alpha_asm.specs.declared.statement.Use.TheVariants as uses
 use Rattle.alpha_asm.specs.Layout.{Placed, layout, end, spot_of}
 use Rattle.alpha_asm.specs.Program.{Need, by_insn, by_cell, by_entry, names_in}
 use Rattle.alpha_asm.specs.Patches.{Fix, raw_insns, raw_bytes, fixes}
 use Rattle.alpha_asm.specs.Assembled.{unless, first_refused, item_at}
 use Rattle.alpha_link.specs.declared.symbol.SymbolSection.TheVariants as sections
-use Rattle.alpha_link.specs.declared.relocation.RelocationKind.{RelocationKind}
-use Rattle.alpha_link.specs.declared.relocation.RelocationKind.TheVariants as kinds
+use Rattle.alpha_asm.specs.declared.patch.RelocationKind.{RelocationKind}
+use Rattle.alpha_asm.specs.declared.patch.RelocationKind.TheVariants as kinds
 use Rattle.alpha_link.specs.declared.relocation.Relocation.{Relocation}
 use Rattle.alpha_link.specs.Symbols.{Named}
 use Rattle.alpha_link.specs.Parts.{ModuleParts}
@@ -63,9 +62,7 @@ number_in names name = position (λ n. bytes_eq n name) names
 
 -- what a link puts in for an address that is needed in the code, or in the data
 abbrev pub kind_in : Section → Need → Option RelocationKind
-kind_in sides.Code (by_insn uses.Branch words) = Some kinds.Branch
-kind_in sides.Code (by_insn uses.High words) = Some kinds.High
-kind_in sides.Code (by_insn uses.Low words) = Some kinds.Low
+kind_in sides.Code (by_insn by words) = Some (kinds.Insn by)
 kind_in sides.Code by_cell = None
 kind_in sides.Code by_entry = None
 kind_in sides.Data (by_insn by words) = None

@@ -5,12 +5,13 @@ use Rattle.std.specs.List.{flat_map, filter_map}
 use Rattle.alpha_table.specs.Decoded.{decoded}
 use Rattle.alpha_link.specs.declared.output.Output.{Output}
 use Rattle.alpha_table.specs.declared.form.Form.{Form}
-use Rattle.alpha_asm.specs.Patches.{overlaid}
+use Rattle.alpha_asm.specs.Patches.{overlaid, code_at}
 use Rattle.alpha_link.specs.declared.relocation.Relocation.{Relocation}
-use Rattle.alpha_link.specs.Linked.{Located, room, code_at, code_after, code_of, bytes_after, data_in, words_in, filled_in, displacement, quadword, unmet}
+use Rattle.alpha_link.specs.Linked.{Located, room, code_after, code_of, bytes_after, data_in, words_in, filled_in, displacement, quadword, unmet}
 
+-- the code with an address put in, whatever instruction stands there
 abbrev pub code_with : List (Option ℕ) → Located → Relocation → List Form → List Form
-code_with addresses l r code = code_at r.kind (l.words + r.offset / 4) (displacement addresses l r) code
+code_with addresses l r code = code_at (displacement addresses l r) (l.words + r.offset / 4) code
 
 abbrev pub bytes_with : List (Option ℕ) → Located → Relocation → List ℕ → List ℕ
 bytes_with addresses l r bytes = option_map_or (λ n. overlaid (l.filled + r.offset) n bytes) (quadword addresses r) bytes

@@ -11,22 +11,23 @@ use Rattle.alpha_image.specs.Layout.{longword}
 use Rattle.alpha_image.specs.Reading.{longword_at}
 use Rattle.alpha_link.specs.declared.fault.ModuleFault.TheVariants as faults
 use Rattle.alpha_link.specs.declared.header.Sizes.{Sizes}
-use Rattle.alpha_link.specs.declared.relocation.RelocationKind.{RelocationKind}
-use Rattle.alpha_link.specs.declared.relocation.RelocationKind.TheVariants as kinds
+use Rattle.alpha_asm.specs.declared.patch.RelocationKind.{RelocationKind}
+use Rattle.alpha_asm.specs.declared.patch.RelocationKind.TheVariants as kinds
+use Rattle.alpha_asm.specs.declared.statement.Use.TheVariants as uses
 use Rattle.alpha_link.specs.declared.relocation.Relocation.{Relocation}
 use Rattle.alpha_link.specs.Reading.{Read}
 
 abbrev pub kind_of : ℕ → Option RelocationKind
-kind_of zero = Some kinds.Branch
-kind_of (suc zero) = Some kinds.High
-kind_of (suc (suc zero)) = Some kinds.Low
+kind_of zero = Some (kinds.Insn uses.Branch)
+kind_of (suc zero) = Some (kinds.Insn uses.High)
+kind_of (suc (suc zero)) = Some (kinds.Insn uses.Low)
 kind_of (suc (suc (suc zero))) = Some kinds.Quad
 kind_of _ = None
 
 abbrev pub kind_number : RelocationKind → ℕ
-kind_number kinds.Branch = 0
-kind_number kinds.High = 1
-kind_number kinds.Low = 2
+kind_number (kinds.Insn uses.Branch) = 0
+kind_number (kinds.Insn uses.High) = 1
+kind_number (kinds.Insn uses.Low) = 2
 kind_number kinds.Quad = 3
 
 -- what relocations stand in: the code words and the data bytes
@@ -44,9 +45,9 @@ is_zero _ = false
 
 -- an instruction whose displacement a relocation of this kind puts in
 abbrev pub is_taken_by : RelocationKind → Form → Bool
-is_taken_by kinds.Branch (Branch op ra disp) = is_zero disp
-is_taken_by kinds.High (Mem Ldah ra rb disp) = is_zero disp
-is_taken_by kinds.Low (Mem Lda ra rb disp) = is_zero disp
+is_taken_by (kinds.Insn uses.Branch) (Branch op ra disp) = is_zero disp
+is_taken_by (kinds.Insn uses.High) (Mem Ldah ra rb disp) = is_zero disp
+is_taken_by (kinds.Insn uses.Low) (Mem Lda ra rb disp) = is_zero disp
 is_taken_by _ _ = false
 
 -- the code has such an instruction at an offset

@@ -45,7 +45,7 @@
 //!
 //! `header.rt` has the sizes at the front, `symbol.rt` and `relocation.rt` have what symbols and
 //! relocations are, `symbol_list.rt` has the symbols of a module, `symbols.rt` and `relocations.rt` read and write
-//! them, `number.rt` reads a number of two bytes; `read.rt` and `write.rt` are the ways in and out, and `judged.rt`
+//! them, `number.rt` has numbers of two bytes; `read.rt` and `write.rt` are the ways in and out, and `judged.rt`
 //! has the verdict.
 //! A module of a source is `made.rt`. `labels.rt` numbers the labels that the source defines or names, and
 //! `made_relocations.rt` makes relocations by these numbers; `keyed.rt` sorts the labels, which `radix.rt`
@@ -100,6 +100,7 @@ mod symbols;
 mod table;
 mod write;
 
+pub use alpha_asm::{RelocationKind, Use};
 pub use fault::{LinkFault, ModuleFault};
 pub use judged::verdict;
 pub use laws::{laws_of_joined_code, laws_of_linked_code, laws_of_modules};
@@ -107,7 +108,7 @@ pub use linker::link;
 pub use made::make_module;
 pub use module::Module;
 pub use read::read_module;
-pub use relocation::{Relocation, RelocationKind};
+pub use relocation::Relocation;
 pub use symbol::{Symbol, SymbolSection};
 pub use symbol_list::SymbolList;
 pub use write::module_bytes;

@@ -11,8 +11,8 @@ ghost use Rattle.alpha_link.specs.Numbered.{texts, IsNumbered, ByNumbers, reloca
 
 use crate::keyed::KeyedName;
 use crate::labels::numbers_of;
-use crate::relocation::{Relocation, RelocationKind};
-use alpha_asm::{Labels, Need, Patch, Section, Use};
+use crate::relocation::Relocation;
+use alpha_asm::{Labels, Need, Patch, RelocationKind, Section};
 use alpha_words::NoMemory;
 use std::alloc::Global;
 
@@ -21,10 +21,8 @@ fn kind_in(side: Section, need: Need) -> Option<RelocationKind>
     ensures { (at : ℕ) → result ≡ kind_in side (need_of at need) }
 {
     match (side, need) {
-        (Section::Code, Need::Insn(Use::Branch)) => Some(RelocationKind::Branch),
-        (Section::Code, Need::Insn(Use::High)) => Some(RelocationKind::High),
-        (Section::Code, Need::Insn(Use::Low)) => Some(RelocationKind::Low),
-        (Section::Data, Need::Quad) => Some(RelocationKind::Quad),
+        (Section::Code, Need::Put(RelocationKind::Insn(by))) => Some(RelocationKind::Insn(by)),
+        (Section::Data, Need::Put(RelocationKind::Quad)) => Some(RelocationKind::Quad),
         _ => None,
     }
 }
@@ -35,8 +33,8 @@ fn offset_of(patch: &Patch<'_>) -> Option<u32>
         ≡ offset_in (fix_of patch.now).at (fix_of patch.now).name.need) }
 {
     match patch.need {
-        Need::Insn(_) => u32::try_from(patch.at).ok()?.checked_mul(4),
-        Need::Quad => u32::try_from(patch.at).ok(),
+        Need::Put(RelocationKind::Insn(_)) => u32::try_from(patch.at).ok()?.checked_mul(4),
+        Need::Put(RelocationKind::Quad) => u32::try_from(patch.at).ok(),
         Need::Entry => Some(0),
     }
 }

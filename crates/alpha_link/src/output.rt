@@ -1,40 +1,24 @@
 //! The code and the data bytes of an image that modules link to, one behind the other.
 
-ghost use Rattle.std.specs.Prelude.{◌≡◌, ◌+◌, ◌-◌, ◌++◌, ◌≤◌, [], length, All, replicate, None, Some, Ok, OnOk, IfOk, IfSome, is_some, not, position};
-ghost use Rattle.std.specs.Option.{option_and_then};
+ghost use Rattle.std.specs.Prelude.{◌≡◌, ◌+◌, ◌-◌, ◌++◌, ◌≤◌, [], length, All, replicate, None, Ok, OnOk, IfOk, IfSome, not, position};
 ghost use Rattle.std.specs.List.{filter_map};
 ghost use Rattle.alpha_words.specs.declared.Level.TheVariants.{One};
 ghost use Rattle.alpha_table.specs.Decoded.{decoded};
 ghost use Rattle.alpha_image.specs.Insns.{IsCodeInsn};
-ghost use Rattle.alpha_asm.specs.Patches.{IsField, IsNear};
-ghost use Rattle.alpha_asm.specs.Program.{reached};
-ghost use Rattle.alpha_link.specs.Linked.{use_of, target, insn_with, code_at, displacement, quadword, is_met, addresses_by};
+ghost use Rattle.alpha_asm.specs.Patches.{IsNear};
+ghost use Rattle.alpha_link.specs.Parts.{IsModule};
+ghost use Rattle.alpha_link.specs.Linked.{target, is_met, addresses_by};
 ghost use Rattle.alpha_link.specs.Addresses.{Knows};
 ghost use Rattle.alpha_link.specs.Names.{found_in};
 ghost use Rattle.alpha_link.specs.Output.{code_with, bytes_with, code_with_all, bytes_with_all, JoinsOne};
 
 use crate::addresses::Addresses;
 use crate::located::Located;
-use crate::relocation::{Relocation, RelocationKind};
-use crate::relocations::is_taken_by;
+use crate::relocation::Relocation;
 use crate::table::Names;
-use alpha_asm::{CODE_BASE, Displacement, Use, displaced, put_quad};
+use alpha_asm::{CODE_BASE, RelocationKind, put_insn, put_quad};
 use alpha_table::Insn;
 use std::alloc::{AllocError, Global};
-
-impl RelocationKind {
-    // How an instruction uses the address, `None` where it is a quadword.
-    fn use_of(self) -> Option<Use>
-        ensures { result ≡ use_of self }
-    {
-        match self {
-            RelocationKind::Branch => Some(Use::Branch),
-            RelocationKind::High => Some(Use::High),
-            RelocationKind::Low => Some(Use::Low),
-            RelocationKind::Quad => None,
-        }
-    }
-}
 
 // The address that a relocation puts in: its symbol's, and its addend.
 fn target(addresses: &Addresses<'_, '_>, relocation: &Relocation) -> Option<i128>
@@ -43,27 +27,6 @@ fn target(addresses: &Addresses<'_, '_>, relocation: &Relocation) -> Option<i128
 {
     let address = addresses.get(relocation.symbol as usize)?;
     Some(i128::from(address) + i128::from(relocation.addend))
-}
-
-// The displacement that a relocation puts into an instruction at `pc`, if it reaches.
-fn reached(by: Use, pc: u64, target: Option<i128>) -> Option<Displacement>
-    requires { IfSome target IsNear }
-    ensures value { result ≡ option_and_then (reached by pc) target }
-    ensures field { IfSome result IsField }
-{
-    by.displacement(u128::from(pc), target?)
-}
-
-// An instruction with another displacement, where a relocation of this kind is one of it.
-fn insn_with(kind: RelocationKind, displacement: Displacement, insn: &Insn) -> Insn
-    requires { IsField displacement }
-    ensures { result ≡ insn_with kind displacement insn.now }
-{
-    if is_taken_by(kind, insn) {
-        displaced(insn, displacement)
-    } else {
-        *insn
-    }
 }
 
 /// What is joined so far.
@@ -85,70 +48,7 @@ impl Output {
         })
     }
 
-    // Puts a displacement into the instruction at a place, if there is one of this kind.
-    fn displace(&mut self, kind: RelocationKind, place: usize, displacement: Displacement)
-        requires { IsField displacement }
-        ensures code { self.new.code.items
-            ≡ code_at kind place (Some displacement) self.old.code.items }
-        ensures same { self.new.bytes ≡ self.old.bytes }
-    {
-        match self.code.get(place) {
-            Some(insn) => {
-                let new = insn_with(kind, displacement, insn);
-                self.code[place] = new;
-            }
-            None => {}
-        }
-    }
-
-    // Puts an address into an instruction. Whether it reaches.
-    fn put_insn(
-        &mut self,
-        by: Use,
-        addresses: &Addresses<'_, '_>,
-        located: &Located<'_>,
-        relocation: &Relocation,
-    ) -> bool
-        requires { use_of relocation.now.kind ≡ Some by }
-        ensures fits { result ≡ is_some (displacement addresses.now located.now relocation.now) }
-        ensures code { self.new.code.items
-            ≡ code_with addresses.now located.now relocation.now self.old.code.items }
-        ensures same { self.new.bytes ≡ self.old.bytes }
-    {
-        let words = located.words;
-        let offset = relocation.offset;
-        let pc = CODE_BASE + 4 * u64::from(words) + u64::from(offset);
-        let place = words as usize + (offset / 4) as usize;
-        match reached(by, pc, target(addresses, relocation)) {
-            Some(displacement) => {
-                self.displace(relocation.kind, place, displacement);
-                true
-            }
-            None => false,
-        }
-    }
-
-    // Puts the quadword of an address into the data bytes, and answers whether the address fits into one.
-    fn put_quad(
-        &mut self,
-        addresses: &Addresses<'_, '_>,
-        located: &Located<'_>,
-        relocation: &Relocation,
-    ) -> bool
-        requires { relocation.now.kind ≡ RelocationKind.Quad }
-        ensures fits { result ≡ is_some (quadword addresses.now relocation.now) }
-        ensures bytes { self.new.bytes.items
-            ≡ bytes_with addresses.now located.now relocation.now self.old.bytes.items }
-        ensures same { self.new.code ≡ self.old.code }
-    {
-        let at = located.filled as usize + relocation.offset as usize;
-        match target(addresses, relocation) {
-            Some(address) => put_quad(address, at, &mut self.bytes),
-            None => false,
-        }
-    }
-
-    // Puts in what a relocation of the last module asks for. Whether it fits.
+    // Puts in what a relocation of the last module asks for, whatever stands there. Whether it fits.
     fn put(
         &mut self,
         addresses: &Addresses<'_, '_>,
@@ -161,9 +61,21 @@ impl Output {
         ensures bytes { self.new.bytes.items
             ≡ bytes_with addresses.now located.now relocation.now self.old.bytes.items }
     {
-        match relocation.kind.use_of() {
-            Some(by) => self.put_insn(by, addresses, located, relocation),
-            None => self.put_quad(addresses, located, relocation),
+        let Some(address) = target(addresses, relocation) else {
+            return false;
+        };
+        let words = located.words;
+        let offset = relocation.offset;
+        match relocation.kind {
+            RelocationKind::Insn(by) => {
+                let pc = CODE_BASE + 4 * u64::from(words) + u64::from(offset);
+                let place = words as usize + (offset / 4) as usize;
+                put_insn(by, u128::from(pc), place, address, &mut self.code)
+            }
+            RelocationKind::Quad => {
+                let at = located.filled as usize + offset as usize;
+                put_quad(address, at, &mut self.bytes)
+            }
         }
     }
 
@@ -198,8 +110,7 @@ impl Output {
             ++ located.now.parts.bytes)) }
         ensures size { OnOk result (length self.new.code.items
             ≡ length self.old.code.items + length located.now.parts.words) }
-        ensures insns { OnOk result (All (IsCodeInsn One) self.old.code.items
-            → All (IsCodeInsn One) self.new.code.items) }
+        ensures good { IsModule located.now.parts }
     {
         let module = located.module;
         self.code.extend_from_slice(&module.insns)?;

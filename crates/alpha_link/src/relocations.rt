@@ -10,8 +10,9 @@ ghost use Rattle.alpha_link.specs.Relocations.{is_taken_by, is_taken_at, is_quad
 
 use crate::ModuleFault;
 use crate::header::Sizes;
-use crate::relocation::{Relocation, RelocationKind};
-use alpha_image::longword_at;
+use crate::relocation::{Relocation, kind_number, kind_of};
+use alpha_asm::{RelocationKind, Use};
+use alpha_image::{longword_at, push_longword};
 use alpha_table::{Form, Insn, MemOp};
 use std::alloc::{AllocError, Global};
 
@@ -20,22 +21,17 @@ pub(crate) const RELOCATION_BYTES: usize = 13;
 
 const QUAD_BYTES: usize = 8;
 
-/// Whether a relocation of this kind puts in the displacement of an instruction.
-pub(crate) fn is_taken_by(kind: RelocationKind, insn: &Insn) -> bool
+// Whether a relocation of this kind puts in the displacement of an instruction.
+fn is_taken_by(kind: RelocationKind, insn: &Insn) -> bool
     ensures { result ≡ is_taken_by kind insn.now }
 {
-    match insn.form() {
-        Form::Branch { disp, .. } => kind == RelocationKind::Branch && disp == 0,
-        Form::Mem {
-            op: MemOp::Ldah,
-            disp,
-            ..
-        } => kind == RelocationKind::High && disp == 0,
-        Form::Mem {
-            op: MemOp::Lda,
-            disp,
-            ..
-        } => kind == RelocationKind::Low && disp == 0,
+    let RelocationKind::Insn(by) = kind else {
+        return false;
+    };
+    match (by, insn.form()) {
+        (Use::Branch, Form::Branch { disp, .. }) => disp == 0,
+        (Use::High, Form::Mem { op, disp, .. }) => op == MemOp::Ldah && disp == 0,
+        (Use::Low, Form::Mem { op, disp, .. }) => op == MemOp::Lda && disp == 0,
         _ => false,
     }
 }
@@ -88,9 +84,7 @@ fn stands_at(insns: &[Insn], filled: &[u8], kind: RelocationKind, offset: u32) -
 {
     match kind {
         RelocationKind::Quad => is_quad_at(filled, offset),
-        RelocationKind::Branch | RelocationKind::High | RelocationKind::Low => {
-            is_taken_at(insns, kind, offset)
-        }
+        RelocationKind::Insn(_) => is_taken_at(insns, kind, offset),
     }
 }
 
@@ -103,9 +97,7 @@ fn follows(last: &Relocation, kind: RelocationKind, offset: u32) -> bool
             kind == RelocationKind::Quad
                 && u64::from(last.offset) + QUAD_BYTES as u64 <= u64::from(offset)
         }
-        RelocationKind::Branch | RelocationKind::High | RelocationKind::Low => {
-            kind == RelocationKind::Quad || last.offset < offset
-        }
+        RelocationKind::Insn(_) => kind == RelocationKind::Quad || last.offset < offset,
     }
 }
 
@@ -143,7 +135,7 @@ fn relocation_in(bytes: &[u8]) -> Option<Relocation>
     requires { 13 ≤ length bytes.now }
     ensures { result ≡ relocation_in bytes.now }
 {
-    let kind = RelocationKind::of(bytes[0])?;
+    let kind = kind_of(bytes[0])?;
     Some(Relocation {
         kind,
         offset: longword_at(bytes, 1),
@@ -208,29 +200,15 @@ pub(crate) fn read_relocations<'a>(
     Ok((relocations, rest))
 }
 
-// The bytes of a relocation.
-#[tactic(auto, unfolding(crate::specs::Relocations::relocation_bytes, alpha_image::specs::Layout::longword))]
-fn relocation_bytes(relocation: &Relocation) -> [u8; RELOCATION_BYTES]
-    ensures { result ≡ relocation_bytes relocation.now }
+// Appends the bytes of a relocation.
+#[tactic(auto, unfolding(crate::specs::Relocations::relocation_bytes))]
+fn push_relocation(out: &mut Vec<u8>, relocation: &Relocation) -> Result<(), AllocError>
+    ensures ok { OnOk result (out.new.items ≡ out.old.items ++ relocation_bytes relocation.now) }
 {
-    let offset = relocation.offset.to_le_bytes();
-    let symbol = relocation.symbol.to_le_bytes();
-    let addend = relocation.addend.cast_unsigned().to_le_bytes();
-    [
-        relocation.kind.number(),
-        offset[0],
-        offset[1],
-        offset[2],
-        offset[3],
-        symbol[0],
-        symbol[1],
-        symbol[2],
-        symbol[3],
-        addend[0],
-        addend[1],
-        addend[2],
-        addend[3],
-    ]
+    out.push(kind_number(relocation.kind))?;
+    push_longword(out, relocation.offset)?;
+    push_longword(out, relocation.symbol)?;
+    push_longword(out, relocation.addend.cast_unsigned())
 }
 
 /// Appends the bytes of the relocations.
@@ -242,7 +220,7 @@ pub(crate) fn push_relocations(
         (out.new.items ≡ out.old.items ++ flat_map relocation_bytes relocations.now) }
 {
     for relocation in relocations {
-        out.extend_from_slice(&relocation_bytes(relocation))?;
+        push_relocation(out, relocation)?;
     }
     Ok(())
 }

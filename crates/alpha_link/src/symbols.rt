@@ -2,19 +2,17 @@
 
 ghost use Rattle.std.specs.Prelude.{◌≡◌, ◌≤◌, ◌<◌, ◌^◌, ◌++◌, ◌∷◌, [], length, map, All, OnOk};
 ghost use Rattle.std.specs.List.{flat_map};
-ghost use Rattle.alpha_image.specs.Layout.{longword};
-ghost use Rattle.alpha_link.specs.Bytes.{halfword};
 ghost use Rattle.alpha_link.specs.Reading.{Gives, items_at};
 ghost use Rattle.alpha_link.specs.Listed.{read_in};
 ghost use Rattle.alpha_link.specs.Symbols.{named, offset_fits, comes_behind, symbol_fits, front_at, symbol_at, symbol_bytes};
 
 use crate::ModuleFault;
 use crate::header::Sizes;
-use crate::number::halfword_at;
+use crate::number::{halfword_at, push_halfword};
 use crate::read::taken;
 use crate::symbol::{Front, Symbol, SymbolSection, is_label_name};
 use crate::symbol_list::{FRONT_BYTES, ReadSymbols, SymbolList};
-use alpha_image::longword_at;
+use alpha_image::{longword_at, push_longword};
 use std::alloc::{AllocError, Global};
 
 /// The most bytes of a symbol's name.
@@ -142,26 +140,15 @@ pub(crate) fn size_of_symbols(symbols: &SymbolList<'_>) -> usize {
     size
 }
 
-// The bytes before a symbol's name.
-#[tactic(auto, unfolding(crate::specs::Bytes::halfword, alpha_image::specs::Layout::longword))]
-fn front_bytes(section: u8, size: u16, offset: u32) -> [u8; FRONT_BYTES]
-    ensures { result ≡ section ∷ (halfword size ++ longword offset) }
-{
-    let size = size.to_le_bytes();
-    let offset = offset.to_le_bytes();
-    [
-        section, size[0], size[1], offset[0], offset[1], offset[2], offset[3],
-    ]
-}
-
 // Appends the bytes of a symbol.
 #[tactic(auto, unfolding(crate::specs::Symbols::symbol_bytes))]
 fn push_symbol(out: &mut Vec<u8>, symbol: &Symbol<'_>) -> Result<(), AllocError>
     requires { length symbol.now.name.now ≤ 1024 }
     ensures ok { OnOk result (out.new.items ≡ out.old.items ++ symbol_bytes (named symbol.now)) }
 {
-    let size = symbol.name.len() as u16;
-    out.extend_from_slice(&front_bytes(symbol.section.number(), size, symbol.offset))?;
+    out.push(symbol.section.number())?;
+    push_halfword(out, symbol.name.len() as u16)?;
+    push_longword(out, symbol.offset)?;
     out.extend_from_slice(symbol.name)
 }
 

@@ -3,8 +3,8 @@
 use alpha_asm::AsmFault;
 use alpha_image::{Image, code_word};
 use alpha_link::{
-    LinkFault, Module, ModuleFault, RelocationKind, SymbolSection, link, make_module, module_bytes,
-    read_module, verdict,
+    LinkFault, Module, ModuleFault, RelocationKind, SymbolSection, Use, link, make_module,
+    module_bytes, read_module, verdict,
 };
 use alpha_shadow::{Broken, Condition};
 use std::alloc::{AllocError, Global};
@@ -125,7 +125,7 @@ fn a_module_lists_its_symbols_and_relocations(rt: HostRuntime) -> Result<(), Fai
         assert_eq!(rt; sum.name, b"sum".as_slice());
     }
     if let [branch] = module.relocations() {
-        assert_eq!(rt; (branch.kind, branch.symbol), (RelocationKind::Branch, 1));
+        assert_eq!(rt; (branch.kind, branch.symbol), (RelocationKind::Insn(Use::Branch), 1));
         assert_eq!(rt; (branch.offset, branch.addend), (0, 0));
     }
     assert_eq!(rt;

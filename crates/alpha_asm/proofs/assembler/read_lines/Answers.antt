@@ -11,11 +11,11 @@ loop-rest-init c = record {
 
 pub loop-rest-preserved : goal.loop-rest-preserved
 loop-rest-preserved c = record {
-  pass = goes_on c.args.kind c.args.source.now c.loop-rest.rest.now c.first_line.result.0.now c.first_line.result.1.now c.loop-rest.pass c.take_line.new.self
-      c.loop-rest.invariant.pass c.first_line.ensures.value c.first_line.ensures.shorter
+  pass = goes_on c.args.kind c.args.source.now c.loop-rest.rest.now c.first-line.result.text.now c.first-line.result.rest.now c.loop-rest.pass c.take_line.new.self
+      c.loop-rest.invariant.pass c.first-line.ensures.lines c.first-line.ensures.shorter
       c.in_ok-take_line.ensures.taken c.in_ok-take_line.ensures.ok c.in_ok-take_line.ensures.bounded c.in_ok-take_line.ensures.line;
   gathers = c.in_ok-take_line.ensures.gathers ∙ c.loop-rest.invariant.gathers;
-  kinds = λ h. kinds_go_on _ _ _ c.args.source.now c.loop-rest.rest.now c.first_line.result.0.now c.first_line.result.1.now c.first_line.ensures.value
+  kinds = λ h. kinds_go_on _ _ _ c.args.source.now c.loop-rest.rest.now c.first-line.result.text.now c.first-line.result.rest.now c.first-line.ensures.lines
       (c.in_ok-take_line.ensures.kinds (c.loop-rest.invariant.gathers ∙ h)) (c.loop-rest.invariant.kinds h);
 }
 

@@ -1,13 +1,9 @@
-use Rattle.std.proofs.Common.{◌+◌, ◌≤◌, length, arith}
-use Rattle.alpha_asm.proofs.Putting.{writes, written}
+use Rattle.std.proofs.Common.{◌≡◌, ◌+◌, ◌-◌, ◌≤◌, ◌∙◌, length, arith}
+use Rattle.alpha_asm.proofs.Putting.{written}
 use Rattle.alpha_asm.proofs.bases.put_quadword.Goals as goal
-
-pub loop-k-preserved : goal.loop-k-preserved
-loop-k-preserved c =
-    let room : c.args.at + 8 ≤ length c.args.bytes.now.items = omega (arith, c.args.bytes.now.ok.0) in
-    writes c.args.at c.args.n c.loop-k.k c.loop-k.rest c.args.bytes.now.items c.loop-k.bytes.items c.loop-k-test.true room c.loop-k.invariant
 
 pub returns : goal.returns
 returns c =
-    let room : c.args.at + 8 ≤ length c.args.bytes.now.items = omega (arith, c.args.bytes.now.ok.0) in
-    written c.args.at c.args.n c.loop-k.k c.loop-k.rest c.args.bytes.now.items c.loop-k.bytes.items (omega arith) (omega arith) room c.loop-k.invariant
+    let room : c.args.at + 8 ≤ length c.args.bytes.now = omega arith in
+    let eight : c.args.at + 8 - c.args.at ≡ 8 = omega arith in
+    rw eight (written c.args.at c.args.n c.args.bytes.now _ room (c.copy_from_slice.ensures.after ∙ c.to_le_bytes.ensures))

@@ -1,5 +1,5 @@
 use Rattle.std.proofs.Common.{◌≡◌, length}
-use Rattle.alpha_fix.specs.SourceLines.{source_lines}
+use Rattle.alpha_asm.specs.SourceLines.{source_lines}
 use Rattle.alpha_fix.proofs.Building.{Underway}
 use Rattle.alpha_fix.proofs.Roles.{kinds_from}
 use Rattle.alpha_fix.proofs.barriers.with_barriers.Given as goal

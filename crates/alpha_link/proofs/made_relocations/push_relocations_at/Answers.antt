@@ -1,10 +1,11 @@
 use Rattle.std.proofs.Common.{◌≡◌, ℕ, ◌+◌, ◌<◌, List, [], ◌∷◌, ◌++◌, length, map, drop, get_or, pos, Option, None, Some, refl, sym, ap, ◌∙◌, append_assoc, arith}
 use Rattle.std.specs.List.{cons_option}
 use Rattle.std.proofs.lemmas.List.{append-nil}
-use Rattle.alpha_asm.specs.declared.patch.Need.TheVariants.{Insn}
+use Rattle.alpha_asm.specs.declared.patch.Need.TheVariants.{Put}
+use Rattle.alpha_asm.specs.declared.patch.RelocationKind.TheVariants.{Insn}
+use Rattle.alpha_asm.specs.declared.statement.Use.TheVariants.{Branch}
 use Rattle.alpha_asm.specs.declared.patch.Patch.{Patch}
 use Rattle.alpha_asm.specs.declared.place.Section.{Section}
-use Rattle.alpha_asm.specs.declared.statement.Use.TheVariants.{Branch}
 use Rattle.alpha_asm.specs.Patches.{fix_of}
 use Rattle.alpha_link.specs.declared.relocation.Relocation.{Relocation}
 use Rattle.alpha_link.specs.Numbered.{relocation_at, relocations_at}
@@ -29,7 +30,7 @@ one_more side ps ns i p old new whole in_patches in_numbers pushed before =
 
 pub loop-at-preserved : goal.loop-at-preserved
 loop-at-preserved c =
-    let none : Patch = record { to = record { label = record { ref_ptr = (0, 0); now = [] }; offset = pos 0 }; at = 0; line = 0; need = Insn Branch } in
+    let none : Patch = record { to = record { label = record { ref_ptr = (0, 0); now = [] }; offset = pos 0 }; at = 0; line = 0; need = Put (Insn Branch) } in
     one_more c.args.side c.args.patches.now c.args.numbers.now c.loop-at.at none c.loop-at.relocations.items _ _ c.loop-at-test.true
     (omega (arith, c.requires)) c.in_ok-push_relocation_at.ensures c.loop-at.invariant
 

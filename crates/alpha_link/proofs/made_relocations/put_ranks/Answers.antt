@@ -1,14 +1,15 @@
 use Rattle.std.proofs.Common.{◌<◌, length, get_or, pos}
 use Rattle.std.proofs.lemmas.List.{get_or_default}
 use Rattle.std.proofs.lemmas.List.Edits.{map_over_more}
-use Rattle.alpha_link.specs.declared.relocation.RelocationKind.TheVariants.{Branch}
+use Rattle.alpha_asm.specs.declared.patch.RelocationKind.TheVariants.{Insn}
+use Rattle.alpha_asm.specs.declared.statement.Use.TheVariants.{Branch}
 use Rattle.alpha_link.specs.declared.relocation.Relocation.{Relocation}
 use Rattle.alpha_link.specs.Numbered.{ranked}
 use Rattle.alpha_link.proofs.made_relocations.put_ranks.Goals as goal
 
 pub loop-relocation-preserved : goal.loop-relocation-preserved
 loop-relocation-preserved c =
-    let none : Relocation = record { kind = Branch; offset = 0; symbol = 0; addend = pos 0 } in
+    let none : Relocation = record { kind = Insn Branch; offset = 0; symbol = 0; addend = pos 0 } in
     let xs = c.deref_mut-relocation-items.result.now in
     let i = c.loop-relocation.relocation-index in
     let ys = c.loop-relocation.relocation-items in

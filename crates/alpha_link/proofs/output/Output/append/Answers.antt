@@ -1,11 +1,9 @@
 use Rattle.std.proofs.Common.{◌≡◌, ap, sym, subst, ◌∙◌, rules}
 use Rattle.std.specs.List.{filter_map}
-use Rattle.std.proofs.lemmas.Result.{on_ok_weaker}
 use Rattle.alpha_table.specs.Decoded.{decoded}
 use Rattle.alpha_asm.proofs.Making.{insns_of_words}
 use Rattle.alpha_link.specs.Parts.{ModuleParts, IsModule}
 use Rattle.alpha_link.specs.Linked.{Located}
-use Rattle.alpha_link.proofs.LinkedInsns.{level_one_append}
 use Rattle.alpha_link.proofs.output.Output.append.Goals as goal
 
 pub returns-clause-code : goal.returns-clause-code
@@ -14,7 +12,5 @@ returns-clause-code c =
     let insns : filter_map decoded c.args.located.now.parts.words ≡ c.module.inside.insns.items = ap (filter_map decoded) (sym words) ∙ insns_of_words _ _ c.module.invariant.insns in
     rw insns (search rules)
 
-pub returns-clause-insns : goal.returns-clause-insns
-returns-clause-insns c =
-    let parts = c.module.view_is ∙ ap (λ (l : Located). l.parts) c.located.view_is in
-    on_ok_weaker c.extend_from_slice-2.result (level_one_append c.args.located.now.parts c.args.self.now.code.items c.extend_from_slice.new.self.items (subst IsModule parts c.module.invariant.good)) (returns-clause-code c)
+pub returns-clause-good : goal.returns-clause-good
+returns-clause-good c = subst IsModule (c.module.view_is ∙ ap (λ (l : Located). l.parts) c.located.view_is) c.module.invariant.good

@@ -4,7 +4,7 @@ use Rattle.std.specs.List.{flat_map, slice_split, onto_first}
 use Rattle.std.specs.Str.Lines.{lines, lines_of_parts, strip_carriage_return}
 use Rattle.std.proofs.lemmas.List.{append-nil}
 use Rattle.std.proofs.lemmas.Bool.Decides.{nat_tests}
-use Rattle.alpha_fix.specs.SourceLines.{SourceLine, ended, unended, line_bytes, line_text, longer, source_lines}
+use Rattle.alpha_asm.specs.SourceLines.{SourceLine, ended, unended, line_bytes, line_text, longer, source_lines}
 
 abbrev feed : ℕ → Bool
 feed b = eqb b 10

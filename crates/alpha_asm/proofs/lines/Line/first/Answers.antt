@@ -1,8 +1,8 @@
 use Rattle.std.proofs.Common.{◌≡◌, ◌+◌, ◌-◌, length, take, drop, refl, arith}
 use Rattle.std.proofs.lemmas.Grind.{common_steps}
 use Rattle.std.specs.Str.Lines.{strip_carriage_return}
-use Rattle.alpha_fix.proofs.Lining.{first_found, last_found}
-use Rattle.alpha_fix.proofs.line.Line.first.Goals as goal
+use Rattle.alpha_asm.proofs.Lining.{first_found, last_found, first_text}
+use Rattle.alpha_asm.proofs.lines.Line.first.Goals as goal
 
 pub returns-in-Some-clause-first : goal.returns-in-Some-clause-first
 returns-in-Some-clause-first c =
@@ -14,3 +14,9 @@ returns-in-Some-clause-first c =
 
 pub returns-in-None-clause-first : goal.returns-in-None-clause-first
 returns-in-None-clause-first c = last_found c.args.source.now _ c.requires c.in-None.ensures refl refl refl refl
+
+pub returns-in-Some-clause-lines : goal.returns-in-Some-clause-lines
+returns-in-Some-clause-lines c = first_text c.args.source.now _ (returns-in-Some-clause-first c)
+
+pub returns-in-None-clause-lines : goal.returns-in-None-clause-lines
+returns-in-None-clause-lines c = first_text c.args.source.now _ (returns-in-None-clause-first c)

@@ -1,7 +1,8 @@
 -- The lines of a source with their ends.
-use Rattle.std.specs.Prelude.{ℕ, List, [], ◌∷◌, ◌++◌, ◌==◌, Bool, true, false, if◌then◌else◌}
+use Rattle.std.specs.Prelude.{◌≡◌, ℕ, List, [], ◌∷◌, ◌++◌, ◌==◌, Bool, true, false, if◌then◌else◌}
 use Rattle.std.specs.Str.Lines.{strip_carriage_return}
 use Rattle.alpha_text.specs.Reading.{LineSaid}
+use Rattle.alpha_asm.specs.declared.lines.Line.{Line}
 use Rattle.alpha_asm.specs.Assembled.{item_at}
 
 -- a line that ends with a line feed, or the last one without
@@ -41,3 +42,15 @@ source_lines (b ∷ source) = if b == 10 then ended [] ∷ source_lines source e
 
 abbrev pub line_item : SourceLine → LineSaid
 line_item line = item_at (line_text line)
+
+-- a line as the code has it
+pub record Is (line : SourceLine) (l : Line) : Type 0 where
+  pub text : line_text line ≡ l.text.now
+  pub bytes : line_bytes line ≡ l.bytes.now
+  pub ended : is_ended line ≡ l.ended
+
+-- the first line of a source
+pub record IsFirst (source : List ℕ) (l : Line) : Type 0 where
+  pub line : SourceLine
+  pub is : Is line l
+  pub lines : source_lines source ≡ line ∷ source_lines l.rest.now

@@ -1,11 +1,10 @@
 -- The first line of a source.
-use Rattle.std.proofs.Common.{◌≡◌, ℕ, zero, suc, ◌+◌, ◌<◌, ◌≤◌, List, [], ◌∷◌, ◌++◌, length, take, drop, get_or, Bool, true, false, eqb, None, Some, refl, sym, ◌∙◌, ap, arith, eqb-true}
-use Rattle.std.specs.Str.Lines.{strip_carriage_return}
+use Rattle.std.proofs.Common.{◌≡◌, ℕ, zero, suc, ◌+◌, ◌<◌, ◌≤◌, List, [], ◌∷◌, ◌++◌, length, map, take, drop, get_or, Bool, true, false, eqb, None, Some, refl, sym, ◌∙◌, ap, arith, eqb-true}
+use Rattle.std.specs.Str.Lines.{lines, strip_carriage_return}
 use Rattle.memchr.specs.Find.{IsFirstByte, is_byte}
-use Rattle.alpha_fix.specs.declared.line.Line.{Line}
-use Rattle.alpha_fix.specs.SourceLines.{ended, unended, source_lines}
-use Rattle.alpha_fix.specs.Lines.{IsFirst}
-use Rattle.alpha_fix.proofs.Splitting.{NoFeed, ended_front, unended_all}
+use Rattle.alpha_asm.specs.declared.lines.Line.{Line}
+use Rattle.alpha_asm.specs.SourceLines.{IsFirst, ended, unended, line_text, source_lines}
+use Rattle.alpha_asm.proofs.Splitting.{NoFeed, ended_front, unended_all, texts_of}
 
 not_true : (b : Bool) → (b ≡ true → ⊥) → b ≡ false
 not_true true h = absurd (h refl)
@@ -55,3 +54,9 @@ last_found (b ∷ s) l some h text bytes feed rest = record {
   is = record { text = sym text; bytes = sym bytes; ended = sym feed };
   lines = unended_all b s (all_clean (b ∷ s) (λ k below. h k (omega arith) below)) ∙ ap (λ t. unended (b ∷ s) ∷ source_lines t) (sym rest);
 }
+
+-- the library says the same lines
+pub first_text : (s : List ℕ) (l : Line) → IsFirst s l → lines s ≡ l.text.now ∷ lines l.rest.now
+first_text s l f =
+    texts_of s
+    ∙ (ap (map line_text) f.lines ∙ (ap (λ t. t ∷ map line_text (source_lines l.rest.now)) f.is.text ∙ ap (λ ls. l.text.now ∷ ls) (sym (texts_of l.rest.now))))
