@@ -30,7 +30,7 @@ module _ (source cuts text : List ℕ) (image : Parts) (h : HasCuts source image
 
   pub refused_far : (f : FixFault) → IsFar text f → Refuses source f
   refused_far (Source fault) i = absurd i
-  refused_far (Unfixable b) i = absurd i
+  refused_far (Unfixable b base) i = absurd i
   refused_far (Fixed line) i = absurd i
   refused_far (Far fault) i = (image, cuts, h, some, free, ap assembled (sym e) ∙ i)
   refused_far NoMemory i = tt

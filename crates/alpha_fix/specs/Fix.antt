@@ -50,7 +50,7 @@ pub record IsFixedSource (source text : List ℕ) : Type 0 where
 -- why a source has no fixed source
 abbrev pub Refuses : List ℕ → FixFault → Type 0
 Refuses source (Source fault) = assembled source ≡ Err fault
-Refuses source (Unfixable b) = (image : Parts) × HasImage source image × IsLeastAlone image.words b
+Refuses source (Unfixable b base) = (image : Parts) × HasImage source image × IsLeastAlone image.words b × (base ≡ image.code_base)
 Refuses source (Fixed line) = (image : Parts) × (cuts : List ℕ) × HasCuts source image cuts × (cuts ≢ []) × (fixed_line source ≡ Some line)
 Refuses source (Far fault) =
     (image : Parts) × (cuts : List ℕ) × HasCuts source image cuts × (cuts ≢ []) × (fixed_line source ≡ None) × (assembled (fixed_source source cuts) ≡ Err fault)
@@ -59,7 +59,7 @@ Refuses source NoMemory = Unit {0}
 -- why a text has no image
 abbrev pub IsFar : List ℕ → FixFault → Type 0
 IsFar text (Source fault) = ⊥
-IsFar text (Unfixable b) = ⊥
+IsFar text (Unfixable b base) = ⊥
 IsFar text (Fixed line) = ⊥
 IsFar text (Far fault) = assembled text ≡ Err fault
 IsFar text NoMemory = Unit {0}

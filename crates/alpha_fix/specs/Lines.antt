@@ -15,7 +15,7 @@ role false false = Other
 -- why barriers aren't put into a source
 abbrev pub Hinders : List ℕ → FixFault → Type 0
 Hinders source (Source fault) = ⊥
-Hinders source (Unfixable b) = ⊥
+Hinders source (Unfixable b base) = ⊥
 Hinders source (Fixed line) = fixed_line source ≡ Some line
 Hinders source (Far fault) = ⊥
 Hinders source NoMemory = Unit {0}

@@ -34,9 +34,9 @@ pub enum FixFault {
     #[error("the source has no image")]
     Source(AsmFault),
     /// A trigger is broken at its own place, which no barrier changes: the first one, by its first
-    /// condition.
+    /// condition; and the code base of the source's image.
     #[error("a trigger is broken at its own place")]
-    Unfixable(Broken),
+    Unfixable(Broken, u64),
     /// A barrier is needed, and a line fixes where words of the code stand: the first such line.
     /// Lines are numbered from 1.
     #[error("line {0} fixes where words stand")]

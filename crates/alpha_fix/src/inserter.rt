@@ -51,7 +51,7 @@ fn fix_image<'a>(
                 fix_at(alloc, source, base, words, &cuts, image, symbols)
             }
         }
-        Err(CutFault::Unfixable(broken)) => Err(FixFault::Unfixable(broken)),
+        Err(CutFault::Unfixable(broken)) => { Err(FixFault::Unfixable(broken, image.code_base())) }
         Err(CutFault::NoMemory) => Err(FixFault::NoMemory),
     }
 }
@@ -87,12 +87,7 @@ fn checked(alloc: Global, text: Vec<u8>) -> Result<Vec<u8>, FixFault>
     ensures refused { IfErr result (IsFar text.items) }
 {
     match assemble(alloc, &text) {
-        Ok(image) => {
-            // The call says by its clause `good` that the rules of images hold of this one, as the clause
-            // `image` wants it. The number isn't used.
-            let _words = image.words();
-            Ok(text)
-        }
+        Ok(_) => Ok(text),
         Err(AsmFault::NoMemory) => Err(FixFault::NoMemory),
         Err(fault) => Err(FixFault::Far(fault)),
     }

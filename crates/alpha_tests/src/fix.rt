@@ -1,5 +1,5 @@
 use FixFault::{Far, Fixed, Source, Unfixable};
-use alpha_asm::{AsmFault, assemble};
+use alpha_asm::{AsmFault, CODE_BASE, assemble};
 use alpha_fix::{FixFault, cuts_of, fix};
 use alpha_shadow::{Broken, Condition};
 use alpha_text::{LineFault, LineFaultKind};
@@ -95,11 +95,12 @@ fn barriers_stand_where_places_are_broken(rt: HostRuntime) {
 #[test]
 fn why_a_source_is_not_fixed(rt: HostRuntime) {
     let alone = |trigger, condition| {
-        Unfixable(Broken {
+        let broken = Broken {
             trigger,
             at: trigger,
             condition,
-        })
+        };
+        Unfixable(broken, CODE_BASE)
     };
     let unknown = LineFault {
         kind: LineFaultKind::UnknownName,

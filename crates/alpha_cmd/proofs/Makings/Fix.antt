@@ -130,11 +130,8 @@ fixes_some source (Ok program) e = let (image, is) = some-image source program e
 fixes_some source (Err fault) e = (stops (BadSource fault) (status_line (BadSource fault)), inr (inl (fault, refl, e), refl))
 
 -- the addresses of its first trigger that is broken at its own place, by its image
-pub unfixable_at : (source : List ℕ) (image : Parts) (b : Broken) (base : ℕ) → HasImage source image → base ≡ image.code_base → Refuses source (faults.Unfixable b)
-    → Unfixes source (Unfixable b) (unfixable_line b base)
-unfixable_at source image b base has is (other, also, least) =
-    let same = same_image source other image also has in
-    inl (image, has, (b, refl, (subst (λ (p : Parts). IsLeastAlone p.words b) same least, ap (unfixable_line b) is)))
+pub unfixable_at : (source : List ℕ) (b : Broken) (base : ℕ) → Refuses source (faults.Unfixable b base) → Unfixes source (Unfixable b) (unfixable_line b base)
+unfixable_at source b base (image, has, least, is) = inl (image, has, (b, refl, (least, ap (unfixable_line b) is)))
 
 -- ---- the command
 

@@ -1,7 +1,8 @@
 use Rattle.std.proofs.Common.{refl, subst, inl, inr}
 use Rattle.alpha_fix.specs.Fix.{Refuses}
-use Rattle.alpha_cmd.specs.declared.status.Status.TheVariants.{BadSource, FixedLine, Far, NoMemory}
-use Rattle.alpha_cmd.specs.Status.{status_line}
+use Rattle.alpha_cmd.specs.declared.status.Status.TheVariants.{BadSource, Unfixable, FixedLine, Far, NoMemory}
+use Rattle.alpha_cmd.specs.Status.{status_line, unfixable_line}
+use Rattle.alpha_cmd.proofs.Commands.Fix.{unfixable_at}
 use Rattle.alpha_cmd.proofs.Trying.{says_by}
 use Rattle.alpha_cmd.proofs.making.fix.fixed.Goals as goal
 
@@ -10,6 +11,13 @@ returns-in-Err-Source-clause-refused c =
     let fault = c.in-Err-Source.fault in
     says_by _ c.said.result (BadSource fault) (status_line (BadSource fault)) c.said.ensures.answer
     (inl (inr (inl (fault, refl, subst (Refuses c.args.source.now) c.in-Err-Source.field-0-is c.in-Err-Source.ensures.refused), refl)))
+
+pub returns-in-Err-Unfixable-clause-refused : goal.returns-in-Err-Unfixable-clause-refused
+returns-in-Err-Unfixable-clause-refused c =
+    let broken = c.in-Err-Unfixable.broken in
+    let base = c.in-Err-Unfixable.base in
+    says_by _ c.unfixable.result (Unfixable broken) (unfixable_line broken base) c.unfixable.ensures
+    (inl (unfixable_at c.args.source.now broken base (subst (Refuses c.args.source.now) c.in-Err-Unfixable.field-0-is c.in-Err-Unfixable.ensures.refused)))
 
 pub returns-in-Err-Fixed-clause-refused : goal.returns-in-Err-Fixed-clause-refused
 returns-in-Err-Fixed-clause-refused c =
