@@ -55,10 +55,8 @@ impl<'a> Bases<'_, 'a> {
             ≡ address_of (known_of self.now) (reference_of to.now)) }
         ensures near { IfSome result IsNear }
     {
-        match self.labels.spot(to.label) {
-            Some(spot) => Some(self.spot_address(spot) as i128 + i128::from(to.offset)),
-            None => None,
-        }
+        let spot = self.labels.spot(to.label)?;
+        Some(self.spot_address(spot) as i128 + i128::from(to.offset))
     }
 
     /// The address of the entry, the last number of 64 bits where it is outside them.
@@ -133,33 +131,6 @@ pub fn put_quad(address: i128, at: usize, bytes: &mut Vec<u8>) -> bool
     }
 }
 
-// Puts an address in. Whether it fits.
-fn put(
-    bases: &Bases<'_, '_>,
-    need: Need,
-    at: usize,
-    address: i128,
-    code: &mut Vec<Insn>,
-    bytes: &mut Vec<u8>,
-) -> bool
-    requires { IsNear address }
-    ensures fits { result ≡ is_met (known_of bases.now) address (need_of at need) }
-    ensures code { code.new.items
-        ≡ code_with (known_of bases.now) address (need_of at need) code.old.items }
-    ensures bytes { bytes.new.items
-        ≡ bytes_with (known_of bases.now) (offset_of at need) address
-        (need_of at need) bytes.old.items }
-{
-    match need {
-        Need::Put(RelocationKind::Insn(by)) => {
-            let pc = u128::from(bases.code_base) + 4 * at as u128;
-            put_insn(by, pc, at, address, code)
-        }
-        Need::Put(RelocationKind::Quad) => put_quad(address, at, bytes),
-        Need::Entry => true,
-    }
-}
-
 // Puts in the address that a patch names. Whether it fits, `None` exactly where its label has no
 // definition.
 fn put_patch<'a>(
@@ -181,9 +152,15 @@ fn put_patch<'a>(
         (address_of (known_of bases.now) (reference_of patch.now.to))
         (need_of patch.now.at patch.now.need) bytes.old.items) }
 {
-    match bases.address(&patch.to) {
-        Some(address) => Some(put(bases, patch.need, patch.at, address, code, bytes)),
-        None => None,
+    let address = bases.address(&patch.to)?;
+    let at = patch.at;
+    match patch.need {
+        Need::Put(RelocationKind::Insn(by)) => {
+            let pc = u128::from(bases.code_base) + 4 * at as u128;
+            Some(put_insn(by, pc, at, address, code))
+        }
+        Need::Put(RelocationKind::Quad) => Some(put_quad(address, at, bytes)),
+        Need::Entry => Some(true),
     }
 }
 

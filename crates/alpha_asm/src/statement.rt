@@ -1,7 +1,7 @@
 ghost use Rattle.std.specs.Prelude.{◌≡◌};
 ghost use Rattle.std.specs.Option.{option_map};
 ghost use Rattle.alpha_text.specs.Statements.{said};
-ghost use Rattle.alpha_asm.specs.Statement.{coded, section_in, level_in, segment_in, zeroed_in, align_in, is_statement};
+ghost use Rattle.alpha_asm.specs.Statement.{coded, section_in, level_in, segment_in, zeroed_in, is_statement};
 ghost use Rattle.alpha_asm.specs.Patches.{coded_of};
 
 use crate::place::Section;
@@ -85,16 +85,6 @@ pub(crate) fn zeroed_in(statement: &Statement<'_>) -> Option<u32>
 {
     match *statement {
         Statement::Zero(n) => Some(n),
-        _ => None,
-    }
-}
-
-/// The power of two that an `.align` asks for.
-pub(crate) fn align_in(statement: &Statement<'_>) -> Option<u8>
-    ensures { result ≡ align_in (said statement.now) }
-{
-    match *statement {
-        Statement::Align(n) => Some(n),
         _ => None,
     }
 }

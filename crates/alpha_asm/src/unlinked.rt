@@ -56,10 +56,8 @@ impl<'a> Unlinked<'a> {
             first_refused kinds.Module [] (lines source.now) ≡ Some fault) }
     {
         let mut kinds = LineKinds::none(alloc);
-        match read_lines(alloc, SourceKind::Module, source, &mut kinds) {
-            Ok(pass) => Ok(Unlinked::behind(pass)?),
-            Err(fault) => Err(fault),
-        }
+        let pass = read_lines(alloc, SourceKind::Module, source, &mut kinds)?;
+        Ok(Unlinked::behind(pass)?)
     }
 
     // What a pass has made.

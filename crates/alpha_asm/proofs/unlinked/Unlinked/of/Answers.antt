@@ -4,10 +4,10 @@ use Rattle.alpha_asm.specs.Assembled.{item_at}
 use Rattle.alpha_asm.proofs.ModuleLines.{lines_unlinked, level_unset}
 use Rattle.alpha_asm.proofs.unlinked.Unlinked.of.Goals as goal
 
-pub returns-in-Ok-clause-good : goal.returns-in-Ok-clause-good
-returns-in-Ok-clause-good c = lines_unlinked [] (lines c.args.source.now) c.in-Ok.ensures.taken
+pub returns-clause-good : goal.returns-clause-good
+returns-clause-good c = lines_unlinked [] (lines c.args.source.now) c.in_ok-pass.ensures.taken
 
-pub returns-in-Ok-clause-level : goal.returns-in-Ok-clause-level
-returns-in-Ok-clause-level c =
+pub returns-clause-level : goal.returns-clause-level
+returns-clause-level c =
     let is = map item_at (lines c.args.source.now) in
-    c.in_ok-behind-in-Ok.ensures.level is c.in-Ok.ensures.stands (level_unset is (lines_unlinked [] (lines c.args.source.now) c.in-Ok.ensures.taken))
+    c.in_ok-behind.ensures.level is c.in_ok-pass.ensures.stands (level_unset is (lines_unlinked [] (lines c.args.source.now) c.in_ok-pass.ensures.taken))
