@@ -2,7 +2,7 @@ use Rattle.std.proofs.Common.{refl, subst, inl, inr}
 use Rattle.alpha_fix.specs.Fix.{Refuses}
 use Rattle.alpha_cmd.specs.declared.status.Status.TheVariants.{BadSource, Unfixable, FixedLine, Far, NoMemory}
 use Rattle.alpha_cmd.specs.Status.{status_line, unfixable_line}
-use Rattle.alpha_cmd.proofs.Commands.Fix.{unfixable_at}
+use Rattle.alpha_cmd.proofs.Makings.Fix.{unfixable_at}
 use Rattle.alpha_cmd.proofs.Trying.{says_by}
 use Rattle.alpha_cmd.proofs.making.fix.fixed.Goals as goal
 
