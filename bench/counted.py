@@ -1,7 +1,7 @@
 #!/usr/bin/env python3
-"""Counts the plain work of `check`, `link`, `dis`, `asm` and `run` in C, bench/counted.c compiled by `gcc -O2`, beside what
-the program takes for the same words and lines: host instructions a word, a line or a step, each the difference of two
-calls, so that the start isn't in it. It needs gcc and valgrind.
+"""Counts the plain work of `check`, `link`, `dis`, `asm` and `run` in C, bench/counted.c compiled by `gcc -O2`, beside
+what the program takes for the same words and lines: host instructions a word, a line or a step, each the difference of
+two calls, so that the start isn't in it. It needs gcc and valgrind.
 
     bench/counted.py [PROGRAM]
 """
@@ -11,7 +11,8 @@ import tempfile
 
 from asm import canonical
 from link import module, symbol
-from measure import NOP, TOP, WORDS, branch, branch_if, image, instructions, load, no_triggers, operate, store, the_program
+from measure import (TOP, WORDS, branch, branch_if, image, instructions, load, no_triggers, operate, store,
+                     the_program)
 from run import loop
 
 FEW = WORDS // 8
@@ -48,7 +49,7 @@ class Both:
             return instructions([self.plain, *words], stdin=contents)
 
     def compare(self, name, few, many, words, files, count):
-        """What both take for each of `count` more: `few` and `many` are read by C, `files` make the words of the program."""
+        """What both take for each of `count` more: C reads `few` and `many`, and the program the two `files`."""
         ours = [instructions([self.program, *words(file)]) for file in files]
         plain = [self.of_plain(file, name) for file in (few, many)]
         print(f"{name}: {(plain[1] - plain[0]) / count:.1f} in C, {(ours[1] - ours[0]) / count:.1f} here")
