@@ -9,7 +9,7 @@ import os
 import subprocess
 import tempfile
 
-from asm import canonical
+from asm import canonical, source
 from link import module, symbol
 from measure import (TOP, WORDS, branch, branch_if, image, instructions, load, no_triggers, operate, store,
                      the_program)
@@ -50,6 +50,8 @@ class Both:
 
     def compare(self, name, few, many, words, files, count):
         """What both take for each of `count` more: C reads `few` and `many`, and the program the two `files`."""
+        for file in files:
+            subprocess.run([self.program, *words(file)], stdout=subprocess.DEVNULL, check=True)
         ours = [instructions([self.program, *words(file)]) for file in files]
         plain = [self.of_plain(file, name) for file in (few, many)]
         print(f"{name}: {(plain[1] - plain[0]) / count:.1f} in C, {(ours[1] - ours[0]) / count:.1f} here")
@@ -69,8 +71,10 @@ def count_words(both):
     both.compare("dis", few, many, lambda file: ["dis", file], (few, many), more)
     parts = [both.keep(f"part{len(some)}", one_module(some)) for some in (code[:FEW], code)]
     both.compare("link", few, many, lambda file: ["link", both.path("out"), file], parts, more)
-    sources = [both.keep(f"source{count}", canonical(count).encode()) for count in (FEW, WORDS)]
-    both.compare("asm", *sources, lambda file: ["asm", file, both.path("out")], sources, more)
+    lines = [canonical(count) for count in (FEW, WORDS)]
+    few, many = (both.keep(f"lines{len(text)}", text.encode()) for text in lines)
+    sources = [both.keep(f"source{len(text)}", source(text)) for text in lines]
+    both.compare("asm", few, many, lambda file: ["asm", file, both.path("out")], sources, more)
 
 
 def count_steps(both):
