@@ -79,12 +79,8 @@ impl Word {
     pub fn disp21(self) -> i32
         ensures { result ≡ signed_field 20 0 self.0 }
     {
-        let low = (self.0 & 0x1f_ffff) as i32;
-        if low < 0x10_0000 {
-            low
-        } else {
-            low - 0x20_0000
-        }
+        // Up to the sign and down again: two shifts, where a test of the sign is made of six host instructions.
+        (self.0 << 11).cast_signed() >> 11
     }
 
     /// The kind of a jump: bits 15 to 14 (Architecture Handbook, section 3.3.1).
