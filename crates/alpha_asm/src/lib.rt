@@ -15,8 +15,8 @@
 //! the same grammar: [`SourceKind`] (`kind.rt`) says which statements it may have, and `unlinked.rt` what
 //! the pass has made of it.
 //!
-//! `lines.rt` cuts a source into lines, here and in `alpha_fix`; `statement.rt` says what a statement asks, apart from where it
-//! stands; `place.rt` is the place that a line stands at, `fields.rt` the field statements, `label.rt`
+//! `lines.rt` cuts a source into lines, here and in `alpha_fix`; `statement.rt` says what a statement asks,
+//! apart from where it stands; `place.rt` is the place that a line stands at, `fields.rt` the field statements, `label.rt`
 //! and `labels.rt` the labels, `output.rt` the instructions and data bytes, which `data.rt` holds without their
 //! paddings, `patch.rt` the addresses that are put in later, and `pass.rt` the state with the steps that
 //! each line takes. The image takes the instructions and the data bytes as they are: nothing is encoded
@@ -31,8 +31,8 @@
 //!
 //! `specs/Statement.antt` has what a statement asks, `specs/Layout.antt` where each item stands,
 //! `specs/Program.antt` the program that the items make, and `specs/Assembled.antt` the image of a
-//! source or its first refusal; `specs/SourceLines.antt` has the lines of a source with their ends. None of them knows of a pass or a patch; `specs/Patches.antt` and
-//! `specs/Pass.antt` say what the state of the pass is, and `specs/Finished.antt` what it comes to;
+//! source or its first refusal; `specs/SourceLines.antt` has the lines of a source with their ends. None of
+//! them knows of a pass or a patch; `specs/Patches.antt` and `specs/Pass.antt` say what the state of the pass is, and `specs/Finished.antt` what it comes to;
 //! `specs/Labels.antt`, `specs/Unlinked.antt`, `specs/Symbols.antt` and `specs/LineKinds.antt` what other
 //! crates get of it.
 #![tactic(auto)]

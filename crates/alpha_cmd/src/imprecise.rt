@@ -99,8 +99,8 @@ fn planned<H: Shelf>(
     choices: &Choices<'_>,
     shelf: &mut H,
 ) -> Result<Plan, Status>
-    ensures { Finds (PlanOf (H.files shelf.old) file.now (origin_of choices.now)) (λ plan. plan_by plan.image (ahead_in plan.chooser)) result
-        (shelved H.Shelf shelf.old shelf.new) }
+    ensures { Finds (PlanOf (H.files shelf.old) file.now (origin_of choices.now))
+        (λ plan. plan_by plan.image (ahead_in plan.chooser)) result (shelved H.Shelf shelf.old shelf.new) }
 {
     let image = load(alloc, shelf, file)?;
     let chooser = chooser_of(alloc, choices, shelf)?;

@@ -63,8 +63,8 @@ fn read_files<H: Shelf>(
     names: &[&str],
     shelf: &mut H,
 ) -> Result<Vec<Vec<u8>>, Status>
-    ensures found { Finds (FilesOf (H.files shelf.old) (map (λ name. name.now) names.now)) (λ all. map (λ file. file.items) all.items) result
-        (shelved H.Shelf shelf.old shelf.new) }
+    ensures found { Finds (FilesOf (H.files shelf.old) (map (λ name. name.now) names.now))
+        (λ all. map (λ file. file.items) all.items) result (shelved H.Shelf shelf.old shelf.new) }
     ensures count { IfOk result (λ all. length all.items ≡ length names.now) }
 {
     let mut all = Vec::new(alloc);

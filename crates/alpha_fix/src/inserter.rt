@@ -51,7 +51,7 @@ fn fix_image<'a>(
                 fix_at(alloc, source, base, words, &cuts, image, symbols)
             }
         }
-        Err(CutFault::Unfixable(broken)) => { Err(FixFault::Unfixable(broken, image.code_base())) }
+        Err(CutFault::Unfixable(broken)) => Err(FixFault::Unfixable(broken, image.code_base())),
         Err(CutFault::NoMemory) => Err(FixFault::NoMemory),
     }
 }

@@ -13,18 +13,17 @@
 //! condition of a shadow depends on these. Some lines fix where words stand, by a distance or an
 //! address: a source with such a line is refused where it needs a barrier.
 //!
-//! `specs/Cuts.antt` has the cuts and the code with barriers, `specs/FixedSource.antt` the source with barriers, `specs/FixedLines.antt`
-//! which lines fix where words stand, and `specs/Fix.antt` what `fix` answers.
+//! `specs/Cuts.antt` has the cuts and the code with barriers, `specs/FixedSource.antt` the source with
+//! barriers, `specs/FixedLines.antt` which lines fix where words stand, and `specs/Fix.antt` what `fix`
+//! answers.
 //!
-//! `cuts.rt` judges the code, and again from each cut on.
-//! `fixed_line.rt` tests a line, `barriers.rt` builds the text, and `inserter.rt` puts the steps
-//! together.
+//! `cuts.rt` judges the code, and again from each cut on. `fixed_line.rt` tests a line, `barriers.rt`
+//! builds the text, and `inserter.rt` puts the steps together.
 //!
 //! `proofs/Alike.antt` says that a shadow is broken by the columns of its words, wherever it stands;
-//! `Barring.antt`, `Walking.antt` and `Existing.antt` have the cuts.
-//! `FixedItems.antt` has the items of a text's lines, `Cores.antt` where these stand, `Steady.antt` what a verdict needs
-//! of a word, `Transfer.antt` and `Marks.antt` the words of the text, `Sources.antt` and
-//! `FixedSources.antt` the laws. `Values.antt`, `Building.antt` and `Answering.antt` follow the code.
+//! `Barring.antt`, `Walking.antt` and `Existing.antt` have the cuts. `FixedItems.antt` has the items of a
+//! text's lines, `Cores.antt` where these stand, `Steady.antt` what a verdict needs of a word,
+//! `Transfer.antt` and `Marks.antt` the words of the text, `Sources.antt` and `FixedSources.antt` the laws. `Values.antt`, `Building.antt` and `Answering.antt` follow the code.
 #![tactic(auto)]
 
 mod barriers;
