@@ -13,9 +13,7 @@ use alpha_table::InsnKind;
 /// where no place is broken, else the least broken place, by its place, then by its trigger, then
 /// by its condition (Architecture Handbook, arithmetic trap completion).
 ///
-/// It looks at each word once at most, and takes no memory. It is a part of the code that calls it, where `code` is
-/// known and needn't be read anew for each word.
-#[inline(always)]
+/// It looks at each word once at most, and takes no memory.
 pub fn judge<F: Fetch>(code: &mut F) -> Result<(), Broken>
     ensures accepted { OnOk result (IsAccepted (F.code code.old)) }
     ensures broken { IfErr result (IsLeastBroken (F.code code.old)) }
@@ -52,8 +50,9 @@ impl Checker {
     }
 }
 
-// The verdict, by a window that knows what is known before the first word.
-#[inline(always)]
+// The verdict, by a window that knows what is known before the first word. All callers share it, so that it is the one place
+// that what a word takes is a part of.
+#[inline(never)]
 fn judge_by<F: Fetch>(window: &mut Window, code: &mut F) -> Result<(), Broken>
     requires { Summarizes (F.code code.old) window.old 0 }
     ensures accepted { OnOk result (IsAccepted (F.code code.old)) }
