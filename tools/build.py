@@ -2,12 +2,15 @@
 """Proves every crate that the program stands on, and builds the program. ./alpha calls this where the program is missing or
 was made of other sources.
 
-    tools/build.py
+    tools/build.py [--keep]
 
 Crates that don't stand on one another are proved side by side, by as many processors as memory allows (RT_JOBS=N: by N),
 those with the longest chain of others behind them first; processors that are left over share a crate's functions, and so
-do all of them in the crates of the longest chain, for which everything waits. What is proved is kept: after an interruption the next build goes on from there, and so do `rt check` and `rt lib`. The new program
-replaces the old one once it is whole. The log is .alpha-build.log, which holds all of a build, its interruptions too.
+do most of them in the crates of the long chains, for which everything waits. After an interruption the next build goes on
+behind the crates that were proved. Of a library its statements are kept, which the crates above it load quickly; with
+--keep its proofs too, which takes longer and more disk, and from which `rt check` goes on where a crate is changed. The
+new program replaces the old one once it is whole. The log is .alpha-build.log, which holds all of a build, its
+interruptions too.
 
 Where the program can't be built the status is 70, and the program that was there before stays.
 """
@@ -29,14 +32,14 @@ PROGRAM = os.path.join(kit.TOP, "crates/alpha_tool/out/alpha_tool")
 ROUNDS = 4
 # Chains shorter than the longest one by less than this part of it are long.
 LONG = 0.1
-# How much less of a processor a crate gets, as `nice` counts, where no chain goes through it, and at most.
-ASIDE, MOST_ASIDE = 40, 15
 # How the last line of a whole build begins.
 BUILT = "built"
-# What each further job of a check takes, as a part of the memory of the first one, as the kit counts it.
-MEMORY_A_JOB = 0.6
+# What a check takes where it loads statements alone, as a part of the memory that the kit counts on, and what each further
+# job of it takes, as a part of the first one.
+MEMORY, MEMORY_A_JOB = 0.4, 0.6
 # As measured of all crates from nothing. A program's check loads all libraries, which is as much work as a part of their lines.
-SECONDS_A_LINE, MEGABYTES_A_LINE, PART_OF_A_LIBRARY = 0.025, 0.09, 1 / 20
+SECONDS_A_LINE, PART_OF_A_LIBRARY = 0.036, 1 / 20
+MEGABYTES_A_LINE, MEGABYTES_A_KEPT_LINE = 0.014, 0.09
 
 
 def say(text, log=None):
@@ -76,7 +79,7 @@ def open_log():
     return open(LOG, "w" if is_whole else "a", encoding="utf-8")
 
 
-def tell_beforehand(rt, crates, left, log):
+def tell_beforehand(rt, crates, left, keeps, log):
     """Says how long what is left takes, and how much disk."""
     number = os.environ.get("RT_JOBS", "")
     lanes = int(number) if number.isdigit() else rt.processors()
@@ -84,8 +87,9 @@ def tell_beforehand(rt, crates, left, log):
     lines[crates[-1]] += int(PART_OF_A_LIBRARY * sum(lines.values()))
     lines.update({it: 0 for it in crates if it not in left})
     chain, whole = sum(map(lines.get, kit.longest_chain(crates, lines.get))), sum(lines.values())
-    minutes = 1 + int(SECONDS_A_LINE * max(chain, whole / lanes) // 60)
-    needed = 1 + int(MEGABYTES_A_LINE * whole)
+    # Some of the processors share each crate of the longest chain.
+    minutes = 1 + int(SECONDS_A_LINE * max(chain / min(lanes, 2), whole / lanes) // 60)
+    needed = 1 + int((MEGABYTES_A_KEPT_LINE if keeps else MEGABYTES_A_LINE) * whole)
     free = shutil.disk_usage(kit.TOP).free // 1_000_000
     done = f", {len(crates) - len(left)} of them proved already" if len(left) < len(crates) else ""
     say(f"proving the program: {len(crates)} crates{done}; about {minutes} min on {lanes} idle processors"
@@ -95,22 +99,24 @@ def tell_beforehand(rt, crates, left, log):
 
 
 class Build:
-    def __init__(self, rt, tool, log):
-        self.rt, self.tool, self.log = rt, tool, log
+    def __init__(self, rt, tool, keeps, log):
+        self.rt, self.tool, self.keeps, self.log = rt, tool, keeps, log
         self.crates = [*tool.below(), tool]
         self.seconds, self.counting = {}, threading.Lock()
 
     def run(self, stamp, done):
         start = time.time()
+        # A library fits those that it was made over, so what stands on one that is missing is made anew too.
+        done = {it for it in done if done.issuperset(it.below())}
         left = [it for it in self.crates if it not in done]
-        tell_beforehand(self.rt, self.crates, left, self.log)
+        tell_beforehand(self.rt, self.crates, left, self.keeps, self.log)
         self.count = len(done)
-        first = kit.longest_chain(self.crates, lambda it: kit.lines_of(it) if it in left else 0)
+        slack = kit.slack_of(self.crates, lambda it: kit.lines_of(it) if it in left else 0)
         tasks = {}
         for crate in left:
             waits = [(it.name, "proof") for it in crate.below() if it not in done]
-            most = self.jobs_within(crate) if crate in first else 1
-            needs = self.rt.need(crate) * (1 + MEMORY_A_JOB * (most - 1))
+            most = self.jobs_within(crate) if slack[crate] < LONG else 1
+            needs = self.memory(crate) * (1 + MEMORY_A_JOB * (most - 1))
             tasks[crate.name, "proof"] = waits, kit.lines_of(crate), needs, functools.partial(self.prove, crate, most)
         self.rt.in_lanes(tasks)
         self.replace(stamp)
@@ -121,11 +127,15 @@ class Build:
         say(f"{BUILT} in {time.time() - start:.0f} seconds", self.log)
 
     def jobs_within(self, crate):
-        """How many jobs may share a crate's functions: one a processor, as many as half of the free memory holds."""
+        """How many jobs may share a crate's functions: one a processor but one, as many as half of the free memory holds."""
         if os.environ.get("RT_JOBS"):
             return 1
-        held = 1 + int((self.rt.free() / 2 / self.rt.need(crate) - 1) / MEMORY_A_JOB)
-        return max(1, min(self.rt.processors(), held))
+        held = 1 + int((self.rt.free() / 2 / self.memory(crate) - 1) / MEMORY_A_JOB)
+        return max(1, min(self.rt.processors() - 1, held))
+
+    def memory(self, crate):
+        """The memory that one job takes."""
+        return self.rt.need(crate) * (1 if self.keeps else MEMORY)
 
     def prove(self, crate, most, _given, jobs):
         start = time.time()
@@ -133,7 +143,7 @@ class Build:
         try:
             os.makedirs(f"{crate.folder}/out", exist_ok=True)
             flags = ["--jobs", str(max(jobs, most))]
-            status = self.link(flags) if crate is self.tool else crate.build_rlib(flags, anew=False)
+            status = self.link(flags) if crate is self.tool else self.make_library(crate, flags)
         except (SystemExit, OSError) as error:
             crate.out.write(f"{error}\n")
             status = FAILED
@@ -144,6 +154,15 @@ class Build:
             self.count += 1
             self.seconds[crate] = time.time() - start
             say(f"{self.count} of {len(self.crates)}: {crate.name} is proved, {self.seconds[crate]:.0f} seconds", self.log)
+
+    def make_library(self, crate, flags):
+        """Proves a library. Its stamp, which the kit leaves out where statements alone are kept, says that it is whole."""
+        stamp = crate.stamp()
+        status = crate.build_rlib(flags, anew=not self.keeps)
+        if status == 0 and not self.keeps and stamp == crate.stamp():
+            with open(f"{crate.folder}/out/rlib/stamp", "w", encoding="utf-8") as file:
+                file.write(stamp)
+        return status
 
     def link(self, flags):
         """Proves `main`, and makes the new program beside the old one."""
@@ -159,14 +178,15 @@ class Build:
             kit.put_stamp(self.rt, PROGRAM, stamp)
 
 
-def build(rt, tool):
+def build(rt, tool, keeps):
     """Builds the program, once more where sources are changed meanwhile, until it is that of the sources as they stand."""
+    rt.Crate.cuts_libraries = not keeps
     for _ in range(ROUNDS):
         stamp, done = kit.look_at(rt, tool)
         if kit.has_stamp(rt, PROGRAM, stamp):
             return
         with open_log() as log:
-            Build(rt, tool, log).run(stamp, done)
+            Build(rt, tool, keeps, log).run(stamp, done)
     if not kit.has_stamp(rt, PROGRAM, kit.look_at(rt, tool)[0]):
         give_up("the sources were changed during each build: call again when they rest")
 
@@ -181,7 +201,7 @@ def main():
         rt.rtlib.guarded()
         tool = kit.tool(rt)
         _locks = rt.rtlib.lock([*tool.below(), tool])
-        build(rt, tool)
+        build(rt, tool, keeps="--keep" in sys.argv[1:])
     except (SystemExit, OSError) as error:
         give_up(f"the build failed: {error}")
 

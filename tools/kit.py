@@ -68,3 +68,16 @@ def longest_chain(crates, cost):
         below = max((rows[it] for it in crate.below()), key=lambda row: sum(map(cost, row)), default=[])
         rows[crate] = [*below, crate]
     return max(rows.values(), key=lambda row: sum(map(cost, row)))
+
+
+def slack_of(crates, cost):
+    """By how much the costliest row of crates through each, each standing on the one before it, is cheaper than the costliest
+    of all: as a part of that one."""
+    upto, behind = {}, {it: 0 for it in crates}
+    for crate in crates:
+        upto[crate] = cost(crate) + max((upto[it] for it in crate.below()), default=0)
+    for crate in reversed(crates):
+        for it in crate.below():
+            behind[it] = max(behind[it], cost(crate) + behind[crate])
+    most = max(upto.values())
+    return {it: 1 - (upto[it] + behind[it]) / most if most else 0 for it in crates}
