@@ -32,7 +32,7 @@ PROGRAM = os.path.join(kit.TOP, "crates/alpha_tool/out/alpha_tool")
 # How many builds a call makes where sources are changed during each of them.
 ROUNDS = 4
 # Chains shorter than the longest one by less than this part of it are long.
-LONG = 0.15
+LONG = 0.1
 # How much less of a processor a crate gets, as `nice` counts, where no chain goes through it, and at most.
 ASIDE, MOST_ASIDE = 40, 15
 # How the last line of a whole build begins.

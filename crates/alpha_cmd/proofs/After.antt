@@ -1,5 +1,6 @@
 -- From what a command did behind the stage that read its files to what it did.
-use Rattle.std.proofs.Common.{◌≡◌, ℕ, List, Bool, Option, Result, refl, subst, inl, inr}
+use Rattle.std.proofs.Common.{◌≡◌, ◌⊎◌, ◌∙◌, ℕ, List, Bool, Option, Result, Ok, Err, refl, sym, subst, inl, inr, arith}
+use Rattle.std.specs.Result.{IsErrAnd}
 use Rattle.alpha_io.specs.declared.Failed.{Failed}
 use Rattle.alpha_io.specs.declared.shelf.Shelf as shelves
 use Rattle.alpha_io.specs.declared.source.Source as sources
@@ -15,7 +16,7 @@ use Rattle.alpha_cmd.specs.declared.status.Status.{Status}
 use Rattle.alpha_cmd.specs.Answer.{Answer}
 use Rattle.alpha_cmd.specs.AnswerBy.{World, AnswerBy, world}
 use Rattle.alpha_cmd.specs.Call.{Call, called}
-use Rattle.alpha_cmd.specs.Does.{Does, TriesIn}
+use Rattle.alpha_cmd.specs.Does.{Does, Finds, TriesIn}
 use Rattle.alpha_cmd.specs.Form.{Form, Kind, Needs}
 use Rattle.alpha_cmd.specs.Outcome.{Outcome, goes, stops, Then}
 use Rattle.alpha_cmd.specs.Status.{status_line}

@@ -238,8 +238,8 @@ module _ (options : RunOptions) (m : WildState) (ahead : ℕ → ℕ) (how : m.m
   }
 
   -- where the run goes on over inputs of its own to where it stops
-  cut_untold : (force : Bool) (name : List ℕ) (fault : Fault) (w : World) (before after : Telling) (d : Drawn) (out notes : Sunk) → w.input ≡ None → (force ≡ false → FreeAlike m.machine.image)
-      → before.ahead ≡ Some ahead → IsShort options.steps fault m before after d out notes → Fronts (on options force name (plan_by m.machine.image ahead)) w out notes
+  cut_untold : (force : Bool) (name : List ℕ) (fault : Fault) (w : World) {new : WildState} (before after : Telling) (d : Drawn) (out notes : Sunk) → w.input ≡ None → (force ≡ false → FreeAlike m.machine.image)
+      → before.ahead ≡ Some ahead → IsShort options.steps fault m new before after d out notes → Fronts (on options force name (plan_by m.machine.image ahead)) w out notes
   cut_untold force name fault w before after d out notes untold alone tells short =
       let n = options.steps in
       let g = program_of m.machine in

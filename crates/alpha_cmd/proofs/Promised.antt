@@ -28,7 +28,9 @@ use Rattle.alpha_cmd.specs.Accepts.{Accepts}
 use Rattle.alpha_cmd.specs.Commands.{kind_of, EndsBy, IsTold, MayTake, Spares}
 use Rattle.alpha_cmd.specs.Commands.Link.{KeepsLinks}
 use Rattle.alpha_cmd.specs.Makings.Module.{KeepsModules}
-use Rattle.alpha_cmd.specs.Ends.{Ends}
+use Rattle.alpha_cmd.specs.Commands.Record.{KeepsUnder}
+use Rattle.alpha_cmd.specs.Decision.{answer_in}
+use Rattle.alpha_cmd.specs.Ends.{Ends, EndsPart, Leaves}
 use Rattle.alpha_cmd.specs.Fixed.{Fixes}
 use Rattle.alpha_cmd.specs.Gave.{Gave}
 use Rattle.alpha_cmd.specs.Promises.{tried_in, EndsWhole, EndsCut, GivesOne, GivesThe, SparesFiles, TakesInput, EndsAsked, LosesNone}

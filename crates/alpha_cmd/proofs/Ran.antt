@@ -144,8 +144,8 @@ ran_whole h s k n old input out notes options m end d says did same =
     (ap run_status (sym did.end_is)) (ap run_line (sym did.end_is)) did.bytes did.lines did.left refl (takes_end end) same
 
 -- one that was cut short
-pub cut_fronts : (options : RunOptions) (m : Machine) (w : World) (fault : Fault) (d : Drawn) (out notes : Sunk) → IsStarted options m
-    → SeqCut fault options.steps options.watch m d out notes → d.old ≡ w.input → Fronts (on options m.image) w out notes
+pub cut_fronts : (options : RunOptions) (m : Machine) (w : World) (fault : Fault) {new : Machine} (d : Drawn) (out notes : Sunk) → IsStarted options m
+    → SeqCut fault options.steps options.watch m new d out notes → d.old ≡ w.input → Fronts (on options m.image) w out notes
 cut_fronts options m w fault d out notes at cut told =
     let b = cut_begins options fault m d out notes at cut w.input told in
     record {

@@ -9,14 +9,8 @@ use Rattle.alpha_round.proofs.Sources.{some-image}
 use Rattle.alpha_cmd.specs.declared.status.Status.TheVariants.{BadSource}
 use Rattle.alpha_cmd.specs.Status.{status_line}
 use Rattle.alpha_cmd.specs.Outcome.{goes, stops}
-use Rattle.alpha_cmd.specs.Makings.Asm.{NoProgram, IsMade, Assembles}
-use Rattle.alpha_cmd.proofs.Lawful.{Lawful, HasOutcome, Either-single, Says-one}
-
-pub same_refused : (source : List ℕ) (s t : Status) → NoProgram source s → NoProgram source t → s ≡ t
-same_refused source s t (f, is, first) (g, also, second) = let same : f ≡ g = cc in is ∙ (ap BadSource same ∙ sym also)
-
-made_apart : (source bytes : List ℕ) (s : Status) → IsMade source bytes → NoProgram source s → ⊥
-made_apart source bytes s made (f, is, first) = let some = made.1.1 in cc
+use Rattle.alpha_cmd.specs.Makings.Asm.{IsMade, Assembles}
+use Rattle.alpha_cmd.proofs.Lawful.{Lawful, HasOutcome, Faults-lawful}
 
 same_made : (source a b : List ℕ) → IsMade source a → IsMade source b → a ≡ b
 same_made source a b (p, x, s) (q, y, t) = s ∙ (ap spelling (one-image source p q x y) ∙ sym t)

@@ -21,7 +21,6 @@ use Rattle.alpha_cmd.specs.declared.status.Status.TheVariants.{BadSource, Unfixa
 use Rattle.alpha_cmd.specs.Status.{class_of, status_line, unfixable_line}
 use Rattle.alpha_cmd.specs.Outcome.{goes, stops}
 use Rattle.alpha_cmd.specs.Makings.Fix.{IsUnfixable, Unfixed, Unfixes, Fixes}
-use Rattle.alpha_cmd.proofs.Makings.Asm.{same_refused}
 use Rattle.alpha_cmd.proofs.Lawful.{Lawful, HasOutcome, IsRefusal, Either-single}
 
 -- ---- a source has one image, and that one list of cuts

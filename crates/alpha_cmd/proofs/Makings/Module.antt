@@ -8,18 +8,9 @@ use Rattle.alpha_link.specs.Made.{made_module}
 use Rattle.alpha_cmd.specs.declared.status.Status.TheVariants.{BadSource}
 use Rattle.alpha_cmd.specs.Status.{status_line}
 use Rattle.alpha_cmd.specs.Outcome.{goes, stops}
-use Rattle.alpha_cmd.specs.Makings.Module.{NoModule, ModuleOf, IsBroken, Spells, Modules}
-use Rattle.alpha_cmd.proofs.Lawful.{Lawful, HasOutcome, Either-single, Says-one, Then-lawful}
-use Rattle.alpha_cmd.proofs.Stages.{same_least}
-
-same_refused : (source : List ℕ) (s t : Status) → NoModule source s → NoModule source t → s ≡ t
-same_refused source s t (f, is, first) (g, also, second) = let same : f ≡ g = cc in is ∙ (ap BadSource same ∙ sym also)
-
-one_module : (source : List ℕ) (m n : ModuleParts) → made_module source ≡ Ok m → made_module source ≡ Ok n → m ≡ n
-one_module source m n h g = cc
-
-refused_apart : (source : List ℕ) (m : ModuleParts) (s : Status) → made_module source ≡ Ok m → NoModule source s → ⊥
-refused_apart source m s h (f, is, first) = cc
+use Rattle.alpha_cmd.specs.Makings.Module.{ModuleOf, Spells, Modules}
+use Rattle.alpha_cmd.proofs.Lawful.{Lawful, HasOutcome, Faults-lawful, Then-lawful}
+use Rattle.alpha_cmd.proofs.Stages.{Verdict-lawful}
 
 module_some : (source : List ℕ) (r : Result ModuleParts AsmFault) → made_module source ≡ r → HasOutcome (ModuleOf source)
 module_some source (Ok m) e = (goes m, e)
