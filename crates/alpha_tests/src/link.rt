@@ -125,7 +125,10 @@ fn a_module_lists_its_symbols_and_relocations(rt: HostRuntime) -> Result<(), Fai
         assert_eq!(rt; sum.name, b"sum".as_slice());
     }
     if let [branch] = module.relocations() {
-        assert_eq!(rt; (branch.kind, branch.symbol), (RelocationKind::Insn(Use::Branch), 1));
+        assert_eq!(rt;
+            (branch.kind, branch.symbol),
+            (RelocationKind::Insn(Use::Branch), 1)
+        );
         assert_eq!(rt; (branch.offset, branch.addend), (0, 0));
     }
     assert_eq!(rt;
