@@ -9,7 +9,8 @@
 - Of docs/theorems.md: the reading order has just the files of definitions that its clauses reach, each with its lines
   and with those of the clauses that reach it, and each name of a quoted clause is in one of them; each promise of the
   table from claim to clause begins with words of README.md, and its clauses are there; each must-fail edit is there.
-- Of docs/ARCHITECTURE.md: the constants and definitions that the table of limits names have its numbers.
+- Of docs/ARCHITECTURE.md: the constants and definitions that the table of limits names have its numbers; each file that
+  another table names is in the crate of its row, and has the names that it is said to have.
 
     bench/quotes.py [--write]
 
@@ -32,6 +33,11 @@ EDIT = re.compile(r"^\| `(alpha_\w+)` \| `(\w+)` \|", re.M)
 ORDERED = re.compile(r"^\| `(crates/\S+\.antt)` \| ([\d,]+) \| ([^|\n]*) \|", re.M)
 PROMISED = re.compile(r"^\| ([^|\n]+) \| ([^|\n]+) \| [^|\n]+ \|$", re.M)
 LIMIT = re.compile(r"^\| ([^|\n]+) \| ([^|\n]+) \| ([^|\n]+) \| ([^|\n]+) \|$", re.M)
+# Tables of files in docs/ARCHITECTURE.md.
+MAPS = ("Where to find what", "One call from end to end", "Where effects happen", "Adding an instruction", "Adding a statement")
+ROW = re.compile(r"^\| (.+) \|$", re.M)
+# A file with the name in front of it, and those in parentheses behind it.
+PLACED = re.compile(r"(?:`(\w+)` of )?`([\w/]+\.(?:rt|antt))`(?: \(((?:`\w+`(?:, )?)+)\))?")
 CITED = re.compile(r"((?:`\w+`(?:, | and ))*`\w+`) of `(\w+)` of `(alpha_\w+)`")
 REACHED = re.compile(r"^\| `(\w+)` of `(\w+)` of `(alpha_\w+)`([^|\n]*) \| ([\d,]+ lines of \d+ files) \| ([^|\n]*) \| ([^|\n]*) \| ([^|\n]*) \|$", re.M)
 CLAUSE = re.compile(r"ensures (\w+) \{")
@@ -228,6 +234,34 @@ def check_limits(text, wrong):
                          for number in re.findall(r"\d[\d,]*", numbers) if not has_number(whole, int(number.replace(",", ""))))
 
 
+def check_row(row, wrong):
+    """Holds the files of a row. A path without a crate is of the crate of the row, which stands in its second cell, or of that
+    of the path before it; a name without a folder is of the folder of the path before it."""
+    owner = re.match(r"[^|]+ \| `(alpha_\w+)` \|", row)
+    crate, folder = owner.group(1) if owner else "", ""
+    for name, path, others in PLACED.findall(row):
+        path = path if "/" in path else f"{folder}/{path}"
+        path = path if path.startswith("alpha_") else f"{crate}/{path}"
+        folder, crate = path.rpartition("/")[0], crate if owner else path.split("/")[0]
+        file = TOP / "crates" / path
+        if not file.exists():
+            wrong.append(f"the map names {path}, which isn't there: {row[:60]}")
+            continue
+        wrong.extend(f"{path} has no {it}" for it in filter(None, [name, *re.findall(r"\w+", others)])
+                     if not re.search(rf"\b{it}\b", file.read_text()))
+
+
+def check_maps(text, wrong):
+    """Holds the tables of files, each of which names some."""
+    for head in MAPS:
+        section = text.split(f"\n## {head}\n", 1)[1].split("\n## ", 1)[0]
+        rows = ROW.findall(section)
+        if not any(PLACED.search(row) for row in rows):
+            wrong.append(f"the table below {head} names no file")
+        for row in rows:
+            check_row(row, wrong)
+
+
 def main():
     write, wrong, readme = "--write" in sys.argv[1:], [], (TOP / "README.md").read_text()
     for page in [TOP / "README.md", *sorted(TOP.glob("docs/*.md"))]:
@@ -241,6 +275,7 @@ def main():
             check_cited(name, new, wrong)
         if page.name == "ARCHITECTURE.md":
             check_limits(text, wrong)
+            check_maps(text, wrong)
         if page == THEOREMS:
             check_claims(new, readme, wrong)
             wrong.extend(f"there is no edit {edit} of {crate}" for crate, edit in EDIT.findall(new)
