@@ -41,7 +41,7 @@ BUILT = "built"
 # job of it takes, as a part of the first one.
 MEMORY, MEMORY_A_JOB = 0.4, 0.6
 # As measured of all crates from nothing. A program's check loads all libraries, which is as much work as a part of their lines.
-SECONDS_A_LINE, PART_OF_A_LIBRARY = 0.062, 1 / 20
+SECONDS_A_LINE, PART_OF_A_LIBRARY = 0.05, 1 / 20
 MEGABYTES_A_LINE, MEGABYTES_A_KEPT_LINE = 0.014, 0.09
 
 
