@@ -5,9 +5,9 @@ was made of other sources.
     tools/build.py [--keep]
 
 Crates that don't stand on one another are proved side by side, by as many processors as memory allows (RT_JOBS=N: by N),
-those with the longest chain of others behind them first; processors that are left over share a crate's functions, and so
-do all of them in the crates of the long chains, for which everything waits: the shorter the longest chain of a crate, the
-more it leaves the processors to the others. After an interruption the next build goes on behind the crates that were
+those with the longest chain of others behind them first. Two jobs share the functions of a crate in a long chain, for which
+everything waits, and processors that are left over those of any crate: more jobs of one crate take more of the processors'
+time together, which is what a build lacks. After an interruption the next build goes on behind the crates that were
 proved. Of a library its statements are kept, which the crates above it load quickly; with --keep its proofs too, which
 takes longer and more disk, and from which `rt check` goes on where a crate is changed. The new program replaces the old
 one once it is whole. The log is .alpha-build.log, which holds all of a build, its interruptions too.
@@ -21,7 +21,6 @@ import signal
 import sys
 import threading
 import time
-from concurrent.futures import ThreadPoolExecutor
 
 sys.dont_write_bytecode = True
 import kit
@@ -32,9 +31,9 @@ PROGRAM = os.path.join(kit.TOP, "crates/alpha_tool/out/alpha_tool")
 # How many builds a call makes where sources are changed during each of them.
 ROUNDS = 4
 # Chains shorter than the longest one by less than this part of it are long.
-LONG = 0.1
-# How much less of a processor a crate gets, as `nice` counts, where no chain goes through it, and at most.
-ASIDE, MOST_ASIDE = 40, 15
+LONG = 0.2
+# How many jobs share a crate of a long chain.
+SHARED = 2
 # How the last line of a whole build begins.
 BUILT = "built"
 # What a check takes where it loads statements alone, as a part of the memory that the kit counts on, and what each further
@@ -118,9 +117,9 @@ class Build:
         tasks = {}
         for crate in left:
             waits = [(it.name, "proof") for it in crate.below() if it not in done]
-            most = self.jobs_within(crate) if slack[crate] < LONG else 1
-            needs = self.memory(crate) * (1 + MEMORY_A_JOB * (most - 1))
-            prove = functools.partial(self.prove_aside, min(int(ASIDE * slack[crate]), MOST_ASIDE), crate, most)
+            least = self.jobs_within(crate) if slack[crate] < LONG else 1
+            needs = self.memory(crate) * (1 + MEMORY_A_JOB * (least - 1))
+            prove = functools.partial(self.prove, crate, least)
             tasks[crate.name, "proof"] = waits, kit.lines_of(crate), needs, prove
         self.rt.in_lanes(tasks)
         self.replace(stamp)
@@ -131,27 +130,22 @@ class Build:
         say(f"{BUILT} in {time.time() - start:.0f} seconds", self.log)
 
     def jobs_within(self, crate):
-        """How many jobs may share a crate's functions: one a processor, as many as half of the free memory holds."""
+        """How many jobs may share a crate's functions, by the processors and as many as half of the free memory holds."""
         if os.environ.get("RT_JOBS"):
             return 1
         held = 1 + int((self.rt.free() / 2 / self.memory(crate) - 1) / MEMORY_A_JOB)
-        return max(1, min(self.rt.processors(), held))
+        return max(1, min(self.rt.processors(), SHARED, held))
 
     def memory(self, crate):
         """The memory that one job takes."""
         return self.rt.need(crate) * (1 if self.keeps else MEMORY)
 
-    def prove_aside(self, aside, *given):
-        """Proves a crate with so much less of a processor, which a thread of its own has and what it starts."""
-        with ThreadPoolExecutor(1, initializer=os.nice, initargs=(aside,)) as thread:
-            return thread.submit(self.prove, *given).result()
-
-    def prove(self, crate, most, _given, jobs):
+    def prove(self, crate, least, _given, jobs):
         start = time.time()
         crate.out = Named(self.log, crate.name)
         try:
             os.makedirs(f"{crate.folder}/out", exist_ok=True)
-            flags = ["--jobs", str(max(jobs, most))]
+            flags = ["--jobs", str(max(jobs, least))]
             status = self.link(flags) if crate is self.tool else self.make_library(crate, flags)
         except (SystemExit, OSError) as error:
             crate.out.write(f"{error}\n")
