@@ -1,11 +1,13 @@
 -- What a directive of data says with the value behind it.
-use Rattle.std.proofs.Common.{◌≡◌, ℕ, ℤ, List, [], Some, Ok, length, refl, sym, ◌∙◌, ap, subst, inl, inr}
+use Rattle.std.proofs.Common.{◌≡◌, ℕ, ℤ, List, [], Some, Result, Ok, length, refl, sym, ◌∙◌, ap, subst, inl, inr}
 use Prim.Native.Nat.{zero, suc}
-use Rattle.std.specs.Option.{unwrap_or}
+use Rattle.std.specs.Prelude.{true}
+use Rattle.std.specs.Option.{is_some, unwrap_or}
 use Rattle.alpha_token.specs.Tokens.{tokens}
 use Rattle.alpha_operands.specs.declared.number.Number.{Number}
 use Rattle.alpha_operands.specs.declared.number.Number.TheVariants as numbers
 use Rattle.alpha_operands.specs.declared.number.Sign.TheVariants as signs
+use Rattle.alpha_operands.specs.declared.walk.OperandFault.{OperandFault}
 use Rattle.alpha_operands.specs.declared.piece.Piece.{Piece}
 use Rattle.alpha_operands.specs.declared.piece.Piece.TheVariants as pieces
 use Rattle.alpha_operands.specs.declared.shape.Shape.{Shape}
@@ -24,87 +26,58 @@ use Rattle.alpha_text.specs.Behind.{SaysBy}
 use Rattle.alpha_quick.specs.Parts.{values_of}
 use Rattle.alpha_quick.specs.Listed.{HasCount, HasValues}
 use Rattle.alpha_quick.specs.Words.{HasEnd, HasComma, HasExpr, HasNumber, HasValue}
-use Rattle.alpha_quick.proofs.Forwards.{Gives}
 
 -- operands behind which so much is left
 abbrev GivesUpTo : Shape → List ℕ → List ℕ → Type 0
-GivesUpTo shape line rest = (o : Slots) × Gives shape line o × (o.left ≡ length rest)
+GivesUpTo shape line rest = (o : Slots) × (operands (patterns shape) (tokens line) ≡ Ok o) × (o.left ≡ length rest)
 
--- the operands of a line, from the operands before it on
-abbrev Follows : Shape → List ℕ → List ℕ → Slots → Type 0
-Follows shape line rest o = (p : Slots) × (follow (patterns shape) [] signs.Plus (tokens line) o ≡ Ok p) × (p.left ≡ length rest)
+-- the piece of the numbers of a directive
+abbrev piece_of : Own → Piece
+piece_of own = (unwrap_or (values_of own) (0, pieces.Ra)).1
 
--- a line goes on with what stands behind a comma
-abbrev GoesOn : Shape → List ℕ → List ℕ → Slots → Type 0
-GoesOn shape line more o = (p : Slots) × (follow (patterns shape) [] signs.Plus (tokens line) o ≡ follow (patterns shape) [] signs.Plus (tokens more) p)
+-- the operands of a directive's line, from the operands before it on
+abbrev reads : Own → List ℕ → Slots → Result Slots OperandFault
+reads own line o = follow (patterns (own_shape own)) [] signs.Plus (tokens line) o
 
-bytes_last : (line rest : List ℕ) (v : Number) (o : Slots) → HasValue pieces.Byte line v rest → HasEnd rest → Follows shapes.Bytes line rest o
+-- the operands with a number behind which so much is left
+abbrev with : Slots → Number → List ℕ → Slots
+with o v rest = record o { number = Some v; left = length rest }
+
+-- the last number of a list
+last : (own : Own) (line rest : List ℕ) (v : Number) (o : Slots) → is_some (values_of own) ≡ true
+    → HasValue (piece_of own) line v rest → HasEnd rest → reads own line o ≡ Ok (with o v rest)
 unfolding patterns filled
-bytes_last line rest v o (signs.Plus, n, (t, k, e), is) (l, f) = (record o { number = Some v; left = length rest }, rw (e, f, ap (number_of pieces.Byte signs.Plus) k ∙ is) refl, refl)
-bytes_last line rest v o (signs.Minus, n, (s, (m, g), (t, k, e)), is) (l, f) = (record o { number = Some v; left = length rest }, rw (g, e, f, ap (number_of pieces.Byte signs.Minus) k ∙ is) refl, refl)
+last owns.Byte line rest v o some (signs.Plus, n, d, is) e = rw (d.2, e.1, d.1, is)
+last owns.Byte line rest v o some (signs.Minus, n, (s, m, d), is) e = rw (m.1, d.2, e.1, d.1, is)
+last owns.Word line rest v o some (signs.Plus, n, d, is) e = rw (d.2, e.1, d.1, is)
+last owns.Word line rest v o some (signs.Minus, n, (s, m, d), is) e = rw (m.1, d.2, e.1, d.1, is)
+last owns.Long line rest v o some (signs.Plus, n, d, is) e = rw (d.2, e.1, d.1, is)
+last owns.Long line rest v o some (signs.Minus, n, (s, m, d), is) e = rw (m.1, d.2, e.1, d.1, is)
+last owns.Quad line rest v o some (signs.Plus, n, d, is) e = rw (d.2, e.1, d.1, is)
+last owns.Quad line rest v o some (signs.Minus, n, (s, m, d), is) e = rw (m.1, d.2, e.1, d.1, is)
+last own line rest v o some has e = cc
 
-bytes_more : (line behind more : List ℕ) (v : Number) (o : Slots) → HasValue pieces.Byte line v behind → HasComma behind more → GoesOn shapes.Bytes line more o
+-- a number before a comma
+next : (own : Own) (line rest more : List ℕ) (v : Number) (o : Slots) → is_some (values_of own) ≡ true
+    → HasValue (piece_of own) line v rest → (c : HasComma rest more) → reads own line o ≡ reads own more (with o v c.1)
 unfolding patterns filled
-bytes_more line behind more v o (signs.Plus, n, (t, k, e), is) (w, b, f) = (record o { number = Some v; left = length b }, rw (e, f, ap (number_of pieces.Byte signs.Plus) k ∙ is) refl)
-bytes_more line behind more v o (signs.Minus, n, (s, (m, g), (t, k, e)), is) (w, b, f) = (record o { number = Some v; left = length b }, rw (g, e, f, ap (number_of pieces.Byte signs.Minus) k ∙ is) refl)
+next owns.Byte line rest more v o some (signs.Plus, n, d, is) c = rw (d.2, c.2, d.1, is)
+next owns.Byte line rest more v o some (signs.Minus, n, (s, m, d), is) c = rw (m.1, d.2, c.2, d.1, is)
+next owns.Word line rest more v o some (signs.Plus, n, d, is) c = rw (d.2, c.2, d.1, is)
+next owns.Word line rest more v o some (signs.Minus, n, (s, m, d), is) c = rw (m.1, d.2, c.2, d.1, is)
+next owns.Long line rest more v o some (signs.Plus, n, d, is) c = rw (d.2, c.2, d.1, is)
+next owns.Long line rest more v o some (signs.Minus, n, (s, m, d), is) c = rw (m.1, d.2, c.2, d.1, is)
+next owns.Quad line rest more v o some (signs.Plus, n, d, is) c = rw (d.2, c.2, d.1, is)
+next owns.Quad line rest more v o some (signs.Minus, n, (s, m, d), is) c = rw (m.1, d.2, c.2, d.1, is)
+next own line rest more v o some has c = cc
 
-bytes_all : (n : ℕ) (line rest : List ℕ) (o : Slots) → HasCount n pieces.Byte line rest → Follows shapes.Bytes line rest o
-bytes_all zero line rest o (v, has, ends) = bytes_last line rest v o has ends
-bytes_all (suc n) line rest o (v, behind, more, has, comma, on) =
-    let (p, same) = bytes_more line behind more v o has comma in
-    let (q, h, left) = bytes_all n more rest p on in
-    (q, same ∙ h, left)
-
-words_last : (line rest : List ℕ) (v : Number) (o : Slots) → HasValue pieces.Word line v rest → HasEnd rest → Follows shapes.Words line rest o
-unfolding patterns filled
-words_last line rest v o (signs.Plus, n, (t, k, e), is) (l, f) = (record o { number = Some v; left = length rest }, rw (e, f, ap (number_of pieces.Word signs.Plus) k ∙ is) refl, refl)
-words_last line rest v o (signs.Minus, n, (s, (m, g), (t, k, e)), is) (l, f) = (record o { number = Some v; left = length rest }, rw (g, e, f, ap (number_of pieces.Word signs.Minus) k ∙ is) refl, refl)
-
-words_more : (line behind more : List ℕ) (v : Number) (o : Slots) → HasValue pieces.Word line v behind → HasComma behind more → GoesOn shapes.Words line more o
-unfolding patterns filled
-words_more line behind more v o (signs.Plus, n, (t, k, e), is) (w, b, f) = (record o { number = Some v; left = length b }, rw (e, f, ap (number_of pieces.Word signs.Plus) k ∙ is) refl)
-words_more line behind more v o (signs.Minus, n, (s, (m, g), (t, k, e)), is) (w, b, f) = (record o { number = Some v; left = length b }, rw (g, e, f, ap (number_of pieces.Word signs.Minus) k ∙ is) refl)
-
-words_all : (n : ℕ) (line rest : List ℕ) (o : Slots) → HasCount n pieces.Word line rest → Follows shapes.Words line rest o
-words_all zero line rest o (v, has, ends) = words_last line rest v o has ends
-words_all (suc n) line rest o (v, behind, more, has, comma, on) =
-    let (p, same) = words_more line behind more v o has comma in
-    let (q, h, left) = words_all n more rest p on in
-    (q, same ∙ h, left)
-
-longs_last : (line rest : List ℕ) (v : Number) (o : Slots) → HasValue pieces.Long line v rest → HasEnd rest → Follows shapes.Longs line rest o
-unfolding patterns filled
-longs_last line rest v o (signs.Plus, n, (t, k, e), is) (l, f) = (record o { number = Some v; left = length rest }, rw (e, f, ap (number_of pieces.Long signs.Plus) k ∙ is) refl, refl)
-longs_last line rest v o (signs.Minus, n, (s, (m, g), (t, k, e)), is) (l, f) = (record o { number = Some v; left = length rest }, rw (g, e, f, ap (number_of pieces.Long signs.Minus) k ∙ is) refl, refl)
-
-longs_more : (line behind more : List ℕ) (v : Number) (o : Slots) → HasValue pieces.Long line v behind → HasComma behind more → GoesOn shapes.Longs line more o
-unfolding patterns filled
-longs_more line behind more v o (signs.Plus, n, (t, k, e), is) (w, b, f) = (record o { number = Some v; left = length b }, rw (e, f, ap (number_of pieces.Long signs.Plus) k ∙ is) refl)
-longs_more line behind more v o (signs.Minus, n, (s, (m, g), (t, k, e)), is) (w, b, f) = (record o { number = Some v; left = length b }, rw (g, e, f, ap (number_of pieces.Long signs.Minus) k ∙ is) refl)
-
-longs_all : (n : ℕ) (line rest : List ℕ) (o : Slots) → HasCount n pieces.Long line rest → Follows shapes.Longs line rest o
-longs_all zero line rest o (v, has, ends) = longs_last line rest v o has ends
-longs_all (suc n) line rest o (v, behind, more, has, comma, on) =
-    let (p, same) = longs_more line behind more v o has comma in
-    let (q, h, left) = longs_all n more rest p on in
-    (q, same ∙ h, left)
-
-quads_last : (line rest : List ℕ) (v : Number) (o : Slots) → HasValue pieces.Quad line v rest → HasEnd rest → Follows shapes.Quads line rest o
-unfolding patterns filled
-quads_last line rest v o (signs.Plus, n, (t, k, e), is) (l, f) = (record o { number = Some v; left = length rest }, rw (e, f, ap (number_of pieces.Quad signs.Plus) k ∙ is) refl, refl)
-quads_last line rest v o (signs.Minus, n, (s, (m, g), (t, k, e)), is) (l, f) = (record o { number = Some v; left = length rest }, rw (g, e, f, ap (number_of pieces.Quad signs.Minus) k ∙ is) refl, refl)
-
-quads_more : (line behind more : List ℕ) (v : Number) (o : Slots) → HasValue pieces.Quad line v behind → HasComma behind more → GoesOn shapes.Quads line more o
-unfolding patterns filled
-quads_more line behind more v o (signs.Plus, n, (t, k, e), is) (w, b, f) = (record o { number = Some v; left = length b }, rw (e, f, ap (number_of pieces.Quad signs.Plus) k ∙ is) refl)
-quads_more line behind more v o (signs.Minus, n, (s, (m, g), (t, k, e)), is) (w, b, f) = (record o { number = Some v; left = length b }, rw (g, e, f, ap (number_of pieces.Quad signs.Minus) k ∙ is) refl)
-
-quads_all : (n : ℕ) (line rest : List ℕ) (o : Slots) → HasCount n pieces.Quad line rest → Follows shapes.Quads line rest o
-quads_all zero line rest o (v, has, ends) = quads_last line rest v o has ends
-quads_all (suc n) line rest o (v, behind, more, has, comma, on) =
-    let (p, same) = quads_more line behind more v o has comma in
-    let (q, h, left) = quads_all n more rest p on in
-    (q, same ∙ h, left)
+-- so many numbers
+listed : (own : Own) (n : ℕ) (line rest : List ℕ) (o : Slots) → is_some (values_of own) ≡ true
+    → HasCount n (piece_of own) line rest → (p : Slots) × (reads own line o ≡ Ok p) × (p.left ≡ length rest)
+listed own zero line rest o some (v, has, ends) = (_, last own line rest v o some has ends, refl)
+listed own (suc n) line rest o some (v, behind, more, has, comma, on) =
+    let (p, h, left) = listed own n more rest (with o v comma.1) some on in
+    (p, next own line behind more v o some has comma ∙ h, left)
 
 quads_address : (line rest label : List ℕ) (offset : ℤ) → HasExpr line label offset rest → HasEnd rest → GivesUpTo shapes.Quads line rest
 unfolding operands patterns filled
@@ -117,28 +90,23 @@ says_list : (own : Own) (bytes : ℕ) (behind words rest : List ℕ) → tokens 
     SaysBy (heads.Own own) behind (values bytes (list_in behind (length rest)))
 says_list own bytes behind words rest same says (o, h, left) = (o, rw same h, says o (list_in behind o.left) ∙ ap (λ n. values bytes (list_in behind n)) left)
 
-given : (shape : Shape) (line rest : List ℕ) → Follows shape line rest nothing → GivesUpTo shape line rest
-unfolding operands
-given shape line rest h = h
-
 pub more_values : (piece : Piece) (line behind more end : List ℕ) (v : Number) → HasValue piece line v behind → HasComma behind more → HasValues piece more end → HasValues piece line end
 more_values piece line behind more end v has comma (n, on) = (suc n, (v, behind, more, has, comma, on))
 
+-- a directive of values says these
+says_given : (own : Own) (o : Slots) (list : List ℕ) → is_some (values_of own) ≡ true
+    → said_by (heads.Own own) o list ≡ values (unwrap_or (values_of own) (0, pieces.Ra)).0 list
+says_given owns.Byte o list some = refl
+says_given own o list some = cc
+
 pub says_values : (own : Own) (bytes : ℕ) (piece : Piece) (behind words rest : List ℕ) → values_of own ≡ Some (bytes, piece) → tokens behind ≡ tokens words → HasValues piece words rest →
     SaysBy (heads.Own own) behind (values bytes (list_in behind (length rest)))
-says_values owns.Byte bytes piece behind words rest is same (n, has) =
-    let pair : (1, pieces.Byte) ≡ (bytes, piece) = ap (λ found. unwrap_or found (0, pieces.Ra)) is in
-    says_list owns.Byte bytes behind words rest same (λ o list. ap (λ p. values p.0 list) pair) (given shapes.Bytes words rest (bytes_all n words rest nothing (subst (λ p. HasCount n p.1 words rest) (sym pair) has)))
-says_values owns.Word bytes piece behind words rest is same (n, has) =
-    let pair : (2, pieces.Word) ≡ (bytes, piece) = ap (λ found. unwrap_or found (0, pieces.Ra)) is in
-    says_list owns.Word bytes behind words rest same (λ o list. ap (λ p. values p.0 list) pair) (given shapes.Words words rest (words_all n words rest nothing (subst (λ p. HasCount n p.1 words rest) (sym pair) has)))
-says_values owns.Long bytes piece behind words rest is same (n, has) =
-    let pair : (4, pieces.Long) ≡ (bytes, piece) = ap (λ found. unwrap_or found (0, pieces.Ra)) is in
-    says_list owns.Long bytes behind words rest same (λ o list. ap (λ p. values p.0 list) pair) (given shapes.Longs words rest (longs_all n words rest nothing (subst (λ p. HasCount n p.1 words rest) (sym pair) has)))
-says_values owns.Quad bytes piece behind words rest is same (n, has) =
-    let pair : (8, pieces.Quad) ≡ (bytes, piece) = ap (λ found. unwrap_or found (0, pieces.Ra)) is in
-    says_list owns.Quad bytes behind words rest same (λ o list. ap (λ p. values p.0 list) pair) (given shapes.Quads words rest (quads_all n words rest nothing (subst (λ p. HasCount n p.1 words rest) (sym pair) has)))
-says_values own bytes piece behind words rest is same has = cc
+unfolding operands
+says_values own bytes piece behind words rest is same (n, has) =
+    let pair : unwrap_or (values_of own) (0, pieces.Ra) ≡ (bytes, piece) = rw is in
+    let some : is_some (values_of own) ≡ true = rw is in
+    says_list own bytes behind words rest same (λ o list. says_given own o list some ∙ ap (λ p. values p.0 list) pair)
+    (listed own n words rest nothing some (subst (λ p. HasCount n p.1 words rest) (sym pair) has))
 
 pub says_address : (behind words rest label : List ℕ) (offset : ℤ) → tokens behind ≡ tokens words → HasExpr words label offset rest → HasEnd rest →
     SaysBy (heads.Own owns.Quad) behind (values 8 (list_in behind (length rest)))

@@ -1,5 +1,4 @@
 mod Directives
-mod Forwards
 mod Joined
 mod Keys
 mod Meanings
