@@ -1,13 +1,10 @@
 -- The words of canonical lines, one behind the other.
-use Rattle.std.proofs.Common.{◌≡◌, ℕ, List, [], ◌∷◌, ◌++◌, ◌+◌, ◌*◌, ◌/◌, ◌%◌, ◌<◌, ◌^◌, decimal, refl, ◌∙◌, append_assoc, arith}
+use Rattle.std.proofs.Common.{◌≡◌, ℕ, List, [], ◌∷◌, ◌++◌, ◌+◌, ◌*◌, ◌/◌, ◌%◌, ◌<◌, ◌^◌, decimal, append_assoc, arith}
 use Rattle.std.proofs.lemmas.Fmt.{decimal_step}
 
 -- a further digit
-pub decimal-more : (n d : ℕ) → 0 < n → 10 * n + d < 2 ^ 64 → d < 10 → decimal (10 * n + d) ≡ decimal n ++ ((48 + d) ∷ [])
-decimal-more n d h l small =
+pub decimal_behind : (n d : ℕ) (rest : List ℕ) → 0 < n → 10 * n + d < 2 ^ 64 → d < 10 → decimal (10 * n + d) ++ rest ≡ decimal n ++ ((48 + d) ∷ rest)
+decimal_behind n d rest h l small =
     let a : (10 * n + d) / 10 ≡ n = omega arith in
     let b : (10 * n + d) % 10 ≡ d = omega arith in
-    decimal_step (10 * n + d) (omega arith) (omega arith) ∙ rw (a, b) refl
-
-pub decimal_behind : (n d : ℕ) (rest : List ℕ) → 0 < n → 10 * n + d < 2 ^ 64 → d < 10 → decimal (10 * n + d) ++ rest ≡ decimal n ++ ((48 + d) ∷ rest)
-decimal_behind n d rest h l small = rw (decimal-more n d h l small) (append_assoc (decimal n) ((48 + d) ∷ []) rest)
+    rw (decimal_step (10 * n + d) (omega arith) (omega arith), a, b) (append_assoc (decimal n) ((48 + d) ∷ []) rest)

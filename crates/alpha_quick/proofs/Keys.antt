@@ -23,15 +23,8 @@ abbrev plain : ℕ → ℕ → ℕ
 plain key byte = key * 256 + byte
 
 limit_bound : (n : ℕ) → n < 8 → limit n * 256 ≤ 2 ^ 64
-limit_bound zero h = omega arith
-limit_bound (suc zero) h = omega arith
-limit_bound (suc (suc zero)) h = omega arith
-limit_bound (suc (suc (suc zero))) h = omega arith
-limit_bound (suc (suc (suc (suc zero)))) h = omega arith
-limit_bound (suc (suc (suc (suc (suc zero))))) h = omega arith
-limit_bound (suc (suc (suc (suc (suc (suc zero)))))) h = omega arith
-limit_bound (suc (suc (suc (suc (suc (suc (suc zero))))))) h = omega arith
 limit_bound (suc (suc (suc (suc (suc (suc (suc (suc n)))))))) h = absurd (omega arith)
+limit_bound n h = omega arith
 
 byte_bounds : (b : ℕ) → goes_on_name b ≡ true → (0 < b) × (b < 256)
 byte_bounds b h = (grind (arith, nat_tests), grind (arith, nat_tests))

@@ -5,17 +5,16 @@ use Rattle.std.specs.Option.{option_map}
 use Rattle.std.proofs.lemmas.Bool.Decides.{nat_tests}
 use Rattle.alpha_token.specs.declared.token.TokenKind.TheVariants as kinds
 use Rattle.alpha_token.specs.Bytes.{begins_name, goes_on_name}
-use Rattle.alpha_token.specs.Tokens.{End, Next, tokens}
+use Rattle.alpha_token.specs.Tokens.{Next, tokens}
 use Rattle.alpha_token.proofs.Choices.{both}
 use Rattle.alpha_operands.specs.Operands.{is_label}
 use Rattle.alpha_text.specs.Heads.{head_name}
-use Rattle.alpha_text.specs.Statements.{Said, empty}
+use Rattle.alpha_text.specs.Statements.{Said}
 use Rattle.alpha_text.specs.Behind.{Stops}
 use Rattle.alpha_text.specs.References.{begins_label, goes_on_label}
 use Rattle.alpha_text.specs.Reading.{statement_of, line_of}
 use Rattle.alpha_text.proofs.Behind.{statement_says, line_says}
 use Rattle.alpha_text.proofs.Spelling.{token-begun}
-use Rattle.alpha_quick.specs.Words.{HasEnd}
 use Rattle.alpha_quick.specs.Parts.{SaysNamed}
 use Rattle.alpha_quick.specs.Lead.{HasStatement}
 use Rattle.alpha_quick.specs.Rest.{IsBehind}
@@ -65,9 +64,3 @@ pub named_line : (line name behind : List ℕ) (s : Said) → tokens line ≡ to
 named_line line name behind s e (head, is, apart, says) =
     let same : tokens line ≡ tokens (head_name head ++ behind) = e ∙ ap (λ n. tokens (n ++ behind)) (sym is) in
     (ap statement_of same ∙ statement_says head behind s apart says, ap line_of same ∙ line_says head behind s apart says)
-
--- a line that ends
-pub empty_line : (line name behind : List ℕ) → tokens line ≡ tokens (name ++ behind) → name ≡ [] → HasEnd behind → HasStatement line empty
-empty_line line name behind e none (left, end) =
-    let same : tokens line ≡ End left = e ∙ ap (λ n. tokens (n ++ behind)) none ∙ end in
-    (rw same refl, rw same refl)
