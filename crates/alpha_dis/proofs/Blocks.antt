@@ -1,6 +1,6 @@
 -- What a block takes in a row, and what is written where the sink fails. `written` is what the sink tells and `faults` its
 -- count; o, p, q and r are the sink at one moment after another.
-use Rattle.std.proofs.Common.{◌≡◌, ℕ, List, [], ◌++◌, Option, Result, Ok, Err, OnOk, OnErr, sym, ap, subst, ◌∙◌, append_assoc, append-nil, arith}
+use Rattle.std.proofs.Common.{◌≡◌, ℕ, List, [], ◌++◌, Option, Result, Ok, Err, OnErr, sym, ap, subst, ◌∙◌, append_assoc, append-nil, arith}
 use Rattle.alpha_io.specs.Sunk.{Sunk, sunk_by, Puts, Partly}
 use Rattle.alpha_io.proofs.Counts.{Rose-earlier}
 use Rattle.alpha_io.proofs.Sinks.{Puts-then, Partly-whole, Partly-then, Partly-more}
@@ -10,15 +10,6 @@ use Rattle.alpha_dis.specs.Taken.{Takes, Stops}
 pub OnErr-any : {T E P : Type 0} (result : Result T E) → P → OnErr result P
 OnErr-any (Ok x) p = tt
 OnErr-any (Err e) p = p
-
--- a fact that follows, where a call succeeded and where it failed
-pub OnOk-map : {T E P Q : Type 0} (result : Result T E) → (P → Q) → OnOk result P → OnOk result Q
-OnOk-map (Ok x) f p = f p
-OnOk-map (Err e) f p = tt
-
-pub OnErr-map : {T E P Q : Type 0} (result : Result T E) → (P → Q) → OnErr result P → OnErr result Q
-OnErr-map (Ok x) f p = tt
-OnErr-map (Err e) f p = f p
 
 -- what was written whole was written in part
 pub Partly-all : (s : Sunk) (bytes : List ℕ) → Puts s bytes → Partly s bytes

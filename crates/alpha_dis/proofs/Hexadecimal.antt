@@ -17,9 +17,6 @@ by_last : (k n : ℕ) (written : List ℕ) (is_last : Bool) → eqb (n / 16) 0 �
 by_last k n written is_last e =
     ap (λ (b : Bool). cond b (digit_glyph false (n % 16) ∷ written) (digits_onto k 16 false (n / 16) (digit_glyph false (n % 16) ∷ written))) e
 
-next : (most : ℕ) → most + 48 ≡ suc (most + 47)
-next most = omega arith
-
 -- the last digit of a number that has more
 pub onto-more : (most n : ℕ) (written : List ℕ) → 16 ≤ n → onto (suc most) n written ≡ onto most (n / 16) (digit_glyph false (n % 16) ∷ written)
 unfolding onto
@@ -31,7 +28,7 @@ onto-more most n written more =
 pub onto-last : (most n : ℕ) (written : List ℕ) → n < 16 → onto most n written ≡ digit_glyph false (n % 16) ∷ written
 unfolding onto
 onto-last most n written last =
-    ap (λ (k : ℕ). digits_onto k 16 false n written) (next most)
+    ap (λ (k : ℕ). digits_onto k 16 false n written) {x = most + 48} {y = suc (most + 47)} (omega arith)
     ∙ by_last (most + 47) n written true (eq-eqb (n / 16) 0 (omega arith))
 
 -- a number with a second digit has room for it

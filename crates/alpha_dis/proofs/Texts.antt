@@ -1,10 +1,9 @@
 -- Lines one behind the other, rows of bytes, and values with commas.
-use Rattle.std.proofs.Common.{◌≡◌, ℕ, zero, suc, ◌+◌, ◌/◌, ◌<◌, ◌≤◌, List, [], ◌∷◌, ◌++◌, codes, decimal, length, get_or, min, take, drop, map, Some, refl, sym, ap, ◌∙◌, append_assoc, append-nil, add-one, ⊎_elim, arith}
+use Rattle.std.proofs.Common.{◌≡◌, ℕ, zero, suc, ◌+◌, ◌/◌, ◌<◌, List, [], ◌∷◌, ◌++◌, codes, decimal, length, get_or, min, take, drop, map, Some, refl, sym, ap, ◌∙◌, append_assoc, append-nil, add-one, arith}
 use Rattle.std.specs.Prelude.{slice_get}
 use Rattle.std.specs.List.{flat_map, join_with_byte}
 use Rattle.std.specs.Option.{option_map}
-use Rattle.std.proofs.lemmas.List.{map-append, length-map, length-take, length-drop, take-append-drop, take_all, drop_all}
-use Rattle.std.proofs.lemmas.Bool.{cases_lt}
+use Rattle.std.proofs.lemmas.List.{map-append, length-map, length-take, length-drop, take-append-drop, take_min, drop_min}
 use Rattle.std.proofs.lemmas.Option.{slice_get_within, get_or_from_slice_get}
 use Rattle.std.proofs.lemmas.Grind.{flat_map-append}
 use Rattle.std.proofs.Math.Seq.{take-suc}
@@ -41,18 +40,10 @@ rows-some bytes some =
 
 -- the front of some bytes that is as long as a row, or all of them
 pub take-row : (bytes : List ℕ) (n : ℕ) → n ≡ min (length bytes) 16 → take n bytes ≡ take 16 bytes
-take-row bytes n e =
-    ⊎_elim
-    (λ (short : length bytes < 16). take_all n bytes (omega arith) ∙ sym (take_all 16 bytes (omega arith)))
-    (λ (long : 16 ≤ length bytes). ap (λ (k : ℕ). take k bytes) {x = n} {y = 16} (omega arith))
-    (cases_lt (length bytes) 16)
+take-row bytes n e = ap (λ (k : ℕ). take k bytes) {x = n} {y = min 16 (length bytes)} (omega arith) ∙ take_min 16 bytes
 
 pub drop-row : (bytes : List ℕ) (n : ℕ) → n ≡ min (length bytes) 16 → drop n bytes ≡ drop 16 bytes
-drop-row bytes n e =
-    ⊎_elim
-    (λ (short : length bytes < 16). drop_all n bytes (omega arith) ∙ sym (drop_all 16 bytes (omega arith)))
-    (λ (long : 16 ≤ length bytes). ap (λ (k : ℕ). drop k bytes) {x = n} {y = 16} (omega arith))
-    (cases_lt (length bytes) 16)
+drop-row bytes n e = ap (λ (k : ℕ). drop k bytes) {x = n} {y = min 16 (length bytes)} (omega arith) ∙ drop_min 16 bytes
 
 -- one row more
 pub text-rows-some : (bytes : List ℕ) → 0 < length bytes → text (map byte_line (rows bytes)) ≡ ended (byte_line (take 16 bytes)) ++ text (map byte_line (rows (drop 16 bytes)))

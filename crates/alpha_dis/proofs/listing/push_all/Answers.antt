@@ -1,10 +1,11 @@
 use Rattle.std.proofs.Common.{◌++◌, ℕ, List, map, sym, subst}
 use Rattle.std.specs.List.{flat_map}
+use Rattle.std.proofs.lemmas.Result.{on_ok_weaker, on_err_weaker}
 use Rattle.alpha_io.specs.Sunk.{sunk, sunk_by}
 use Rattle.alpha_image.specs.Parts.{pieces}
 use Rattle.alpha_dis.specs.Taken.{Takes, Stops}
 use Rattle.alpha_dis.specs.Listing.{text, heading, code_line, piece_lines, listing}
-use Rattle.alpha_dis.proofs.Blocks.{OnErr-any, OnErr-map, OnOk-map, Takes-three, Stops-more, Stops-second, Stops-third}
+use Rattle.alpha_dis.proofs.Blocks.{OnErr-any, Takes-three, Stops-more, Stops-second, Stops-third}
 use Rattle.alpha_dis.proofs.Texts.{text-listing}
 use Rattle.alpha_dis.proofs.listing.push_all.Goals as goal
 
@@ -29,7 +30,7 @@ returns-clause-ok g c =
     let written = g.K.Sink.written in
     let faults = g.K.Sink.faults in
     let p = c.args.image.now in
-    OnOk-map c.push_data.result
+    on_ok_weaker c.push_data.result
     (λ third. subst (Takes (sunk_by written faults c.args.out.now c.push_data.new.out) c.args.block.now c.push_data.new.block) (sym (text-listing p))
     (Takes-three written faults c.args.out.now c.push_start.new.out c.push_code.new.out c.push_data.new.out
     c.args.block.now c.push_start.new.block c.push_code.new.block c.push_data.new.block
@@ -42,7 +43,7 @@ returns-clause-refused g c =
     let written = g.K.Sink.written in
     let faults = g.K.Sink.faults in
     let p = c.args.image.now in
-    OnErr-map c.push_data.result
+    on_err_weaker c.push_data.result
     (λ third. subst (λ (t : List ℕ). Stops (sunk_by written faults c.args.out.now c.push_data.new.out) (c.args.block.now ++ t)) (sym (text-listing p))
     (Stops-third written faults c.args.out.now c.push_start.new.out c.push_code.new.out c.push_data.new.out
     c.args.block.now c.push_start.new.block c.push_code.new.block c.push_code.new.block
