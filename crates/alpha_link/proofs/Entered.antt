@@ -1,10 +1,11 @@
 -- The symbols that are found by their numbers in a row, as the row grows.
 use Rattle.std.proofs.Common.{◌≡◌, ℕ, zero, suc, ◌+◌, ◌-◌, ◌<◌, ◌≤◌, Bool, true, false, ◌⊎◌, inl, inr, List, [], ◌∷◌, ◌++◌, length, map, take, drop, get_or, Option, None, Some, is_some, if◌then◌else◌, refl, sym, subst, ap, ◌∙◌, append_assoc, arith}
-use Rattle.std.specs.Prelude.{◌&&◌, slice_get, unwrap_or}
+use Rattle.std.specs.Prelude.{◌&&◌, not, is_none, slice_get}
 use Rattle.std.specs.Option.{option_map, option_map_or, option_and_then, option_or}
 use Rattle.std.specs.Str.{bytes_eq}
 use Rattle.std.proofs.lemmas.List.{take_more, length-map, length-append}
-use Rattle.std.proofs.lemmas.Option.{slice_get_within, slice_get-map, get_or_from_slice_get}
+use Rattle.std.proofs.lemmas.Bool.{and_parts}
+use Rattle.std.proofs.lemmas.Option.{none-some, same_Some, slice_get_within, slice_get-map, get_or_from_slice_get}
 use Rattle.std.proofs.lemmas.Slice.Eq.{bytes_eq-Decides}
 use Rattle.alpha_names.specs.Finder.{Finder, IsOnly, Keeps, Grows, number_in}
 use Rattle.alpha_names.specs.declared.numbers.Numbers.{Numbers}
@@ -14,14 +15,8 @@ use Rattle.alpha_asm.specs.Layout.{first}
 use Rattle.alpha_link.specs.Symbols.{Named}
 use Rattle.alpha_link.specs.Linked.{Located, named_address}
 use Rattle.alpha_link.specs.Standings.{Standing, standing_of, standings_in, standings, defines, is_of, address_at, AreEntered}
-use Rattle.alpha_link.proofs.Naming.{first_append, or_assoc}
+use Rattle.alpha_link.proofs.Naming.{first_append}
 use Rattle.alpha_link.proofs.Lists.{next, none_left}
-
-none_some : {X : Type 0} (x : X) → None ≡ Some x → ⊥
-none_some x e = absurd cc
-
-same_some : {X : Type 0} (x y : X) → Some x ≡ Some y → x ≡ y
-same_some {X} x y e = ap (λ (o : Option X). unwrap_or o x) e
 
 -- elements of two lists one behind the other
 pub get_front : {X : Type 0} (xs ys : List X) (k : ℕ) → k < length xs → slice_get (xs ++ ys) k ≡ slice_get xs k
@@ -54,8 +49,8 @@ at_place {X} xs part c m i e h =
     sym (get_dropped c xs i) ∙ (sym (get_taken m (drop c xs) i inside) ∙ ap (λ (l : List X). slice_get l i) e)
 
 pub get_push : {X : Type 0} (xs : List X) (y : X) (k : ℕ) (x : X) → slice_get (xs ++ y ∷ []) k ≡ Some x → (slice_get xs k ≡ Some x) ⊎ ((k ≡ length xs) × (x ≡ y))
-get_push [] y zero x h = inr (refl, same_some x y (sym h))
-get_push [] y (suc k) x h = absurd (none_some x h)
+get_push [] y zero x h = inr (refl, same_Some x y (sym h))
+get_push [] y (suc k) x h = absurd (none-some x h)
 get_push (z ∷ xs) y zero x h = inl h
 get_push (z ∷ xs) y (suc k) x h = elim (get_push xs y k x h) [ inl e ↦ inl e | inr e ↦ inr (ap suc e.0, e.1) ]
 
@@ -78,7 +73,7 @@ record There (row : List Standing) (name : List ℕ) (a : ℕ) : Type 0 where
   pub gives : address_by name symbol ≡ Some a
 
 first_there : (row : List Standing) (name : List ℕ) (a : ℕ) → first (address_by name) row ≡ Some a → There row name a
-first_there [] name a e = absurd (none_some a e)
+first_there [] name a e = absurd (none-some a e)
 first_there (s ∷ row) name a e = by (address_by name s) refl e (first_there row name a)
   where
     by : (o : Option ℕ) → address_by name s ≡ o → option_or o (first (address_by name) row) ≡ Some a → (first (address_by name) row ≡ Some a → There row name a) → There (s ∷ row) name a
@@ -91,15 +86,15 @@ abbrev Nothing : List Standing → List ℕ → Type 0
 Nothing row name = (k : ℕ) (s : Standing) → slice_get row k ≡ Some s → address_by name s ≡ None
 
 first_none : (row : List Standing) (name : List ℕ) → first (address_by name) row ≡ None → Nothing row name
-first_none [] name e = λ k s here. absurd (none_some s here)
+first_none [] name e = λ k s here. absurd (none-some s here)
 first_none (t ∷ row) name e = by (address_by name t) refl e (first_none row name)
   where
     by : (o : Option ℕ) → address_by name t ≡ o → option_or o (first (address_by name) row) ≡ None → (first (address_by name) row ≡ None → Nothing row name) → Nothing (t ∷ row) name
-    by (Some b) so f more = absurd (none_some b (sym f))
+    by (Some b) so f more = absurd (none-some b (sym f))
     by None so f more = λ k s here. at k s here
       where
         at : (k : ℕ) (s : Standing) → slice_get (t ∷ row) k ≡ Some s → address_by name s ≡ None
-        at zero s here = ap (address_by name) (sym (same_some t s here)) ∙ so
+        at zero s here = ap (address_by name) (sym (same_Some t s here)) ∙ so
         at (suc k) s here = more f k s here
 
 -- a symbol that defines a name
@@ -109,17 +104,13 @@ record Defines (row : List Standing) (name : List ℕ) (k : ℕ) : Type 0 where
   pub defined : is_some symbol.address ≡ true
   pub named : symbol.name ≡ name
 
-both : (a b : Bool) → (a && b) ≡ true → (a ≡ true) × (b ≡ true)
-both true b e = (refl, e)
-both false b e = absurd (not_both false e refl)
-
 defines_so : (row : List Standing) (name : List ℕ) (k : ℕ) → is_of row name k ≡ true → Defines row name k
 defines_so row name k e = by (slice_get row k) refl e
   where
     by : (o : Option Standing) → slice_get row k ≡ o → option_map_or (defines name) o false ≡ true → Defines row name k
     by None so f = absurd (not_both false f refl)
     by (Some s) so f =
-        let parts = both (is_some s.address) (bytes_eq s.name name) f in
+        let parts = and_parts (is_some s.address) (bytes_eq s.name name) f in
         record { symbol = s; here = so; defined = parts.0; named = (bytes_eq-Decides s.name name).0 parts.1 }
 
 is_defined_by : (row : List Standing) (k : ℕ) (s : Standing) → slice_get row k ≡ Some s → is_some s.address ≡ true → is_of row s.name k ≡ true
@@ -138,7 +129,7 @@ number_of row find entered k s here defined = entered.found k s here defined (is
 
 given : (b : Bool) (o : Option ℕ) (a : ℕ) → (if b then o else None) ≡ Some a → (b ≡ true) × (o ≡ Some a)
 given true o a e = (refl, e)
-given false o a e = absurd (none_some a e)
+given false o a e = absurd (none-some a e)
 
 some_so : (o : Option ℕ) (a : ℕ) → o ≡ Some a → is_some o ≡ true
 some_so o a e = ap is_some e
@@ -173,6 +164,18 @@ found_is row numbers entered name =
     let own = own_found row numbers entered t.at t.symbol t.here (some_so t.symbol.address a g.1) in
     ap (λ (n : List ℕ). address_at row (find (is_of row n) n)) (sym named) ∙ (own ∙ (g.1 ∙ sym e)))
 
+-- a number is found exactly where an address is
+pub none_there : (row : List Standing) (numbers : Numbers) (name : List ℕ) →
+    is_none (number_in numbers (is_of row name) name) ≡ not (is_some (address_at row (number_in numbers (is_of row name) name)))
+none_there row numbers name =
+    let o = number_in numbers (is_of row name) name in
+    by_option o (is_none o ≡ not (is_some (address_at row o)))
+    (λ e. ap is_none e ∙ sym (ap (λ (p : Option ℕ). not (is_some (address_at row p))) e))
+    (λ k e.
+    let d = defines_so row name k (sound numbers (is_of row name) name k e) in
+    let there : is_some (address_at row (Some k)) ≡ true = ap (λ (s : Option Standing). is_some (option_and_then (λ t. t.address) s)) d.here ∙ d.defined in
+    ap is_none e ∙ sym (ap (λ (p : Option ℕ). not (is_some (address_at row p))) e ∙ ap not there))
+
 -- a symbol that isn't defined stands behind the others
 pub enters_free : (row : List Standing) (find : Finder) (e : Standing) → is_some e.address ≡ false → AreEntered row find → AreEntered (row ++ e ∷ []) find
 enters_free row find e none entered = record {
@@ -193,7 +196,7 @@ enters_free row find e none entered = record {
 
 absent : (row : List Standing) (find : Finder) (name : List ℕ) → AreEntered row find → find (is_of row name) name ≡ None → (k : ℕ) (s : Standing) → slice_get row k ≡ Some s → is_some s.address ≡ true → s.name ≡ name → ⊥
 absent row find name entered none k s here defined same =
-    none_some k (sym none ∙ (ap (λ (n : List ℕ). find (is_of row n) n) (sym same) ∙ number_of row find entered k s here defined))
+    none-some k (sym none ∙ (ap (λ (n : List ℕ). find (is_of row n) n) (sym same) ∙ number_of row find entered k s here defined))
 
 -- one that is defined and has got a number stands behind the others
 pub enters_named : (row : List Standing) (old new : Finder) (e : Standing) (number : ℕ) → number ≡ length row → old (is_of row e.name) e.name ≡ None → Grows old new e.name number → AreEntered row old → AreEntered (row ++ e ∷ []) new
@@ -227,8 +230,8 @@ enters_still row old new keeps entered = record {
 
 pub enters_none : (find : Finder) → AreEntered [] find
 enters_none find = record {
-  single = λ j k s t here. absurd (none_some s here);
-  found = λ k s here. absurd (none_some s here);
+  single = λ j k s t here. absurd (none-some s here);
+  found = λ k s here. absurd (none-some s here);
 }
 
 pub nothing_found : (o : Option ℕ) → address_at [] o ≡ None
@@ -328,10 +331,3 @@ pub symbol_there : (es : List Standing) (l : Located) (c i : ℕ) (s : Named) �
     → slice_get es (c + i) ≡ Some (standing_of l s)
 symbol_there es l c i s part here =
     at_place es (standings_in l) c (length l.parts.symbols) i part (slice_get_within (standings_in l) i (standing_of l s) (standing_at l i s here)) ∙ standing_at l i s here
-
--- a symbol gives its name its address
-pub gives : (l : Located) (name : List ℕ) (s : Named) (old new : Option ℕ) (rest : List Named) (whole : Option ℕ) → new ≡ option_or old (named_address l name s)
-    → option_or old (first (named_address l name) (s ∷ rest)) ≡ whole → option_or new (first (named_address l name) rest) ≡ whole
-gives l name s old new rest whole e all =
-    ap (λ (o : Option ℕ). option_or o (first (named_address l name) rest)) e
-    ∙ (or_assoc old (named_address l name s) (first (named_address l name) rest) ∙ all)

@@ -30,3 +30,4 @@ pub mod MadeChains
 pub mod MadeNames
 pub mod Entered
 pub mod Owned
+pub mod Apart

@@ -1,10 +1,11 @@
 -- The addresses at which modules define their own symbols.
-use Rattle.std.proofs.Common.{◌≡◌, ℕ, zero, suc, ◌+◌, ◌-◌, ◌*◌, ◌<◌, ◌≤◌, Bool, true, false, ◌&&◌, List, [], ◌∷◌, length, map, take, get_or, Option, None, Some, is_some, refl, sym, subst, ap, ◌∙◌, arith}
+use Rattle.std.proofs.Common.{◌≡◌, ℕ, zero, suc, ◌+◌, ◌-◌, ◌*◌, ◌<◌, ◌≤◌, Bool, true, false, List, [], ◌∷◌, length, map, take, get_or, Option, None, Some, is_some, refl, sym, subst, ap, ◌∙◌, arith}
 use Rattle.std.specs.Prelude.{slice_get}
 use Rattle.std.specs.List.{list_all}
 use Rattle.std.specs.Option.{option_map, option_and_then, option_or}
 use Rattle.std.proofs.lemmas.List.{take_all}
-use Rattle.std.proofs.lemmas.Option.{slice_get_within, slice_get-map, slice_get-get_or}
+use Rattle.std.proofs.lemmas.Bool.{and_parts}
+use Rattle.std.proofs.lemmas.Option.{none-some, slice_get_within, slice_get-map, slice_get-get_or}
 use Rattle.alpha_names.specs.Finder.{number_in}
 use Rattle.alpha_names.specs.declared.numbers.Numbers.{Numbers}
 use Rattle.alpha_asm.specs.Program.{code_base, data_base}
@@ -15,9 +16,6 @@ use Rattle.alpha_link.specs.Linked.{Located, section_address, addresses_by, is_d
 use Rattle.alpha_link.specs.Standings.{Standing, standing_of, standings_in, standings, is_of, address_at, AreEntered}
 use Rattle.alpha_link.specs.Addresses.{owned, address_by_own, Knows, AllKnow}
 use Rattle.alpha_link.proofs.Entered.{get_front, get_behind, own_found}
-
-none_some : {X : Type 0} (x : X) → None ≡ Some x → ⊥
-none_some x e = absurd cc
 
 -- functions that agree on each element of a list
 map_same : {A B : Type 0} (f g : A → B) (xs : List A) → ((k : ℕ) (x : A) → slice_get xs k ≡ Some x → f x ≡ g x) → map f xs ≡ map g xs
@@ -37,14 +35,10 @@ own_address find l k s knows here = by (section_address l s.section s.offset) re
 pub by_own : (find : List ℕ → Option ℕ) (l : Located) → Knows find l → map (address_by_own find l) l.parts.symbols ≡ addresses_by find l
 by_own find l knows = map_same (address_by_own find l) (λ (s : Named). find s.name) l.parts.symbols (λ k s here. own_address find l k s knows here)
 
-both : (a b : Bool) → (a && b) ≡ true → (a ≡ true) × (b ≡ true)
-both true b e = (refl, e)
-both false b e = absurd cc
-
 all_at : {A : Type 0} (p : A → Bool) (xs : List A) (k : ℕ) (x : A) → list_all p xs ≡ true → slice_get xs k ≡ Some x → p x ≡ true
-all_at p [] k x all here = absurd (none_some x here)
-all_at p (y ∷ xs) zero x all here = let same : y ≡ x = cc in ap p (sym same) ∙ (both (p y) (list_all p xs) all).0
-all_at p (y ∷ xs) (suc k) x all here = all_at p xs k x (both (p y) (list_all p xs) all).1 here
+all_at p [] k x all here = absurd (none-some x here)
+all_at p (y ∷ xs) zero x all here = let same : y ≡ x = cc in ap p (sym same) ∙ (and_parts (p y) (list_all p xs) all).0
+all_at p (y ∷ xs) (suc k) x all here = all_at p xs k x (and_parts (p y) (list_all p xs) all).1 here
 
 -- a module that defines all its symbols
 pub all_own : (find : List ℕ → Option ℕ) (l : Located) → Knows find l → list_all (λ s. is_defined s.section) l.parts.symbols ≡ true
@@ -66,7 +60,7 @@ all_own find l knows all =
 
 -- the place of a symbol of a module in the row
 in_row : (ls : List Located) (k j : ℕ) (l : Located) (s : Named) → slice_get ls k ≡ Some l → slice_get l.parts.symbols j ≡ Some s → (i : ℕ) × (slice_get (standings ls) i ≡ Some (standing_of l s))
-in_row [] k j l s here there = absurd (none_some l here)
+in_row [] k j l s here there = absurd (none-some l here)
 in_row (x ∷ ls) zero j l s here there =
     let same : x ≡ l = cc in
     let at : slice_get (standings_in l) j ≡ Some (standing_of l s) = slice_get-map (standing_of l) l.parts.symbols j ∙ ap (option_map (standing_of l)) there in

@@ -1,16 +1,15 @@
 //! The names that modules define, with their addresses.
 
-ghost use Rattle.std.specs.Prelude.{◌≡◌, ◌≢◌, ◌&&◌, ◌+◌, take, drop, slice_get, length, ℕ, List, [], None, Some, OnOk, OnErr, IfOk, IfErr, is_some, is_none, map, position, if◌then◌else◌};
+ghost use Rattle.std.specs.Prelude.{◌≡◌, ◌≢◌, ◌&&◌, ◌+◌, take, drop, slice_get, length, ℕ, List, [], None, Some, OnOk, IfOk, IfErr, is_some, is_none, not, true, map, position, if◌then◌else◌};
 ghost use Rattle.std.specs.Option.{option_map, option_or};
 ghost use Rattle.std.specs.List.{list_all};
 ghost use Rattle.std.specs.Str.{bytes_eq};
 ghost use Rattle.alpha_link.specs.declared.fault.LinkFault.TheVariants as faults;
 ghost use Rattle.alpha_link.specs.Linked.{address_in, address_of, is_defined, repeated};
-ghost use Rattle.alpha_link.specs.Names.{found_in};
-ghost use Rattle.alpha_names.specs.Finder.{number_in, Grows, Keeps};
+ghost use Rattle.alpha_link.specs.Names.{found_in, again_in};
 ghost use Rattle.alpha_link.specs.Addresses.{address_by_own, Knows, AllKnow};
 ghost use Rattle.alpha_link.specs.Symbols.{named};
-ghost use Rattle.alpha_link.specs.Standings.{standings, standings_in, front, is_of};
+ghost use Rattle.alpha_link.specs.Standings.{standings, standings_in};
 
 use crate::LinkFault;
 use crate::addresses::Addresses;
@@ -28,25 +27,6 @@ impl SymbolSection {
         ensures { result ≡ is_defined self }
     {
         self != SymbolSection::Undefined
-    }
-}
-
-// Gives a name the number behind those of a row, in which nothing defines it.
-fn give_number<'m>(
-    numbers: &mut Numbers<'m>,
-    row: &Row<'_, 'm>,
-    name: &'m [u8],
-) -> Result<(), AllocError>
-    ensures single { OnOk result
-        (number_in numbers.old (is_of (front row.now) name.entry.now) name.entry.now ≡ None) }
-    ensures ok { OnOk result
-        (Grows (number_in numbers.old) (number_in numbers.new) name.entry.now row.now.count) }
-    ensures same { OnErr result (Keeps (number_in numbers.old) (number_in numbers.new)) }
-{
-    if numbers.add(row, name, row.count)? {
-        Ok(())
-    } else {
-        Err(AllocError)
     }
 }
 
@@ -77,9 +57,6 @@ impl<'p, 'm> Names<'p, 'm> {
     {
         let mut names = Names::empty(alloc, places);
         for located in places {
-            if let Some(number) = names.repeated(located) {
-                return Err(LinkFault::Duplicate(located.number, number));
-            }
             names.define_all(located)?;
         }
         Ok(names)
@@ -95,14 +72,16 @@ impl<'p, 'm> Names<'p, 'm> {
         standing.address
     }
 
-    // Adds the next symbol of the row, which has this name and address. Names of a module differ: one that the module
-    // itself has defined before counts as want of memory.
-    fn enter(&mut self, name: &'m [u8], address: Option<u64>) -> Result<(), AllocError>
+    // Adds the next symbol of the row, which has this name and address, unless it defines a name that has an address.
+    // Answers whether it did.
+    fn enter(&mut self, name: &'m [u8], address: Option<u64>) -> Result<bool, AllocError>
         requires { slice_get (standings self.old.row.places.now) self.old.row.count
             ≡ Some (record { name = name.now; address = address }) }
-        ensures found { OnOk result ((other : List ℕ) → found_in self.new other
+        ensures value { IfOk result (λ added. added
+            ≡ not (is_some address && is_some (found_in self.old name.entry.now))) }
+        ensures found { IfOk result (λ added. added ≡ true → (other : List ℕ) → found_in self.new other
             ≡ option_or (found_in self.old other) (if bytes_eq name.entry.now other then address else None)) }
-        ensures count { OnOk result (self.new.row.count ≡ self.old.row.count + 1) }
+        ensures count { IfOk result (λ added. added ≡ true → self.new.row.count ≡ self.old.row.count + 1) }
         ensures places { self.new.row.places.now ≡ self.old.row.places.now }
     {
         let Some(count) = self.row.count.checked_add(1) else {
@@ -110,24 +89,31 @@ impl<'p, 'm> Names<'p, 'm> {
         };
         match address {
             Some(_) => {
-                give_number(&mut self.numbers, &self.row, name)?;
+                if !self.numbers.add(&self.row, name, self.row.count)? {
+                    return Ok(false);
+                }
                 self.row.count = count;
-                Ok(())
+                Ok(true)
             }
             None => {
                 self.row.count = count;
-                Ok(())
+                Ok(true)
             }
         }
     }
 
-    // Gives the names that the next module defines their addresses, unless they have one.
-    fn define_all(&mut self, located: &Located<'m>) -> Result<(), AllocError>
+    // Gives the names that the next module defines their addresses. The names of its symbols differ, so what is
+    // defined before is so by another module.
+    fn define_all(&mut self, located: &Located<'m>) -> Result<(), LinkFault>
         requires { take (length located.now.parts.symbols)
             (drop self.old.row.count (standings self.old.row.places.now)) ≡ standings_in located.now }
         ensures found { OnOk result ((name : List ℕ) →
             found_in self.new name
             ≡ option_or (found_in self.old name) (address_in name located.now)) }
+        ensures single { OnOk result (again_in (found_in self.old) located.now ≡ None) }
+        ensures refused { IfErr result (λ fault. fault ≢ faults.NoMemory →
+            option_map (faults.Duplicate located.now.number) (again_in (found_in self.old) located.now)
+            ≡ Some fault) }
         ensures count { OnOk result (self.new.row.count
             ≡ self.old.row.count + length located.now.parts.symbols) }
         ensures places { self.new.row.places.now ≡ self.old.row.places.now }
@@ -136,33 +122,11 @@ impl<'p, 'm> Names<'p, 'm> {
         let symbols = &module.symbols;
         for number in 0..symbols.len() {
             let symbol = symbols.at(number);
-            self.enter(symbol.name, located.address(&symbol))?;
-        }
-        Ok(())
-    }
-
-    // Whether a symbol is defined and its name has an address.
-    fn is_repeated(&self, symbol: &Symbol<'_>) -> bool
-        ensures { result ≡ (is_defined symbol.now.section
-            && is_some (found_in self.now symbol.now.name.now)) }
-    {
-        symbol.section.is_defined() && self.address(symbol.name).is_some()
-    }
-
-    // The least symbol that a module defines and whose name has an address.
-    fn repeated(&self, located: &Located<'m>) -> Option<u32>
-        ensures { result
-            ≡ position (λ s. is_defined s.section && is_some (found_in self.now s.name))
-            located.now.parts.symbols }
-    {
-        let module = located.module;
-        let symbols = &module.symbols;
-        for number in 0..symbols.len() {
-            if self.is_repeated(&symbols.at(number)) {
-                return Some(number as u32);
+            if !self.enter(symbol.name, located.address(&symbol))? {
+                return Err(LinkFault::Duplicate(located.number, number as u32));
             }
         }
-        None
+        Ok(())
     }
 
     // The address of a symbol: that at which the module defines it, or that of its name.

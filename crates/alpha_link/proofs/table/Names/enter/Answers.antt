@@ -1,22 +1,29 @@
-use Rattle.std.proofs.Common.{List, ap}
-use Rattle.std.specs.Prelude.{is_some}
+use Rattle.std.proofs.Common.{◌≡◌, ℕ, Bool, List, Option, Some, ap, sym, ◌∙◌}
+use Rattle.std.specs.Prelude.{◌&&◌, not, is_some}
 use Rattle.alpha_names.specs.Finder.{number_in}
-use Rattle.alpha_link.specs.Standings.{Standing, standings}
+use Rattle.alpha_names.proofs.Naming.{none_found}
+use Rattle.alpha_link.specs.Standings.{Standing, standings, front, is_of}
 use Rattle.alpha_link.specs.Names.{found_in}
-use Rattle.alpha_link.proofs.Entered.{enters_still, entered_named, entered_free, found_next}
+use Rattle.alpha_link.proofs.Entered.{enters_still, entered_named, entered_free, found_next, none_there}
 use Rattle.alpha_link.proofs.table.Names.enter.Goals as goal
 
 pub invariant_of-self : goal.invariant_of-self
 invariant_of-self c = record {
-  entered = enters_still _ (number_in c.args.self.now.numbers) (number_in c.give_number.new.numbers) c.in_err-give_number-in-Some-address.ensures.same c.args.self.now.entered;
+  entered = enters_still _ (number_in c.args.self.now.numbers) (number_in c.add.new.self) c.in_err-add-in-Some-address.ensures.same c.args.self.now.entered;
+}
+
+pub invariant_of-self-then-not-branch : goal.invariant_of-self-then-not-branch
+invariant_of-self-then-not-branch c = record {
+  entered = enters_still _ (number_in c.args.self.now.numbers) (number_in c.add.new.self) (c.in_ok-add-in-Some-address.ensures.again c.if-not-branch.true) c.args.self.now.entered;
 }
 
 pub invariant_of-self-in-Some-address : goal.invariant_of-self-in-Some-address
 invariant_of-self-in-Some-address c =
     let e : Standing = record { name = c.args.name.now; address = c.args.address } in
+    let free = none_found (number_in c.args.self.now.numbers (is_of (front c.args.self.now.row) e.name) e.name) (sym c.if-not-branch.false ∙ c.in_ok-add-in-Some-address.ensures.value) in
     record {
-      entered = entered_named (standings c.args.self.now.row.places.now) c.args.self.now.row.count c.in-Some.count e c.args.self.now.numbers c.give_number.new.numbers c.in-Some.ensures.1 c.requires
-          c.in_ok-give_number-in-Some-address.ensures.single c.in_ok-give_number-in-Some-address.ensures.ok c.args.self.now.entered;
+      entered = entered_named (standings c.args.self.now.row.places.now) c.args.self.now.row.count c.in-Some.count e c.args.self.now.numbers c.add.new.self c.in-Some.ensures.1 c.requires
+          free (c.in_ok-add-in-Some-address.ensures.ok c.if-not-branch.false) c.args.self.now.entered;
     }
 
 pub invariant_of-self-in-None : goal.invariant_of-self-in-None
@@ -27,20 +34,36 @@ invariant_of-self-in-None c =
           c.args.self.now.entered;
     }
 
-pub returns-in_ok-give_number-in-Some-address-clause-found : goal.returns-in_ok-give_number-in-Some-address-clause-found
+-- whether a symbol is added that has an address
+added_some : (address : Option ℕ) (a : ℕ) (there : Bool) → address ≡ Some a → not there ≡ not (is_some address && there)
+added_some address a there e = sym (ap (λ (o : Option ℕ). not (is_some o && there)) e)
+
+pub returns-then-not-branch-clause-value : goal.returns-then-not-branch-clause-value
 unfolding found_in
-returns-in_ok-give_number-in-Some-address-clause-found c = λ other.
+returns-then-not-branch-clause-value c =
+    sym c.if-not-branch.true ∙ (c.in_ok-add-in-Some-address.ensures.value
+    ∙ (none_there (front c.args.self.now.row) c.args.self.now.numbers c.args.name.now ∙ added_some c.args.address _ (is_some (found_in c.args.self.now c.args.name.now)) c.in-Some-address.is))
+
+pub returns-else-not-branch-clause-value : goal.returns-else-not-branch-clause-value
+unfolding found_in
+returns-else-not-branch-clause-value c =
+    sym c.if-not-branch.false ∙ (c.in_ok-add-in-Some-address.ensures.value
+    ∙ (none_there (front c.args.self.now.row) c.args.self.now.numbers c.args.name.now ∙ added_some c.args.address _ (is_some (found_in c.args.self.now c.args.name.now)) c.in-Some-address.is))
+
+pub returns-else-not-branch-clause-found : goal.returns-else-not-branch-clause-found
+unfolding found_in
+returns-else-not-branch-clause-found c = λ is_added other.
     let e : Standing = record { name = c.args.name.now; address = c.args.address } in
     let es : List Standing = standings c.args.self.now.row.places.now in
     let old = c.args.self.now.numbers in
-    let new = c.give_number.new.numbers in
+    let new = c.add.new.self in
+    let free = none_found (number_in old (is_of (front c.args.self.now.row) e.name) e.name) (sym c.if-not-branch.false ∙ c.in_ok-add-in-Some-address.ensures.value) in
     found_next es c.args.self.now.row.count c.in-Some.count e old new c.in-Some.ensures.1 c.requires c.args.self.now.entered
-    (entered_named es c.args.self.now.row.count c.in-Some.count e old new c.in-Some.ensures.1 c.requires c.in_ok-give_number-in-Some-address.ensures.single
-    c.in_ok-give_number-in-Some-address.ensures.ok c.args.self.now.entered) other
+    (entered_named es c.args.self.now.row.count c.in-Some.count e old new c.in-Some.ensures.1 c.requires free (c.in_ok-add-in-Some-address.ensures.ok c.if-not-branch.false) c.args.self.now.entered) other
 
 pub returns-in-None-clause-found : goal.returns-in-None-clause-found
 unfolding found_in
-returns-in-None-clause-found c = λ other.
+returns-in-None-clause-found c = λ is_added other.
     let e : Standing = record { name = c.args.name.now; address = c.args.address } in
     let es : List Standing = standings c.args.self.now.row.places.now in
     let numbers = c.args.self.now.numbers in

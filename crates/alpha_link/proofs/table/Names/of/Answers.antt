@@ -1,9 +1,8 @@
-use Rattle.std.proofs.Common.{ℕ, [], refl, ◌+◌, List, ◌∷◌, length, take, drop, Some, ap, sym, ◌∙◌}
-use Rattle.std.specs.Option.{option_map}
-use Rattle.alpha_link.specs.declared.fault.LinkFault.TheVariants as faults
+use Rattle.std.proofs.Common.{ℕ, [], refl, ◌+◌, List, ◌∷◌, length, take, drop, ap, sym, ◌∙◌}
+use Rattle.std.proofs.lemmas.Result.{err_from_is_err_and}
 use Rattle.alpha_link.specs.Names.{found_in}
-use Rattle.alpha_link.specs.Linked.{Located}
-use Rattle.alpha_link.proofs.Naming.{behind, found_more, none_again, some_again}
+use Rattle.alpha_link.specs.Linked.{Located, repeated}
+use Rattle.alpha_link.proofs.Naming.{behind, found_more, none_again, refused_again}
 use Rattle.alpha_link.specs.Standings.{standings, front, is_of, address_at}
 use Rattle.alpha_names.specs.Finder.{number_in}
 use Rattle.alpha_link.proofs.Lists.{next}
@@ -11,20 +10,19 @@ use Rattle.alpha_link.proofs.Owned.{all_know, whole_row}
 use Rattle.alpha_link.proofs.Entered.{count_next, next_standings, nothing_found}
 use Rattle.alpha_link.proofs.table.Names.of.Goals as goal
 
-pub returns-in-Some-clause-refused : goal.returns-in-Some-clause-refused
-returns-in-Some-clause-refused c = λ other.
-    let number = ap (λ (l : Located). l.number) c.located.view_is in
-    ap (option_map (λ (p : ℕ × ℕ). faults.Duplicate p.0 p.1))
-    (some_again (found_in c.loop-located.names) c.args.places.now c.loop-located.located-index c.located-item.result c.in-Some.number _ c.loop-located-test.true c.located-item.is
-    c.loop-located.invariant.found (sym c.in-Some.ensures) c.loop-located.invariant.single)
-    ∙ ap (λ (k : ℕ). Some (faults.Duplicate k c.in-Some.number)) (sym number)
+pub returns-in_err-define_all-clause-refused : goal.returns-in_err-define_all-clause-refused
+returns-in_err-define_all-clause-refused c =
+    let p = err_from_is_err_and c.from_residual.result c.from_residual.ensures.1 in
+    rw (p.1, p.2)
+    (λ other. refused_again (found_in c.loop-located.names) c.args.places.now c.loop-located.located-index c.located-item.result c.in_err-define_all.field-0.0 (repeated [] c.args.places.now)
+    c.loop-located-test.true c.located-item.is c.loop-located.invariant.found (c.in_err-define_all.ensures.refused other) c.loop-located.invariant.single)
 
 pub loop-located-preserved : goal.loop-located-preserved
 loop-located-preserved c = record {
   found = found_more (found_in c.loop-located.names) (found_in c.define_all.new.self) c.args.places.now c.loop-located.located-index c.located-item.result c.loop-located-test.true c.located-item.is
       c.loop-located.invariant.found c.in_ok-define_all.ensures.found;
   single = none_again (found_in c.loop-located.names) c.args.places.now c.loop-located.located-index c.located-item.result _ c.loop-located-test.true c.located-item.is
-      c.loop-located.invariant.found (sym c.in_default.ensures) c.loop-located.invariant.single;
+      c.loop-located.invariant.found c.in_ok-define_all.ensures.single c.loop-located.invariant.single;
   places = c.define_all.ensures.places ∙ c.loop-located.invariant.places;
   count = c.in_ok-define_all.ensures.count ∙ (ap (λ (k : ℕ). k + length c.located-item.result.parts.symbols) c.loop-located.invariant.count
       ∙ sym (count_next c.args.places.now c.loop-located.located-index c.located-item.result (behind c.args.places.now c.loop-located.located-index c.located-item.result c.loop-located-test.true c.located-item.is)));
