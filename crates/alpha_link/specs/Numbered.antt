@@ -1,5 +1,5 @@
 -- The labels that a source defines or names, by number, and what is made by their numbers.
-use Rattle.std.specs.Prelude.{◌≡◌, ℕ, List, ◌++◌, map, get_or, slice_get, Option, None, Some}
+use Rattle.std.specs.Prelude.{◌≡◌, ◌≤◌, ◌^◌, ◌⊎◌, ℕ, false, List, ◌++◌, map, get_or, slice_get, Option, None, Some}
 use Rattle.std.specs.Borrow.{Bor}
 use Rattle.std.specs.Option.{option_map}
 use Rattle.std.specs.List.{AllByRecursion, filter_map, zip}
@@ -12,6 +12,7 @@ use Rattle.alpha_asm.specs.Patches.{Fix, fix_of}
 use Rattle.alpha_link.specs.declared.keyed.KeyedName.{KeyedName}
 use Rattle.alpha_link.specs.declared.relocation.Relocation.{Relocation}
 use Rattle.alpha_link.specs.Made.{kind_in, offset_in, relocation_with}
+use Rattle.alpha_link.specs.Relocations.{is_addend}
 
 -- the bytes of names
 abbrev pub texts : List (Bor (List ℕ)) → List (List ℕ)
@@ -25,6 +26,10 @@ IsNumbered labels names = (more : List (List ℕ)) × (names ≡ label_names lab
 abbrev pub relocation_at : Section → Fix → ℕ → Option Relocation
 relocation_at side f number =
     option_map (λ kind. relocation_with kind (offset_in f.at f.name.need) f.name.reference.offset number) (kind_in side f.name.need)
+
+-- whether a module has no numbers for a relocation: its offset doesn't fit 32 bits, or what is added is no addend
+abbrev pub IsTooGreat : Fix → Type 0
+IsTooGreat f = (2 ^ 32 ≤ offset_in f.at f.name.need) ⊎ (is_addend f.name.reference.offset ≡ false)
 
 -- those of some addresses, each beside the number of its label
 abbrev pub relocations_at : Section → List Fix → List ℕ → List Relocation

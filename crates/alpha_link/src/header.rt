@@ -1,6 +1,7 @@
 //! The sizes that a module begins with.
 
-ghost use Rattle.std.specs.Prelude.{◌≡◌, ◌++◌, OnOk};
+ghost use Rattle.std.specs.Prelude.{◌≡◌, ◌≢◌, ◌++◌, OnOk, IfErr};
+ghost use Rattle.alpha_link.specs.declared.fault.ModuleFault.TheVariants as faults;
 ghost use Rattle.alpha_link.specs.Header.{bad_size, header_at, header_bytes};
 ghost use Rattle.alpha_link.specs.Reading.{Gives};
 
@@ -56,7 +57,8 @@ impl Sizes {
 /// The sizes at the front of the bytes, and the bytes behind them.
 #[tactic(auto, unfolding(crate::specs::Header::header_at))]
 pub(crate) fn read_header(bytes: &[u8]) -> Result<(Sizes, &[u8]), ModuleFault>
-    ensures { Gives (λ x. (x.0, x.1.now)) result (header_at bytes.now) }
+    ensures value { Gives (λ x. (x.0, x.1.now)) result (header_at bytes.now) }
+    ensures memory { IfErr result (λ fault. fault ≢ faults.NoMemory) }
 {
     if bytes.len() < HEADER_BYTES || !bytes.starts_with(&MAGIC) {
         return Err(ModuleFault::Header);

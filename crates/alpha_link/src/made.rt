@@ -93,10 +93,7 @@ fn sized<'a>(alloc: Global, unlinked: Unlinked<'a>) -> Result<Module<'a>, AsmFau
     if let Some(field) = bad {
         return Err(AsmFault::ImageField(field));
     }
-    match module_of(alloc, unlinked) {
-        Ok(module) => Ok(module),
-        Err(NoMemory) => Err(AsmFault::NoMemory),
-    }
+    module_of(alloc, unlinked).map_err(|_| AsmFault::NoMemory)
 }
 
 /// The module that a source makes: each label is a symbol, and each address that a statement names a

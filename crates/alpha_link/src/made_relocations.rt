@@ -1,13 +1,13 @@
 //! The relocations of a module that is made of a source.
 
-ghost use Rattle.std.specs.Prelude.{◌≡◌, ◌<◌, ◌||◌, ◌&&◌, ◌++◌, ℕ, List, [], All, map, length, is_some, is_none, IfOk, OnOk, IfSome};
+ghost use Rattle.std.specs.Prelude.{◌≡◌, ◌<◌, ◌≤◌, ◌^◌, ◌||◌, ◌&&◌, ◌++◌, ℕ, List, [], All, map, length, is_some, is_none, IfOk, OnOk, OnErr, IfSome, IfNone};
 ghost use Rattle.std.specs.List.{cons_option, list_any};
 ghost use Rattle.std.specs.Str.{bytes_eq};
 ghost use Rattle.alpha_asm.specs.Labels.{spot_named, are_among};
 ghost use Rattle.alpha_asm.specs.Patches.{fix_of, need_of};
 ghost use Rattle.alpha_asm.specs.declared.place.Section.TheVariants as sides;
 ghost use Rattle.alpha_link.specs.Made.{kind_in, offset_in, relocation_with};
-ghost use Rattle.alpha_link.specs.Numbered.{texts, IsNumbered, ByNumbers, relocation_at, relocations_at, ranked};
+ghost use Rattle.alpha_link.specs.Numbered.{texts, IsNumbered, ByNumbers, IsTooGreat, relocation_at, relocations_at, ranked};
 
 use crate::keyed::KeyedName;
 use crate::labels::numbers_of;
@@ -29,8 +29,10 @@ fn kind_in(side: Section, need: Need) -> Option<RelocationKind>
 
 // How many bytes of its section stand before what needs an address, `None` from 2^32 on.
 fn offset_of(patch: &Patch<'_>) -> Option<u32>
-    ensures { IfSome result (λ n. n
+    ensures value { IfSome result (λ n. n
         ≡ offset_in (fix_of patch.now).at (fix_of patch.now).name.need) }
+    ensures none { IfNone result
+        (2 ^ 32 ≤ offset_in (fix_of patch.now).at (fix_of patch.now).name.need) }
 {
     match patch.need {
         Need::Put(RelocationKind::Insn(_)) => u32::try_from(patch.at).ok()?.checked_mul(4),
@@ -42,9 +44,10 @@ fn offset_of(patch: &Patch<'_>) -> Option<u32>
 // The relocation of a kind at a patch, by the number of its label. The numbers of a source are small, so there is
 // one.
 fn relocation_with(kind: RelocationKind, number: u32, patch: &Patch<'_>) -> Option<Relocation>
-    ensures { let fix = fix_of patch.now in
+    ensures value { let fix = fix_of patch.now in
         IfSome result (λ r. relocation_with kind (offset_in fix.at fix.name.need)
         patch.now.to.offset number ≡ r) }
+    ensures none { IfNone result (IsTooGreat (fix_of patch.now)) }
 {
     let offset = offset_of(patch)?;
     let addend = i32::try_from(patch.to.offset).ok()?;
@@ -56,19 +59,18 @@ fn relocation_with(kind: RelocationKind, number: u32, patch: &Patch<'_>) -> Opti
     })
 }
 
-// The relocation of a patch that one of the two sections needs, if it does, by the number of its label.
+// The relocation of a patch that one of the two sections needs, if it does, by the number of its label. Too great a
+// number counts as want of memory, of which it takes none.
 fn relocation_at(
     side: Section,
     patch: &Patch<'_>,
     number: u32,
 ) -> Result<Option<Relocation>, NoMemory>
-    ensures { IfOk result (λ r. relocation_at side (fix_of patch.now) number ≡ r) }
+    ensures value { IfOk result (λ r. relocation_at side (fix_of patch.now) number ≡ r) }
+    ensures refused { OnErr result (IsTooGreat (fix_of patch.now)) }
 {
     match kind_in(side, patch.need) {
-        Some(kind) => match relocation_with(kind, number, patch) {
-            Some(relocation) => Ok(Some(relocation)),
-            None => Err(NoMemory),
-        },
+        Some(kind) => Ok(Some(relocation_with(kind, number, patch).ok_or(NoMemory)?)),
         None => Ok(None),
     }
 }

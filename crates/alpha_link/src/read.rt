@@ -1,8 +1,9 @@
 //! Modules that are read from their bytes.
 
-ghost use Rattle.std.specs.Prelude.{◌≡◌, ◌≤◌, map, Some, IfOk};
+ghost use Rattle.std.specs.Prelude.{◌≡◌, ◌≢◌, ◌≤◌, map, Some, IfOk, IfErr};
 ghost use Rattle.alpha_table.specs.Decoded.{decoded};
 ghost use Rattle.alpha_table.specs.Encoded.{encoded};
+ghost use Rattle.alpha_link.specs.declared.fault.ModuleFault.TheVariants as faults;
 ghost use Rattle.alpha_link.specs.Reading.{Gives, taken};
 ghost use Rattle.alpha_link.specs.Parts.{IsModule};
 ghost use Rattle.alpha_link.specs.Spelled.{words_at, fault_of_words, module_at, spelling};
@@ -19,7 +20,8 @@ use std::alloc::Global;
 
 /// So many bytes, of `total` ones in all, and those behind them.
 pub(crate) fn taken(total: u64, count: usize, bytes: &[u8]) -> Result<(&[u8], &[u8]), ModuleFault>
-    ensures { Gives (λ x. (x.0.now, x.1.now)) result (taken total count bytes.now) }
+    ensures value { Gives (λ x. (x.0.now, x.1.now)) result (taken total count bytes.now) }
+    ensures memory { IfErr result (λ fault. fault ≢ faults.NoMemory) }
 {
     if bytes.len() < count {
         return Err(ModuleFault::Cut(total));

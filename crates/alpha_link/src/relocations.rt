@@ -1,10 +1,11 @@
 //! The relocations of a module, read and written.
 
-ghost use Rattle.std.specs.Prelude.{◌≡◌, ◌≤◌, ◌<◌, ◌^◌, ◌++◌, ◌==◌, [], length, map, Some, slice_get, OnOk};
+ghost use Rattle.std.specs.Prelude.{◌≡◌, ◌≢◌, ◌≤◌, ◌<◌, ◌^◌, ◌++◌, ◌==◌, [], length, map, Some, slice_get, OnOk, IfErr};
 ghost use Rattle.std.specs.List.{flat_map, list_all};
 ghost use Rattle.std.specs.Option.{option_and_then};
 ghost use Rattle.alpha_table.specs.Decoded.{decoded};
 ghost use Rattle.alpha_table.specs.Encoded.{encoded};
+ghost use Rattle.alpha_link.specs.declared.fault.ModuleFault.TheVariants as faults;
 ghost use Rattle.alpha_link.specs.Reading.{Gives, items_at};
 ghost use Rattle.alpha_link.specs.Relocations.{is_taken_by, is_taken_at, is_quad_at, stands_at, follows, follows_all, relocation_fits, relocation_in, relocation_at, relocation_bytes, body};
 
@@ -156,9 +157,10 @@ fn relocation_at<'a>(
 ) -> Result<(Relocation, &'a [u8]), ModuleFault>
     requires known { map decoded (map encoded insns.now) ≡ map Some insns.now }
     requires number { length before.now < 2 ^ 32 }
-    ensures { Gives (λ x. (x.0, x.1.now)) result
+    ensures value { Gives (λ x. (x.0, x.1.now)) result
         (relocation_at total sizes.now (body (map encoded insns.now) filled.now) before.now
         bytes.now) }
+    ensures memory { IfErr result (λ fault. fault ≢ faults.NoMemory) }
 {
     if bytes.len() < RELOCATION_BYTES {
         return Err(ModuleFault::Cut(total));

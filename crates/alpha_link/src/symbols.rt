@@ -1,7 +1,8 @@
 //! The symbols of a module, read and written.
 
-ghost use Rattle.std.specs.Prelude.{◌≡◌, ◌≤◌, ◌<◌, ◌^◌, ◌++◌, ◌∷◌, [], length, map, All, OnOk};
+ghost use Rattle.std.specs.Prelude.{◌≡◌, ◌≢◌, ◌≤◌, ◌<◌, ◌^◌, ◌++◌, ◌∷◌, [], length, map, All, OnOk, IfErr};
 ghost use Rattle.std.specs.List.{flat_map};
+ghost use Rattle.alpha_link.specs.declared.fault.ModuleFault.TheVariants as faults;
 ghost use Rattle.alpha_link.specs.Reading.{Gives, items_at};
 ghost use Rattle.alpha_link.specs.Listed.{read_in};
 ghost use Rattle.alpha_link.specs.Symbols.{named, offset_fits, comes_behind, symbol_fits, front_at, symbol_at, symbol_bytes};
@@ -20,7 +21,8 @@ const LONGEST_NAME: usize = 1024;
 
 // What stands before a name, and the bytes behind it.
 fn front_at(total: u64, bytes: &[u8]) -> Result<(Front, &[u8]), ModuleFault>
-    ensures { Gives (λ x. (x.0, x.1.now)) result (front_at total bytes.now) }
+    ensures value { Gives (λ x. (x.0, x.1.now)) result (front_at total bytes.now) }
+    ensures memory { IfErr result (λ fault. fault ≢ faults.NoMemory) }
 {
     if bytes.len() < FRONT_BYTES {
         return Err(ModuleFault::Cut(total));
@@ -86,8 +88,9 @@ fn symbol_at<'a>(
 ) -> Result<(Symbol<'a>, &'a [u8]), ModuleFault>
     requires words { sizes.now.words ≤ 262144 }
     requires number { length (read_in before.now) < 2 ^ 32 }
-    ensures { Gives (λ x. (named x.0, x.1.now)) result
+    ensures value { Gives (λ x. (named x.0, x.1.now)) result
         (symbol_at total sizes.now (read_in before.now) bytes.now) }
+    ensures memory { IfErr result (λ fault. fault ≢ faults.NoMemory) }
 {
     let (front, behind) = front_at(total, bytes)?;
     let (name, rest) = taken(total, usize::from(front.size), behind)?;

@@ -18,17 +18,17 @@ pub returns-in_err-sizes-clause-value : goal.returns-in_err-sizes-clause-value
 returns-in_err-sizes-clause-value c =
     let bytes = c.args.bytes.now in
     let p = err_from_is_err_and c.from_residual.result c.from_residual.ensures.1 in
-    rw (p.1, p.2) (passed_on c.in_err-sizes.field-0.0 (header_at bytes) (module_at bytes) (λ d e. headed bytes (Err d) e) c.in_err-sizes.ensures)
+    rw (p.1, p.2) (passed_on c.in_err-sizes.field-0.0 (header_at bytes) (module_at bytes) (λ d e. headed bytes (Err d) e) c.in_err-sizes.ensures.value)
 
 pub read_code-requires : goal.read_code-requires
 read_code-requires c =
     let bytes = c.args.bytes.now in
-    (header_takes bytes c.in_ok-sizes.sizes c.in_ok-sizes.behind.now (λ i. omega (arith, c.type_inv.bytes i)) c.in_ok-sizes.ensures).0.words
+    (header_takes bytes c.in_ok-sizes.sizes c.in_ok-sizes.behind.now (λ i. omega (arith, c.type_inv.bytes i)) c.in_ok-sizes.ensures.value).0.words
 
 pub read_symbols-requires : goal.read_symbols-requires
 read_symbols-requires c =
     let bytes = c.args.bytes.now in
-    (header_takes bytes c.in_ok-sizes.sizes c.in_ok-sizes.behind.now (λ i. omega (arith, c.type_inv.bytes i)) c.in_ok-sizes.ensures).0.words
+    (header_takes bytes c.in_ok-sizes.sizes c.in_ok-sizes.behind.now (λ i. omega (arith, c.type_inv.bytes i)) c.in_ok-sizes.ensures.value).0.words
 
 pub returns-in_err-insns-clause-value : goal.returns-in_err-insns-clause-value
 returns-in_err-insns-clause-value c =
@@ -36,7 +36,7 @@ returns-in_err-insns-clause-value c =
     let n = length bytes in
     let z = c.in_ok-sizes.sizes in
     let behind = c.in_ok-sizes.behind.now in
-    let so_far = to_words bytes z behind c.in_ok-sizes.ensures in
+    let so_far = to_words bytes z behind c.in_ok-sizes.ensures.value in
     let p = err_from_is_err_and c.from_residual-in_err-insns.result c.from_residual-in_err-insns.ensures.1 in
     rw (p.1, p.2) (passed_on c.in_err-insns.field-0.0 (words_at n z.words behind) (module_at bytes) (λ d e. so_far ∙ coded n z behind (Err d) e) c.in_err-insns.ensures.value)
 
@@ -48,9 +48,9 @@ returns-in_err-data-clause-value c =
     let behind = c.in_ok-sizes.behind.now in
     let words = map encoded c.in_ok-insns.insns.items in
     let b2 = c.in_ok-insns.behind.now in
-    let so_far = to_data bytes z behind words b2 c.in_ok-sizes.ensures c.in_ok-insns.ensures.value in
+    let so_far = to_data bytes z behind words b2 c.in_ok-sizes.ensures.value c.in_ok-insns.ensures.value in
     let p = err_from_is_err_and c.from_residual-in_err-data.result c.from_residual-in_err-data.ensures.1 in
-    rw (p.1, p.2) (passed_on c.in_err-data.field-0.0 (taken n z.filled b2) (module_at bytes) (λ d e. so_far ∙ filled n z words b2 (Err d) e) c.in_err-data.ensures)
+    rw (p.1, p.2) (passed_on c.in_err-data.field-0.0 (taken n z.filled b2) (module_at bytes) (λ d e. so_far ∙ filled n z words b2 (Err d) e) c.in_err-data.ensures.value)
 
 pub returns-in_err-symbols-clause-value : goal.returns-in_err-symbols-clause-value
 returns-in_err-symbols-clause-value c =
@@ -62,7 +62,7 @@ returns-in_err-symbols-clause-value c =
     let b2 = c.in_ok-insns.behind.now in
     let stored = c.in_ok-data.data.now in
     let b3 = c.in_ok-data.behind.now in
-    let so_far = to_symbols bytes z behind words b2 stored b3 c.in_ok-sizes.ensures c.in_ok-insns.ensures.value c.in_ok-data.ensures in
+    let so_far = to_symbols bytes z behind words b2 stored b3 c.in_ok-sizes.ensures.value c.in_ok-insns.ensures.value c.in_ok-data.ensures.value in
     let p = err_from_is_err_and c.from_residual-in_err-symbols.result c.from_residual-in_err-symbols.ensures.1 in
     rw (p.1, p.2) (passed_on c.in_err-symbols.field-0.0 (items_at (symbol_at n z) z.symbols [] b3) (module_at bytes) (λ d e. so_far ∙ named n z words stored b3 (Err d) e) c.in_err-symbols.ensures)
 
@@ -78,7 +78,7 @@ returns-in_err-relocations-clause-value c =
     let b3 = c.in_ok-data.behind.now in
     let symbols = c.in_ok-symbols.symbols in
     let b4 = c.in_ok-symbols.behind.now in
-    let so_far = to_relocations bytes z behind words b2 stored b3 symbols b4 c.in_ok-sizes.ensures c.in_ok-insns.ensures.value c.in_ok-data.ensures c.in_ok-symbols.ensures in
+    let so_far = to_relocations bytes z behind words b2 stored b3 symbols b4 c.in_ok-sizes.ensures.value c.in_ok-insns.ensures.value c.in_ok-data.ensures.value c.in_ok-symbols.ensures in
     let refused = rw c.deref.ensures.value at c.in_err-relocations.ensures in
     let p = err_from_is_err_and c.from_residual-in_err-relocations.result c.from_residual-in_err-relocations.ensures.1 in
     rw (p.1, p.2) (passed_on c.in_err-relocations.field-0.0 (items_at (relocation_at n z (body words stored)) z.relocations [] b4) (module_at bytes) (λ d e. so_far ∙ relocated n z words stored symbols b4 (Err d) e) refused)
@@ -98,7 +98,7 @@ returns-then-not-is_empty-clause-value c =
     let relocations = c.in_ok-relocations.relocations.items in
     let b5 = c.in_ok-relocations.behind.now in
     let last = rw c.deref.ensures.value at c.in_ok-relocations.ensures in
-    let so_far = to_end bytes z behind words b2 stored b3 symbols b4 relocations b5 c.in_ok-sizes.ensures c.in_ok-insns.ensures.value c.in_ok-data.ensures c.in_ok-symbols.ensures last in
+    let so_far = to_end bytes z behind words b2 stored b3 symbols b4 relocations b5 c.in_ok-sizes.ensures.value c.in_ok-insns.ensures.value c.in_ok-data.ensures.value c.in_ok-symbols.ensures last in
     let some : (length b5 == 0) ≡ false = sym c.is_empty.ensures ∙ c.if-not-is_empty.true in
     rw c.saturating_sub.ensures (so_far ∙ ended_some n (parts z words stored symbols relocations) b5 some)
 
@@ -117,7 +117,7 @@ returns-clause-value c =
     let relocations = c.in_ok-relocations.relocations.items in
     let b5 = c.in_ok-relocations.behind.now in
     let last = rw c.deref.ensures.value at c.in_ok-relocations.ensures in
-    let so_far = to_end bytes z behind words b2 stored b3 symbols b4 relocations b5 c.in_ok-sizes.ensures c.in_ok-insns.ensures.value c.in_ok-data.ensures c.in_ok-symbols.ensures last in
+    let so_far = to_end bytes z behind words b2 stored b3 symbols b4 relocations b5 c.in_ok-sizes.ensures.value c.in_ok-insns.ensures.value c.in_ok-data.ensures.value c.in_ok-symbols.ensures last in
     let none : (length b5 == 0) ≡ true = sym c.is_empty.ensures ∙ c.if-not-is_empty.false in
     let same = ap (λ (l : List ℕ). parts z words l symbols relocations) (sym c.in_ok-from_slice.ensures.items) in
     let read = so_far ∙ (ended_none n (parts z words stored symbols relocations) b5 none ∙ ap (λ (m : ModuleParts). Ok m) same) in
@@ -138,7 +138,7 @@ returns-clause-good c =
     let relocations = c.in_ok-relocations.relocations.items in
     let b5 = c.in_ok-relocations.behind.now in
     let last = rw c.deref.ensures.value at c.in_ok-relocations.ensures in
-    let so_far = to_end bytes z behind words b2 stored b3 symbols b4 relocations b5 c.in_ok-sizes.ensures c.in_ok-insns.ensures.value c.in_ok-data.ensures c.in_ok-symbols.ensures last in
+    let so_far = to_end bytes z behind words b2 stored b3 symbols b4 relocations b5 c.in_ok-sizes.ensures.value c.in_ok-insns.ensures.value c.in_ok-data.ensures.value c.in_ok-symbols.ensures last in
     let none : (length b5 == 0) ≡ true = sym c.is_empty.ensures ∙ c.if-not-is_empty.false in
     let same = ap (λ (l : List ℕ). parts z words l symbols relocations) (sym c.in_ok-from_slice.ensures.items) in
     let read = so_far ∙ (ended_none n (parts z words stored symbols relocations) b5 none ∙ ap (λ (m : ModuleParts). Ok m) same) in
@@ -159,7 +159,7 @@ returns-clause-spelled c =
     let relocations = c.in_ok-relocations.relocations.items in
     let b5 = c.in_ok-relocations.behind.now in
     let last = rw c.deref.ensures.value at c.in_ok-relocations.ensures in
-    let so_far = to_end bytes z behind words b2 stored b3 symbols b4 relocations b5 c.in_ok-sizes.ensures c.in_ok-insns.ensures.value c.in_ok-data.ensures c.in_ok-symbols.ensures last in
+    let so_far = to_end bytes z behind words b2 stored b3 symbols b4 relocations b5 c.in_ok-sizes.ensures.value c.in_ok-insns.ensures.value c.in_ok-data.ensures.value c.in_ok-symbols.ensures last in
     let none : (length b5 == 0) ≡ true = sym c.is_empty.ensures ∙ c.if-not-is_empty.false in
     let same = ap (λ (l : List ℕ). parts z words l symbols relocations) (sym c.in_ok-from_slice.ensures.items) in
     let read = so_far ∙ (ended_none n (parts z words stored symbols relocations) b5 none ∙ ap (λ (m : ModuleParts). Ok m) same) in
@@ -180,7 +180,7 @@ invariant_of-result c =
     let relocations = c.in_ok-relocations.relocations.items in
     let b5 = c.in_ok-relocations.behind.now in
     let last = rw c.deref.ensures.value at c.in_ok-relocations.ensures in
-    let so_far = to_end bytes z behind words b2 stored b3 symbols b4 relocations b5 c.in_ok-sizes.ensures c.in_ok-insns.ensures.value c.in_ok-data.ensures c.in_ok-symbols.ensures last in
+    let so_far = to_end bytes z behind words b2 stored b3 symbols b4 relocations b5 c.in_ok-sizes.ensures.value c.in_ok-insns.ensures.value c.in_ok-data.ensures.value c.in_ok-symbols.ensures last in
     let none : (length b5 == 0) ≡ true = sym c.is_empty.ensures ∙ c.if-not-is_empty.false in
     let same = ap (λ (l : List ℕ). parts z words l symbols relocations) (sym c.in_ok-from_slice.ensures.items) in
     let read = so_far ∙ (ended_none n (parts z words stored symbols relocations) b5 none ∙ ap (λ (m : ModuleParts). Ok m) same) in

@@ -29,7 +29,7 @@ loop-number-preserved c =
     let before = l.relocations.items in
     let x = c.in_ok-relocation.relocation in
     let pushed = c.in_ok-push.ensures.items in
-    let at = rw c.deref.ensures.value at c.in_ok-relocation.ensures in
+    let at = rw c.deref.ensures.value at c.in_ok-relocation.ensures.value in
     let step = goes_on read n l._number before l.rest.now (x) c.in_ok-relocation.behind.now (items_at read n [] c.args.bytes.now) c.loop-number-test.true l.invariant.reads at in
     record {
       size = omega (arith, ap length pushed, length-append before (x ∷ []), l.invariant.size);
@@ -51,5 +51,5 @@ returns-in_err-relocation c =
     let before = l.relocations.items in
     let whole = items_at read n [] c.args.bytes.now in
     let p = err_from_is_err_and c.from_residual-in_err-relocation.result c.from_residual-in_err-relocation.ensures.1 in
-    let refused = rw c.deref.ensures.value at c.in_err-relocation.ensures in
+    let refused = rw c.deref.ensures.value at c.in_err-relocation.ensures.value in
     rw (p.1, p.2) (passed_on c.in_err-relocation.field-0.0 (read before l.rest.now) whole (λ d r. stops read n l._number before l.rest.now whole c.loop-number-test.true l.invariant.reads d r) refused)

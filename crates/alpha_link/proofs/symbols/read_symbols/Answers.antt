@@ -19,8 +19,8 @@ loop-number-preserved c =
     let rest = l.rest.now in
     let behind = c.in_ok-behind.behind.now in
     let s = named c.in_ok-behind.field-0-0 in
-    let there = stands_there c.args.total c.args.sizes.now before rest s behind c.in_ok-behind.ensures in
-    let step = goes_on read n l._number before rest s behind (items_at read n [] bytes) c.loop-number-test.true l.invariant.reads c.in_ok-behind.ensures in
+    let there = stands_there c.args.total c.args.sizes.now before rest s behind c.in_ok-behind.ensures.value in
+    let step = goes_on read n l._number before rest s behind (items_at read n [] bytes) c.loop-number-test.true l.invariant.reads c.in_ok-behind.ensures.value in
     let begin : drop c.saturating_sub.result l.symbols.bytes.now ≡ rest =
     ap (λ (k : ℕ). drop k l.symbols.bytes.now) c.saturating_sub.ensures ∙ (ap (drop (length bytes - length rest)) l.invariant.bytes ∙ sym l.invariant.place) in
     let pushed : read_in c.push.new.self ≡ before ++ s ∷ [] = c.in_ok-push.ensures.ok ∙ ap (λ (t : Named). before ++ t ∷ []) (ap symbol_from begin ∙ there.0) in
@@ -41,4 +41,4 @@ returns-in_err-behind c =
     let before = read_in l.symbols in
     let whole = items_at read n [] c.args.bytes.now in
     let p = err_from_is_err_and c.from_residual-in_err-behind.result c.from_residual-in_err-behind.ensures.1 in
-    rw (p.1, p.2) (passed_on c.in_err-behind.field-0.0 (read before l.rest.now) whole (λ d r. stops read n l._number before l.rest.now whole c.loop-number-test.true l.invariant.reads d r) c.in_err-behind.ensures)
+    rw (p.1, p.2) (passed_on c.in_err-behind.field-0.0 (read before l.rest.now) whole (λ d r. stops read n l._number before l.rest.now whole c.loop-number-test.true l.invariant.reads d r) c.in_err-behind.ensures.value)

@@ -56,7 +56,7 @@ loop-keyed_name-preserved c =
           let pushed : map named c.if-is_new.symbols.items ≡ old ++ symbol_at_spot x.name.now (spot x.name.now) ∷ [] =
           ap (λ v. map named v.items) w.symbols-is
           ∙ (ap (map named) w.in_ok-push.ensures.items ∙ (map-append named c.loop-keyed_name.symbols.items (w.symbol_of.result ∷ []) ∙ ap (λ s. old ++ s ∷ []) w.symbol_of.ensures)) in
-          let place : c.if-is_new.rank ≡ length old = w.rank-is ∙ (w.in_ok-rank.ensures ∙ (w.len.ensures ∙ (c.loop-keyed_name.symbols.ok.0 ∙ sym (length-map c.loop-keyed_name.symbols.items named)))) in
+          let place : c.if-is_new.rank ≡ length old = w.rank-is ∙ (w.in_ok-rank.ensures.value ∙ (w.len.ensures ∙ (c.loop-keyed_name.symbols.ok.0 ∙ sym (length-map c.loop-keyed_name.symbols.items named)))) in
           rw (pushed, w.last-is)
           (grown_new spot ns (option_map named_last before) x.name old c.if-is_new.rank symbols last (some_named named_last (λ b. true ≡ not (bytes_eq x.name.now b.now)) before some) place)
       | else-is_new w ↦
