@@ -1,9 +1,12 @@
 -- The module that is made of what was read.
-use Rattle.std.proofs.Common.{◌≡◌, ℕ, ◌+◌, ◌^◌, ◌<◌, ◌≤◌, List, [], ◌∷◌, ◌++◌, length, map, Option, None, Some, Bor, All, refl, sym, ap, subst, ◌∙◌, arith}
+use Rattle.std.proofs.Common.{◌≡◌, ℕ, zero, suc, ◌+◌, ◌/◌, ◌%◌, ◌^◌, ◌<◌, ◌≤◌, List, [], ◌∷◌, ◌++◌, length, map, replicate, Option, None, Some, Bor, All, refl, sym, ap, subst, ◌∙◌, arith}
 use Rattle.std.specs.Prelude.{Ok, Err, IfSome}
 use Rattle.std.specs.List.{AllByRecursion, filter_map, flat_map, list_any}
 use Rattle.std.specs.Str.{bytes_eq}
 use Rattle.std.proofs.lemmas.List.{length-map}
+use Rattle.std.proofs.lemmas.List.Elements.{All-nil, All-cons, All-append, All-replicate}
+use Rattle.std.proofs.lemmas.Nat.{mod_below}
+use Rattle.alpha_words.specs.Digits.{digits, low_bytes}
 use Rattle.alpha_words.specs.declared.Level.TheVariants.{One}
 use Rattle.alpha_table.specs.declared.form.Form.{Form}
 use Rattle.alpha_table.specs.Encoded.{encoded}
@@ -18,8 +21,9 @@ use Rattle.alpha_asm.specs.declared.place.Section.TheVariants as sides
 use Rattle.alpha_asm.specs.declared.place.Spot.{Spot}
 use Rattle.alpha_asm.specs.declared.place.Spot.TheVariants as spots
 use Rattle.alpha_asm.specs.declared.unlinked.Unlinked.{Unlinked}
-use Rattle.alpha_asm.specs.Layout.{Place, start, placed, layout, end, spot_of}
-use Rattle.alpha_asm.specs.Patches.{fix_of, raw_bytes, fixes}
+use Rattle.alpha_asm.specs.Statement.{Cell, number, address, cells}
+use Rattle.alpha_asm.specs.Layout.{Place, Placed, start, placed, filled_pad, layout, end, spot_of}
+use Rattle.alpha_asm.specs.Patches.{fix_of, raw_cells, raw_bytes, fixes}
 use Rattle.alpha_asm.specs.Labels.{spot_named, are_among}
 use Rattle.alpha_asm.specs.Unlinked.{Makes, IsUnlinked}
 use Rattle.alpha_link.specs.declared.header.Sizes.{Sizes}
@@ -65,16 +69,35 @@ sizes_with u = record { words = length u.code.items; filled = length u.bytes.ite
 pub labels_near : (u : Unlinked) → IsOfLines u → length u.code.items ≤ 262144 → u.filled ≤ 16777216 → length u.bytes.items + u.zeroed ≤ 16777216 → (name : List ℕ) → IfSome (spot_named u.labels name) IsNear
 labels_near u (is, m, all) words few size name = near (sizes_with u) (spot_named u.labels name) words size (spots_in is u (sizes_with u) m all few refl refl refl name)
 
+-- the bytes of cells, and the zeros that fill up, are bytes
+low_all : (n v : ℕ) → All IsByte (low_bytes n v)
+unfolding digits
+low_all zero v = All-nil IsByte
+low_all (suc n) v = All-cons IsByte (v % 256) (low_bytes n (v / 256)) (mod_below v 256 (omega arith)) (low_all n (v / 256))
+
+cells_all : (cs : List Cell) → All IsByte (raw_cells cs)
+cells_all [] = All-nil IsByte
+cells_all (number bytes value ∷ cs) = All-append IsByte (low_bytes bytes value) (raw_cells cs) (low_all bytes value) (cells_all cs)
+cells_all (address r ∷ cs) = All-append IsByte (low_bytes 8 0) (raw_cells cs) (low_all 8 0) (cells_all cs)
+
+bytes_all : (xs : List Placed) → All IsByte (flat_map raw_bytes xs)
+bytes_all [] = All-nil IsByte
+bytes_all (x ∷ xs) =
+    let pad = filled_pad x.place x.item.statement in
+    let cs = raw_cells (cells x.item.statement) in
+    let own = All-append IsByte cs (replicate pad 0) (cells_all (cells x.item.statement)) (All-replicate IsByte pad 0 (omega arith)) in
+    All-append IsByte (raw_bytes x) (flat_map raw_bytes xs) own (bytes_all xs)
+
 -- what is made of the lines of a module's source is a module
 pub module_good : (u : Unlinked) (names : List (Bor (List ℕ))) (symbols : List Named) (relocations : List Relocation) → IsOfLines u
-    → All (IsCodeInsn One) u.code.items → length u.code.items ≤ 262144 → u.filled ≤ 16777216 → length u.bytes.items + u.zeroed ≤ 16777216 → All IsByte u.bytes.items → Rise names
+    → All (IsCodeInsn One) u.code.items → length u.code.items ≤ 262144 → u.filled ≤ 16777216 → length u.bytes.items + u.zeroed ≤ 16777216 → Rise names
     → ((is : List LineSaid) → Makes is u → (q : List ℕ) → are_among names q ≡ list_any (bytes_eq q) (labels_in (layout is) ++ references_in (layout is)))
     → symbols ≡ map (λ n. symbol_at_spot n.now (spot_named u.labels n.now)) names
     → relocations ≡ filter_map (relocation_for sides.Code (map (λ n. n.now) names)) (map fix_of u.patches.items) ++ filter_map (relocation_for sides.Data (map (λ n. n.now) names)) (map fix_of u.patches.items)
     → length symbols < 2 ^ 32 → length relocations < 2 ^ 32
     → IsModule (record { words = map encoded u.code.items; bytes = u.bytes.items; zeroed = u.zeroed; symbols = symbols; relocations = relocations })
 unfolding layout
-module_good u names symbols relocations (is, m, all) insns words few size bytes rise among made put few_symbols few_relocations =
+module_good u names symbols relocations (is, m, all) insns words few size rise among made put few_symbols few_relocations =
     let parts : ModuleParts = record { words = map encoded u.code.items; bytes = u.bytes.items; zeroed = u.zeroed; symbols = symbols; relocations = relocations } in
     let z : Sizes = sizes_of parts in
     let same : length (map encoded u.code.items) ≡ length u.code.items = length-map u.code.items encoded in
@@ -91,7 +114,7 @@ module_good u names symbols relocations (is, m, all) insns words few size bytes 
       few = omega (arith, same);
       size = size;
       words = (code_words_of_insns One u.code.items insns).0;
-      bytes = bytes;
+      bytes = subst (All IsByte) (sym held) (bytes_all (layout is));
       symbols = subst (AreGood (IsSymbol z) []) (sym made)
           (symbols_good z (spot_named u.labels) [] names (omega (arith, same)) size rise (above_none names) whole (spots_in is u z m all few same refl refl));
       symbol_count = few_symbols;

@@ -2,7 +2,6 @@
 
 ghost use Rattle.std.specs.Prelude.{◌≡◌, ◌≢◌, ◌+◌, ◌<◌, ◌≤◌, ◌^◌, length, Ok, Err, All, IfOk, IfErr, IfNone};
 ghost use Rattle.alpha_words.specs.declared.Level.TheVariants.{One};
-ghost use Rattle.alpha_image.specs.Parts.{IsByte};
 ghost use Rattle.alpha_image.specs.Insns.{IsCodeInsn};
 ghost use Rattle.alpha_asm.specs.Unlinked.{Makes};
 ghost use Rattle.alpha_asm.specs.declared.fault.AsmFault.TheVariants as faults;
@@ -37,14 +36,6 @@ fn bad_field(words: usize, filled: usize, zeroed: u64) -> Option<u8>
     None
 }
 
-// Says of data bytes that each is below 256, which a proof has of a slice that a function is given. The call
-// is there for this clause alone.
-fn bytes_fit(bytes: &[u8])
-    ensures { All IsByte bytes.now }
-{
-    let _first = bytes.first();
-}
-
 // The module of what was read.
 fn module_of<'a>(alloc: Global, unlinked: Unlinked<'a>) -> Result<Module<'a>, NoMemory>
     requires words { length unlinked.code.items ≤ 262144 }
@@ -69,7 +60,6 @@ fn module_of<'a>(alloc: Global, unlinked: Unlinked<'a>) -> Result<Module<'a>, No
         return Err(NoMemory);
     }
     put_ranks(&mut relocations, &ranks);
-    bytes_fit(&unlinked.bytes);
     Ok(Module {
         insns: unlinked.code,
         bytes: unlinked.bytes,

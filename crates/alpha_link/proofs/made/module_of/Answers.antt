@@ -1,7 +1,6 @@
-use Rattle.std.proofs.Common.{◌≡◌, ℕ, List, Bor, length, map, All, sym, ap, ◌∙◌, arith}
+use Rattle.std.proofs.Common.{◌≡◌, ℕ, List, Bor, length, map, sym, ap, ◌∙◌, arith}
 use Rattle.std.proofs.lemmas.List.{length-map}
 use Rattle.alpha_words.specs.declared.Level.TheVariants.{One}
-use Rattle.alpha_image.specs.Parts.{IsByte}
 use Rattle.alpha_image.proofs.CodeInsns.{code_words_of_insns}
 use Rattle.alpha_text.specs.Reading.{LineSaid}
 use Rattle.alpha_asm.specs.Unlinked.{Makes}
@@ -52,11 +51,10 @@ invariant_of-result c =
     let made = rw c.deref.ensures.value at c.in_ok-symbols.ensures.symbols in
     let ranked_so : new ≡ map (ranked ranks) old = c.put_ranks.ensures ∙ ap (λ rs. map (ranked rs) old) c.deref-2.ensures.value in
     let put = all_ranked (texts names) (names_once ks) ranks c.args.unlinked.patches.items old new rise are c.in_ok-names.ensures.relocations ranked_so in
-    let bytes : All IsByte c.args.unlinked.bytes.items = rw c.deref-3.ensures.value at c.bytes_fit.ensures in
     let symbol_count : length (map named symbols) ≡ length symbols = length-map symbols named in
     let relocation_count : length new ≡ length old = ap length ranked_so ∙ length-map old (ranked ranks) in
     record {
-      good = rw c.made.ensures (module_good c.args.unlinked (names_once ks) (map named symbols) new c.requires.lines c.requires.level c.requires.words c.requires.filled c.requires.data bytes rise among made put
+      good = rw c.made.ensures (module_good c.args.unlinked (names_once ks) (map named symbols) new c.requires.lines c.requires.level c.requires.words c.requires.filled c.requires.data rise among made put
           (omega (arith, symbol_count)) (omega (arith, relocation_count)));
       insns = (code_words_of_insns One c.args.unlinked.code.items c.requires.level).1;
     }
