@@ -1,31 +1,34 @@
 -- From what a command did behind the stage that read its files to what it did.
-use Rattle.std.proofs.Common.{◌≡◌, ◌⊎◌, ◌∙◌, ℕ, List, Bool, Option, Result, Ok, Err, refl, sym, subst, inl, inr, arith}
-use Rattle.std.specs.Result.{IsErrAnd}
+use Rattle.std.proofs.Common.{◌≡◌, ◌∙◌, ℕ, List, Bool, Option, None, Result, Ok, Err, refl, ap, subst, inl, inr, arith}
 use Rattle.alpha_io.specs.declared.Failed.{Failed}
 use Rattle.alpha_io.specs.declared.shelf.Shelf as shelves
 use Rattle.alpha_io.specs.declared.source.Source as sources
 use Rattle.alpha_io.specs.declared.sink.Sink as sinks
 use Rattle.alpha_io.specs.Faults.{Rose}
 use Rattle.alpha_io.specs.Files.{Files}
-use Rattle.alpha_io.specs.Shelved.{Shelved, shelved, OnlyReads}
+use Rattle.alpha_io.specs.Shelved.{shelved, OnlyReads}
 use Rattle.alpha_io.proofs.Counts.{Rose-earlier}
 use Rattle.alpha_io.proofs.Shelved.{KeepsFiles-trans}
 use Rattle.alpha_cmd.specs.declared.decision.Decision.{Decision}
 use Rattle.alpha_cmd.specs.declared.devices.Devices.{Devices}
-use Rattle.alpha_cmd.specs.declared.status.Status.{Status}
+use Rattle.alpha_cmd.specs.declared.status.Status.TheVariants.{ShelfFault}
+use Rattle.alpha_cmd.specs.declared.stop.Stop.{Stop}
+use Rattle.alpha_cmd.specs.declared.stop.Stop.TheVariants.{Said}
 use Rattle.alpha_cmd.specs.Answer.{Answer}
 use Rattle.alpha_cmd.specs.AnswerBy.{World, AnswerBy, world}
 use Rattle.alpha_cmd.specs.Call.{Call, called}
-use Rattle.alpha_cmd.specs.Does.{Does, Finds, TriesIn}
+use Rattle.alpha_cmd.specs.Decision.{SaysStop}
+use Rattle.alpha_cmd.specs.Does.{Does, TriesIn}
 use Rattle.alpha_cmd.specs.Form.{Form, Kind, Needs}
 use Rattle.alpha_cmd.specs.Outcome.{Outcome, goes, stops, Then}
-use Rattle.alpha_cmd.specs.Status.{status_line}
-use Rattle.alpha_cmd.specs.Tries.{CutBy, TriesBy}
-use Rattle.alpha_cmd.proofs.Doing.{Serves-after}
+use Rattle.alpha_cmd.specs.Stage.{Stage, StopsBy, stop_status, stop_line}
+use Rattle.alpha_cmd.specs.Tries.{TriesBy}
+use Rattle.alpha_cmd.proofs.Doing.{Serves-after, does_stopped}
 use Rattle.alpha_cmd.proofs.Endings.{Decides-map}
 use Rattle.alpha_cmd.proofs.Keeping.{HasKept-after, SparesBy-after}
+use Rattle.alpha_cmd.proofs.Lawful.{first_stops}
 use Rattle.alpha_cmd.proofs.Stages.{kept_same}
-use Rattle.alpha_cmd.proofs.Trying.{CutBy-map}
+use Rattle.alpha_cmd.proofs.Trying.{CutBy-map, Cuts-map}
 
 module _ {X : Type 0} (R : Files → Outcome X → Type 0) (T : World → X → Outcome Answer → Type 0) (needs : Needs) (kind : Kind) where
   -- a command whose first stages read, and what it does of what was read
@@ -72,15 +75,6 @@ module _ {X : Type 0} (R : Files → Outcome X → Type 0) (T : World → X → 
         same = h.same;
       })))
 
--- a second stage that stopped, of which the first found this
-pub second_stops : {H X Y : Type 0} (h : shelves.Ghosts H) (old middle new : H) (R : Files → Outcome X → Type 0) (T : Files → X → Outcome Y → Type 0) (x : X) (status : Status) (stays : Type 0)
-    → R (h.files old) (goes x) → OnlyReads (shelved h old middle) stays → T (h.files middle) x (stops status (status_line status)) ⊎ CutBy (Rose (h.faults middle) (h.faults new)) status
-    → Then (R (h.files old)) (T (h.files old)) (stops status (status_line status)) ⊎ CutBy (Rose (h.faults old) (h.faults new)) status
-second_stops h old middle new R T x status stays found reads (inl stopped) =
-    inl (inr (x, found, subst (λ (f : Files). T f x (stops status (status_line status))) (kept_same (h.files old) (h.files middle) reads.files) stopped))
-second_stops h old middle new R T x status stays found reads (inr cut) =
-    inr (CutBy-map (Rose (h.faults middle) (h.faults new)) (Rose (h.faults old) (h.faults new)) (Rose-earlier (h.faults old) (h.faults middle) (h.faults new) reads.later) status cut)
-
 -- both keep no file
 pub reads_both : {H : Type 0} (h : shelves.Ghosts H) (old middle new : H) (first second also : Type 0) → first → (also → second) → OnlyReads (shelved h old middle) first
     → OnlyReads (shelved h middle new) second → OnlyReads (shelved h old new) also
@@ -91,11 +85,33 @@ reads_both h old middle new first second also is f a b = record {
   calm = λ stays. b.calm (f stays) ∙ a.calm is;
 }
 
--- a status that is handed on
-pub finds_errs : {X Y : Type 0} (R : Outcome X → Type 0) (of : Y → X) (r : Result Y Status) (status : Status) (s : Shelved) → IsErrAnd r (λ e. e ≡ status) → Finds R of (Err status) s
-    → Finds R of r s
-finds_errs R of (Ok v) status s is h = absurd is
-finds_errs R of (Err e) status s is h = subst (λ x. Finds R of (Err x) s) (sym is) h
+-- a second stage that stopped, of which the first found this
+pub second_stops : {H X Y Z B C : Type 0} {on : B → Y} (h : shelves.Ghosts H) (old middle new : H) (R : Files → Outcome X → Type 0) (S : Files → Outcome Y → Type 0) (T : X → Y → Outcome Z → Type 0)
+    (of : C → Z) (x : X) (stop : Stop) (stays : Type 0) → stays → R (h.files old) (goes x) → OnlyReads (shelved h old middle) stays → Stage (S (h.files middle)) on (Err stop) (shelved h middle new)
+    → Stage (Then (R (h.files old)) (λ x. Then (S (h.files old)) (T x))) of (Err stop) (shelved h old new)
+second_stops {Z = Z} h old middle new R S T of x stop stays is found reads stage = record {
+  ok = tt;
+  refused = why stage.refused;
+  shelf = reads_both h old middle new _ _ _ is (λ always e. always cc) reads stage.shelf;
+}
+  where
+    why : StopsBy (S (h.files middle)) (Rose (h.faults middle) (h.faults new)) stop
+        → StopsBy (Then {Y = Z} (R (h.files old)) (λ x. Then (S (h.files old)) (T x))) (Rose (h.faults old) (h.faults new)) stop
+    why (inl stopped) =
+        inl (inr (x, found, inl (subst (λ (f : Files). S f (stops (stop_status stop) (stop_line stop))) (kept_same (h.files old) (h.files middle) reads.files) stopped)))
+    why (inr cut) = inr (Cuts-map _ _ (Rose-earlier (h.faults old) (h.faults middle) (h.faults new) reads.later) stop cut)
+
+-- a command whose first stages stopped
+pub does_stop : {H S K N X Y : Type 0} {of : Y → X} (h : shelves.Ghosts H) (s : sources.Ghosts S) (k : sinks.Ghosts K) (n : sinks.Ghosts N) (old : Devices H S K N) (shelf : H)
+    (R : Files → Outcome X → Type 0) (T : World → X → Outcome Answer → Type 0) (needs : Needs) (kind : Kind) (d : Decision) (stop : Stop) → SaysStop stop d
+    → Stage (R (h.files old.shelf)) of (Err stop) (shelved h old.shelf shelf) → Does h s k n (row R T needs kind) (Ok d) old (record old { shelf = shelf })
+does_stop h s k n old shelf R T needs kind d stop says stage =
+    does_stopped h s k n old shelf (row R T needs kind) d stop says
+    (first_stops (R (h.files old.shelf)) (T (world h s old.shelf old.input)) (stop_status stop) (stop_line stop) stage.refused)
+    (record { files = stage.shelf.files; takes = stage.shelf.takes; later = stage.shelf.later; calm = λ stays. stage.shelf.calm (λ e. stays (fault cc)) })
+  where
+    fault : stop ≡ Said ShelfFault → d.status ≡ ShelfFault
+    fault e = ap (λ (a : Answer). a.status) (says None) ∙ ap stop_status e
 
 module _ {H S K N : Type 0} (h : shelves.Ghosts H) (s : sources.Ghosts S) (k : sinks.Ghosts K) (n : sinks.Ghosts N) (old : Devices H S K N) (middle : H) (new : Devices H S K N) where
   abbrev second : Call

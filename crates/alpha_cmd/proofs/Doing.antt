@@ -1,5 +1,5 @@
 -- From what its stages did to what a command did.
-use Rattle.std.proofs.Common.{◌≡◌, ◌≢◌, ◌⊎◌, ◌∙◌, ℕ, List, [], Option, None, Result, Ok, Err, IfOk, IfErr, refl, sym, ap, subst, inl, inr, append-nil, arith}
+use Rattle.std.proofs.Common.{◌≡◌, ◌≢◌, ◌∙◌, ℕ, List, [], Option, Result, Ok, Err, IfOk, IfErr, refl, sym, subst, inl, inr, append-nil, arith}
 use Rattle.alpha_io.specs.declared.shelf.Shelf as shelves
 use Rattle.alpha_io.specs.declared.source.Source as sources
 use Rattle.alpha_io.specs.declared.sink.Sink as sinks
@@ -14,82 +14,39 @@ use Rattle.alpha_cmd.specs.declared.decision.Decision.{Decision}
 use Rattle.alpha_cmd.specs.declared.devices.Devices.{Devices}
 use Rattle.alpha_cmd.specs.declared.status.Status.{Status}
 use Rattle.alpha_cmd.specs.declared.status.Status.TheVariants.{ShelfFault, NoMemory}
+use Rattle.alpha_cmd.specs.declared.stop.Stop.{Stop}
+use Rattle.alpha_cmd.specs.declared.stop.Stop.TheVariants.{Said}
 use Rattle.alpha_cmd.specs.Answer.{Answer}
 use Rattle.alpha_cmd.specs.AnswerBy.{World, AnswerBy, done_with, said, told}
 use Rattle.alpha_cmd.specs.Call.{Call, called}
-use Rattle.alpha_cmd.specs.Decision.{answer_in, SaysAlone, SaysBy}
-use Rattle.alpha_cmd.specs.Does.{Does, Stage, StopsBy, TriesIn}
+use Rattle.alpha_cmd.specs.Decision.{answer_in, SaysAlone, SaysStop}
+use Rattle.alpha_cmd.specs.Does.{Does, TriesIn}
 use Rattle.alpha_cmd.specs.Ends.{Leaves, Settles}
 use Rattle.alpha_cmd.specs.Form.{Form, SparesBy, making, keeps_last}
 use Rattle.alpha_cmd.specs.Keeping.{TriesKeep}
 use Rattle.alpha_cmd.specs.Kept.{nothing, Serves}
-use Rattle.alpha_cmd.specs.Outcome.{Outcome, goes, stops, Then}
+use Rattle.alpha_cmd.specs.Outcome.{Outcome, goes}
+use Rattle.alpha_cmd.specs.Stage.{Stage, StopsBy}
 use Rattle.alpha_cmd.specs.Status.{status_line}
-use Rattle.alpha_cmd.specs.Tries.{CutBy}
 use Rattle.alpha_cmd.proofs.Endings.{IsLeft-own, Leaves-kept}
 use Rattle.alpha_cmd.proofs.Keeping.{settled, SparesBy-after}
-use Rattle.alpha_cmd.proofs.Lawful.{first_stops}
-use Rattle.alpha_cmd.proofs.Trying.{cut_line, says_by, stopped_by}
+use Rattle.alpha_cmd.proofs.Trying.{stopped_by}
 
 -- ---- stages
 
--- a stage that stops stops the row
-pub StopsBy-first : {X Y : Type 0} (R : Outcome X → Type 0) (T : X → Outcome Y → Type 0) (shelf : Type 0) (d : Decision) → SaysBy (StopsBy R shelf) d → SaysBy (StopsBy (Then R T) shelf) d
-StopsBy-first R T shelf d says = record { why = first_stops R T d.status d.line says.why; alone = says.alone }
-
--- one that stops by a status alone
-pub says_refused : {X : Type 0} (R : Outcome X → Type 0) (shelf : Type 0) (d : Decision) (status : Status) → SaysAlone status d
-    → R (stops status (status_line status)) ⊎ CutBy shelf status → SaysBy (StopsBy R shelf) d
-says_refused R shelf d status is why = says_by (StopsBy R shelf) d status (status_line status) is (cut_line shelf (R (stops status (status_line status))) status why)
-
-pub reads_refused : {Y : Type 0} (s : Shelved) (d : Decision) (status : Status) → SaysAlone status d
-    → OnlyReads s (◌≢◌ {A = Result Y Status} (Err status) (Err ShelfFault)) → OnlyReads s (d.status ≢ ShelfFault)
-reads_refused s d status is reads = record {
-  files = reads.files;
-  takes = reads.takes;
-  later = reads.later;
-  calm = λ stays. reads.calm (λ e. let same : d.status ≡ status = ap (λ (a : Answer). a.status) (is None) in stays cc);
-}
-
--- a stage that stops by a status alone
-pub stage_refused : {X Y Z : Type 0} (R : Outcome X → Type 0) (of : Z → X) (d : Decision) (status : Status) (s : Shelved)
-    → SaysAlone status d → R (stops status (status_line status)) ⊎ CutBy (Rose s.before s.now) status
-    → OnlyReads s (◌≢◌ {A = Result Y Status} (Err status) (Err ShelfFault)) → Stage R of (Err d) s
-stage_refused R of d status s is why reads =
-    record { ok = tt; refused = says_refused R (Rose s.before s.now) d status is why; shelf = reads_refused s d status is reads }
-
 -- one that goes on with what was read, unless memory runs out
-pub stage_made : {X Z : Type 0} (R : Outcome X → Type 0) (of : Z → X) (x : X) (r : Result Z Decision) (s : Shelved) (stays : Type 0) → stays → R (goes x) → OnlyReads s stays
-    → IfOk r (λ v. of v ≡ x) → IfErr r (SaysAlone NoMemory) → Stage R of r s
+pub stage_made : {X Z : Type 0} (R : Outcome X → Type 0) (of : Z → X) (x : X) (r : Result Z Stop) (s : Shelved) (stays : Type 0) → stays → R (goes x) → OnlyReads s stays
+    → IfOk r (λ v. of v ≡ x) → IfErr r (λ stop. stop ≡ Said NoMemory) → Stage R of r s
 stage_made R of x (Ok v) s stays is found reads same none = record {
   ok = subst (λ y. R (goes y)) (sym same) found;
   refused = tt;
   shelf = record { files = reads.files; takes = reads.takes; later = reads.later; calm = λ h. reads.calm is };
 }
-stage_made R of x (Err d) s stays is found reads same none = record {
+stage_made R of x (Err stop) s stays is found reads same none = record {
   ok = tt;
-  refused = says_by (StopsBy R (Rose s.before s.now)) d NoMemory (status_line NoMemory) none (inr (inl refl, refl));
+  refused = inr (inl none);
   shelf = record { files = reads.files; takes = reads.takes; later = reads.later; calm = λ h. reads.calm is };
 }
-
--- one that computes from what the first one read
-pub stage_computes : {X Y Z : Type 0} (R : Outcome X → Type 0) (T : X → Outcome Y → Type 0) (of : Z → Y) (x slice : X) (r : Result Z Decision) (s : Shelved) (stays : Type 0)
-    → stays → R (goes x) → OnlyReads s stays → slice ≡ x → IfOk r (λ v. T slice (goes (of v)))
-    → IfErr r (SaysBy (λ status line. T slice (stops status line) ⊎ ((status ≡ NoMemory) × (line ≡ status_line NoMemory)))) → Stage (Then R T) of r s
-stage_computes R T of x slice (Ok v) s stays is found reads same ok refused = record {
-  ok = (x, found, subst (λ y. T y (goes (of v))) same ok);
-  refused = tt;
-  shelf = record { files = reads.files; takes = reads.takes; later = reads.later; calm = λ h. reads.calm is };
-}
-stage_computes R T of x slice (Err d) s stays is found reads same ok refused = record {
-  ok = tt;
-  refused = record { why = why refused.why; alone = refused.alone };
-  shelf = record { files = reads.files; takes = reads.takes; later = reads.later; calm = λ h. reads.calm is };
-}
-  where
-    why : T slice (stops d.status d.line) ⊎ ((d.status ≡ NoMemory) × (d.line ≡ status_line NoMemory)) → StopsBy (Then R T) (Rose s.before s.now) d.status d.line
-    why (inl h) = inl (inr (x, found, subst (λ y. T y (stops d.status d.line)) same h))
-    why (inr h) = inr (inl h.0, h.1 ∙ ap status_line (sym h.0))
 
 -- ---- a command of which only the shelf was called
 
@@ -117,24 +74,16 @@ module _ {H S K N : Type 0} (h : shelves.Ghosts H) (s : sources.Ghosts S) (k : s
       does_settled f d (nothing, inl is, reads.files) (record { takes = reads.takes; later = reads.later; calm = reads.calm }) (inl reads.files)
 
   -- it stopped, or was cut short
-  pub does_stop : (f : Form) (d : Decision) → SaysBy (StopsBy (f.steps (told shelf_call)) (Rose (h.faults old.shelf) (h.faults shelf))) d
+  pub does_stopped : (f : Form) (d : Decision) (stop : Stop) → SaysStop stop d → StopsBy (f.steps (told shelf_call)) (Rose (h.faults old.shelf) (h.faults shelf)) stop
       → OnlyReads (shelved h old.shelf shelf) (d.status ≢ ShelfFault) → Does h s k n f (Ok d) old (record old { shelf = shelf })
-  does_stop f d says reads =
+  does_stopped f d stop says why reads =
       does_settled f d (
         nothing,
-        stopped_by (Rose (h.faults old.shelf) (h.faults shelf)) (Rose (s.faults old.input) (s.faults old.input)) f (told shelf_call) d.status d.line (answer_in (s.left old.input) d) says.why
-            (ap (λ output. record (said (s.left old.input) d.status d.line) { output = output }) says.alone),
+        stopped_by (Rose (h.faults old.shelf) (h.faults shelf)) (Rose (s.faults old.input) (s.faults old.input)) f (told shelf_call) stop (answer_in (s.left old.input) d) why (says (s.left old.input)),
         reads.files,
       )
       (record { takes = reads.takes; later = reads.later; calm = reads.calm })
       (inl reads.files)
-
-  -- by a status alone
-  pub does_refused : {Y : Type 0} (f : Form) (d : Decision) (status : Status) → f.steps (told shelf_call) (stops status (status_line status)) ⊎ CutBy (Rose (h.faults old.shelf) (h.faults shelf)) status
-      → SaysAlone status d
-      → OnlyReads (shelved h old.shelf shelf) (◌≢◌ {A = Result Y Status} (Err status) (Err ShelfFault)) → Does h s k n f (Ok d) old (record old { shelf = shelf })
-  does_refused f d status why is reads =
-      does_stop f d (says_refused (f.steps (told shelf_call)) (Rose (h.faults old.shelf) (h.faults shelf)) d status is why) (reads_refused (shelved h old.shelf shelf) d status is reads)
 
 -- ---- a command that makes bytes of files, and then keeps them
 
@@ -171,7 +120,7 @@ module _ {H S K N : Type 0} (h : shelves.Ghosts H) (s : sources.Ghosts S) (k : s
   -- without memory
   pub does_not_start : (f : Form) (d : Decision) → SaysAlone NoMemory d → Does h s k n f (Ok d) old old
   does_not_start f d is =
-      does_stop h s k n old old.shelf f d (says_by _ d NoMemory (status_line NoMemory) is (inr (inl refl, refl))) (untouched (d.status ≢ ShelfFault))
+      does_stopped h s k n old old.shelf f d (Said NoMemory) is (inr (inl refl)) (untouched (d.status ≢ ShelfFault))
 
   module _ (out : K) (f : Form) (text : List ℕ) where
     abbrev put_call : Call

@@ -12,13 +12,13 @@ use Rattle.alpha_replay.specs.Journal.{Parts, spelling}
 use Rattle.alpha_cmd.specs.declared.decision.Decision.{Decision}
 use Rattle.alpha_cmd.specs.declared.status.Status.{Status}
 use Rattle.alpha_cmd.specs.declared.status.Status.TheVariants.{ShelfFault, NoMemory, JournalFull}
+use Rattle.alpha_cmd.specs.declared.stop.Stop.{Stop}
 use Rattle.alpha_cmd.specs.Answer.{Answer}
 use Rattle.alpha_cmd.specs.AnswerBy.{World}
 use Rattle.alpha_cmd.specs.Decision.{SaysAlone}
 use Rattle.alpha_cmd.specs.Form.{MayTakeBy, SparesBy}
-use Rattle.alpha_cmd.specs.Outcome.{stops}
+use Rattle.alpha_cmd.specs.Stage.{StopsBy, stop_status, stop_line}
 use Rattle.alpha_cmd.specs.Status.{done, refused, ended, class_of}
-use Rattle.alpha_cmd.specs.Tries.{CutBy}
 use Rattle.alpha_cmd.specs.Commands.Imprecise.{Plan, drawn_status, wild_status, Planned}
 use Rattle.alpha_cmd.specs.Commands.Record.{unwatched, IsEndStatus, kind, there, RunsOn, IsOver, KeptBehind, stands, untaken, lost, spent}
 use Rattle.alpha_cmd.proofs.Commands.Imprecise.{may_lose, wild_plain}
@@ -64,16 +64,16 @@ over_no_end end trap n s e (inr (inr (inl h))) = no_end end trap n s e (inr (ap 
 over_no_end end trap n s e (inr (inr (inr h))) = no_end end trap n s e (inr (ap is_fault h))
 
 -- one that wasn't begun
-pub stopped_no_end : (options : RunOptions) (drawn : choices.Origin) (force : Bool) (file out : List ℕ) (w : World) (shelf : Type 0) (end : Option End) (trap : Option LostTrap) (n : ℕ) (s : Status) (line : List ℕ)
-    → s ≡ wild_status end trap n → Planned drawn force file w.files (stops s line) ⊎ CutBy shelf s → ⊥
-stopped_no_end options drawn force file out w shelf end trap n s line e (inl h) =
-    no_end end trap n s e (refusal ((lawful options drawn force file out w).stages.plain s line (inl h)))
+pub stopped_no_end : (options : RunOptions) (drawn : choices.Origin) (force : Bool) (file out : List ℕ) (w : World) (shelf : Type 0) (end : Option End) (trap : Option LostTrap) (n : ℕ) (stop : Stop)
+    → stop_status stop ≡ wild_status end trap n → StopsBy (Planned drawn force file w.files) shelf stop → ⊥
+stopped_no_end options drawn force file out w shelf end trap n stop e (inl h) =
+    no_end end trap n (stop_status stop) e (refusal ((lawful options drawn force file out w).stages.plain (stop_status stop) (stop_line stop) (inl h)))
   where
-    refusal : IsRefusal (there options drawn force file out w) s → (class_of s ≡ refused) ⊎ (is_fault s ≡ true)
+    refusal : IsRefusal (there options drawn force file out w) (stop_status stop) → (class_of (stop_status stop) ≡ refused) ⊎ (is_fault (stop_status stop) ≡ true)
     refusal (inl r) = inl r
     refusal (inr r) = inr (ap is_fault r.0)
-stopped_no_end options drawn force file out w shelf end trap n s line e (inr (inl h)) = no_end end trap n s e (inr (ap is_fault h))
-stopped_no_end options drawn force file out w shelf end trap n s line e (inr (inr h)) = no_end end trap n s e (inr (ap is_fault h.0))
+stopped_no_end options drawn force file out w shelf end trap n stop e (inr (inl h)) = no_end end trap n (stop_status stop) e (inr (ap (λ s. is_fault (stop_status s)) h))
+stopped_no_end options drawn force file out w shelf end trap n stop e (inr (inr h)) = no_end end trap n (stop_status stop) e (inr (ap (λ s. is_fault (stop_status s)) h.0))
 
 -- ---- input and files
 

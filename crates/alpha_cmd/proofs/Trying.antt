@@ -1,14 +1,14 @@
 -- What a command tries, by its form.
-use Rattle.std.proofs.Common.{◌≡◌, ◌≢◌, ◌⊎◌, ◌∙◌, ℕ, List, Option, None, refl, sym, ap, subst, inl, inr}
+use Rattle.std.proofs.Common.{◌≡◌, ◌≢◌, ◌∙◌, refl, sym, ap, subst, inl, inr}
 use Rattle.alpha_io.specs.Files.{Files}
-use Rattle.alpha_cmd.specs.declared.decision.Decision.{Decision}
 use Rattle.alpha_cmd.specs.declared.status.Status.{Status}
 use Rattle.alpha_cmd.specs.declared.status.Status.TheVariants.{ShelfFault, InputFault, SinkFault, NoMemory}
+use Rattle.alpha_cmd.specs.declared.stop.Stop.{Stop}
 use Rattle.alpha_cmd.specs.Status.{status_line}
+use Rattle.alpha_cmd.specs.Stage.{Cuts, StopsBy, stop_status, stop_line}
 use Rattle.alpha_cmd.specs.Outcome.{stops}
 use Rattle.alpha_cmd.specs.Answer.{Answer}
 use Rattle.alpha_cmd.specs.AnswerBy.{World, said}
-use Rattle.alpha_cmd.specs.Decision.{answer_in, SaysBy}
 use Rattle.alpha_cmd.specs.Form.{Form, Kind, MayTakeBy, SparesBy}
 use Rattle.alpha_cmd.specs.Tries.{CutBy, IsCutBy, FailsBy, TriesBy}
 use Rattle.alpha_cmd.proofs.Forms.{IsPlain, is_fault}
@@ -20,11 +20,14 @@ cut_short shelf f w s t h is =
     let whole : IsCutBy shelf f w (said w.input s (status_line s)) = record { cause = h; kept = inl refl; is = refl } in
     subst (IsCutBy shelf f w) (sym is) whole
 
--- with a line of its own
-pub stopped_by : (shelf input : Type 0) (f : Form) (w : World) (s : Status) (line : List ℕ) (t : Answer)
-    → f.steps w (stops s line) ⊎ (CutBy shelf s × (line ≡ status_line s)) → t ≡ said w.input s line → TriesBy shelf input f w t
-stopped_by shelf input f w s line t (inl h) is = inl (stops s line, h, is)
-stopped_by shelf input f w s line t (inr h) is = inr (inl (cut_short shelf f w s t h.0 (is ∙ ap (said w.input s) h.1)))
+-- by a stage that stopped
+pub stopped_by : (shelf input : Type 0) (f : Form) (w : World) (stop : Stop) (t : Answer) → StopsBy (f.steps w) shelf stop → t ≡ said w.input (stop_status stop) (stop_line stop)
+    → TriesBy shelf input f w t
+stopped_by shelf input f w stop t (inl h) is = inl (stops (stop_status stop) (stop_line stop), h, is)
+stopped_by shelf input f w stop t (inr (inl h)) is =
+    inr (inl (cut_short shelf f w NoMemory t (inl refl) (is ∙ ap (λ s. said w.input (stop_status s) (stop_line s)) h)))
+stopped_by shelf input f w stop t (inr (inr h)) is =
+    inr (inl (cut_short shelf f w ShelfFault t (inr (refl, h.1)) (is ∙ ap (λ s. said w.input (stop_status s) (stop_line s)) h.0)))
 
 -- without memory
 pub starts_not : (shelf input : Type 0) (f : Form) (w : World) (t : Answer) → t ≡ said w.input NoMemory (status_line NoMemory) → TriesBy shelf input f w t
@@ -34,6 +37,10 @@ starts_not shelf input f w t is = inr (inl (cut_short shelf f w NoMemory t (inl 
 pub CutBy-map : (P Q : Type 0) → (P → Q) → (s : Status) → CutBy P s → CutBy Q s
 CutBy-map P Q f s (inl h) = inl h
 CutBy-map P Q f s (inr h) = inr (h.0, f h.1)
+
+pub Cuts-map : (P Q : Type 0) → (P → Q) → (stop : Stop) → Cuts P stop → Cuts Q stop
+Cuts-map P Q f stop (inl h) = inl h
+Cuts-map P Q f stop (inr h) = inr (h.0, f h.1)
 
 -- ---- where no device fails
 
@@ -88,18 +95,3 @@ MayTake-sink k s h = (h.0, inr (inr (inl refl)))
 pub Spares-sink : (k : Kind) (s : Status) (old new : Files) → SparesBy k s old new → SparesBy k SinkFault old new
 Spares-sink k s old new (inl h) = inl h
 Spares-sink k s old new (inr h) = inr (h.0, (h.1.0, inr (inr refl)), h.2)
-
--- ---- a decision that says a status by a line
-
--- what is cut short is said by the status's own line
-pub cut_line : (shelf : Type 0) (R : Type 0) (s : Status) → R ⊎ CutBy shelf s → R ⊎ (CutBy shelf s × (status_line s ≡ status_line s))
-cut_line shelf R s (inl h) = inl h
-cut_line shelf R s (inr h) = inr (h, refl)
-
-pub says_by : (Why : Status → List ℕ → Type 0) (d : Decision) (s : Status) (line : List ℕ) → ((left : Option (List ℕ)) → answer_in left d ≡ said left s line) → Why s line → SaysBy Why d
-says_by Why d s line is why =
-    let e = is None in
-    record {
-      why = subst (λ (a : Answer). Why a.status a.line) (sym e) why;
-      alone = ap (λ (a : Answer). a.output) e;
-    }

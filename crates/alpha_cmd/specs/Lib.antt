@@ -31,6 +31,7 @@ pub mod Replayed
 pub mod Restarts
 pub mod RunAnswer
 pub mod SpentLine
+pub mod Stage
 pub mod Status
 pub mod Sure
 pub mod ToldRun

@@ -6,10 +6,11 @@ ghost use Rattle.alpha_request.specs.Origin as choices;
 ghost use Rattle.alpha_request.specs.Options.{origin_of};
 ghost use Rattle.alpha_cmd.specs.Chooser.{ahead_in};
 ghost use Rattle.alpha_cmd.specs.Choosing.{ChoicesOf};
-ghost use Rattle.alpha_cmd.specs.Does.{Finds};
+ghost use Rattle.alpha_cmd.specs.Stage.{Stage};
 
 use crate::Status;
 use crate::image::read_file;
+use crate::stop::Stop;
 use alpha_imprecise::{Chooser, ListChooser, PcgChooser};
 use alpha_io::Shelf;
 use alpha_request::Choices;
@@ -45,9 +46,9 @@ pub(crate) fn chooser_of<H: Shelf>(
     alloc: Global,
     choices: &Choices<'_>,
     shelf: &mut H,
-) -> Result<Choosing, Status>
-    ensures { Finds (ChoicesOf (H.files shelf.old) (origin_of choices.now)) (λ chooser. ahead_in chooser) result
-        (shelved H.Shelf shelf.old shelf.new) }
+) -> Result<Choosing, Stop>
+    ensures { Stage (ChoicesOf (H.files shelf.old) (origin_of choices.now))
+        (λ chooser. ahead_in chooser) result (shelved H.Shelf shelf.old shelf.new) }
 {
     match *choices {
         Choices::Seed(seed) => Ok(Choosing::Seeded(PcgChooser::new(seed))),
@@ -56,13 +57,13 @@ pub(crate) fn chooser_of<H: Shelf>(
 }
 
 // The words that a file writes.
-fn listed<H: Shelf>(alloc: Global, name: &str, shelf: &mut H) -> Result<Choosing, Status>
-    ensures { Finds (ChoicesOf (H.files shelf.old) (choices.file name.now)) (λ chooser. ahead_in chooser) result
-        (shelved H.Shelf shelf.old shelf.new) }
+fn listed<H: Shelf>(alloc: Global, name: &str, shelf: &mut H) -> Result<Choosing, Stop>
+    ensures { Stage (ChoicesOf (H.files shelf.old) (choices.file name.now))
+        (λ chooser. ahead_in chooser) result (shelved H.Shelf shelf.old shelf.new) }
 {
     let bytes = read_file(alloc, shelf, name, CHOICES_LIMIT)?;
     match ListChooser::new(alloc, bytes.as_slice()) {
         Ok(chooser) => Ok(Choosing::Listed(chooser)),
-        Err(_) => Err(Status::NoMemory),
+        Err(_) => Err(Stop::Said(Status::NoMemory)),
     }
 }

@@ -1,20 +1,19 @@
 ghost use Rattle.std.specs.Prelude.{◌≡◌, ◌≢◌, ◌⊎◌, ℕ, List, Option, Some, OnOk, OnErr};
 ghost use Rattle.alpha_io.specs.Sunk.{sunk, Puts, Partly, HasFailed};
-ghost use Rattle.alpha_shadow.specs.Report.{broken_line};
 ghost use Rattle.alpha_seq.specs.Notes.{end_line};
-ghost use Rattle.alpha_cmd.specs.Status.{status_line, unfixable_line};
+ghost use Rattle.alpha_cmd.specs.Status.{status_line};
 ghost use Rattle.alpha_cmd.specs.AnswerBy.{said};
 ghost use Rattle.alpha_cmd.specs.OfImage.Check.{accepted};
 ghost use Rattle.alpha_cmd.specs.Commands.Replay.{shown};
 ghost use Rattle.alpha_cmd.specs.Commands.Imprecise.{drawn_status, answer_status, answer_line};
-ghost use Rattle.alpha_cmd.specs.Decision.{answer_in, IsCutShort};
+ghost use Rattle.alpha_cmd.specs.Decision.{answer_in, IsCutShort, SaysStop};
 
 use crate::Status;
-use crate::line::{line_of, run_line, text, unfixable_line};
+use crate::line::{line_of, run_line, text};
+use crate::stop::Stop;
 use alpha_io::{Failed, Line, Sink, write_whole};
 use alpha_replay::Replayed;
 use alpha_seq::{End, Event, Fault, line_of_end};
-use alpha_shadow::{Broken, line_of_broken};
 use alpha_trap::Lost;
 
 /// What a command has decided, and what is still to be written for it.
@@ -66,29 +65,14 @@ impl Decision {
         }
     }
 
-    /// A broken place, of an image with this code base.
-    pub(crate) fn broken(broken: Broken, code_base: u64) -> Decision
-        ensures { (left : Option (List ℕ)) → answer_in left result
-            ≡ said left (Status.NotRestartable broken) (broken_line broken code_base) }
+    /// What a stage stopped by.
+    pub(crate) fn stopped(stop: Stop) -> Decision
+        ensures { SaysStop stop result }
     {
-        let line = line_of_broken(&broken, code_base);
         Decision {
-            status: Status::NotRestartable(broken),
+            status: stop.status(),
             output: Line::new(),
-            line,
-        }
-    }
-
-    /// A trigger that is broken at its own place, in an image with this code base.
-    pub(crate) fn unfixable(broken: Broken, code_base: u64) -> Decision
-        ensures { (left : Option (List ℕ)) → answer_in left result
-            ≡ said left (Status.Unfixable broken) (unfixable_line broken code_base) }
-    {
-        let line = unfixable_line(&broken, code_base);
-        Decision {
-            status: Status::Unfixable(broken),
-            output: Line::new(),
-            line,
+            line: stop.line(),
         }
     }
 

@@ -1,17 +1,20 @@
 //! The stages that lead to a file and to its image.
 
-ghost use Rattle.std.specs.Prelude.{◌≡◌, ◌⊎◌, ◌^◌, ◌<◌, IfOk, IfErr, None};
+ghost use Rattle.std.specs.Prelude.{◌≡◌, ◌⊎◌, ◌^◌, ◌<◌, IfOk, IfErr, OnOk, None};
 ghost use Rattle.alpha_io.specs.Shelved.{shelved};
 ghost use Rattle.alpha_image.specs.ImageFault.{first_fault};
 ghost use Rattle.alpha_image.specs.Parts.{spelling};
 ghost use Rattle.alpha_cmd.specs.Outcome.{goes, stops};
 ghost use Rattle.alpha_cmd.specs.Status.{status_line};
-ghost use Rattle.alpha_cmd.specs.Image.{Reads, Spells, ImageOf};
-ghost use Rattle.alpha_cmd.specs.Does.{Finds};
+ghost use Rattle.alpha_shadow.specs.Broken.{IsAccepted};
+ghost use Rattle.alpha_cmd.specs.Image.{Reads, Spells, ImageOf, IsRefused};
+ghost use Rattle.alpha_cmd.specs.Stage.{Stage, stop_status, stop_line};
 
 use crate::Status;
+use crate::stop::Stop;
 use alpha_image::{Image, ImageFault, image_bytes, take_image};
 use alpha_io::{ReadFault, Shelf, read_whole};
+use alpha_shadow::{ImageCode, judge};
 use std::alloc::Global;
 
 /// The most bytes of an image file.
@@ -40,35 +43,50 @@ pub(crate) fn read_file<H: Shelf>(
     shelf: &mut H,
     name: &str,
     limit: u64,
-) -> Result<Vec<u8>, Status>
+) -> Result<Vec<u8>, Stop>
     requires { limit < 2 ^ 32 }
-    ensures { Finds (Reads (H.files shelf.old) name.now limit) (λ bytes. bytes.items) result
+    ensures { Stage (Reads (H.files shelf.old) name.now limit) (λ bytes. bytes.items) result
         (shelved H.Shelf shelf.old shelf.new) }
 {
     match read_whole(alloc, shelf, name, limit) {
         Ok(bytes) => Ok(bytes),
-        Err(ReadFault::Shelf) => Err(Status::ShelfFault),
-        Err(ReadFault::TooLarge) => Err(Status::TooLarge(limit)),
-        Err(ReadFault::NoMemory) => Err(Status::NoMemory),
+        Err(ReadFault::Shelf) => Err(Stop::Said(Status::ShelfFault)),
+        Err(ReadFault::TooLarge) => Err(Stop::Said(Status::TooLarge(limit))),
+        Err(ReadFault::NoMemory) => Err(Stop::Said(Status::NoMemory)),
     }
 }
 
 /// The spelling of an image.
-pub(crate) fn spelled(alloc: Global, image: &Image) -> Result<Vec<u8>, Status>
+pub(crate) fn spelled(alloc: Global, image: &Image) -> Result<Vec<u8>, Stop>
     ensures ok { IfOk result (λ bytes. bytes.items ≡ spelling image.now) }
-    ensures refused { IfErr result (λ status. status ≡ Status.NoMemory) }
+    ensures refused { IfErr result (λ stop. stop ≡ Stop.Said Status.NoMemory) }
 {
     match image_bytes(alloc, image) {
         Ok(bytes) => Ok(bytes),
-        Err(_) => Err(Status::NoMemory),
+        Err(_) => Err(Stop::Said(Status::NoMemory)),
     }
 }
 
 /// The image of a file.
-pub(crate) fn load<H: Shelf>(alloc: Global, shelf: &mut H, name: &str) -> Result<Image, Status>
-    ensures { Finds (ImageOf (H.files shelf.old) name.now) (λ image. image) result
+pub(crate) fn load<H: Shelf>(alloc: Global, shelf: &mut H, name: &str) -> Result<Image, Stop>
+    ensures { Stage (ImageOf (H.files shelf.old) name.now) (λ image. image) result
         (shelved H.Shelf shelf.old shelf.new) }
 {
     let bytes = read_file(alloc, shelf, name, IMAGE_LIMIT)?;
-    image_of(alloc, bytes)
+    match image_of(alloc, bytes) {
+        Ok(image) => Ok(image),
+        Err(status) => Err(Stop::Said(status)),
+    }
+}
+
+/// Judges an image.
+pub(crate) fn judged(image: &Image) -> Result<(), Stop>
+    ensures ok { OnOk result (IsAccepted image.now.words) }
+    ensures refused { IfErr result (λ stop.
+        IsRefused image.now (stop_status stop) (stop_line stop)) }
+{
+    match judge(&mut ImageCode::new(image)) {
+        Ok(()) => Ok(()),
+        Err(broken) => Err(Stop::Broken(broken, image.code_base())),
+    }
 }

@@ -1,28 +1,26 @@
 //! `run --imprecise FILE`: a run of the image's program by the imprecise machine.
 
-ghost use Rattle.std.specs.Prelude.{◌≡◌, Bool, false, Err, IfOk, IfErr, OnOk};
+ghost use Rattle.std.specs.Prelude.{◌≡◌, Bool, IfOk, IfErr};
 ghost use Rattle.alpha_io.specs.Shelved.{shelved};
-ghost use Rattle.alpha_shadow.specs.Broken.{IsAccepted};
-ghost use Rattle.alpha_shadow.specs.Least.{IsLeastBroken};
 ghost use Rattle.alpha_request.specs.Options.{origin_of};
 ghost use Rattle.alpha_cmd.specs.Chooser.{ahead_in};
 ghost use Rattle.alpha_cmd.specs.Commands.Imprecise as wilds;
-ghost use Rattle.alpha_cmd.specs.Commands.Imprecise.{IsBegun, MayRun, PlanOf, Planned, plan_by, plan_in};
-ghost use Rattle.alpha_cmd.specs.Decision.{SaysAlone};
-ghost use Rattle.alpha_cmd.specs.Does.{Does, Finds, Stage};
+ghost use Rattle.alpha_cmd.specs.Commands.Imprecise.{IsBegun, MayRun, Passes, PlanOf, Planned, plan_by, plan_in};
+ghost use Rattle.alpha_cmd.specs.Does.{Does};
+ghost use Rattle.alpha_cmd.specs.Stage.{Computes, Stage};
 
 use crate::Status;
 use crate::choosing::{Choosing, chooser_of};
 use crate::decision::Decision;
 use crate::devices::Devices;
-use crate::image::load;
+use crate::image::{judged, load};
+use crate::stop::Stop;
 use alpha_image::Image;
 use alpha_imprecise::{CountingChooser, Wild};
 use alpha_io::{Failed, Shelf, Sink, Source};
 use alpha_request::{Choices, RunOptions};
 use alpha_run::run_imprecise;
 use alpha_seq::Machine;
-use alpha_shadow::{Broken, ImageCode, judge};
 use std::alloc::Global;
 
 /// What is asked of a run of the imprecise machine.
@@ -67,7 +65,7 @@ pub(crate) fn imprecise<H: Shelf, S: Source, K: Sink, N: Sink>(
 {
     match prepared(alloc, &asked, &mut devices.shelf) {
         Ok(mut begun) => run_begun(&mut begun, asked.options, devices),
-        Err(decision) => Ok(decision),
+        Err(stop) => Ok(Decision::stopped(stop)),
     }
 }
 
@@ -77,19 +75,15 @@ pub(crate) fn prepared<H: Shelf>(
     alloc: Global,
     asked: &Asked<'_>,
     shelf: &mut H,
-) -> Result<Begun, Decision>
+) -> Result<Begun, Stop>
     ensures stage { Stage
         (Planned (origin_of asked.now.choices) asked.now.force asked.now.file.now (H.files shelf.old))
         (λ begun. plan_in begun) result (shelved H.Shelf shelf.old shelf.new) }
     ensures begun { IfOk result (IsBegun asked.now.options) }
 {
-    match planned(alloc, asked.file, &asked.choices, shelf) {
-        Ok(plan) => match judged(&plan.image, asked.force) {
-            Ok(()) => begin(alloc, plan, asked.options),
-            Err(broken) => Err(Decision::broken(broken, plan.image.code_base())),
-        },
-        Err(status) => Err(Decision::said(status)),
-    }
+    let plan = planned(alloc, asked.file, &asked.choices, shelf)?;
+    passed(&plan, asked.force)?;
+    begin(alloc, plan, asked.options)
 }
 
 // Reads the image of a file, and then the choices.
@@ -98,8 +92,8 @@ fn planned<H: Shelf>(
     file: &str,
     choices: &Choices<'_>,
     shelf: &mut H,
-) -> Result<Plan, Status>
-    ensures { Finds (PlanOf (H.files shelf.old) file.now (origin_of choices.now))
+) -> Result<Plan, Stop>
+    ensures { Stage (PlanOf (H.files shelf.old) file.now (origin_of choices.now))
         (λ plan. plan_by plan.image (ahead_in plan.chooser)) result (shelved H.Shelf shelf.old shelf.new) }
 {
     let image = load(alloc, shelf, file)?;
@@ -107,24 +101,19 @@ fn planned<H: Shelf>(
     Ok(Plan { image, chooser })
 }
 
-// Judges an image, unless the verdict is passed over.
-fn judged(image: &Image, force: bool) -> Result<(), Broken>
-    ensures ok { OnOk result (force ≡ false → IsAccepted image.now.words) }
-    ensures refused { IfErr result (λ broken.
-        (force ≡ false) × IsLeastBroken image.now.words broken) }
+// Judges the image of a plan, unless the verdict is passed over.
+fn passed(plan: &Plan, force: bool) -> Result<(), Stop>
+    ensures { Computes (Passes force (plan_by plan.now.image (ahead_in plan.now.chooser)))
+        (λ _. plan_by plan.now.image (ahead_in plan.now.chooser)) result }
 {
-    if force {
-        Ok(())
-    } else {
-        judge(&mut ImageCode::new(image))
-    }
+    if force { Ok(()) } else { judged(&plan.image) }
 }
 
 // A machine at the start of an image's program.
-fn begin(alloc: Global, plan: Plan, options: RunOptions) -> Result<Begun, Decision>
+fn begin(alloc: Global, plan: Plan, options: RunOptions) -> Result<Begun, Stop>
     ensures ok { IfOk result (λ begun. plan_in begun ≡ plan_by plan.image (ahead_in plan.chooser)) }
     ensures begun { IfOk result (IsBegun options) }
-    ensures refused { IfErr result (SaysAlone Status.NoMemory) }
+    ensures refused { IfErr result (λ stop. stop ≡ Stop.Said Status.NoMemory) }
 {
     match Machine::new(alloc, plan.image, options.complete) {
         Ok(machine) => {
@@ -132,7 +121,7 @@ fn begin(alloc: Global, plan: Plan, options: RunOptions) -> Result<Begun, Decisi
             let chooser = CountingChooser::new(plan.chooser);
             Ok(Begun { wild, chooser })
         }
-        Err(_) => Err(Decision::said(Status::NoMemory)),
+        Err(_) => Err(Stop::Said(Status::NoMemory)),
     }
 }
 

@@ -27,15 +27,22 @@
 //! - [`laws_of_kept_modules`] says that a file which `module` keeps is one of those that make a link
 //!   accepted.
 //!
-//! A command decides, and `Decision::deliver` writes what is then still to be written: all of it, but
-//! for a command that writes while it works, as `run.rt`. `alpha_request` reads the words, `image.rt`
-//! has the stages that lead to an image and `choosing.rt` the one that leads to the words of an
-//! imprecise run, each command has a module, as `run.rt`, and `top.rt` matches what is asked. What is
-//! made of a source and kept is one command, `making.rt`, and what is asked of an image is another,
-//! `of_image.rt`: a value says what, and the stage of each has a module below, as `making/asm.rt`.
-//! What a command did to the devices is one relation, `specs/Does.antt`. `line.rt` and
-//! `specs/Status.antt` have the line, the number and the class of each status, `specs/Kept.antt` says
-//! what becomes of files. What a further command or status touches is listed in docs/ARCHITECTURE.md.
+//! A command makes a `Decision` (`decision.rt`), which writes what is then still to be written: all
+//! of it, but for a command that writes while it works, as `run.rt`. `alpha_request` reads the
+//! words, and `top.rt` matches what is asked; `entry.rt` and `sure.rt` call it. `image.rt` has the
+//! stages that lead to an image, `choosing.rt` the one that leads to the words of an imprecise run,
+//! `keep.rt` the one that keeps a file. A stage of any command that goes no further answers a
+//! `Stop` (`stop.rt`). Each command has a module: `run.rt`, `imprecise.rt`, `record.rt`,
+//! `replay.rt`, `link.rt`, `trial.rt`. What is made of a source and kept is one command,
+//! `making.rt`, and what is asked of an image is another, `of_image.rt`: a value says what, and the
+//! stage of each has a module below: `making/asm.rt`, `fix.rt` and `module.rt`, and
+//! `of_image/check.rt`, `debug.rt` and `dis.rt`.
+//!
+//! What a command did to the devices (`devices.rt`) is one relation, `specs/Does.antt`, and what a
+//! stage did is in `specs/Stage.antt`; `laws.rt` has what follows of answers alone. `status.rt`,
+//! `line.rt` and `specs/Status.antt` have the number, the line and the class of each status,
+//! `specs/Kept.antt` says what becomes of files. What a further command or status touches is listed
+//! in docs/ARCHITECTURE.md.
 #![tactic(auto)]
 
 mod choosing;
@@ -54,6 +61,7 @@ mod record;
 mod replay;
 mod run;
 mod status;
+mod stop;
 mod sure;
 mod top;
 mod trial;

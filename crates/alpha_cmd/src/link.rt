@@ -1,19 +1,20 @@
 //! `link [--entry NAME] OUT FILE...`: the image that the modules of files link to, kept as a file.
 
-ghost use Rattle.std.specs.Prelude.{◌≡◌, ◌⊎◌, ◌≤◌, Err, IfOk, IfErr, length, map};
+ghost use Rattle.std.specs.Prelude.{◌≡◌, ◌≤◌, IfOk, length, map};
 ghost use Rattle.alpha_image.specs.Parts as images;
 ghost use Rattle.alpha_io.specs.Shelved.{shelved};
-ghost use Rattle.alpha_cmd.specs.Outcome.{goes, stops, Then};
-ghost use Rattle.alpha_cmd.specs.Status.{status_line};
+ghost use Rattle.alpha_cmd.specs.Outcome.{Then};
 ghost use Rattle.alpha_cmd.specs.Commands.Link as links;
 ghost use Rattle.alpha_cmd.specs.Commands.Link.{FilesOf, ModuleOf, ModulesOf, Links, Makes};
-ghost use Rattle.alpha_cmd.specs.Does.{Does, Finds};
+ghost use Rattle.alpha_cmd.specs.Does.{Does};
+ghost use Rattle.alpha_cmd.specs.Stage.{Computes, Stage};
 
 use crate::Status;
 use crate::decision::Decision;
 use crate::devices::Devices;
 use crate::image::{read_file, spelled};
 use crate::keep::keep_as;
+use crate::stop::Stop;
 use alpha_image::Image;
 use alpha_io::{Failed, Shelf, Sink, Source};
 use alpha_link::{LinkFault, Module, ModuleFault, read_module};
@@ -38,7 +39,7 @@ pub(crate) fn link<H: Shelf, S: Source, K: Sink, N: Sink>(
 {
     match made(alloc, entry, files, &mut devices.shelf) {
         Ok(bytes) => Ok(keep_as(bytes.as_slice(), out, &mut devices.shelf)),
-        Err(status) => Ok(Decision::said(status)),
+        Err(stop) => Ok(Decision::stopped(stop)),
     }
 }
 
@@ -48,117 +49,88 @@ fn made<H: Shelf>(
     entry: &str,
     names: &[&str],
     shelf: &mut H,
-) -> Result<Vec<u8>, Status>
+) -> Result<Vec<u8>, Stop>
     requires { length names.now ≤ 64 }
-    ensures { Finds (Makes (H.files shelf.old) entry.now (map (λ name. name.now) names.now)) (λ bytes. bytes.items) result
-        (shelved H.Shelf shelf.old shelf.new) }
+    ensures { Stage (Makes (H.files shelf.old) entry.now (map (λ name. name.now) names.now))
+        (λ bytes. bytes.items) result (shelved H.Shelf shelf.old shelf.new) }
 {
     let files = read_files(alloc, names, shelf)?;
     linked(alloc, entry, files)
 }
 
 // The bytes of files within the limit of modules, read in the order of their names.
-fn read_files<H: Shelf>(
-    alloc: Global,
-    names: &[&str],
-    shelf: &mut H,
-) -> Result<Vec<Vec<u8>>, Status>
-    ensures found { Finds (FilesOf (H.files shelf.old) (map (λ name. name.now) names.now))
+fn read_files<H: Shelf>(alloc: Global, names: &[&str], shelf: &mut H) -> Result<Vec<Vec<u8>>, Stop>
+    ensures found { Stage (FilesOf (H.files shelf.old) (map (λ name. name.now) names.now))
         (λ all. map (λ file. file.items) all.items) result (shelved H.Shelf shelf.old shelf.new) }
     ensures count { IfOk result (λ all. length all.items ≡ length names.now) }
 {
     let mut all = Vec::new(alloc);
     for name in names {
-        match read_file(alloc, shelf, name, MODULE_LIMIT) {
-            Ok(bytes) => {
-                let Ok(()) = all.push(bytes) else {
-                    return Err(Status::NoMemory);
-                };
-            }
-            Err(status) => return Err(status),
-        }
+        let bytes = read_file(alloc, shelf, name, MODULE_LIMIT)?;
+        let Ok(()) = all.push(bytes) else {
+            return Err(Stop::Said(Status::NoMemory));
+        };
     }
     Ok(all)
 }
 
 // The spelling of the image that the modules of files link to, by the bytes of the files. These and the
 // modules are let go before the image is spelled.
-fn linked(alloc: Global, entry: &str, files: Vec<Vec<u8>>) -> Result<Vec<u8>, Status>
+fn linked(alloc: Global, entry: &str, files: Vec<Vec<u8>>) -> Result<Vec<u8>, Stop>
     requires { length files.items ≤ 64 }
-    ensures ok { IfOk result (λ bytes. Then (ModulesOf (map (λ file. file.items) files.items))
-        (Links entry.now) (goes bytes.items)) }
-    ensures refused { IfErr result (λ status. Then
-        (ModulesOf (map (λ file. file.items) files.items))
-        (Links entry.now) (stops status (status_line status))
-        ⊎ (status ≡ Status.NoMemory)) }
+    ensures { Computes (Then (ModulesOf (map (λ file. file.items) files.items)) (Links entry.now))
+        (λ bytes. bytes.items) result }
 {
     let image = image_of(alloc, entry, files)?;
     spelled(alloc, &image)
 }
 
 // The image that the modules of files link to.
-fn image_of(alloc: Global, entry: &str, files: Vec<Vec<u8>>) -> Result<Image, Status>
+fn image_of(alloc: Global, entry: &str, files: Vec<Vec<u8>>) -> Result<Image, Stop>
     requires { length files.items ≤ 64 }
-    ensures ok { IfOk result (λ image. Then (ModulesOf (map (λ file. file.items) files.items))
-        (Links entry.now) (goes (images.spelling image))) }
-    ensures refused { IfErr result (λ status. Then
-        (ModulesOf (map (λ file. file.items) files.items))
-        (Links entry.now) (stops status (status_line status))
-        ⊎ (status ≡ Status.NoMemory)) }
+    ensures { Computes (Then (ModulesOf (map (λ file. file.items) files.items)) (Links entry.now))
+        (λ image. images.spelling image) result }
 {
     let modules = modules_of(alloc, files.as_slice())?;
     joined(alloc, entry, modules.as_slice())
 }
 
 // The modules that the bytes of files spell.
-fn modules_of<'a>(alloc: Global, files: &'a [Vec<u8>]) -> Result<Vec<Module<'a>>, Status>
+fn modules_of<'a>(alloc: Global, files: &'a [Vec<u8>]) -> Result<Vec<Module<'a>>, Stop>
     requires { length files.now ≤ 64 }
-    ensures ok { IfOk result (λ all. ModulesOf (map (λ file. file.items) files.now)
-        (goes all.items)) }
+    ensures spelled { Computes (ModulesOf (map (λ file. file.items) files.now))
+        (λ all. all.items) result }
     ensures count { IfOk result (λ all. length all.items ≡ length files.now) }
-    ensures refused { IfErr result (λ status.
-        ModulesOf (map (λ file. file.items) files.now) (stops status (status_line status))
-        ⊎ (status ≡ Status.NoMemory)) }
 {
     let mut all = Vec::new(alloc);
     for (number, bytes) in files.iter().enumerate() {
-        match module_of(alloc, number as u32, bytes.as_slice()) {
-            Ok(module) => {
-                let Ok(()) = all.push(module) else {
-                    return Err(Status::NoMemory);
-                };
-            }
-            Err(status) => return Err(status),
-        }
+        let module = module_of(alloc, number as u32, bytes.as_slice())?;
+        let Ok(()) = all.push(module) else {
+            return Err(Stop::Said(Status::NoMemory));
+        };
     }
     Ok(all)
 }
 
 // The module that the bytes of a file spell, by the number of the file.
-fn module_of<'a>(alloc: Global, number: u32, bytes: &'a [u8]) -> Result<Module<'a>, Status>
-    ensures ok { IfOk result (λ m. ModuleOf number bytes.now (goes m)) }
-    ensures refused { IfErr result (λ status.
-        ModuleOf number bytes.now (stops status (status_line status))
-        ⊎ (status ≡ Status.NoMemory)) }
+fn module_of<'a>(alloc: Global, number: u32, bytes: &'a [u8]) -> Result<Module<'a>, Stop>
+    ensures { Computes (ModuleOf number bytes.now) (λ m. m) result }
 {
     match read_module(alloc, bytes) {
         Ok(module) => Ok(module),
-        Err(ModuleFault::NoMemory) => Err(Status::NoMemory),
-        Err(fault) => Err(Status::BadModule(number, fault)),
+        Err(ModuleFault::NoMemory) => Err(Stop::Said(Status::NoMemory)),
+        Err(fault) => Err(Stop::Said(Status::BadModule(number, fault))),
     }
 }
 
 // The image that modules link to.
-fn joined(alloc: Global, entry: &str, modules: &[Module<'_>]) -> Result<Image, Status>
+fn joined(alloc: Global, entry: &str, modules: &[Module<'_>]) -> Result<Image, Stop>
     requires { length modules.now ≤ 64 }
-    ensures ok { IfOk result (λ image. Links entry.now modules.now (goes (images.spelling image))) }
-    ensures refused { IfErr result (λ status.
-        Links entry.now modules.now (stops status (status_line status))
-        ⊎ (status ≡ Status.NoMemory)) }
+    ensures { Computes (Links entry.now modules.now) (λ image. images.spelling image) result }
 {
     match alpha_link::link(alloc, modules, entry.as_bytes()) {
         Ok(image) => Ok(image),
-        Err(LinkFault::NoMemory) => Err(Status::NoMemory),
-        Err(fault) => Err(Status::BadLink(fault)),
+        Err(LinkFault::NoMemory) => Err(Stop::Said(Status::NoMemory)),
+        Err(fault) => Err(Stop::Said(Status::BadLink(fault))),
     }
 }

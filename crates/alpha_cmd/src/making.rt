@@ -1,19 +1,17 @@
 //! `asm FILE OUT`, `fix FILE OUT` and `module FILE OUT`: what a source makes, kept as a file.
 
-ghost use Rattle.std.specs.Prelude.{◌≡◌, ◌⊎◌, ◌^◌, ◌<◌, length, IfOk, IfErr};
+ghost use Rattle.std.specs.Prelude.{◌^◌, ◌<◌, length};
 ghost use Rattle.alpha_io.specs.Shelved.{shelved};
-ghost use Rattle.alpha_cmd.specs.Outcome.{goes, stops};
-ghost use Rattle.alpha_cmd.specs.Status.{status_line};
-ghost use Rattle.alpha_cmd.specs.Decision.{SaysBy};
-ghost use Rattle.alpha_cmd.specs.Does.{Does, Stage};
+ghost use Rattle.alpha_cmd.specs.Does.{Does};
 ghost use Rattle.alpha_cmd.specs.Makings as makings;
 ghost use Rattle.alpha_cmd.specs.Makings.{Bytes, Makes};
+ghost use Rattle.alpha_cmd.specs.Stage.{Computes, Stage};
 
-use crate::Status;
 use crate::decision::Decision;
 use crate::devices::Devices;
 use crate::image::read_file;
 use crate::keep::keep_as;
+use crate::stop::Stop;
 use alpha_io::{Failed, Shelf, Sink, Source};
 use alpha_request::SourceCommand;
 use std::alloc::Global;
@@ -39,7 +37,7 @@ pub(crate) fn make<H: Shelf, S: Source, K: Sink, N: Sink>(
 {
     match made(alloc, what, file, &mut devices.shelf) {
         Ok(bytes) => Ok(keep_as(bytes.as_slice(), out, &mut devices.shelf)),
-        Err(decision) => Ok(decision),
+        Err(stop) => Ok(Decision::stopped(stop)),
     }
 }
 
@@ -49,22 +47,18 @@ fn made<H: Shelf>(
     what: SourceCommand,
     name: &str,
     shelf: &mut H,
-) -> Result<Vec<u8>, Decision>
+) -> Result<Vec<u8>, Stop>
     ensures { Stage (Makes what (H.files shelf.old) name.now) (λ bytes. bytes.items) result
         (shelved H.Shelf shelf.old shelf.new) }
 {
-    match read_file(alloc, shelf, name, SOURCE_LIMIT) {
-        Ok(source) => bytes_of(alloc, what, source.as_slice()),
-        Err(status) => Err(Decision::said(status)),
-    }
+    let source = read_file(alloc, shelf, name, SOURCE_LIMIT)?;
+    bytes_of(alloc, what, source.as_slice())
 }
 
 // What a source makes.
-fn bytes_of(alloc: Global, what: SourceCommand, source: &[u8]) -> Result<Vec<u8>, Decision>
+fn bytes_of(alloc: Global, what: SourceCommand, source: &[u8]) -> Result<Vec<u8>, Stop>
     requires { length source.now < 2 ^ 31 }
-    ensures ok { IfOk result (λ bytes. Bytes what source.now (goes bytes.items)) }
-    ensures refused { IfErr result (SaysBy (λ status line. Bytes what source.now (stops status line)
-        ⊎ ((status ≡ Status.NoMemory) × (line ≡ status_line Status.NoMemory)))) }
+    ensures { Computes (Bytes what source.now) (λ bytes. bytes.items) result }
 {
     match what {
         SourceCommand::Asm => asm::assembled(alloc, source),

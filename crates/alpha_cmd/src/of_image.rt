@@ -31,7 +31,7 @@ pub(crate) fn of_image<H: Shelf, S: Source, K: Sink, N: Sink>(
 {
     match load(alloc, &mut devices.shelf, file) {
         Ok(image) => on_image(alloc, what, image, devices),
-        Err(status) => Ok(Decision::said(status)),
+        Err(stop) => Ok(Decision::stopped(stop)),
     }
 }
 

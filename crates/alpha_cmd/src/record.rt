@@ -55,7 +55,7 @@ pub(crate) fn record<H: Shelf, S: Source, K: Sink, N: Sink>(
 {
     match prepared(alloc, &asked, &mut devices.shelf) {
         Ok(mut begun) => record_begun(alloc, &mut begun, asked.options, name, devices),
-        Err(decision) => Ok(decision),
+        Err(stop) => Ok(Decision::stopped(stop)),
     }
 }
 

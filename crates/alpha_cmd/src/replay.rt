@@ -1,18 +1,19 @@
 //! `replay FILE JOURNAL`: whether a journal lists a run of an image.
 
-ghost use Rattle.std.specs.Prelude.{◌≡◌, ◌⊎◌, Err, IfOk, IfErr, None};
+ghost use Rattle.std.specs.Prelude.{◌≡◌, ◌⊎◌, IfOk, IfErr, None};
 ghost use Rattle.alpha_io.specs.Shelved.{shelved};
 ghost use Rattle.alpha_replay.specs.JournalFault.{first_fault};
 ghost use Rattle.alpha_cmd.specs.Outcome.{goes, stops};
-ghost use Rattle.alpha_cmd.specs.Status.{status_line};
 ghost use Rattle.alpha_cmd.specs.Commands.Replay as replays;
 ghost use Rattle.alpha_cmd.specs.Commands.Replay.{SpellsJournal, JournalOf, Plays, RunOf};
-ghost use Rattle.alpha_cmd.specs.Does.{Does, Finds};
+ghost use Rattle.alpha_cmd.specs.Does.{Does};
+ghost use Rattle.alpha_cmd.specs.Stage.{Computes, Stage, stop_status, stop_line};
 
 use crate::Status;
 use crate::decision::Decision;
 use crate::devices::Devices;
 use crate::image::{load, read_file};
+use crate::stop::Stop;
 use alpha_image::Image;
 use alpha_io::{Failed, Shelf, Sink, Source};
 use alpha_replay::{Journal, JournalFault, ReplayFault, Replayed, read_journal};
@@ -33,7 +34,7 @@ pub(crate) fn replay<H: Shelf, S: Source, K: Sink, N: Sink>(
 {
     match run_of(alloc, file, journal, &mut devices.shelf) {
         Ok(replayed) => Ok(Decision::replayed(&replayed)),
-        Err(status) => Ok(Decision::said(status)),
+        Err(stop) => Ok(Decision::stopped(stop)),
     }
 }
 
@@ -43,8 +44,8 @@ fn run_of<H: Shelf>(
     file: &str,
     journal: &str,
     shelf: &mut H,
-) -> Result<Replayed, Status>
-    ensures { Finds (RunOf (H.files shelf.old) file.now journal.now) (λ replayed. replayed) result
+) -> Result<Replayed, Stop>
+    ensures { Stage (RunOf (H.files shelf.old) file.now journal.now) (λ replayed. replayed) result
         (shelved H.Shelf shelf.old shelf.new) }
 {
     let image = load(alloc, shelf, file)?;
@@ -53,8 +54,8 @@ fn run_of<H: Shelf>(
 }
 
 // The journal of a file.
-fn load_journal<H: Shelf>(alloc: Global, shelf: &mut H, name: &str) -> Result<Journal, Status>
-    ensures { Finds (JournalOf (H.files shelf.old) name.now) (λ journal. journal) result
+fn load_journal<H: Shelf>(alloc: Global, shelf: &mut H, name: &str) -> Result<Journal, Stop>
+    ensures { Stage (JournalOf (H.files shelf.old) name.now) (λ journal. journal) result
         (shelved H.Shelf shelf.old shelf.new) }
 {
     let bytes = read_file(alloc, shelf, name, JOURNAL_LIMIT)?;
@@ -62,29 +63,26 @@ fn load_journal<H: Shelf>(alloc: Global, shelf: &mut H, name: &str) -> Result<Jo
 }
 
 // The journal that the bytes of a file spell.
-fn journal_of(alloc: Global, bytes: &[u8]) -> Result<Journal, Status>
+fn journal_of(alloc: Global, bytes: &[u8]) -> Result<Journal, Stop>
     ensures ok { IfOk result (λ journal. SpellsJournal bytes.now (goes journal)) }
-    ensures refused { IfErr result (λ status.
-        SpellsJournal bytes.now (stops status (status_line status))
-        ⊎ ((status ≡ Status.NoMemory) × (first_fault bytes.now ≡ None))) }
+    ensures refused { IfErr result (λ stop.
+        SpellsJournal bytes.now (stops (stop_status stop) (stop_line stop))
+        ⊎ ((stop ≡ Stop.Said Status.NoMemory) × (first_fault bytes.now ≡ None))) }
 {
     match read_journal(alloc, bytes) {
         Ok(journal) => Ok(journal),
-        Err(JournalFault::NoMemory) => Err(Status::NoMemory),
-        Err(fault) => Err(Status::BadJournal(fault)),
+        Err(JournalFault::NoMemory) => Err(Stop::Said(Status::NoMemory)),
+        Err(fault) => Err(Stop::Said(Status::BadJournal(fault))),
     }
 }
 
 // The run of a journal on an image.
-fn play(alloc: Global, image: Image, journal: &Journal) -> Result<Replayed, Status>
-    ensures ok { IfOk result (λ r. Plays image journal.now (goes r)) }
-    ensures refused { IfErr result (λ status.
-        Plays image journal.now (stops status (status_line status))
-        ⊎ (status ≡ Status.NoMemory)) }
+fn play(alloc: Global, image: Image, journal: &Journal) -> Result<Replayed, Stop>
+    ensures { Computes (Plays image journal.now) (λ replayed. replayed) result }
 {
     match alpha_replay::replay(alloc, image, journal) {
         Ok(replayed) => Ok(replayed),
-        Err(ReplayFault::NoMemory) => Err(Status::NoMemory),
-        Err(fault) => Err(Status::NotARun(fault)),
+        Err(ReplayFault::NoMemory) => Err(Stop::Said(Status::NoMemory)),
+        Err(fault) => Err(Stop::Said(Status::NotARun(fault))),
     }
 }

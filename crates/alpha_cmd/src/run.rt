@@ -28,7 +28,7 @@ pub(crate) fn run<H: Shelf, S: Source, K: Sink, N: Sink>(
 {
     match load(alloc, &mut devices.shelf, file) {
         Ok(image) => run_image(alloc, options, image, devices),
-        Err(status) => Ok(Decision::said(status)),
+        Err(stop) => Ok(Decision::stopped(stop)),
     }
 }
 

@@ -164,8 +164,8 @@ modules_next files all after i file m within at count found is rest =
     rest_next (λ before bytes. ModuleOf (length before) bytes) (λ (f : Vec ℕ Global). f.items) files (ModulesOf (map (λ f. f.items) files)) all after i file m
     (drop_at files i file within at) (subst (λ n. ModuleOf n file.items (goes m)) (sym count) found) is rest
 
-pub modules_stop : (files : List (Vec ℕ Global)) (all : List ModuleParts) (i : ℕ) (file : Vec ℕ Global) (s : Status) → i < length files → file ≡ get_or files i file
-    → length all ≡ i → ModuleOf i file.items (stops s (status_line s)) → ModulesLeft files all i → ModulesOf (map (λ f. f.items) files) (stops s (status_line s))
-modules_stop files all i file s within at count stopped rest =
-    rest_stops (λ before bytes. ModuleOf (length before) bytes) (λ (f : Vec ℕ Global). f.items) files (ModulesOf (map (λ f. f.items) files)) all i file s (status_line s)
-    (drop_at files i file within at) (subst (λ n. ModuleOf n file.items (stops s (status_line s))) (sym count) stopped) rest
+pub modules_stop : (files : List (Vec ℕ Global)) (all : List ModuleParts) (i : ℕ) (file : Vec ℕ Global) (s : Status) (line : List ℕ) → i < length files → file ≡ get_or files i file
+    → length all ≡ i → ModuleOf i file.items (stops s line) → ModulesLeft files all i → ModulesOf (map (λ f. f.items) files) (stops s line)
+modules_stop files all i file s line within at count stopped rest =
+    rest_stops (λ before bytes. ModuleOf (length before) bytes) (λ (f : Vec ℕ Global). f.items) files (ModulesOf (map (λ f. f.items) files)) all i file s line
+    (drop_at files i file within at) (subst (λ n. ModuleOf n file.items (stops s line)) (sym count) stopped) rest

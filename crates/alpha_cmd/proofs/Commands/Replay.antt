@@ -11,15 +11,16 @@ use Rattle.alpha_replay.specs.JournalFault.{first_fault}
 use Rattle.alpha_replay.specs.Reading.{parts_of}
 use Rattle.alpha_replay.specs.Replay.{replayed}
 use Rattle.alpha_replay.proofs.Spelled.{one_journal, first_fault-spelling, no_fault}
-use Rattle.alpha_cmd.specs.declared.status.Status.{Status}
 use Rattle.alpha_cmd.specs.declared.status.Status.TheVariants.{BadJournal, NotARun, NoMemory}
+use Rattle.alpha_cmd.specs.declared.stop.Stop.{Stop}
+use Rattle.alpha_cmd.specs.declared.stop.Stop.TheVariants.{Said}
 use Rattle.alpha_cmd.specs.Status.{status_line}
 use Rattle.alpha_cmd.specs.Outcome.{goes, stops, Then, Gives}
 use Rattle.alpha_cmd.specs.Image.{Reads, ImageOf}
 use Rattle.alpha_cmd.specs.Answer.{Answer}
 use Rattle.alpha_cmd.specs.AnswerBy.{World}
 use Rattle.alpha_cmd.specs.Commands.Replay.{journal_limit, SpellsJournal, JournalOf, Plays, RunOf, shown, form, there}
-use Rattle.alpha_cmd.specs.Tries.{CutBy}
+use Rattle.alpha_cmd.specs.Stage.{StopsBy, stop_status, stop_line}
 use Rattle.alpha_cmd.proofs.Lawful.{Lawful, HasOutcome, Faults-lawful, Then-lawful, Gives-lawful}
 use Rattle.alpha_cmd.proofs.Stages.{Reads-lawful, ImageOf-lawful, read_bytes, kept_same}
 use Rattle.alpha_cmd.proofs.Forms.{IsLawfulForm, is_fault}
@@ -73,9 +74,8 @@ pub journal_after : (a b : Files) (name : List ℕ) (p : Parts) → KeepsFiles a
 journal_after a b name p kept h = subst (λ f. JournalOf f name (goes p)) (kept_same a b kept) h
 
 -- a journal that is no run, or want of memory
-pub played_by : (shelf : Type 0) (a : Files) (file name : List ℕ) (image : Image) (p : Parts) (r : Result Replayed Status) → ImageOf a file (goes image)
-    → JournalOf a name (goes p) → IfErr r (λ s. Plays image p (stops s (status_line s)) ⊎ (s ≡ NoMemory))
-    → IfErr r (λ s. RunOf a file name (stops s (status_line s)) ⊎ CutBy shelf s)
+pub played_by : (shelf : Type 0) (a : Files) (file name : List ℕ) (image : Image) (p : Parts) (r : Result Replayed Stop) → ImageOf a file (goes image)
+    → JournalOf a name (goes p) → IfErr r (λ s. Plays image p (stops (stop_status s) (stop_line s)) ⊎ (s ≡ Said NoMemory)) → IfErr r (StopsBy (RunOf a file name) shelf)
 played_by shelf a file name image p (Ok x) found spelled h = tt
 played_by shelf a file name image p (Err s) found spelled (inl h) = inl (inr (image, found, inr (p, spelled, h)))
 played_by shelf a file name image p (Err s) found spelled (inr e) = inr (inl e)

@@ -6,16 +6,16 @@ ghost use Rattle.alpha_cmd.specs.Decision.{answer_in};
 ghost use Rattle.alpha_cmd.specs.OfImage as images;
 
 use crate::decision::Decision;
+use crate::image;
 use alpha_image::Image;
-use alpha_shadow::{ImageCode, judge};
 
 /// Judges an image.
 pub(crate) fn judged(image: &Image) -> Decision
     ensures { (w : World)
         → AnswerBy (images.on asked.Check image.now).steps w (answer_in w.input result) }
 {
-    match judge(&mut ImageCode::new(image)) {
+    match image::judged(image) {
         Ok(()) => Decision::accepted(),
-        Err(broken) => Decision::broken(broken, image.code_base()),
+        Err(stop) => Decision::stopped(stop),
     }
 }

@@ -1,10 +1,9 @@
 use Rattle.std.proofs.Common.{map}
-use Rattle.alpha_cmd.specs.AnswerBy.{told}
-use Rattle.alpha_cmd.specs.Commands.Link.{Makes, form}
+use Rattle.alpha_cmd.specs.Commands.Link.{Makes}
+use Rattle.alpha_cmd.specs.Form.{keeps_last, needs_files}
 use Rattle.alpha_cmd.specs.Keeping.{KeepsAs}
-use Rattle.alpha_cmd.specs.Status.{status_line}
-use Rattle.alpha_cmd.proofs.Doing.{does_make, does_refused, shelf_call}
-use Rattle.alpha_cmd.proofs.Lawful.{first_stops}
+use Rattle.alpha_cmd.proofs.After.{does_stop}
+use Rattle.alpha_cmd.proofs.Doing.{does_make}
 use Rattle.alpha_cmd.proofs.link.link.Goals as goal
 
 pub returns-in-Ok : goal.returns-in-Ok
@@ -17,7 +16,5 @@ returns-in-Ok g c =
 pub returns-in-Err : goal.returns-in-Err
 returns-in-Err g c =
     let names = map (λ name. name.now) c.args.files.now in
-    let w = told (shelf_call g.H.Shelf g.S.Source g.K.Sink g.N.Sink c.args.devices.now c.made.new.shelf) in
-    let s = c.in-Err.status in
-    does_refused g.H.Shelf g.S.Source g.K.Sink g.N.Sink c.args.devices.now c.made.new.shelf (form c.args.entry.now c.args.out.now names) c.said.result s
-    (first_stops (Makes w.files c.args.entry.now names) (KeepsAs w c.args.out.now) s (status_line s) c.in-Err.ensures.refused) c.said.ensures.answer c.in-Err.ensures.shelf
+    does_stop g.H.Shelf g.S.Source g.K.Sink g.N.Sink c.args.devices.now c.made.new.shelf (λ files. Makes files c.args.entry.now names) (λ w. KeepsAs w c.args.out.now)
+    needs_files (keeps_last c.args.out.now) c.stopped.result c.in-Err.stop c.stopped.ensures c.in-Err.ensures

@@ -9,11 +9,11 @@ loop-name-preserved g c =
     let old = g.H.Shelf.files c.args.shelf.now in
     let middle = g.H.Shelf.files c.loop-name.shelf in
     let so_far = c.loop-name.invariant in
-    let now = c.in-Ok.ensures in
+    let now = c.in_ok-bytes.ensures in
     record {
-      rest = files_next old middle c.args.names.now c.loop-name.all.items c.push.new.self.items c.loop-name.name-index _ c.in-Ok.bytes
-          (drop-cons c.args.names.now c.loop-name.name-index _ (omega arith)) so_far.shelf.files now.ok c.in-Ok-push.ensures.items so_far.rest;
-      count = omega (arith, so_far.count, c.in-Ok-push.ensures.len);
+      rest = files_next old middle c.args.names.now c.loop-name.all.items c.push.new.self.items c.loop-name.name-index _ c.in_ok-bytes.bytes
+          (drop-cons c.args.names.now c.loop-name.name-index _ (omega arith)) so_far.shelf.files now.ok c.in-Ok.ensures.items so_far.rest;
+      count = omega (arith, so_far.count, c.in-Ok.ensures.len);
       shelf = record {
         files = KeepsFiles-trans old middle (g.H.Shelf.files c.read_file.new.shelf) so_far.shelf.files now.shelf.files;
         takes = now.shelf.takes ∙ so_far.shelf.takes;

@@ -1,10 +1,9 @@
 use Rattle.std.proofs.Common.{refl}
-use Rattle.alpha_cmd.specs.AnswerBy.{told}
-use Rattle.alpha_cmd.specs.Commands.Replay.{RunOf, shown, form}
+use Rattle.alpha_cmd.specs.Commands.Replay.{RunOf, shown, form, kind}
+use Rattle.alpha_cmd.specs.Form.{needs_files}
 use Rattle.alpha_cmd.specs.Outcome.{Gives, goes}
-use Rattle.alpha_cmd.specs.Status.{status_line}
-use Rattle.alpha_cmd.proofs.Doing.{does_answer, does_refused, shelf_call}
-use Rattle.alpha_cmd.proofs.Lawful.{first_stops}
+use Rattle.alpha_cmd.proofs.After.{does_stop}
+use Rattle.alpha_cmd.proofs.Doing.{does_answer}
 use Rattle.alpha_cmd.proofs.replay.replay.Goals as goal
 
 pub returns-in-Ok : goal.returns-in-Ok
@@ -18,8 +17,5 @@ returns-in-Ok g c =
 
 pub returns-in-Err : goal.returns-in-Err
 returns-in-Err g c =
-    let w = told (shelf_call g.H.Shelf g.S.Source g.K.Sink g.N.Sink c.args.devices.now c.run_of.new.shelf) in
-    let s = c.in-Err.status in
-    does_refused g.H.Shelf g.S.Source g.K.Sink g.N.Sink c.args.devices.now c.run_of.new.shelf (form c.args.file.now c.args.journal.now) c.said.result s
-    (first_stops (RunOf w.files c.args.file.now c.args.journal.now) (λ r. Gives (shown w.input r)) s (status_line s) c.in-Err.ensures.refused) c.said.ensures.answer
-    c.in-Err.ensures.shelf
+    does_stop g.H.Shelf g.S.Source g.K.Sink g.N.Sink c.args.devices.now c.run_of.new.shelf (λ files. RunOf files c.args.file.now c.args.journal.now)
+    (λ w r. Gives (shown w.input r)) needs_files kind c.stopped.result c.in-Err.stop c.stopped.ensures c.in-Err.ensures

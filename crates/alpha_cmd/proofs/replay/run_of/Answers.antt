@@ -1,31 +1,17 @@
 use Rattle.std.proofs.Common.{rules}
-use Rattle.alpha_io.specs.Shelved.{shelved}
-use Rattle.alpha_cmd.specs.Commands.Replay.{JournalOf, Plays, RunOf}
+use Rattle.std.proofs.lemmas.Result.{err_from_is_err_and}
+use Rattle.alpha_cmd.specs.Commands.Replay.{JournalOf, Plays}
 use Rattle.alpha_cmd.specs.Image.{ImageOf}
-use Rattle.alpha_cmd.specs.Outcome.{Then}
-use Rattle.alpha_cmd.specs.Status.{status_line}
-use Rattle.alpha_cmd.proofs.After.{finds_errs, reads_both, second_stops}
+use Rattle.alpha_cmd.proofs.After.{reads_both, second_stops}
 use Rattle.alpha_cmd.proofs.Commands.Replay.{journal_after, played_by}
-use Rattle.alpha_cmd.proofs.Lawful.{first_stops}
 use Rattle.alpha_cmd.proofs.replay.run_of.Goals as goal
 
 pub returns-in_err-journal : goal.returns-in_err-journal
 returns-in_err-journal g c =
-    let old = c.args.shelf.now in
-    let middle = c.load.new.shelf in
-    let new = c.load_journal.new.shelf in
-    let file = c.args.file.now in
-    let name = c.args.journal.now in
-    let image = c.in_ok-image.image in
-    let s = c.in_err-journal.field-0.0 in
-    finds_errs (RunOf (g.H.Shelf.files old) file name) (λ replayed. replayed) c.from_residual-in_err-journal.result s (shelved g.H.Shelf old new) c.from_residual-in_err-journal.ensures.1
-    (record {
-      ok = tt;
-      refused =
-          second_stops g.H.Shelf old middle new (λ files. ImageOf files file) (λ files image. Then (JournalOf files name) (Plays image)) image s _ c.in_ok-image.ensures.ok c.in_ok-image.ensures.shelf
-          (first_stops (JournalOf (g.H.Shelf.files middle) name) (Plays image) s (status_line s) c.in_err-journal.ensures.refused);
-      shelf = reads_both g.H.Shelf old middle new _ _ _ (λ e. cc) (λ h e. h cc) c.in_ok-image.ensures.shelf c.in_err-journal.ensures.shelf;
-    })
+    let p = err_from_is_err_and c.from_residual-in_err-journal.result c.from_residual-in_err-journal.ensures.1 in
+    rw (p.1, p.2)
+    (second_stops g.H.Shelf c.args.shelf.now c.load.new.shelf c.load_journal.new.shelf (λ files. ImageOf files c.args.file.now) (λ files. JournalOf files c.args.journal.now) Plays
+    (λ replayed. replayed) c.in_ok-image.image c.in_err-journal.field-0.0 _ (λ e. cc) c.in_ok-image.ensures.ok c.in_ok-image.ensures.shelf c.in_err-journal.ensures)
 
 pub returns : goal.returns
 returns g c =

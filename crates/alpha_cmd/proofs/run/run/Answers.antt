@@ -1,10 +1,7 @@
 use Rattle.alpha_cmd.specs.Image.{ImageOf}
-use Rattle.alpha_cmd.specs.Commands.Run.{Runs, kind, form}
+use Rattle.alpha_cmd.specs.Commands.Run.{Runs, kind}
 use Rattle.alpha_cmd.specs.Form.{needs_files_and_input}
-use Rattle.alpha_cmd.specs.Status.{status_line}
-use Rattle.alpha_cmd.proofs.After.{does_after}
-use Rattle.alpha_cmd.proofs.Doing.{does_refused}
-use Rattle.alpha_cmd.proofs.Lawful.{first_stops}
+use Rattle.alpha_cmd.proofs.After.{does_after, does_stop}
 use Rattle.alpha_cmd.proofs.run.run.Goals as goal
 
 pub returns-in-Ok : goal.returns-in-Ok
@@ -15,7 +12,5 @@ returns-in-Ok g c =
 
 pub returns-in-Err : goal.returns-in-Err
 returns-in-Err g c =
-    does_refused g.H.Shelf g.S.Source g.K.Sink g.N.Sink c.args.devices.now c.load.new.shelf (form c.args.options c.args.file.now) c.said.result c.in-Err.status
-    (first_stops (ImageOf (g.H.Shelf.files c.args.devices.now.shelf) c.args.file.now) (Runs c.args.options (g.S.Source.left c.args.devices.now.input)) c.in-Err.status
-    (status_line c.in-Err.status) c.in-Err.ensures.refused)
-    c.said.ensures.answer c.in-Err.ensures.shelf
+    does_stop g.H.Shelf g.S.Source g.K.Sink g.N.Sink c.args.devices.now c.load.new.shelf (λ files. ImageOf files c.args.file.now) (λ w. Runs c.args.options w.input)
+    needs_files_and_input kind c.stopped.result c.in-Err.stop c.stopped.ensures c.in-Err.ensures
