@@ -1,7 +1,7 @@
 -- How many blocks a trial that words ask for has.
 use Rattle.std.proofs.Common.{◌≡◌, ◌<◌, ◌≤◌, ℕ, Bool, true, false, ◌&&◌, if◌then◌else◌, nat_lt, nat_le, List, Option, Some, None, codes, refl, arith}
 use Rattle.std.specs.Option.{option_and_then, option_map}
-use Rattle.std.proofs.lemmas.Bool.{leb-true}
+use Rattle.std.proofs.lemmas.Bool.{and_parts, leb-true}
 use Rattle.clap.specs.Walk.{Text}
 use Rattle.clap.specs.Words.{first_of}
 use Rattle.alpha_request.specs.Command.{trial}
@@ -13,14 +13,10 @@ use Rattle.alpha_request.proofs.AskedBy.{rows_asked}
 abbrev IsWithin : ℕ → Type 0
 IsWithin n = (0 < n) × (n ≤ 20000)
 
-both : (a b : Bool) → (a && b) ≡ true → (a ≡ true) × (b ≡ true)
-both true b h = (refl, h)
-both false b h = cc
-
 within : (m n : ℕ) (b : Bool) → (nat_lt 0 m && nat_le m 20000) ≡ b → (if b then Some m else None) ≡ Some n → IsWithin n
 within m n true is e =
     let same : m ≡ n = cc in
-    let (some, most) = both (nat_lt 0 m) (nat_le m 20000) is in
+    let (some, most) = and_parts (nat_lt 0 m) (nat_le m 20000) is in
     (omega (arith, leb-true 1 m some, same), omega (arith, leb-true m 20000 most, same))
 within m n false is e = cc
 

@@ -1,6 +1,7 @@
 -- From what clap answers to what the words ask for.
 use Rattle.std.proofs.Common.{◌≡◌, ◌&&◌, Bool, true, false, List, [], ◌∷◌, map, String, Global, string_bytes, Option, Some, None, slice_get, drop, Err, refl, sym, ap, ◌∙◌, subst, ⊎_elim}
 use Rattle.std.specs.Option.{option_and_then}
+use Rattle.std.proofs.lemmas.Bool.{and_parts}
 use Rattle.clap.specs.Walk.{Row, Text, rows_of}
 use Rattle.clap.specs.Simple.{App, HasMatchesOf, built, is_simple, matches_of}
 use Rattle.clap.specs.Faults.{fault_of, is_free_app, is_simple_and_free}
@@ -32,12 +33,8 @@ simple_and_free names.Record = refl
 simple_and_free names.Run = refl
 simple_and_free names.Trial = refl
 
-and_left : (a b : Bool) → (a && b) ≡ true → a ≡ true
-and_left true b h = refl
-and_left false b h = cc
-
 simple : (name : Name) → is_simple (app_of_name name) ≡ true
-simple name = and_left (is_simple (app_of_name name)) (is_free_app (built (app_of_name name))) (simple_and_free name)
+simple name = (and_parts (is_simple (app_of_name name)) (is_free_app (built (app_of_name name))) (simple_and_free name)).0
 
 chosen : (kinds : Kinds) (rows : List Row) → kinds ≡ [] → unless_faulty kinds rows ≡ Some rows
 chosen [] rows none = refl
