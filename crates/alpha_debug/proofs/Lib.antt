@@ -2,6 +2,7 @@ mod Waiting
 mod Words
 mod Printing
 mod Sinks
+mod Watching
 mod Steps
 mod Sessions
 mod Hearing

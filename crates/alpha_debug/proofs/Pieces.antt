@@ -1,5 +1,5 @@
 -- What was answered to a piece of a script, behind which all that waited is put.
-use Rattle.std.proofs.Common.{◌-◌, ℕ, List, [], ◌++◌, length, refl, sym, ap, subst, append-nil}
+use Rattle.std.proofs.Common.{◌≡◌, ◌∙◌, ◌-◌, ℕ, List, [], ◌++◌, length, refl, sym, ap, subst, append-nil}
 use Rattle.alpha_io.specs.declared.sink.Sink.{Ghosts}
 use Rattle.alpha_io.specs.Sunk.{sunk, Puts}
 use Rattle.alpha_debug.specs.declared.command.Command.{Command}
@@ -9,7 +9,7 @@ use Rattle.alpha_debug.specs.declared.debugger.Talk.TheVariants.{GoesOn, Quits}
 use Rattle.alpha_debug.specs.Session.{text_of}
 use Rattle.alpha_debug.specs.Script.{Transcript}
 use Rattle.alpha_debug.specs.Gathered.{gathered, Gathers, Stops}
-use Rattle.alpha_debug.specs.Effects.{Grows, Breaks, Answers, AnswerFails, Hears, HearFails, told_after}
+use Rattle.alpha_debug.specs.Effects.{Grows, Breaks, with_block, Answers, AnswerFails, Hears, HearFails, told_after}
 use Rattle.alpha_debug.proofs.Sinks.{Grows-same, Breaks-more, Gathers-both, Stops-after}
 use Rattle.alpha_debug.proofs.Waiting.{Gathers-flushed}
 use Rattle.alpha_debug.proofs.Hearing.{told-grows}
@@ -18,16 +18,11 @@ told_after-grows : (talk : Talk) (d : Debugger) (text : List ℕ) (most : ℕ) (
 told_after-grows GoesOn d text most begun rest = told-grows d text most begun rest
 told_after-grows Quits d text most begun rest = Grows-same text
 
-module _ {K : Type 0} (g : Ghosts K) (o p : K) (waits left : List ℕ) where
-  -- what a failed call left in the block doesn't count
-  breaks_left : (front text : List ℕ) → Breaks (gathered g o [] p waits) front text → Breaks (gathered g o [] p left) front text
-  breaks_left front text breaks = record { bytes = breaks.bytes; is = breaks.is; stops = breaks.stops }
-
-  pub answer_fails_left : (command : Command) (d : Debugger) → AnswerFails command d (gathered g o [] p waits) → AnswerFails command d (gathered g o [] p left)
-  answer_fails_left command d fails text = breaks_left text _ (fails text)
-
-  pub hear_fails_left : (bytes begun : List ℕ) (d : Debugger) → HearFails bytes begun d (gathered g o [] p waits) → HearFails bytes begun d (gathered g o [] p left)
-  hear_fails_left bytes begun d fails text most rest l = breaks_left text _ (fails text most rest l)
+-- what waits is no part of the transcript
+told_after-with : (talk : Talk) (d : Debugger) (waits text : List ℕ) (most : ℕ) (begun rest : List ℕ)
+    → told_after talk d text most begun rest ≡ told_after talk (with_block d waits) text most begun rest
+told_after-with GoesOn d waits text most begun rest = refl
+told_after-with Quits d waits text most begun rest = refl
 
 module _ {K : Type 0} (g : Ghosts K) (o p q : K) (waits : List ℕ) where
   put-all : (bytes : List ℕ) → Gathers (gathered g o [] p waits) bytes → Puts (sunk g p q) waits → Gathers (gathered g o [] q []) bytes
@@ -40,10 +35,6 @@ module _ {K : Type 0} (g : Ghosts K) (o p q : K) (waits : List ℕ) where
       subst (Stops (gathered g o [] q [])) (append-nil bytes)
       (Stops-after g.written g.faults (o, []) (p, waits) (q, left) bytes [] wrote stops)
 
-  pub answers_put : (command : Command) (talk : Talk) (old new : Debugger) → Answers command talk old new (gathered g o [] p waits) → Puts (sunk g p q) waits
-      → Answers command talk old new (gathered g o [] q [])
-  answers_put command talk old new answers puts = record { bytes = answers.bytes; wrote = put-all answers.bytes answers.wrote puts; is = answers.is }
-
   pub answers_stopped : (left : List ℕ) (command : Command) (talk : Talk) (old new : Debugger) → Answers command talk old new (gathered g o [] p waits) → Stops (gathered g p waits q left) []
       → AnswerFails command old (gathered g o [] q [])
   answers_stopped left command talk old new answers stops text = record {
@@ -52,14 +43,14 @@ module _ {K : Type 0} (g : Ghosts K) (o p q : K) (waits : List ℕ) where
     stops = put-part left answers.bytes answers.wrote stops;
   }
 
-  pub hears_put : (bytes begun : List ℕ) (talk : Talk) (old new : Debugger) (held : List ℕ) → Hears bytes begun talk old new held (gathered g o [] p waits) → Puts (sunk g p q) waits
-      → Hears bytes begun talk old new held (gathered g o [] q [])
-  hears_put bytes begun talk old new held hears puts = record {
+  pub hears_put : (left bytes begun : List ℕ) (talk : Talk) (old new : Debugger) (held : List ℕ) → Hears bytes begun talk old new held (gathered g o [] p waits) → Puts (sunk g p q) waits
+      → Hears bytes begun talk old (with_block new left) held (gathered g o [] q [])
+  hears_put left bytes begun talk old new held hears puts = record {
     put = hears.put;
     line = hears.line;
     wrote = put-all hears.put hears.wrote puts;
     held_is = hears.held_is;
-    is = hears.is;
+    is = λ text most rest l. hears.is text most rest l ∙ told_after-with talk new left (text ++ hears.put) (most - length bytes) hears.line rest;
   }
 
   pub hears_stopped : (left bytes begun : List ℕ) (talk : Talk) (old new : Debugger) (held : List ℕ) → Hears bytes begun talk old new held (gathered g o [] p waits)

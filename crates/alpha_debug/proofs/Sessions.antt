@@ -13,30 +13,18 @@ use Rattle.alpha_shadow.specs.declared.broken.Broken.{Broken}
 use Rattle.alpha_seq.specs.Start.{start}
 use Rattle.alpha_debug.specs.declared.command.Command.{Command}
 use Rattle.alpha_debug.specs.declared.command.Command.TheVariants.{Nothing, Step, Go, Barrier, Break, Clear, Registers, Memory, Listing, Shadow, Log, Quit, Unknown}
-use Rattle.alpha_debug.specs.declared.travel.Until.{Until}
-use Rattle.alpha_debug.specs.declared.travel.Until.TheVariants as until
+use Rattle.alpha_debug.specs.declared.watcher.Until.{Until}
+use Rattle.alpha_debug.specs.declared.watcher.Until.TheVariants as until
 use Rattle.alpha_debug.specs.declared.debugger.Debugger.{Debugger}
-use Rattle.alpha_debug.specs.declared.debugger.Talk.TheVariants.{GoesOn}
 use Rattle.alpha_debug.specs.Command.{most_steps}
 use Rattle.alpha_debug.specs.Lines.{ended, where_line}
 use Rattle.alpha_debug.specs.Session.{Setting, Session, IsVerdict, text_of, saying, walk, if_going, going, saying_where, travel, has_point, most_points, ok, is_shown, shown, answer}
-use Rattle.alpha_debug.specs.Gathered.{Gathered, gathered_by, Gathers, Stops}
-use Rattle.alpha_debug.specs.Effects.{Grows, session_of, setting_of, IsOpened, Makes, Fails, Answers, AnswerFails}
-use Rattle.alpha_debug.proofs.Sinks.{Grows-same, Grows-by, Grows-trans, Breaks-more, Breaks-after, Gathers-both}
+use Rattle.alpha_debug.specs.Gathered.{gathered_by, Gathers, Stops}
+use Rattle.alpha_debug.specs.Effects.{Grows, session_of, with_block, IsOpened, Makes, Fails}
+use Rattle.alpha_debug.proofs.Sinks.{Grows-same, Grows-by, Grows-trans, Breaks-after, Gathers-both}
 use Rattle.alpha_debug.proofs.Steps.{walk-grows}
 
 -- ---- what is said
-
--- a session that says some bytes
-pub saying-is : (d : Debugger) (text bytes : List ℕ) → saying (session_of d text) bytes ≡ session_of d (text ++ bytes)
-saying-is d text bytes = refl
-
--- a session that says what it writes
-pub Makes-said : (bytes : List ℕ) (d : Debugger) (out : Gathered) → Gathers out bytes → Makes (λ s. saying s bytes) d d out
-Makes-said bytes d out wrote = record { bytes = bytes; wrote = wrote; is = λ text. refl }
-
-pub Fails-said : (bytes : List ℕ) (d : Debugger) (out : Gathered) → Stops out bytes → Fails (λ s. saying s bytes) d out
-Fails-said bytes d out stops text = record { bytes = bytes; is = refl; stops = stops }
 
 -- ---- what is written stays
 
@@ -78,7 +66,7 @@ answer-grows g Unknown s = Grows-by (text_of s) _
 
 module _ {K : Type 0} (written : K → Option (List ℕ)) (faults : K → ℕ) (o p q : K × List ℕ) (becomes : Session → Session) (old new : Debugger) where
   pub where_said : Makes becomes old new (gathered_by written faults o p) → Gathers (gathered_by written faults p q) (where_line new.end new.machine.pc)
-      → Makes (λ s. saying_where (becomes s)) old new (gathered_by written faults o q)
+      → Makes (λ s. saying_where (becomes s)) old (with_block new q.1) (gathered_by written faults o q)
   where_said makes wrote = record {
     bytes = makes.bytes ++ where_line new.end new.machine.pc;
     wrote = Gathers-both written faults o p q makes.bytes (where_line new.end new.machine.pc) makes.wrote wrote;
@@ -92,10 +80,6 @@ module _ {K : Type 0} (written : K → Option (List ℕ)) (faults : K → ℕ) (
   where_fails makes stops text =
       Breaks-after written faults o p q makes.bytes text (text_of (saying_where (becomes (session_of old text)))) makes.wrote
       (record { bytes = where_line new.end new.machine.pc; is = ap (λ (s : Session). text_of (saying_where s)) (makes.is text); stops = stops })
-
-pub saying_where_fails : (becomes : Session → Session) (old : Debugger) (out : Gathered) → Fails becomes old out → Fails (λ s. saying_where (becomes s)) old out
-saying_where_fails becomes old out fails text =
-    Breaks-more out text (text_of (becomes (session_of old text))) (text_of (saying_where (becomes (session_of old text)))) (fails text) (saying_where-grows (becomes (session_of old text)))
 
 -- ---- commands
 
@@ -130,35 +114,13 @@ answer-shown g Shadow s e = refl
 answer-shown g Log s e = refl
 answer-shown g Unknown s e = refl
 
-pub Answers-shown : (command : Command) (d : Debugger) (out : Gathered) → is_shown command ≡ true → Gathers out (shown (setting_of d) command (state_of d.machine [] []))
-    → Answers command GoesOn d d out
-Answers-shown command d out e wrote = record {
-  bytes = shown (setting_of d) command (state_of d.machine [] []);
-  wrote = wrote;
-  is = λ text.
-      answer-shown (setting_of d) command (session_of d text) e
-      ∙ ap (λ (l : List ℕ). saying (session_of d text) l) (shown-same (setting_of d) command d.machine text);
-}
-
-pub AnswerFails-shown : (command : Command) (d : Debugger) (out : Gathered) → is_shown command ≡ true → Stops out (shown (setting_of d) command (state_of d.machine [] []))
-    → AnswerFails command d out
-AnswerFails-shown command d out e stops text = record {
-  bytes = shown (setting_of d) command (state_of d.machine [] []);
-  is = ap text_of (answer-shown (setting_of d) command (session_of d text) e) ∙ ap (λ (l : List ℕ). text ++ l) (shown-same (setting_of d) command d.machine text);
-  stops = stops;
-}
-
--- a command that is answered by what a function of sessions makes
-pub Answers-made : (command : Command) (becomes : Session → Session) (old new : Debugger) (out : Gathered) → ((s : Session) → answer (setting_of old) command s ≡ becomes s)
-    → Makes becomes old new out → Answers command GoesOn old new out
-Answers-made command becomes old new out same makes = record { bytes = makes.bytes; wrote = makes.wrote; is = λ text. same (session_of old text) ∙ makes.is text }
-
 -- ---- the start
 
-pub IsOpened-made : (image : Parts) (machine : Machine) (points : ArrayVec ℕ) (verdict : Option Broken) → program_of machine ≡ record { image = image; how = Wrap }
+pub IsOpened-made : (image : Parts) (machine : Machine) (points : ArrayVec ℕ) (block : List ℕ) (verdict : Option Broken) → block ≡ [] → program_of machine ≡ record { image = image; how = Wrap }
     → state_of machine [] [] ≡ start (program_of machine) [] → machine.kernel ≡ new_kernel → points.items ≡ [] → IsVerdict image.words verdict
-    → IsOpened image (record { machine = machine; verdict = verdict; points = points; end = None })
-IsOpened-made image machine points verdict program starts kernel none verdict_is = record {
+    → IsOpened image (record { machine = machine; verdict = verdict; watcher = record { until = until.Spent; points = points; block = block }; end = None })
+IsOpened-made image machine points block verdict empty program starts kernel none verdict_is = record {
+  block = empty;
   setting = record { program = program; verdict = verdict_is };
   start =
       ap (λ (st : State). record { state = st; points = points.items; end = None; over = false }) starts

@@ -1,7 +1,6 @@
 -- What calls in a row did to one sink and the block before it. `written` is what the sink tells and `faults` its count; o, p
 -- and q are the sink and the block at one moment after another.
-use Rattle.std.proofs.Common.{◌≡◌, ◌∙◌, ℕ, List, [], ◌++◌, Option, Result, Ok, Err, IfOk, IfErr, OnOk, OnErr, MatchResult, refl, sym, ap, subst, append_assoc, append-nil, arith}
-use Rattle.std.specs.Result.{is_ok}
+use Rattle.std.proofs.Common.{◌≡◌, ◌∙◌, ℕ, List, [], ◌++◌, Option, Result, Ok, Err, OnOk, OnErr, refl, sym, ap, subst, append_assoc, append-nil, arith}
 use Rattle.alpha_io.specs.Sunk.{Sunk, sunk_by, Puts, Partly}
 use Rattle.alpha_io.specs.declared.sink.Sink.{Ghosts}
 use Rattle.alpha_io.proofs.Counts.{Rose-earlier}
@@ -23,27 +22,13 @@ pub OnOk-map : {T E P Q : Type 0} (result : Result T E) → (P → Q) → OnOk r
 OnOk-map (Ok x) f p = f p
 OnOk-map (Err e) f p = tt
 
-pub IfOk-map : {T E : Type 0} {P Q : T → Type 0} (result : Result T E) → ((x : T) → P x → Q x) → IfOk result P → IfOk result Q
-IfOk-map (Ok x) f p = f x p
-IfOk-map (Err e) f p = tt
+pub OnOk-both : {T E P Q R : Type 0} (result : Result T E) → (P → Q → R) → OnOk result P → OnOk result Q → OnOk result R
+OnOk-both (Ok x) f p q = f p q
+OnOk-both (Err e) f p q = tt
 
 pub OnErr-map : {T E P Q : Type 0} (result : Result T E) → (P → Q) → OnErr result P → OnErr result Q
 OnErr-map (Ok x) f p = tt
 OnErr-map (Err e) f p = f p
-
--- the same of another result, whose error alone may differ
-pub IfOk-mapped : {T E F : Type 0} {P Q : T → Type 0} (D : E → Type 0) (result : Result T E) (mapped : Result T F)
-    → ((x : T) → P x → Q x)
-    → MatchResult result (λ x. mapped ≡ Ok x) D → is_ok mapped ≡ is_ok result → IfOk result P → IfOk mapped Q
-IfOk-mapped {Q = Q} D (Ok x) mapped f same both p = subst (λ r. IfOk r Q) (sym same) (f x p)
-IfOk-mapped D (Err e) (Ok x) f same both p = absurd cc
-IfOk-mapped D (Err e) (Err d) f same both p = tt
-
-pub OnErr-mapped : {T E F Q : Type 0} {P : E → Type 0} (D : E → Type 0) (result : Result T E) (mapped : Result T F)
-    → ((e : E) → P e → Q)
-    → MatchResult result (λ x. mapped ≡ Ok x) D → IfErr result P → OnErr mapped Q
-OnErr-mapped {Q = Q} D (Ok x) mapped f same p = subst (λ r. OnErr r Q) (sym same) tt
-OnErr-mapped D (Err e) mapped f same p = OnErr-any mapped (f e p)
 
 pub Grows-same : (text : List ℕ) → Grows text text
 Grows-same text = record { bytes = []; is = sym (append-nil text) }
@@ -73,21 +58,9 @@ Breaks-more s front text whole breaks more = record {
   stops = Stops-more s breaks.bytes more.bytes breaks.stops;
 }
 
--- the sink failed before any byte of a text
-pub Breaks-before : (s : Gathered) (front text : List ℕ) → Stops s [] → Grows front text → Breaks s front text
-Breaks-before s front text stops more = record {
-  bytes = more.bytes;
-  is = more.is;
-  stops = Stops-more s [] more.bytes stops;
-}
-
 -- no call
 pub Gathers-none : {K : Type 0} (g : Ghosts K) (o : K) (waits : List ℕ) → Gathers (gathered g o waits o waits) []
 Gathers-none g o waits = record { put = []; puts = Puts-none (g.written o) (g.faults o); whole = append-nil waits }
-
--- what no block delays
-pub Gathers-put : {K : Type 0} (g : Ghosts K) (o p : K) (bytes : List ℕ) → Puts (sunk_by g.written g.faults o p) bytes → Gathers (gathered g o [] p []) bytes
-Gathers-put g o p bytes puts = record { put = bytes; puts = puts; whole = sym (append-nil bytes) }
 
 -- where nothing waited and nothing waits, all was put
 pub Puts-gathered : (s : Gathered) (bytes : List ℕ) → s.old ≡ [] → s.new ≡ [] → Gathers s bytes → Puts s.sink bytes
@@ -97,7 +70,7 @@ Puts-gathered s bytes none empty gathers =
     subst (Puts s.sink) (sym all) gathers.puts
 
 -- what is gathered behind what was put
-both-whole : (a b c put next xs ys : List ℕ) → a ++ xs ≡ put ++ b → b ++ ys ≡ next ++ c → a ++ (xs ++ ys) ≡ (put ++ next) ++ c
+pub both-whole : (a b c put next xs ys : List ℕ) → a ++ xs ≡ put ++ b → b ++ ys ≡ next ++ c → a ++ (xs ++ ys) ≡ (put ++ next) ++ c
 both-whole a b c put next xs ys first second =
     sym (append_assoc a xs ys)
     ∙ (ap (λ (l : List ℕ). l ++ ys) first

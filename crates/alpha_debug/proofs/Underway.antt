@@ -17,14 +17,11 @@ use Rattle.alpha_debug.specs.Command.{command_of}
 use Rattle.alpha_debug.specs.Session.{Session, text_of, answer}
 use Rattle.alpha_debug.specs.Script.{Transcript}
 use Rattle.alpha_debug.specs.Gathered.{Gathered, gathered_by, Gathers}
-use Rattle.alpha_debug.specs.Effects.{Grows, Breaks, session_of, setting_of, Remains, left_by, Answers, AnswerFails, IsHeld, told_from, Hears, HearFails, Closes, CloseFails, CloseEffect, Reads, Tells, ReadingFails, TellingFails, TellEffect}
+use Rattle.alpha_debug.specs.Effects.{Grows, Breaks, session_of, setting_of, Remains, Answers, AnswerFails, IsHeld, told_from, Hears, HearFails, Closes, CloseFails, CloseEffect, Reads, Tells, ReadingFails, TellingFails, TellEffect}
 use Rattle.alpha_debug.proofs.Sinks.{Breaks-after, Gathers-both}
 use Rattle.alpha_debug.proofs.Hearing.{told-end, told-large, told-grows, held-last}
 
 -- ---- the end of a script
-
-text-left : (talk : Talk) (d : Debugger) (text : List ℕ) → text_of (left_by talk d text) ≡ text
-text-left talk d text = refl
 
 -- the last line is answered as the line in hand
 pub Closes-answered : (begun held : List ℕ) (talk : Talk) (old new : Debugger) (out : Gathered) → IsHeld begun held → Answers (command_of held) talk old new out → Closes begun old out

@@ -1,18 +1,17 @@
 -- What waits in a block, and what is put past it.
-use Rattle.std.proofs.Common.{◌≡◌, ◌∙◌, ℕ, List, [], ◌++◌, length, take, Some, Result, Ok, Err, OnOk, OnErr, refl, sym, ap, append-nil, arith}
+use Rattle.std.specs.Prelude.{nat_le}
+use Rattle.std.proofs.Common.{◌≡◌, ◌∙◌, ◌+◌, ◌<◌, ℕ, Bool, true, false, cond, List, [], ◌++◌, length, take, Some, Result, Ok, Err, OnOk, OnErr, refl, sym, ap, subst, append-nil, arith}
+use Rattle.std.proofs.lemmas.Bool.Decides.{nat_tests}
 use Rattle.std.proofs.Math.Seq.{take-append_seam}
 use Rattle.std.specs.Io.KnownBytes.{Appends}
 use Rattle.alpha_io.specs.declared.sink.Sink.{Ghosts}
 use Rattle.alpha_io.specs.Faults.{HasCause}
 use Rattle.alpha_io.specs.Written.{WritesPrefix}
-use Rattle.alpha_io.specs.Sunk.{sunk, Puts}
+use Rattle.alpha_io.specs.Sunk.{sunk, Puts, Partly}
 use Rattle.alpha_io.proofs.Counts.{Rose-earlier}
-use Rattle.alpha_io.proofs.Sinks.{Puts-none, Puts-then, Partly-then}
-use Rattle.alpha_debug.specs.Gathered.{gathered, Gathers, Stops}
-
--- a block that took some bytes, and of which the sink knows nothing
-pub Gathers-block : {K : Type 0} (g : Ghosts K) (o : K) (old new bytes : List ℕ) → new ≡ old ++ bytes → Gathers (gathered g o old o new) bytes
-Gathers-block g o old new bytes e = record { put = []; puts = Puts-none (g.written o) (g.faults o); whole = sym e }
+use Rattle.alpha_io.proofs.Sinks.{Puts-then, Partly-more, Partly-then}
+use Rattle.alpha_debug.specs.declared.block.TheConstants.{BLOCK_ROOM}
+use Rattle.alpha_debug.specs.Gathered.{gathered, if_fits, put_for, waits_for, Gathers, CutShort, Stops}
 
 -- what waited was put
 pub Gathers-flushed : {K : Type 0} (g : Ghosts K) (o p : K) (waited : List ℕ) → Puts (sunk g o p) waited → Gathers (gathered g o waited p []) []
@@ -21,6 +20,40 @@ Gathers-flushed g o p waited puts = record { put = waited; puts = puts; whole = 
 -- a block that took a part of some bytes has those before them in front
 pub cut-back : (old new bytes : List ℕ) → WritesPrefix (Some old) (Some new) bytes → take (length old) new ≡ old
 cut-back old new bytes part = ap (λ (l : List ℕ). take (length old) l) part.written ∙ take-append_seam old part.done
+
+-- ---- bytes behind those that wait
+
+fits-no : (a b : ℕ) (x y : List ℕ) → b < a → cond (nat_le a b) x y ≡ y
+fits-no a b x y high = let e : nat_le a b ≡ false = grind (arith, nat_tests) in ap (λ (t : Bool). cond t x y) e
+
+pub if-past : (waits bytes x y z : List ℕ) → BLOCK_ROOM < length waits + length bytes → BLOCK_ROOM < length bytes → if_fits waits bytes x y z ≡ z
+if-past waits bytes x y z high long =
+    fits-no (length waits + length bytes) BLOCK_ROOM x _ high ∙ fits-no (length bytes) BLOCK_ROOM y z long
+
+-- all that waited and the bytes behind it are what is put and what waits then
+all-by : (a b : Bool) (waits bytes : List ℕ)
+    → waits ++ bytes ≡ cond a [] (cond b waits (waits ++ bytes)) ++ cond a (waits ++ bytes) (cond b bytes [])
+all-by true b waits bytes = refl
+all-by false true waits bytes = refl
+all-by false false waits bytes = sym (append-nil (waits ++ bytes))
+
+pub all_for : (waits bytes : List ℕ) → waits ++ bytes ≡ put_for waits bytes ++ waits_for waits bytes
+all_for waits bytes = all-by (nat_le (length waits + length bytes) BLOCK_ROOM) (nat_le (length bytes) BLOCK_ROOM) waits bytes
+
+-- what is taken into the block, or put with what waited
+pub Gathers-for : {K : Type 0} (g : Ghosts K) (o p : K) (waits bytes new : List ℕ) → Puts (sunk g o p) (put_for waits bytes) → new ≡ waits_for waits bytes
+    → Gathers (gathered g o waits p new) bytes
+Gathers-for g o p waits bytes new puts is = record {
+  put = put_for waits bytes;
+  puts = puts;
+  whole = all_for waits bytes ∙ ap (λ (l : List ℕ). put_for waits bytes ++ l) (sym is);
+}
+
+pub Stops-for : {K : Type 0} (g : Ghosts K) (o p : K) (waits bytes new : List ℕ) → CutShort (sunk g o p) (put_for waits bytes) → Stops (gathered g o waits p new) bytes
+Stops-for g o p waits bytes new cut = record {
+  part = subst (Partly (sunk g o p)) (sym (all_for waits bytes)) (Partly-more (sunk g o p) (put_for waits bytes) (waits_for waits bytes) cut.part);
+  failed = cut.failed;
+}
 
 module _ {T E K : Type 0} (g : Ghosts K) (o p q : K) (waited bytes : List ℕ) (first : Puts (sunk g o p) waited) where
   -- bytes that are put past the block, which was put before

@@ -6,19 +6,16 @@ use Rattle.alpha_image.specs.Parts.{Parts}
 use Rattle.alpha_seq.specs.Devices.{Drawn}
 use Rattle.alpha_seq.specs.declared.machine.Machine.{Machine}
 use Rattle.alpha_seq.specs.declared.end.End.{End}
-use Rattle.alpha_seq.specs.declared.event.Event.{Event as Seen}
-use Rattle.alpha_seq.specs.declared.event.Event.TheVariants as events
-use Rattle.alpha_seq.specs.State.{Event, Went, Barriered, Overflowed, Ends, stepped}
-use Rattle.alpha_seq.specs.Step.{step_from}
 use Rattle.alpha_seq.specs.Machine.{program_of, state_of}
-use Rattle.alpha_debug.specs.declared.travel.Until.{Until}
+use Rattle.alpha_debug.specs.declared.watcher.Until.{Until}
 use Rattle.alpha_debug.specs.declared.debugger.Debugger.{Debugger}
 use Rattle.alpha_debug.specs.declared.command.Command.{Command}
 use Rattle.alpha_debug.specs.declared.debugger.Talk.{Talk}
 use Rattle.alpha_debug.specs.declared.debugger.Talk.TheVariants.{GoesOn, Quits}
 use Rattle.alpha_debug.specs.declared.end.DebugEnd.{DebugEnd}
 use Rattle.alpha_debug.specs.declared.end.DebugEnd.TheVariants.{Done, InputFault, SinkFault, TooLarge, NoMemory}
-use Rattle.alpha_debug.specs.Gathered.{Gathered, Gathers, Stops}
+use Rattle.alpha_io.specs.declared.sink.Sink.{Ghosts}
+use Rattle.alpha_debug.specs.Gathered.{Gathered, gathered, Gathers, Stops}
 use Rattle.alpha_debug.specs.Session.{Setting, Session, IsSetting, opened, text_of, walk, answer}
 use Rattle.alpha_debug.specs.Script.{Transcript, transcript_from, script_limit}
 
@@ -37,29 +34,6 @@ pub record Breaks (s : Gathered) (front text : List ℕ) : Type 0 where
 
 -- ---- a machine over an empty input
 
--- what a step of the definition came to, by what the machine's step answers: it answers no other event
-abbrev pub event_of : Seen → Event
-event_of (events.Barrier passed) = Barriered
-event_of (events.Overflowed at) = Overflowed at
-event_of (events.Ended end) = Ends end
-event_of event = Went
-
--- the step of the definition, with what it puts
-pub record Moves (event : Event) (old new : Machine) (out : Gathered) : Type 0 where
-  pub bytes : List ℕ
-  pub wrote : Gathers out bytes
-  pub is : (text : List ℕ)
-      → step_from (program_of old) (state_of old [] text) ≡ stepped (state_of new [] (text ++ bytes)) event
-
--- a step that wasn't made: all is as before but for the kernel
-abbrev pub IsUnmade : Machine → Machine → Type 0
-IsUnmade old new = new ≡ record old { kernel = new.kernel }
-
--- the sink failed in a step
-abbrev pub MoveBreaks : Machine → Gathered → Type 0
-MoveBreaks old out = (text : List ℕ)
-    → Breaks out text (step_from (program_of old) (state_of old [] text)).state.outside.output
-
 -- the steps of the definition
 pub record Walks (wanted : Until) (points : List ℕ) (most : ℕ) (end : Option End) (old new : Machine) (out : Gathered) : Type 0 where
   pub bytes : List ℕ
@@ -76,10 +50,18 @@ WalkBreaks wanted points most old out = (text : List ℕ)
 
 -- how a session stands that has written a text
 abbrev pub session_of : Debugger → List ℕ → Session
-session_of d text = record { state = state_of d.machine [] text; points = d.points.items; end = d.end; over = false }
+session_of d text = record { state = state_of d.machine [] text; points = d.watcher.points.items; end = d.end; over = false }
 
 abbrev pub setting_of : Debugger → Setting
 setting_of d = record { program = program_of d.machine; verdict = d.verdict }
+
+-- what was put of what a session says, and what waits in its block
+abbrev pub spoken : {K : Type 0} → Ghosts K → K → Debugger → K → Debugger → Gathered
+spoken g o old p new = gathered g o old.watcher.block p new.watcher.block
+
+-- the same session but for what waits
+abbrev pub with_block : Debugger → List ℕ → Debugger
+with_block d waits = record d { watcher = record d.watcher { block = waits } }
 
 -- what no command changes: the setting, and the mode of the kernel
 pub record Remains (old new : Debugger) : Type 0 where
@@ -96,8 +78,9 @@ pub record Makes (becomes : Session → Session) (old new : Debugger) (out : Gat
 abbrev pub Fails : (Session → Session) → Debugger → Gathered → Type 0
 Fails becomes old out = (text : List ℕ) → Breaks out text (text_of (becomes (session_of old text)))
 
--- a session whose program stands at its start
+-- a session whose program stands at its start, and which has nothing to put
 pub record IsOpened (image : Parts) (d : Debugger) : Type 0 where
+  pub block : d.watcher.block ≡ []
   pub setting : IsSetting image (setting_of d)
   pub start : session_of d [] ≡ opened (setting_of d)
   pub mode : IsTrue d.machine.kernel.user

@@ -1,7 +1,8 @@
 -- What a call did to a sink and to the block of bytes that wait to be put to it.
-use Rattle.std.specs.Prelude.{◌≡◌, ℕ, List, ◌++◌, Option}
+use Rattle.std.specs.Prelude.{◌≡◌, ℕ, ◌+◌, nat_le, if◌then◌else◌, List, [], ◌++◌, length, Option}
 use Rattle.alpha_io.specs.declared.sink.Sink.{Ghosts}
 use Rattle.alpha_io.specs.Sunk.{Sunk, sunk_by, Puts, Partly, HasFailed}
+use Rattle.alpha_debug.specs.declared.block.TheConstants.{BLOCK_ROOM}
 
 -- what the sink got, and the bytes in the block before the call and after it
 pub record Gathered : Type 0 where
@@ -31,3 +32,21 @@ pub record CutShort (s : Sunk) (bytes : List ℕ) : Type 0 where
 -- the sink failed, with a prefix written of what waited and of these bytes behind it
 abbrev pub Stops : Gathered → List ℕ → Type 0
 Stops s bytes = CutShort s.sink (s.old ++ bytes)
+
+-- ---- which bytes wait
+
+-- bytes that fit behind those that wait wait too; else those are put first, and with them the others where these are more
+-- than a block holds
+abbrev pub if_fits : List ℕ → List ℕ → List ℕ → List ℕ → List ℕ → List ℕ
+if_fits waits bytes behind alone past =
+    if nat_le (length waits + length bytes) BLOCK_ROOM then behind
+    else if nat_le (length bytes) BLOCK_ROOM then alone
+    else past
+
+-- what is put where some bytes come behind those that wait
+abbrev pub put_for : List ℕ → List ℕ → List ℕ
+put_for waits bytes = if_fits waits bytes [] waits (waits ++ bytes)
+
+-- what waits then
+abbrev pub waits_for : List ℕ → List ℕ → List ℕ
+waits_for waits bytes = if_fits waits bytes (waits ++ bytes) bytes []

@@ -3,5 +3,6 @@ pub mod Gathered
 pub mod Lines
 pub mod Session
 pub mod Script
+pub mod Watched
 pub mod Effects
 pub mod DebugEffect

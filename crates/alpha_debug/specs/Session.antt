@@ -15,8 +15,8 @@ use Rattle.alpha_seq.specs.Run.{end_of, is_over}
 use Rattle.alpha_seq.specs.Notes.{register_lines}
 use Rattle.alpha_debug.specs.declared.command.Command.{Command}
 use Rattle.alpha_debug.specs.declared.command.Command.TheVariants.{Nothing, Step, Go, Barrier, Break, Clear, Registers, Memory, Listing, Shadow, Log, Quit}
-use Rattle.alpha_debug.specs.declared.travel.Until.{Until}
-use Rattle.alpha_debug.specs.declared.travel.Until.TheVariants as until
+use Rattle.alpha_debug.specs.declared.watcher.Until.{Until}
+use Rattle.alpha_debug.specs.declared.watcher.Until.TheVariants as until
 use Rattle.alpha_debug.specs.Command.{most_steps}
 use Rattle.alpha_debug.specs.Lines.{ended, where_line, memory_lines, code_lines, verdict_line, log_line}
 

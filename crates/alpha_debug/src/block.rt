@@ -2,7 +2,7 @@
 
 ghost use Rattle.std.specs.Prelude.{◌≡◌, ◌+◌, ◌-◌, ◌≤◌, [], ◌++◌, length, take, OnOk, OnErr};
 ghost use Rattle.alpha_io.specs.Sunk.{sunk, Puts};
-ghost use Rattle.alpha_debug.specs.Gathered.{gathered, Gathers, Stops};
+ghost use Rattle.alpha_debug.specs.Gathered.{gathered, put_for, waits_for, CutShort, Stops};
 
 use alpha_io::{Failed, Sink, write_whole};
 use std::marker::Model;
@@ -71,16 +71,18 @@ impl Block {
 
     /// Takes all of the bytes, and puts those before them where they don't fit.
     pub fn gather<K: Sink>(&mut self, bytes: &[u8], out: &mut K) -> Result<(), Failed>
-        ensures ok { OnOk result
-            (Gathers (gathered K.Sink out.old self.old out.new self.new) bytes.now) }
+        ensures puts { OnOk result (Puts (sunk K.Sink out.old out.new) (put_for self.old bytes.now)) }
+        ensures waits { OnOk result (self.new ≡ waits_for self.old bytes.now) }
         ensures refused { OnErr result
-            (Stops (gathered K.Sink out.old self.old out.new self.new) bytes.now) }
+            (CutShort (sunk K.Sink out.old out.new) (put_for self.old bytes.now)) }
     {
-        if bytes.len() > BLOCK_ROOM - self.len {
-            self.flush(out)?;
-            if bytes.len() > BLOCK_ROOM {
-                return write_whole(out, bytes);
-            }
+        if bytes.len() <= BLOCK_ROOM - self.len {
+            self.push(bytes);
+            return Ok(());
+        }
+        self.flush(out)?;
+        if bytes.len() > BLOCK_ROOM {
+            return write_whole(out, bytes);
         }
         self.push(bytes);
         Ok(())

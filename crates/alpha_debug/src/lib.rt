@@ -11,13 +11,15 @@
 //!
 //! `specs/Command.antt` says what a line says, `specs/Lines.antt` what the lines of the answers are, `specs/Session.antt`
 //! how a session stands and what it answers to a command, `specs/Script.antt` what the transcript of a script is.
-//! `specs/Effects.antt` says what the code did against these, where devices may tell nothing, and `specs/Gathered.antt`
-//! what was put and what waits.
+//! `specs/Effects.antt` says what the code did against these, where devices may tell nothing, `specs/Gathered.antt` what
+//! was put and what waits, `specs/Watched.antt` what is made of each step, and `specs/DebugEffect.antt` what a session did.
 //!
 //! `src/command.rt` reads a line, `src/word.rt` its words and numbers. `src/debugger.rt` has the session and answers a
-//! command; `src/travel.rt` makes the steps, `src/breakpoints.rt` has the breakpoints, `src/print.rt` writes the lines,
-//! `src/block.rt` has the block that they wait in.
-//! `src/script.rt` cuts the script into lines, in pieces of a fixed size, and `src/transcript.rt` is the whole.
+//! command. `src/travel.rt` makes the steps, by the loop of `alpha_run` over the empty input of `src/input.rt`, and
+//! `src/watcher.rt` looks at each there: it stops the run at the breakpoints of `src/breakpoints.rt`, and takes what the
+//! program puts. `src/print.rt` writes the lines, and `src/block.rt` has the block that they wait in.
+//! `src/script.rt` cuts the script into lines, in pieces of a fixed size, and `src/transcript.rt` is the whole, whose ends
+//! `src/end.rt` has; `src/laws.rt` has the laws.
 #![tactic(auto)]
 
 mod block;
@@ -31,6 +33,7 @@ mod print;
 mod script;
 mod transcript;
 mod travel;
+mod watcher;
 mod word;
 
 pub use end::DebugEnd;

@@ -1,9 +1,7 @@
 ghost use Rattle.std.specs.Prelude.{[], ◌∷◌, List, ℕ, IsTrue, IfOk, OnErr};
-ghost use Rattle.alpha_debug.specs.Gathered.{gathered};
 ghost use Rattle.alpha_debug.specs.Command.{command_of};
-ghost use Rattle.alpha_debug.specs.Effects.{Remains, Answers, AnswerFails, IsHeld, Hears, HearFails};
+ghost use Rattle.alpha_debug.specs.Effects.{spoken, Remains, Answers, AnswerFails, IsHeld, Hears, HearFails};
 
-use crate::block::Block;
 use crate::command::{LINE_LIMIT, command_of};
 use crate::debugger::{Debugger, Talk};
 use alpha_io::{Failed, Sink};
@@ -21,20 +19,19 @@ pub(crate) fn hear<K: Sink>(
     debugger: &mut Debugger,
     held: &mut Held,
     bytes: &[u8],
-    block: &mut Block,
     out: &mut K,
 ) -> Result<Talk, Failed>
     requires { IsTrue debugger.old.machine.kernel.user }
     ensures ok { (begun : List ℕ) → IsHeld begun held.old.items
         → IfOk result (λ talk. Hears bytes.now begun talk debugger.old debugger.new held.new.items
-        (gathered K.Sink out.old block.old out.new block.new)) }
+        (spoken K.Sink out.old debugger.old out.new debugger.new)) }
     ensures refused { (begun : List ℕ) → IsHeld begun held.old.items
         → OnErr result (HearFails bytes.now begun debugger.old
-        (gathered K.Sink out.old block.old out.new block.new)) }
+        (spoken K.Sink out.old debugger.old out.new debugger.new)) }
     ensures same { Remains debugger.old debugger.new }
 {
     for byte in bytes {
-        match hear_byte(debugger, held, *byte, block, out)? {
+        match hear_byte(debugger, held, *byte, out)? {
             Talk::GoesOn => {}
             Talk::Quits => return Ok(Talk::Quits),
         }
@@ -47,20 +44,19 @@ fn hear_byte<K: Sink>(
     debugger: &mut Debugger,
     held: &mut Held,
     byte: u8,
-    block: &mut Block,
     out: &mut K,
 ) -> Result<Talk, Failed>
     requires { IsTrue debugger.old.machine.kernel.user }
     ensures ok { (begun : List ℕ) → IsHeld begun held.old.items
         → IfOk result (λ talk. Hears (byte ∷ []) begun talk debugger.old debugger.new held.new.items
-        (gathered K.Sink out.old block.old out.new block.new)) }
+        (spoken K.Sink out.old debugger.old out.new debugger.new)) }
     ensures refused { (begun : List ℕ) → IsHeld begun held.old.items
         → OnErr result (HearFails (byte ∷ []) begun debugger.old
-        (gathered K.Sink out.old block.old out.new block.new)) }
+        (spoken K.Sink out.old debugger.old out.new debugger.new)) }
     ensures same { Remains debugger.old debugger.new }
 {
     if byte == b'\n' {
-        let talk = answer_line(debugger, without_return(held.as_slice()), block, out)?;
+        let talk = answer_line(debugger, without_return(held.as_slice()), out)?;
         held.clear();
         Ok(talk)
     } else {
@@ -75,15 +71,14 @@ fn hear_byte<K: Sink>(
 pub(crate) fn answer_line<K: Sink>(
     debugger: &mut Debugger,
     line: &[u8],
-    block: &mut Block,
     out: &mut K,
 ) -> Result<Talk, Failed>
     requires { IsTrue debugger.old.machine.kernel.user }
     ensures ok { IfOk result (λ talk. Answers (command_of line.now) talk debugger.old debugger.new
-        (gathered K.Sink out.old block.old out.new block.new)) }
+        (spoken K.Sink out.old debugger.old out.new debugger.new)) }
     ensures refused { OnErr result (AnswerFails (command_of line.now) debugger.old
-        (gathered K.Sink out.old block.old out.new block.new)) }
+        (spoken K.Sink out.old debugger.old out.new debugger.new)) }
     ensures same { Remains debugger.old debugger.new }
 {
-    debugger.answer(command_of(line), block, out)
+    debugger.answer(command_of(line), out)
 }

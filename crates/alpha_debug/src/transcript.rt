@@ -1,4 +1,4 @@
-ghost use Rattle.std.specs.Prelude.{◌≡◌, [], IsTrue, List, ℕ, IfOk, OnErr};
+ghost use Rattle.std.specs.Prelude.{◌≡◌, [], IsTrue, List, ℕ, IfOk, OnOk, OnErr};
 ghost use Rattle.alpha_io.specs.Sunk.{sunk};
 ghost use Rattle.alpha_seq.specs.Devices.{drawn};
 ghost use Rattle.alpha_debug.specs.DebugEffect.{DebugEffect};
@@ -7,7 +7,6 @@ ghost use Rattle.alpha_debug.specs.Gathered.{gathered};
 ghost use Rattle.alpha_debug.specs.Effects.{Remains, IsHeld, Answers, AnswerFails, Hears, HearFails, CloseEffect, TellEffect};
 
 use crate::DebugEnd;
-use crate::block::Block;
 use crate::debugger::{Debugger, Talk};
 use crate::script::{Held, answer_line, hear};
 use alpha_image::Image;
@@ -49,7 +48,8 @@ pub fn debug<S: Source, K: Sink>(
 
 // Answers the lines of a script.
 fn converse<S: Source, K: Sink>(debugger: &mut Debugger, script: &mut S, out: &mut K) -> DebugEnd
-    requires { IsTrue debugger.old.machine.kernel.user }
+    requires mode { IsTrue debugger.old.machine.kernel.user }
+    requires block { debugger.old.watcher.block ≡ [] }
     ensures { TellEffect result debugger.old
         (drawn S.Source script.old script.new)
         (gathered K.Sink out.old [] out.new []) }
@@ -88,24 +88,26 @@ fn hear_piece<K: Sink>(
     bytes: &[u8],
     out: &mut K,
 ) -> Result<Talk, Failed>
-    requires { IsTrue debugger.old.machine.kernel.user }
+    requires mode { IsTrue debugger.old.machine.kernel.user }
+    requires block { debugger.old.watcher.block ≡ [] }
     ensures ok { (begun : List ℕ) → IsHeld begun held.old.items
         → IfOk result (λ talk. Hears bytes.now begun talk debugger.old debugger.new held.new.items
         (gathered K.Sink out.old [] out.new [])) }
     ensures refused { (begun : List ℕ) → IsHeld begun held.old.items
         → OnErr result (HearFails bytes.now begun debugger.old
         (gathered K.Sink out.old [] out.new [])) }
+    ensures block { OnOk result (debugger.new.watcher.block ≡ []) }
     ensures same { Remains debugger.old debugger.new }
 {
-    let mut block = Block::new();
-    let talk = hear(debugger, held, bytes, &mut block, out)?;
-    block.flush(out)?;
+    let talk = hear(debugger, held, bytes, out)?;
+    debugger.watcher.block.flush(out)?;
     Ok(talk)
 }
 
 // Ends a session at the end of the script: what stands behind its last line feed is answered.
 fn close<K: Sink>(debugger: &mut Debugger, held: &Held, out: &mut K) -> DebugEnd
-    requires { IsTrue debugger.old.machine.kernel.user }
+    requires mode { IsTrue debugger.old.machine.kernel.user }
+    requires block { debugger.old.watcher.block ≡ [] }
     ensures { (begun : List ℕ) → IsHeld begun held.now.items → CloseEffect result begun debugger.old
         (gathered K.Sink out.old [] out.new []) }
 {
@@ -117,14 +119,14 @@ fn close<K: Sink>(debugger: &mut Debugger, held: &Held, out: &mut K) -> DebugEnd
 
 // Answers a line, and puts the answer.
 fn answer_last<K: Sink>(debugger: &mut Debugger, line: &[u8], out: &mut K) -> Result<Talk, Failed>
-    requires { IsTrue debugger.old.machine.kernel.user }
+    requires mode { IsTrue debugger.old.machine.kernel.user }
+    requires block { debugger.old.watcher.block ≡ [] }
     ensures ok { IfOk result (λ talk. Answers (command_of line.now) talk debugger.old debugger.new
         (gathered K.Sink out.old [] out.new [])) }
     ensures refused { OnErr result (AnswerFails (command_of line.now) debugger.old
         (gathered K.Sink out.old [] out.new [])) }
 {
-    let mut block = Block::new();
-    let talk = answer_line(debugger, line, &mut block, out)?;
-    block.flush(out)?;
+    let talk = answer_line(debugger, line, out)?;
+    debugger.watcher.block.flush(out)?;
     Ok(talk)
 }

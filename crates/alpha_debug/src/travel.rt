@@ -1,113 +1,57 @@
-ghost use Rattle.std.specs.Prelude.{◌≡◌, [], IsTrue, IfOk, OnErr};
+//! The steps that a command makes.
+
+ghost use Rattle.std.specs.Prelude.{◌≡◌, IsTrue, IfOk, OnOk, OnErr};
 ghost use Rattle.alpha_seq.specs.Machine.{Stays};
-ghost use Rattle.alpha_seq.specs.Run.{end_of};
+ghost use Rattle.alpha_run.specs.SeqRun.{end_by};
 ghost use Rattle.alpha_debug.specs.Gathered.{gathered};
-ghost use Rattle.alpha_debug.specs.Session.{is_reached, is_last};
-ghost use Rattle.alpha_debug.specs.Effects.{event_of, Moves, MoveBreaks, IsUnmade, Walks, WalkBreaks};
+ghost use Rattle.alpha_debug.specs.Effects.{Walks, WalkBreaks};
 
-use crate::block::Block;
-use crate::breakpoints::has_point;
 use crate::input::NoInput;
-use alpha_io::{Failed, Sink};
-use alpha_seq::{End, Event, Fault, Machine};
-
-/// Which step is the last one that is wanted.
-#[derive(Clone, Copy, Debug, PartialEq, Eq)]
-pub(crate) enum Until {
-    /// The last of all that were asked for: none ends the travel before.
-    Spent,
-    /// One behind which the PC is a breakpoint.
-    Breakpoint,
-    /// One that executes a barrier.
-    Barrier,
-}
+use crate::watcher::Watcher;
+use alpha_io::{Failed, NullSink, Sink};
+use alpha_run::{NoWords, run};
+use alpha_seq::{End, Event, Machine};
 
 /// Makes at most so many steps, fewer where the program ends or the wanted step came, and answers how the program ended.
+/// The watcher takes what they put, so that the run's own output goes nowhere.
 pub(crate) fn walk<K: Sink>(
     machine: &mut Machine,
-    until: Until,
-    points: &[u64],
+    watcher: &mut Watcher,
     most: u64,
-    block: &mut Block,
     out: &mut K,
 ) -> Result<Option<End>, Failed>
     requires { IsTrue machine.old.kernel.user }
-    ensures ok { IfOk result (λ end. Walks until points.now most end machine.old machine.new
-        (gathered K.Sink out.old block.old out.new block.new)) }
-    ensures refused { OnErr result (WalkBreaks until points.now most machine.old
-        (gathered K.Sink out.old block.old out.new block.new)) }
+    ensures ok { IfOk result (λ end. Walks watcher.old.until watcher.old.points.items most end
+        machine.old machine.new
+        (gathered K.Sink out.old watcher.old.block out.new watcher.new.block)) }
+    ensures kept { OnOk result (watcher.new ≡ record watcher.old { block = watcher.new.block }) }
+    ensures refused { OnErr result (WalkBreaks watcher.old.until watcher.old.points.items most
+        machine.old
+        (gathered K.Sink out.old watcher.old.block out.new watcher.new.block)) }
     ensures same { Stays machine.old machine.new }
 {
-    for _ in 0..most {
-        let event = step(machine, block, out)?;
-        if is_last(until, points, &event, machine.pc) {
-            return Ok(end_of(&event));
-        }
-    }
-    Ok(None)
-}
-
-// Makes one step, whose output waits in the block where it fits. Where it doesn't, the step wasn't made: what waits is
-// put, and the step is made anew over the sink itself.
-fn step<K: Sink>(machine: &mut Machine, block: &mut Block, out: &mut K) -> Result<Event, Failed>
-    requires { IsTrue machine.old.kernel.user }
-    ensures ok { IfOk result (λ event. Moves (event_of event) machine.old machine.new
-        (gathered K.Sink out.old block.old out.new block.new)) }
-    ensures refused { OnErr result (MoveBreaks machine.old
-        (gathered K.Sink out.old block.old out.new block.new)) }
-    ensures same { Stays machine.old machine.new }
-{
-    let waiting = block.len();
-    match step_into(machine, block) {
-        Ok(event) => Ok(event),
-        Err(Failed) => {
-            block.cut(waiting);
-            block.flush(out)?;
-            step_into(machine, out)
-        }
+    let mut left = most;
+    let last = run(
+        machine,
+        watcher,
+        &mut NoWords,
+        &mut NoInput,
+        &mut NullSink::new(),
+        out,
+        &mut left,
+    );
+    match last {
+        Ok(last) => Ok(end_by(&last)),
+        Err(_) => Err(Failed),
     }
 }
 
-// Makes one step over an empty input, so that the output alone can fail. Where it does the step wasn't made.
-fn step_into<K: Sink>(machine: &mut Machine, out: &mut K) -> Result<Event, Failed>
-    requires { IsTrue machine.old.kernel.user }
-    ensures ok { IfOk result (λ event. Moves (event_of event) machine.old machine.new
-        (gathered K.Sink out.old [] out.new [])) }
-    ensures refused { OnErr result (MoveBreaks machine.old
-        (gathered K.Sink out.old [] out.new [])) }
-    ensures unmade { OnErr result (IsUnmade machine.old machine.new) }
-    ensures same { Stays machine.old machine.new }
+// How the program ended, by the last step, if it has.
+fn end_by(last: &Option<Event>) -> Option<End>
+    ensures { result ≡ end_by last.now }
 {
-    machine.step(&mut NoInput, out).map_err(|_| Failed)
-}
-
-// How the program ended, if it has.
-fn end_of(event: &Event) -> Option<End>
-    ensures { result ≡ end_of (event_of event.now) }
-{
-    match event {
-        Event::Ended(end) => Some(*end),
+    match last {
+        Some(Event::Ended(end)) => Some(*end),
         _ => None,
-    }
-}
-
-// Whether no further step is made: the program has ended, or the wanted step came.
-fn is_last(until: Until, points: &[u64], event: &Event, pc: u64) -> bool
-    ensures { result ≡ is_last until points.now (event_of event.now) pc }
-{
-    match event {
-        Event::Ended(_) => true,
-        _ => is_reached(until, points, event, pc),
-    }
-}
-
-// Whether the wanted step came.
-fn is_reached(until: Until, points: &[u64], event: &Event, pc: u64) -> bool
-    ensures { result ≡ is_reached until points.now (event_of event.now) pc }
-{
-    match until {
-        Until::Spent => false,
-        Until::Breakpoint => has_point(points, pc),
-        Until::Barrier => matches!(event, Event::Barrier(_)),
     }
 }

@@ -285,3 +285,36 @@ fn says_which_device_failed(rt: HostRuntime) -> Result<(), Fail> {
     }
     Ok(())
 }
+
+#[test]
+fn what_a_program_puts_may_fill_the_block(rt: HostRuntime) -> Result<(), Fail> {
+    let alloc = rt.alloc();
+    // lda $0,4($31); lda $16,1($31); bis $31,$27,$17; lda $18,20($31); callsys; br $31,-6:
+    // in six steps it puts 20 bytes of its code
+    let words: [u32; 6] = [
+        0x201f_0004,
+        0x221f_0001,
+        0x47fb_0411,
+        0x225f_0014,
+        0x0000_0083,
+        0xc3ff_fffa,
+    ];
+    // which put fails, how the session ends, and how many bytes it has written
+    let rows: [(Option<u64>, DebugEnd, usize); 3] = [
+        (Some(0), DebugEnd::SinkFault, 0),
+        (Some(1), DebugEnd::SinkFault, 16_380),
+        (None, DebugEnd::Done, 20_020),
+    ];
+    for (put, end, len) in rows {
+        let mut puts = Vec::new(alloc);
+        if let Some(n) = put {
+            puts.push(n)?;
+        }
+        let mut input = SureSource::new(b"step 6000\n".to_vec(alloc)?);
+        let mut out = MemorySink::new(alloc, 65_536, puts)?;
+        let found = debug(alloc, sample(alloc, &words, 32)?, &mut input, &mut out);
+        assert_eq!(rt; found, end);
+        assert_eq!(rt; out.bytes().len(), len);
+    }
+    Ok(())
+}

@@ -10,5 +10,5 @@ invariant-loop-byte g l = record {
   same : Remains l.initial.debugger l.debugger;
   hears : (begun : List ℕ) → IsHeld begun l.initial.held.items
       → Hears (take l.byte-index l.bytes) begun GoesOn l.initial.debugger l.debugger l.held.items
-      (gathered g.K.Sink l.initial.out l.initial.block l.out l.block);
+      (gathered g.K.Sink l.initial.out l.initial.debugger.watcher.block l.out l.debugger.watcher.block);
 }

@@ -11,7 +11,7 @@ use Rattle.alpha_debug.proofs.script.hear_byte.Goals as goal
 
 pub returns-in_err-talk-clause-refused : goal.returns-in_err-talk-clause-refused
 returns-in_err-talk-clause-refused g c =
-    let out = gathered g.K.Sink c.args.out.now c.args.block.now c.answer_line.new.out c.answer_line.new.block in
+    let out = gathered g.K.Sink c.args.out.now c.args.debugger.now.watcher.block c.answer_line.new.out c.answer_line.new.debugger.watcher.block in
     let held = c.args.held.now.items in
     let line : c.without_return.result.now ≡ strip_carriage_return held = c.without_return.ensures ∙ ap strip_carriage_return c.as_slice.ensures.value in
     let feed : c.args.byte ≡ 10 = omega (arith, c.if-byte-eq10.true) in
@@ -22,7 +22,7 @@ returns-in_err-talk-clause-refused g c =
 
 pub returns-in_ok-talk-clause-ok : goal.returns-in_ok-talk-clause-ok
 returns-in_ok-talk-clause-ok g c =
-    let out = gathered g.K.Sink c.args.out.now c.args.block.now c.answer_line.new.out c.answer_line.new.block in
+    let out = gathered g.K.Sink c.args.out.now c.args.debugger.now.watcher.block c.answer_line.new.out c.answer_line.new.debugger.watcher.block in
     let held = c.args.held.now.items in
     let old = c.args.debugger.now in
     let new = c.answer_line.new.debugger in
@@ -36,22 +36,22 @@ returns-in_ok-talk-clause-ok g c =
 
 pub returns-then-not-is_full-clause-ok : goal.returns-then-not-is_full-clause-ok
 returns-then-not-is_full-clause-ok g c =
-    let out = gathered g.K.Sink c.args.out.now c.args.block.now c.args.out.now c.args.block.now in
+    let out = gathered g.K.Sink c.args.out.now c.args.debugger.now.watcher.block c.args.out.now c.args.debugger.now.watcher.block in
     let held = c.args.held.now.items in
     let other : (c.args.byte == 10) ≡ false = ne_eqb c.args.byte 10 (λ e. omega (arith, c.if-byte-eq10.false)) in
     let room : length held < 1026 = grind (arith, nat_tests) in
     λ begun is_held.
     hears_other c.args.byte begun c.push.new.self.items c.args.debugger.now out other is_held.line
     (held_more c.args.byte begun held c.push.new.self.items is_held.front room c.push.ensures.items)
-    (Gathers-none g.K.Sink c.args.out.now c.args.block.now)
+    (Gathers-none g.K.Sink c.args.out.now c.args.debugger.now.watcher.block)
 
 pub returns-else-not-is_full-clause-ok : goal.returns-else-not-is_full-clause-ok
 returns-else-not-is_full-clause-ok g c =
-    let out = gathered g.K.Sink c.args.out.now c.args.block.now c.args.out.now c.args.block.now in
+    let out = gathered g.K.Sink c.args.out.now c.args.debugger.now.watcher.block c.args.out.now c.args.debugger.now.watcher.block in
     let held = c.args.held.now.items in
     let other : (c.args.byte == 10) ≡ false = ne_eqb c.args.byte 10 (λ e. omega (arith, c.if-byte-eq10.false)) in
     let full : length held ≡ 1026 = grind (arith, nat_tests) in
     λ begun is_held.
     hears_other c.args.byte begun held c.args.debugger.now out other is_held.line
     (held_full c.args.byte begun held is_held.front full)
-    (Gathers-none g.K.Sink c.args.out.now c.args.block.now)
+    (Gathers-none g.K.Sink c.args.out.now c.args.debugger.now.watcher.block)

@@ -12,7 +12,7 @@ returns-in_err-flush-clause-refused g c =
     let talk = c.in_ok-talk.talk in
     let old = c.args.debugger.now in
     let new = c.answer_line.new in
-    let answers : Answers command talk old new.debugger (gathered g.K.Sink c.args.out.now [] new.out new.block) =
-    subst (λ (l : List ℕ). Answers command talk old new.debugger (gathered g.K.Sink c.args.out.now l new.out new.block)) c.new-block.ensures c.in_ok-talk.ensures.ok in
+    let answers : Answers command talk old new.debugger (gathered g.K.Sink c.args.out.now [] new.out new.debugger.watcher.block) =
+    subst (λ (l : List ℕ). Answers command talk old new.debugger (gathered g.K.Sink c.args.out.now l new.out new.debugger.watcher.block)) c.requires.block c.in_ok-talk.ensures.ok in
     OnErr-any c.from_residual-in_err-flush.result
-    (answers_stopped g.K.Sink c.args.out.now new.out c.flush.new.out new.block c.flush.new.self command talk old new.debugger answers c.in_err-flush.ensures.refused)
+    (answers_stopped g.K.Sink c.args.out.now new.out c.flush.new.out new.debugger.watcher.block c.flush.new.self command talk old new.debugger answers c.in_err-flush.ensures.refused)

@@ -13,14 +13,16 @@ use Rattle.alpha_debug.specs.Gathered.{gathered}
 use Rattle.alpha_debug.proofs.transcript.converse.Goals as goal
 
 pub loop-most-init : goal.loop-most-init
-loop-most-init g c =
-    underway_start c.args.debugger.now c.new-held.result.items (drawn g.S.Source c.args.script.now c.args.script.now) (gathered g.K.Sink c.args.out.now [] c.args.out.now [])
-    c.new-held.ensures (Consumes-nil (g.S.Source.left c.args.script.now)) refl (Gathers-none g.K.Sink c.args.out.now [])
+loop-most-init g c = record {
+  underway = underway_start c.args.debugger.now c.new-held.result.items (drawn g.S.Source c.args.script.now c.args.script.now) (gathered g.K.Sink c.args.out.now [] c.args.out.now [])
+      c.new-held.ensures (Consumes-nil (g.S.Source.left c.args.script.now)) refl (Gathers-none g.K.Sink c.args.out.now []);
+  block = c.requires.block;
+}
 
 pub returns-in-Err : goal.returns-in-Err
 returns-in-Err g c =
     let l = c.loop-most in
-    underway_unread g.S.Source.left g.S.Source.faults g.K.Sink.written g.K.Sink.faults c.args.script.now l.script c.take.new.self (c.args.out.now, []) (l.out, []) (l.out, []) c.args.debugger.now l.debugger l.held.items l.most l.invariant
+    underway_unread g.S.Source.left g.S.Source.faults g.K.Sink.written g.K.Sink.faults c.args.script.now l.script c.take.new.self (c.args.out.now, []) (l.out, []) (l.out, []) c.args.debugger.now l.debugger l.held.items l.most l.invariant.underway
     c.in-Err.ensures.failed c.in-Err.ensures.cause.later c.in-Err.ensures.cause.err
 
 pub returns-then-count-eq0 : goal.returns-then-count-eq0
@@ -29,18 +31,18 @@ returns-then-count-eq0 g c =
     let none : c.in-Ok.count ≡ 0 = omega (arith, c.if-count-eq0.true) in
     let took : Consumes (g.S.Source.left l.script) (g.S.Source.left c.take.new.self) [] =
     subst (λ (n : ℕ). Consumes (g.S.Source.left l.script) (g.S.Source.left c.take.new.self) (take n c.take.new.buf)) none c.in-Ok.ensures.bytes in
-    underway_closed g.S.Source.left g.S.Source.faults g.K.Sink.written g.K.Sink.faults c.args.script.now l.script c.take.new.self (c.args.out.now, []) (l.out, []) (c.close.new.out, []) c.args.debugger.now l.debugger l.held.items l.most l.invariant
-    c.close.result took (c.in-Ok.ensures.end none) c.in-Ok.ensures.cause.ok (c.close.ensures l.invariant.line l.invariant.held_is)
+    underway_closed g.S.Source.left g.S.Source.faults g.K.Sink.written g.K.Sink.faults c.args.script.now l.script c.take.new.self (c.args.out.now, []) (l.out, []) (c.close.new.out, []) c.args.debugger.now l.debugger l.held.items l.most l.invariant.underway
+    c.close.result took (c.in-Ok.ensures.end none) c.in-Ok.ensures.cause.ok (c.close.ensures l.invariant.underway.line l.invariant.underway.held_is)
 
 pub returns-in-Ok-Quits : goal.returns-in-Ok-Quits
 returns-in-Ok-Quits g c =
     let l = c.loop-most in
     let bytes : List ℕ = take c.in-Ok.count c.take.new.buf in
     let fits : length bytes ≤ l.most = omega (arith, length-take c.in-Ok.count c.take.new.buf, c.in-Ok.ensures.bound, c.take.auto.buf, length-take c.min.result c.loop-most.space, c.min.ensures) in
-    let hears : Hears bytes l.invariant.line Quits l.debugger c.hear_piece.new.debugger c.hear_piece.new.held.items (gathered g.K.Sink l.out [] c.hear_piece.new.out []) =
-    subst (λ (talk : Talk). Hears bytes l.invariant.line talk l.debugger c.hear_piece.new.debugger c.hear_piece.new.held.items (gathered g.K.Sink l.out [] c.hear_piece.new.out [])) c.in-Ok-Quits.field-0-is
-    (c.in-Ok-Quits.ensures.ok l.invariant.line l.invariant.held_is) in
-    underway_quit g.S.Source.left g.S.Source.faults g.K.Sink.written g.K.Sink.faults c.args.script.now l.script c.take.new.self (c.args.out.now, []) (l.out, []) (c.hear_piece.new.out, []) c.args.debugger.now l.debugger l.held.items l.most l.invariant
+    let hears : Hears bytes l.invariant.underway.line Quits l.debugger c.hear_piece.new.debugger c.hear_piece.new.held.items (gathered g.K.Sink l.out [] c.hear_piece.new.out []) =
+    subst (λ (talk : Talk). Hears bytes l.invariant.underway.line talk l.debugger c.hear_piece.new.debugger c.hear_piece.new.held.items (gathered g.K.Sink l.out [] c.hear_piece.new.out [])) c.in-Ok-Quits.field-0-is
+    (c.in-Ok-Quits.ensures.ok l.invariant.underway.line l.invariant.underway.held_is) in
+    underway_quit g.S.Source.left g.S.Source.faults g.K.Sink.written g.K.Sink.faults c.args.script.now l.script c.take.new.self (c.args.out.now, []) (l.out, []) (c.hear_piece.new.out, []) c.args.debugger.now l.debugger l.held.items l.most l.invariant.underway
     bytes c.hear_piece.new.debugger c.hear_piece.new.held.items c.in-Ok.ensures.bytes c.in-Ok.ensures.cause.ok fits hears
 
 pub returns-in-Err-hear_piece : goal.returns-in-Err-hear_piece
@@ -48,8 +50,8 @@ returns-in-Err-hear_piece g c =
     let l = c.loop-most in
     let bytes : List ℕ = take c.in-Ok.count c.take.new.buf in
     let fits : length bytes ≤ l.most = omega (arith, length-take c.in-Ok.count c.take.new.buf, c.in-Ok.ensures.bound, c.take.auto.buf, length-take c.min.result c.loop-most.space, c.min.ensures) in
-    underway_fails g.S.Source.left g.S.Source.faults g.K.Sink.written g.K.Sink.faults c.args.script.now l.script c.take.new.self (c.args.out.now, []) (l.out, []) (c.hear_piece.new.out, []) c.args.debugger.now l.debugger l.held.items l.most l.invariant
-    bytes c.in-Ok.ensures.bytes c.in-Ok.ensures.cause.ok fits (c.in-Err-hear_piece.ensures.refused l.invariant.line l.invariant.held_is)
+    underway_fails g.S.Source.left g.S.Source.faults g.K.Sink.written g.K.Sink.faults c.args.script.now l.script c.take.new.self (c.args.out.now, []) (l.out, []) (c.hear_piece.new.out, []) c.args.debugger.now l.debugger l.held.items l.most l.invariant.underway
+    bytes c.in-Ok.ensures.bytes c.in-Ok.ensures.cause.ok fits (c.in-Err-hear_piece.ensures.refused l.invariant.underway.line l.invariant.underway.held_is)
 
 pub loop-most-preserved : goal.loop-most-preserved
 loop-most-preserved g c =
@@ -57,11 +59,14 @@ loop-most-preserved g c =
     let bytes : List ℕ = take c.in-Ok.count c.take.new.buf in
     let fits : length bytes ≤ l.most = omega (arith, length-take c.in-Ok.count c.take.new.buf, c.in-Ok.ensures.bound, c.take.auto.buf, length-take c.min.result c.loop-most.space, c.min.ensures) in
     let left : l.most - c.in-Ok.count ≡ l.most - length bytes = omega (arith, length-take c.in-Ok.count c.take.new.buf, c.in-Ok.ensures.bound) in
-    let hears : Hears bytes l.invariant.line GoesOn l.debugger c.hear_piece.new.debugger c.hear_piece.new.held.items (gathered g.K.Sink l.out [] c.hear_piece.new.out []) =
-    subst (λ (talk : Talk). Hears bytes l.invariant.line talk l.debugger c.hear_piece.new.debugger c.hear_piece.new.held.items (gathered g.K.Sink l.out [] c.hear_piece.new.out [])) c.in-Ok-GoesOn.field-0-is
-    (c.in-Ok-GoesOn.ensures.ok l.invariant.line l.invariant.held_is) in
-    underway_more g.S.Source.left g.S.Source.faults g.K.Sink.written g.K.Sink.faults c.args.script.now l.script c.take.new.self (c.args.out.now, []) (l.out, []) (c.hear_piece.new.out, []) c.args.debugger.now l.debugger l.held.items l.most l.invariant
-    bytes c.hear_piece.new.debugger c.hear_piece.new.held.items (l.most - c.in-Ok.count) c.in-Ok.ensures.bytes c.in-Ok.ensures.cause.ok fits left hears c.hear_piece.ensures.same
+    let hears : Hears bytes l.invariant.underway.line GoesOn l.debugger c.hear_piece.new.debugger c.hear_piece.new.held.items (gathered g.K.Sink l.out [] c.hear_piece.new.out []) =
+    subst (λ (talk : Talk). Hears bytes l.invariant.underway.line talk l.debugger c.hear_piece.new.debugger c.hear_piece.new.held.items (gathered g.K.Sink l.out [] c.hear_piece.new.out [])) c.in-Ok-GoesOn.field-0-is
+    (c.in-Ok-GoesOn.ensures.ok l.invariant.underway.line l.invariant.underway.held_is) in
+    record {
+      underway = underway_more g.S.Source.left g.S.Source.faults g.K.Sink.written g.K.Sink.faults c.args.script.now l.script c.take.new.self (c.args.out.now, []) (l.out, []) (c.hear_piece.new.out, []) c.args.debugger.now l.debugger l.held.items l.most l.invariant.underway
+          bytes c.hear_piece.new.debugger c.hear_piece.new.held.items (l.most - c.in-Ok.count) c.in-Ok.ensures.bytes c.in-Ok.ensures.cause.ok fits left hears c.hear_piece.ensures.same;
+      block = c.in-Ok-GoesOn.ensures.block;
+    }
 
 pub returns-in-Ok-eq0 : goal.returns-in-Ok-eq0
 returns-in-Ok-eq0 g c =
@@ -69,8 +74,8 @@ returns-in-Ok-eq0 g c =
     let none : c.in-Ok-eq0.field-0 ≡ 0 = c.in-Ok-eq0.field-0-test in
     let took : Consumes (g.S.Source.left l.script) (g.S.Source.left c.take-2.new.self) [] =
     subst (λ (n : ℕ). Consumes (g.S.Source.left l.script) (g.S.Source.left c.take-2.new.self) (take n c.take-2.new.buf)) none c.in-Ok-eq0.ensures.bytes in
-    underway_closed g.S.Source.left g.S.Source.faults g.K.Sink.written g.K.Sink.faults c.args.script.now l.script c.take-2.new.self (c.args.out.now, []) (l.out, []) (c.close-in-Ok-eq0.new.out, []) c.args.debugger.now l.debugger l.held.items l.most l.invariant
-    c.close-in-Ok-eq0.result took (c.in-Ok-eq0.ensures.end none) c.in-Ok-eq0.ensures.cause.ok (c.close-in-Ok-eq0.ensures l.invariant.line l.invariant.held_is)
+    underway_closed g.S.Source.left g.S.Source.faults g.K.Sink.written g.K.Sink.faults c.args.script.now l.script c.take-2.new.self (c.args.out.now, []) (l.out, []) (c.close-in-Ok-eq0.new.out, []) c.args.debugger.now l.debugger l.held.items l.most l.invariant.underway
+    c.close-in-Ok-eq0.result took (c.in-Ok-eq0.ensures.end none) c.in-Ok-eq0.ensures.cause.ok (c.close-in-Ok-eq0.ensures l.invariant.underway.line l.invariant.underway.held_is)
 
 pub returns-in-Ok-take : goal.returns-in-Ok-take
 returns-in-Ok-take g c =
@@ -82,11 +87,11 @@ returns-in-Ok-take g c =
     let byte : take c.in-Ok-take.field-0 buf ≡ get_or buf 0 0 ∷ [] = ap (λ (n : ℕ). take n buf) one ∙ take-suc buf 0 0 (omega (arith, size)) in
     let took : Consumes (g.S.Source.left l.script) (g.S.Source.left c.take-2.new.self) (get_or buf 0 0 ∷ []) =
     subst (Consumes (g.S.Source.left l.script) (g.S.Source.left c.take-2.new.self)) byte c.in-Ok-take.ensures.bytes in
-    underway_large g.S.Source.left g.S.Source.faults g.K.Sink.written g.K.Sink.faults c.args.script.now l.script c.take-2.new.self (c.args.out.now, []) (l.out, []) (l.out, []) c.args.debugger.now l.debugger l.held.items l.most l.invariant
+    underway_large g.S.Source.left g.S.Source.faults g.K.Sink.written g.K.Sink.faults c.args.script.now l.script c.take-2.new.self (c.args.out.now, []) (l.out, []) (l.out, []) c.args.debugger.now l.debugger l.held.items l.most l.invariant.underway
     (get_or buf 0 0) (omega (arith, c.loop-most-test.false)) took c.in-Ok-take.ensures.cause.ok
 
 pub returns-in-Err-take : goal.returns-in-Err-take
 returns-in-Err-take g c =
     let l = c.loop-most in
-    underway_unread g.S.Source.left g.S.Source.faults g.K.Sink.written g.K.Sink.faults c.args.script.now l.script c.take-2.new.self (c.args.out.now, []) (l.out, []) (l.out, []) c.args.debugger.now l.debugger l.held.items l.most l.invariant
+    underway_unread g.S.Source.left g.S.Source.faults g.K.Sink.written g.K.Sink.faults c.args.script.now l.script c.take-2.new.self (c.args.out.now, []) (l.out, []) (l.out, []) c.args.debugger.now l.debugger l.held.items l.most l.invariant.underway
     c.in-Err-take.ensures.failed c.in-Err-take.ensures.cause.later c.in-Err-take.ensures.cause.err

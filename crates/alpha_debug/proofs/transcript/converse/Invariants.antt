@@ -1,14 +1,17 @@
-use Rattle.std.proofs.Common.{[]}
+use Rattle.std.proofs.Common.{◌≡◌, []}
 use Rattle.alpha_seq.specs.Devices.{drawn}
 use Rattle.alpha_debug.proofs.Underway.{Underway}
 use Rattle.alpha_debug.specs.Gathered.{gathered}
 use Rattle.alpha_debug.proofs.transcript.converse.Given as goal
 
+-- the pieces so far were answered, and nothing waits
 abbrev pub invariant-loop-most : goal.invariant-loop-most
-invariant-loop-most g l =
-    Underway l.initial.debugger l.debugger l.held.items l.most
-    (drawn g.S.Source l.initial.script l.script)
-    (gathered g.K.Sink l.initial.out [] l.out [])
+invariant-loop-most g l = record {
+  underway : Underway l.initial.debugger l.debugger l.held.items l.most
+      (drawn g.S.Source l.initial.script l.script)
+      (gathered g.K.Sink l.initial.out [] l.out []);
+  block : l.debugger.watcher.block ≡ [];
+}
 
 abbrev pub decreases-loop-most : goal.decreases-loop-most
 decreases-loop-most g l = l.most

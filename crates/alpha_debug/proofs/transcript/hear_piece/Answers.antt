@@ -11,10 +11,10 @@ returns-in_err-flush-clause-refused g c = λ begun is_held.
     let talk = c.in_ok-talk.talk in
     let old = c.args.debugger.now in
     let new = c.hear.new in
-    let hears : Hears bytes begun talk old new.debugger new.held.items (gathered g.K.Sink c.args.out.now [] new.out new.block) =
-    subst (λ (l : List ℕ). Hears bytes begun talk old new.debugger new.held.items (gathered g.K.Sink c.args.out.now l new.out new.block)) c.new-block.ensures (c.in_ok-talk.ensures.ok begun is_held) in
+    let hears : Hears bytes begun talk old new.debugger new.held.items (gathered g.K.Sink c.args.out.now [] new.out new.debugger.watcher.block) =
+    subst (λ (l : List ℕ). Hears bytes begun talk old new.debugger new.held.items (gathered g.K.Sink c.args.out.now l new.out new.debugger.watcher.block)) c.requires.block (c.in_ok-talk.ensures.ok begun is_held) in
     OnErr-any c.from_residual-in_err-flush.result
-    (hears_stopped g.K.Sink c.args.out.now new.out c.flush.new.out new.block c.flush.new.self bytes begun talk old new.debugger new.held.items hears c.in_err-flush.ensures.refused)
+    (hears_stopped g.K.Sink c.args.out.now new.out c.flush.new.out new.debugger.watcher.block c.flush.new.self bytes begun talk old new.debugger new.held.items hears c.in_err-flush.ensures.refused)
 
 pub returns-clause-ok : goal.returns-clause-ok
 returns-clause-ok g c = λ begun is_held.
@@ -22,6 +22,6 @@ returns-clause-ok g c = λ begun is_held.
     let talk = c.in_ok-talk.talk in
     let old = c.args.debugger.now in
     let new = c.hear.new in
-    let hears : Hears bytes begun talk old new.debugger new.held.items (gathered g.K.Sink c.args.out.now [] new.out new.block) =
-    subst (λ (l : List ℕ). Hears bytes begun talk old new.debugger new.held.items (gathered g.K.Sink c.args.out.now l new.out new.block)) c.new-block.ensures (c.in_ok-talk.ensures.ok begun is_held) in
-    hears_put g.K.Sink c.args.out.now new.out c.flush.new.out new.block bytes begun talk old new.debugger new.held.items hears c.in_ok-flush.ensures.ok
+    let hears : Hears bytes begun talk old new.debugger new.held.items (gathered g.K.Sink c.args.out.now [] new.out new.debugger.watcher.block) =
+    subst (λ (l : List ℕ). Hears bytes begun talk old new.debugger new.held.items (gathered g.K.Sink c.args.out.now l new.out new.debugger.watcher.block)) c.requires.block (c.in_ok-talk.ensures.ok begun is_held) in
+    hears_put g.K.Sink c.args.out.now new.out c.flush.new.out new.debugger.watcher.block c.flush.new.self bytes begun talk old new.debugger new.held.items hears c.in_ok-flush.ensures.ok

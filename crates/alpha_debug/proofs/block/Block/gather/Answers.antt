@@ -1,18 +1,17 @@
-use Rattle.std.proofs.Common.{List, ℕ, [], OnOk, sym, subst}
-use Rattle.alpha_debug.specs.Gathered.{gathered, Gathers}
-use Rattle.alpha_debug.proofs.Sinks.{OnErr-any, Stops-more}
-use Rattle.alpha_debug.proofs.Waiting.{Gathers-past}
+use Rattle.std.proofs.Common.{◌<◌, ◌++◌, ℕ, List, [], length, OnErr, sym, subst, arith}
+use Rattle.alpha_io.specs.Sunk.{sunk}
+use Rattle.alpha_debug.specs.declared.block.TheConstants.{BLOCK_ROOM}
+use Rattle.alpha_debug.specs.Gathered.{CutShort}
+use Rattle.alpha_debug.proofs.Waiting.{if-past, Stops-past}
 use Rattle.alpha_debug.proofs.block.Block.gather.Goals as goal
 
-pub returns-in_err-flush-clause-refused : goal.returns-in_err-flush-clause-refused
-returns-in_err-flush-clause-refused g c =
-    OnErr-any c.from_residual.result
-    (Stops-more (gathered g.K.Sink c.args.out.now c.args.self.now c.flush.new.out c.flush.new.self) [] c.args.bytes.now c.in_err-flush.ensures.refused)
-
-pub returns-then-bytes-gt-BLOCK_ROOM-clause-ok : goal.returns-then-bytes-gt-BLOCK_ROOM-clause-ok
-returns-then-bytes-gt-BLOCK_ROOM-clause-ok g c =
-    let out = c.args.out.now in
+pub returns-then-bytes-gt-BLOCK_ROOM-clause-refused : goal.returns-then-bytes-gt-BLOCK_ROOM-clause-refused
+returns-then-bytes-gt-BLOCK_ROOM-clause-refused g c =
+    let waits = c.args.self.now in
+    let bytes = c.args.bytes.now in
     let end = c.write_whole.new.out in
     let wrote = c.write_whole.ensures in
-    subst (λ (l : List ℕ). OnOk c.write_whole.result (Gathers (gathered g.K.Sink out c.args.self.now end l) c.args.bytes.now)) (sym c.in_ok-flush.ensures.empty)
-    (Gathers-past g.K.Sink out c.flush.new.out end c.args.self.now c.args.bytes.now c.in_ok-flush.ensures.ok c.write_whole.result wrote.written wrote.cause)
+    let long : BLOCK_ROOM < length bytes = omega (arith, c.if-bytes-gt-BLOCK_ROOM.true) in
+    subst (λ (l : List ℕ). OnErr c.write_whole.result (CutShort (sunk g.K.Sink c.args.out.now end) l))
+    (sym (if-past waits bytes [] waits (waits ++ bytes) (omega (arith, long)) long))
+    (Stops-past g.K.Sink c.args.out.now c.flush.new.out end waits bytes c.in_ok-flush.ensures.ok c.write_whole.result waits wrote.prefix wrote.cause)

@@ -1,0 +1,64 @@
+-- What a watcher makes of each step of a walk.
+use Rattle.std.specs.Prelude.{ℕ, ◌-◌, ◌^◌, ◌==◌, Bool, if◌then◌else◌, List, [], length}
+use Rattle.alpha_mem.specs.Block.{Block, shapes, within}
+use Rattle.alpha_mem.specs.Intent.{Load}
+use Rattle.alpha_mem.specs.Memory.{bytes_at}
+use Rattle.alpha_pal.specs.declared.pal_end.Passed.TheVariants.{Put}
+use Rattle.alpha_seq.specs.declared.machine.Machine.{Machine}
+use Rattle.alpha_seq.specs.declared.event.Event.{Event as Seen}
+use Rattle.alpha_seq.specs.declared.event.Event.TheVariants as events
+use Rattle.alpha_seq.specs.State.{Event, Went, Barriered, Overflowed, Ends}
+use Rattle.alpha_run.specs.Ran.{Watching, watching}
+use Rattle.alpha_debug.specs.declared.watcher.Until.{Until}
+use Rattle.alpha_debug.specs.declared.watcher.Until.TheVariants as until
+use Rattle.alpha_debug.specs.declared.watcher.Watcher.{Watcher}
+use Rattle.alpha_debug.specs.Gathered.{put_for, waits_for}
+use Rattle.alpha_debug.specs.Session.{is_reached}
+
+-- ---- a step
+
+-- what a step of the definition came to, by how the machine says that it went: it says no other event
+abbrev pub event_of : Seen → Event
+event_of (events.Barrier passed) = Barriered
+event_of (events.Overflowed at) = Overflowed at
+event_of (events.Ended end) = Ends end
+event_of event = Went
+
+-- What is put behind a step, where what the step put doesn't fit behind what waits. It stands in memory behind the step.
+abbrev pub put_behind : List ℕ → Seen → List Block → List ℕ
+put_behind waits (events.Barrier (Put addr len)) mem =
+    if within (shapes mem) Load addr len then put_for waits (bytes_at mem addr len) else []
+put_behind waits event mem = []
+
+-- what waits then
+abbrev pub waits_behind : List ℕ → Seen → List Block → List ℕ
+waits_behind waits (events.Barrier (Put addr len)) mem =
+    if within (shapes mem) Load addr len then waits_for waits (bytes_at mem addr len) else waits
+waits_behind waits event mem = waits
+
+-- ---- the watcher
+
+abbrev pub watched_lines : Watcher → Seen → Machine → List ℕ
+watched_lines w event m = put_behind w.block event m.memory
+
+abbrev pub watched_after : Watcher → Seen → Machine → Watcher
+watched_after w event m = record w { block = waits_behind w.block event m.memory }
+
+-- whether the step is the one that is wanted
+abbrev pub watched_stops : Watcher → Seen → Machine → Bool
+watched_stops w event m = is_reached w.until w.points.items (event_of event) m.pc
+
+abbrev pub all_steps : ℕ
+all_steps = 2 ^ 64 - 1
+
+-- a step that only goes on is passed over, unless there is a breakpoint that it may lead to
+abbrev pub room_for : Until → List ℕ → ℕ
+room_for until.Spent points = all_steps
+room_for until.Breakpoint points = if length points == 0 then all_steps else 0
+room_for until.Barrier points = all_steps
+
+abbrev pub watched_room : Watcher → ℕ
+watched_room w = room_for w.until w.points.items
+
+abbrev pub watches : Watching Watcher
+watches = watching watched_after watched_lines watched_stops
