@@ -41,8 +41,8 @@ fn offset_of(patch: &Patch<'_>) -> Option<u32>
     }
 }
 
-// The relocation of a kind at a patch, by the number of its label. The numbers of a source are small, so there is
-// one.
+// The relocation of a kind at a patch, by the number of its label. The numbers of a source are small,
+// so there is one.
 fn relocation_with(kind: RelocationKind, number: u32, patch: &Patch<'_>) -> Option<Relocation>
     ensures value { let fix = fix_of patch.now in
         IfSome result (λ r. relocation_with kind (offset_in fix.at fix.name.need)
@@ -59,8 +59,8 @@ fn relocation_with(kind: RelocationKind, number: u32, patch: &Patch<'_>) -> Opti
     })
 }
 
-// The relocation of a patch that one of the two sections needs, if it does, by the number of its label. Too great a
-// number counts as want of memory, of which it takes none.
+// The relocation of a patch that one of the two sections needs, if it does, by the number of its
+// label. Too great a number counts as want of memory, of which it takes none.
 fn relocation_at(
     side: Section,
     patch: &Patch<'_>,

@@ -72,16 +72,19 @@ impl<'p, 'm> Names<'p, 'm> {
         standing.address
     }
 
-    // Adds the next symbol of the row, which has this name and address, unless it defines a name that has an address.
-    // Answers whether it did.
+    // Adds the next symbol of the row, which has this name and address, unless it defines a name
+    // that has an address. Answers whether it did.
     fn enter(&mut self, name: &'m [u8], address: Option<u64>) -> Result<bool, AllocError>
         requires { slice_get (standings self.old.row.places.now) self.old.row.count
             ≡ Some (record { name = name.now; address = address }) }
         ensures value { IfOk result (λ added. added
             ≡ not (is_some address && is_some (found_in self.old name.entry.now))) }
-        ensures found { IfOk result (λ added. added ≡ true → (other : List ℕ) → found_in self.new other
-            ≡ option_or (found_in self.old other) (if bytes_eq name.entry.now other then address else None)) }
-        ensures count { IfOk result (λ added. added ≡ true → self.new.row.count ≡ self.old.row.count + 1) }
+        ensures found { IfOk result (λ added. added ≡ true →
+            (other : List ℕ) → found_in self.new other
+            ≡ option_or (found_in self.old other)
+            (if bytes_eq name.entry.now other then address else None)) }
+        ensures count { IfOk result (λ added. added ≡ true →
+            self.new.row.count ≡ self.old.row.count + 1) }
         ensures places { self.new.row.places.now ≡ self.old.row.places.now }
     {
         let Some(count) = self.row.count.checked_add(1) else {
@@ -102,18 +105,19 @@ impl<'p, 'm> Names<'p, 'm> {
         }
     }
 
-    // Gives the names that the next module defines their addresses. The names of its symbols differ, so what is
-    // defined before is so by another module.
+    // Gives the names that the next module defines their addresses. The names of its symbols differ,
+    // so what is defined before is so by another module.
     fn define_all(&mut self, located: &Located<'m>) -> Result<(), LinkFault>
         requires { take (length located.now.parts.symbols)
-            (drop self.old.row.count (standings self.old.row.places.now)) ≡ standings_in located.now }
+            (drop self.old.row.count (standings self.old.row.places.now))
+            ≡ standings_in located.now }
         ensures found { OnOk result ((name : List ℕ) →
             found_in self.new name
             ≡ option_or (found_in self.old name) (address_in name located.now)) }
         ensures single { OnOk result (again_in (found_in self.old) located.now ≡ None) }
         ensures refused { IfErr result (λ fault. fault ≢ faults.NoMemory →
-            option_map (faults.Duplicate located.now.number) (again_in (found_in self.old) located.now)
-            ≡ Some fault) }
+            option_map (faults.Duplicate located.now.number)
+            (again_in (found_in self.old) located.now) ≡ Some fault) }
         ensures count { OnOk result (self.new.row.count
             ≡ self.old.row.count + length located.now.parts.symbols) }
         ensures places { self.new.row.places.now ≡ self.old.row.places.now }
