@@ -1,6 +1,6 @@
 //! The names that modules define, with their addresses.
 
-ghost use Rattle.std.specs.Prelude.{◌≡◌, ◌≢◌, ◌&&◌, ◌+◌, take, drop, slice_get, length, ℕ, List, [], None, Some, OnOk, IfOk, IfErr, is_some, is_none, not, true, map, position, if◌then◌else◌};
+ghost use Rattle.std.specs.Prelude.{◌≡◌, ◌≢◌, ◌&&◌, ◌+◌, take, drop, slice_get, length, ℕ, List, [], None, Some, OnOk, OnErr, IfOk, IfErr, is_some, is_none, not, true, false, map, position, if◌then◌else◌};
 ghost use Rattle.std.specs.Option.{option_map, option_or};
 ghost use Rattle.std.specs.List.{list_all};
 ghost use Rattle.std.specs.Str.{bytes_eq};
@@ -183,8 +183,10 @@ impl<'p, 'm> Names<'p, 'm> {
         located: &'q Located<'m>,
     ) -> Result<Addresses<'q, 'm>, AllocError>
         requires { Knows (found_in self.now) located.now }
-        ensures { IfOk result (λ all. all
+        ensures value { IfOk result (λ all. all
             ≡ map (λ s. found_in self.now s.name) located.entry.now.parts.symbols) }
+        ensures memory { OnErr result
+            (list_all (λ s. is_defined s.section) located.entry.now.parts.symbols ≡ false) }
     {
         let module = located.module;
         if defines_all(&module.symbols) {

@@ -6,7 +6,7 @@ use Rattle.alpha_link.proofs.output.Output.join.Goals as goal
 pub returns-clause-joined : goal.returns-clause-joined
 returns-clause-joined c = λ ok.
     let none : c.put_all.result ≡ None = cc in
-    joins_one c.in_ok-addresses.addresses _ c.args.located.now c.args.self.now c.append.new.self c.put_all.new.self c.append.ensures.good c.in_ok-addresses.ensures c.requires.words c.requires.filled
+    joins_one c.in_ok-addresses.addresses _ c.args.located.now c.args.self.now c.append.new.self c.put_all.new.self c.append.ensures.good c.in_ok-addresses.ensures.value c.requires.words c.requires.filled
     c.in_ok-append.ensures.code c.in_ok-append.ensures.bytes c.in_ok-append.ensures.size (c.put_all.ensures.code none) (c.put_all.ensures.bytes none)
 
 pub returns-clause-insns : goal.returns-clause-insns
