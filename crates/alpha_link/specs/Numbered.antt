@@ -27,7 +27,7 @@ abbrev pub relocation_at : Section → Fix → ℕ → Option Relocation
 relocation_at side f number =
     option_map (λ kind. relocation_with kind (offset_in f.at f.name.need) f.name.reference.offset number) (kind_in side f.name.need)
 
--- whether a module has no numbers for a relocation: its offset doesn't fit 32 bits, or what is added is no addend
+-- no relocation can say so: its offset doesn't fit 32 bits, or what it adds is no addend
 abbrev pub IsTooGreat : Fix → Type 0
 IsTooGreat f = (2 ^ 32 ≤ offset_in f.at f.name.need) ⊎ (is_addend f.name.reference.offset ≡ false)
 
