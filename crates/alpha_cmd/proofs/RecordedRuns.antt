@@ -30,7 +30,7 @@ use Rattle.alpha_replay.proofs.Stopping.{few_words}
 use Rattle.alpha_cmd.specs.Outcome.{goes, stops}
 use Rattle.alpha_cmd.specs.Answer.{Answer}
 use Rattle.alpha_cmd.specs.AnswerBy.{World, AnswerBy}
-use Rattle.alpha_cmd.specs.Kept.{Kept, nothing}
+use Rattle.alpha_cmd.specs.Kept.{Kept}
 use Rattle.alpha_cmd.specs.Kept as kinds
 use Rattle.alpha_cmd.specs.Commands.Imprecise.{Plan, with_drawn, MayShowWild, answer_wild, Planned}
 use Rattle.alpha_cmd.specs.Commands.Record.{unwatched, HasItsJournal, KeepsBehind, IsKeptRun, steps}

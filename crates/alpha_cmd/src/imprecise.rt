@@ -25,7 +25,7 @@ use std::alloc::Global;
 
 /// What is asked of a run of the imprecise machine.
 #[derive(Clone, Copy)]
-pub(crate) struct Asked<'a> {
+pub(crate) struct ImpreciseCall<'a> {
     /// How it is run.
     pub(crate) options: RunOptions,
     /// Where the machine's choices come from.
@@ -56,7 +56,7 @@ pub(crate) struct Begun {
 /// runs it over the input.
 pub(crate) fn imprecise<H: Shelf, S: Source, K: Sink, N: Sink>(
     alloc: Global,
-    asked: Asked<'_>,
+    asked: ImpreciseCall<'_>,
     devices: &mut Devices<H, S, K, N>,
 ) -> Result<Decision, Failed>
     ensures { Does H.Shelf S.Source K.Sink N.Sink
@@ -73,7 +73,7 @@ pub(crate) fn imprecise<H: Shelf, S: Source, K: Sink, N: Sink>(
 /// makes the machine. So nothing is put and nothing taken before it has all of its memory.
 pub(crate) fn prepared<H: Shelf>(
     alloc: Global,
-    asked: &Asked<'_>,
+    asked: &ImpreciseCall<'_>,
     shelf: &mut H,
 ) -> Result<Begun, Stop>
     ensures stage { Stage

@@ -81,12 +81,12 @@ fn linked(alloc: Global, entry: &str, files: Vec<Vec<u8>>) -> Result<Vec<u8>, St
     ensures { Computes (Then (ModulesOf (map (λ file. file.items) files.items)) (Links entry.now))
         (λ bytes. bytes.items) result }
 {
-    let image = image_of(alloc, entry, files)?;
+    let image = linked_image(alloc, entry, files)?;
     spelled(alloc, &image)
 }
 
 // The image that the modules of files link to.
-fn image_of(alloc: Global, entry: &str, files: Vec<Vec<u8>>) -> Result<Image, Stop>
+fn linked_image(alloc: Global, entry: &str, files: Vec<Vec<u8>>) -> Result<Image, Stop>
     requires { length files.items ≤ 64 }
     ensures { Computes (Then (ModulesOf (map (λ file. file.items) files.items)) (Links entry.now))
         (λ image. images.spelling image) result }

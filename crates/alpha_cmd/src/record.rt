@@ -21,7 +21,7 @@ ghost use Rattle.alpha_cmd.specs.Kept.{Serves};
 use crate::Status;
 use crate::decision::Decision;
 use crate::devices::Devices;
-use crate::imprecise::{Asked, Begun, prepared};
+use crate::imprecise::{ImpreciseCall, Begun, prepared};
 use alpha_io::{Failed, Shelf, Sink, Source};
 use alpha_replay::{Journal, JournalEnd, journal_bytes, make_journal};
 use alpha_request::RunOptions;
@@ -40,7 +40,7 @@ enum Recorded {
 /// it over the input, and keeps the journal of the run under another name.
 pub(crate) fn record<H: Shelf, S: Source, K: Sink, N: Sink>(
     alloc: Global,
-    asked: Asked<'_>,
+    asked: ImpreciseCall<'_>,
     name: &str,
     devices: &mut Devices<H, S, K, N>,
 ) -> Result<Decision, Failed>

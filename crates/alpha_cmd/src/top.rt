@@ -33,7 +33,7 @@ ghost use Rattle.alpha_cmd.specs.Tries.{CountStays};
 use crate::Status;
 use crate::decision::Decision;
 use crate::devices::Devices;
-use crate::imprecise::{Asked, imprecise};
+use crate::imprecise::{ImpreciseCall, imprecise};
 use crate::link::link;
 use crate::making::make;
 use crate::of_image::of_image;
@@ -212,7 +212,7 @@ fn perform<H: Shelf, S: Source, K: Sink, N: Sink>(
             force,
             file,
         } => {
-            let asked = Asked {
+            let asked = ImpreciseCall {
                 options,
                 choices,
                 force,
@@ -227,7 +227,7 @@ fn perform<H: Shelf, S: Source, K: Sink, N: Sink>(
             file,
             out,
         } => {
-            let asked = Asked {
+            let asked = ImpreciseCall {
                 options,
                 choices,
                 force,

@@ -3,7 +3,7 @@ ghost use Rattle.std.specs.List.{flat_map};
 ghost use Rattle.alpha_io.specs.Sunk.{sunk, Puts, Partly, HasFailed};
 ghost use Rattle.alpha_image.specs.Parts.{pieces};
 ghost use Rattle.alpha_dis.specs.Taken.{Takes, Stops};
-ghost use Rattle.alpha_dis.specs.Listing.{ended, text, heading, code_line, byte_line, rows, piece_of, piece_lines, listing};
+ghost use Rattle.alpha_dis.specs.Listing.{text, heading, code_line, byte_line, rows, piece_of, piece_lines, listing};
 
 use crate::block::Block;
 use crate::lines::{push_bytes, push_count, push_heading, push_segment_start};

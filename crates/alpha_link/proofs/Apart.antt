@@ -9,10 +9,11 @@ use Rattle.std.specs.Cmp.Lexicographic.{slice_cmp, nat_list_cmp_total}
 use Rattle.std.proofs.lemmas.Bool.{and_parts}
 use Rattle.std.proofs.lemmas.List.{append-nil, length-append}
 use Rattle.std.proofs.lemmas.Option.{none-some, same_Some, slice_get_within, slice_get-get_or}
+use Rattle.alpha_token.specs.Bytes.{is_label}
 use Rattle.alpha_asm.specs.Layout.{first}
 use Rattle.alpha_asm.proofs.Growing.{option_or-none}
 use Rattle.alpha_link.specs.declared.header.Sizes.{Sizes}
-use Rattle.alpha_link.specs.Symbols.{Named, is_label_name, offset_fits, comes_behind, symbol_fits, IsSymbol}
+use Rattle.alpha_link.specs.Symbols.{Named, offset_fits, comes_behind, symbol_fits, IsSymbol}
 use Rattle.alpha_link.specs.Parts.{AreGood}
 use Rattle.alpha_link.specs.declared.symbol.SymbolSection.{SymbolSection}
 use Rattle.alpha_link.specs.declared.symbol.SymbolSection.TheVariants as sections
@@ -66,7 +67,7 @@ rises_next before s below k t last here at =
 behind_so : (z : Sizes) (before : List Named) (s : Named) → IsTrue (symbol_fits z before s) → comes_behind before s.name ≡ true
 unfolding symbol_fits
 behind_so z before s fits =
-    let label = is_label_name s.name in
+    let label = is_label s.name in
     let offset = offset_fits z s.section s.offset in
     let behind = comes_behind before s.name in
     (and_parts offset behind (and_parts label (offset && behind) (and_parts (nat_le (length s.name) 1024) (label && (offset && behind)) fits).1).1).1

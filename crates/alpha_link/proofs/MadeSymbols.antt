@@ -1,53 +1,23 @@
 -- The symbols of rising names are good, each behind those before it.
-use Rattle.std.proofs.Common.{◌≡◌, ℕ, ◌+◌, ◌-◌, ◌*◌, ◌%◌, ◌≤◌, Bool, true, false, not, ◌&&◌, ◌||◌, nat_le, List, [], ◌∷◌, ◌++◌, length, map, Option, None, Some, Bor, refl, sym, ap, subst, ◌∙◌, length-append, arith}
+use Rattle.std.proofs.Common.{◌≡◌, ℕ, ◌+◌, ◌-◌, ◌*◌, ◌%◌, ◌≤◌, Bool, true, false, ◌||◌, nat_le, List, [], ◌∷◌, ◌++◌, length, map, Option, None, Some, Bor, refl, sym, ap, subst, ◌∙◌, length-append, arith}
 use Rattle.std.specs.Prelude.{⊤, IfSome, slice_get, ◌==◌}
-use Rattle.std.specs.Char.{is_ascii_alphanumeric}
 use Rattle.std.specs.Option.{option_map_or}
-use Rattle.std.specs.List.{AllByRecursion, list_all, list_any}
+use Rattle.std.specs.List.{AllByRecursion, list_any}
 use Rattle.std.specs.Ordering.{nat_cmp, is_lt}
 use Rattle.std.specs.Cmp.Lexicographic.{slice_cmp}
 use Rattle.std.specs.Str.{bytes_eq}
 use Rattle.std.proofs.lemmas.Bool.Decides.{nat_tests}
 use Rattle.std.proofs.lemmas.Map.Keys.{sorted_head, sorted_tail}
 use Rattle.std.proofs.lemmas.Slice.Eq.{bytes_eq-Decides}
-use Rattle.alpha_text.specs.References as text
-use Rattle.alpha_text.specs.References.{IsWholeLabel, IsLabel}
+use Rattle.alpha_token.specs.Bytes.{is_label}
+use Rattle.alpha_text.specs.References.{IsLabel}
 use Rattle.alpha_asm.specs.declared.place.Spot.{Spot}
 use Rattle.alpha_asm.specs.declared.place.Spot.TheVariants as spots
 use Rattle.alpha_link.specs.declared.header.Sizes.{Sizes}
-use Rattle.alpha_link.specs.Symbols.{Named, goes_on_label, is_label_name, offset_fits, comes_behind, symbol_fits, IsSymbol}
+use Rattle.alpha_link.specs.Symbols.{Named, offset_fits, comes_behind, symbol_fits, IsSymbol}
 use Rattle.alpha_link.specs.Parts.{AreGood}
 use Rattle.alpha_link.specs.Made.{symbol_at_spot}
 use Rattle.alpha_link.specs.Rising.{Rise}
-
-both : (a b : Bool) → (a && b) ≡ true → (a ≡ true) × (b ≡ true)
-both true b h = (refl, h)
-both false b h = absurd cc
-
--- a label of a line is one of a module
-goes_on : (b : ℕ) → text.goes_on_label b ≡ true → goes_on_label b ≡ true
-goes_on b h = go (is_ascii_alphanumeric b) (b == 95) (b == 46) (b == 47) h
-  where
-    go : (a c d e : Bool) → ((a || (c || (d || e))) && not e) ≡ true → (a || (c || d)) ≡ true
-    go true c d e h = refl
-    go false true d e h = refl
-    go false false true e h = refl
-    go false false false true h = cc
-    go false false false false h = cc
-
-all_go_on : (s : List ℕ) → list_all text.goes_on_label s ≡ true → list_all goes_on_label s ≡ true
-all_go_on [] h = refl
-all_go_on (b ∷ s) h =
-    let (here, there) = both (text.goes_on_label b) (list_all text.goes_on_label s) h in
-    let one = goes_on b here in
-    rw one (all_go_on s there)
-
-label_name : (name : List ℕ) → IsWholeLabel name → is_label_name name ≡ true
-label_name [] h = cc
-label_name (b ∷ s) h =
-    let (first, whole) = both (text.begins_label (b ∷ s)) (list_all text.goes_on_label (b ∷ s)) h in
-    let (one, rest) = both (text.goes_on_label b) (list_all text.goes_on_label s) whole in
-    rw first (all_go_on s rest)
 
 pub last_append : {A : Type 0} (xs : List A) (x : A) → slice_get (xs ++ x ∷ []) (length (xs ++ x ∷ []) - 1) ≡ Some x
 last_append {A} xs x =
@@ -63,7 +33,7 @@ abbrev pub IsSpotIn : Sizes → Spot → Type 0
 IsSpotIn z (spots.Code words) = words ≤ z.words
 IsSpotIn z (spots.Data segment offset) = offset ≤ z.filled + z.zeroed
 
-fits_so : (z : Sizes) (before : List Named) (s : Named) → length s.name ≤ 1024 → is_label_name s.name ≡ true → offset_fits z s.section s.offset ≡ true → comes_behind before s.name ≡ true → symbol_fits z before s ≡ true
+fits_so : (z : Sizes) (before : List Named) (s : Named) → length s.name ≤ 1024 → is_label s.name ≡ true → offset_fits z s.section s.offset ≡ true → comes_behind before s.name ≡ true → symbol_fits z before s ≡ true
 unfolding symbol_fits
 fits_so z before s short label offset behind =
     let size : nat_le (length s.name) 1024 ≡ true = grind (arith, nat_tests) in
@@ -72,15 +42,15 @@ fits_so z before s short label offset behind =
 symbol_good : (z : Sizes) (before : List Named) (name : List ℕ) (o : Option Spot) → z.words ≤ 262144 → z.filled + z.zeroed ≤ 16777216 → IsLabel 1024 name → IfSome o (IsSpotIn z) → comes_behind before name ≡ true
     → IsSymbol z before (symbol_at_spot name o)
 symbol_good z before name None few small (whole, short) at behind =
-    record { fits = fits_so z before (symbol_at_spot name None) short (label_name name whole) refl behind; offset = omega arith }
+    record { fits = fits_so z before (symbol_at_spot name None) short whole refl behind; offset = omega arith }
 symbol_good z before name (Some (spots.Code words)) few small (whole, short) at behind =
     let aligned : 4 * words % 4 ≡ 0 = omega arith in
     let test : (4 * words % 4 == 0) ≡ true = rw aligned refl in
     let low : nat_le (4 * words) (4 * z.words) ≡ true = grind (arith, nat_tests) in
-    record { fits = fits_so z before (symbol_at_spot name (Some (spots.Code words))) short (label_name name whole) (rw (test, low) refl) behind; offset = omega arith }
+    record { fits = fits_so z before (symbol_at_spot name (Some (spots.Code words))) short whole (rw (test, low) refl) behind; offset = omega arith }
 symbol_good z before name (Some (spots.Data segment offset)) few small (whole, short) at behind =
     let low : nat_le offset (z.filled + z.zeroed) ≡ true = grind (arith, nat_tests) in
-    record { fits = fits_so z before (symbol_at_spot name (Some (spots.Data segment offset))) short (label_name name whole) low behind; offset = omega arith }
+    record { fits = fits_so z before (symbol_at_spot name (Some (spots.Data segment offset))) short whole low behind; offset = omega arith }
 
 name_so : (name : List ℕ) (o : Option Spot) → (symbol_at_spot name o).name ≡ name
 name_so name None = refl

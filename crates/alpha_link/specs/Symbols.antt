@@ -1,11 +1,10 @@
 -- Symbols: how they are read and spelled, and which are good.
-use Rattle.std.specs.Prelude.{◌<◌, ◌^◌, ◌+◌, ◌*◌, ◌-◌, ◌%◌, ℕ, zero, suc, Bool, true, false, IsTrue, ◌&&◌, ◌||◌, ◌==◌, nat_lt, nat_le, List, [], ◌∷◌, ◌++◌, length, drop, slice_get, slice_index, Option, None, Some, Ok, Err, if◌then◌else◌}
-use Rattle.std.specs.List.{list_all}
+use Rattle.std.specs.Prelude.{◌<◌, ◌^◌, ◌+◌, ◌*◌, ◌-◌, ◌%◌, ℕ, zero, suc, Bool, true, IsTrue, ◌&&◌, ◌==◌, nat_lt, nat_le, List, ◌∷◌, ◌++◌, length, drop, slice_get, slice_index, Option, None, Some, Ok, Err, if◌then◌else◌}
 use Rattle.std.specs.Option.{option_map, option_map_or}
-use Rattle.std.specs.Char.{is_ascii_alphabetic, is_ascii_alphanumeric}
 use Rattle.std.specs.Ordering.{nat_cmp}
 use Rattle.std.specs.Cmp.Lexicographic.{slice_cmp}
 use Rattle.std.specs.Ordering.{is_lt}
+use Rattle.alpha_token.specs.Bytes.{is_label}
 use Rattle.alpha_image.specs.Layout.{longword}
 use Rattle.alpha_image.specs.Reading.{longword_at}
 use Rattle.alpha_link.specs.declared.fault.ModuleFault.TheVariants.{Cut, Symbol}
@@ -37,18 +36,6 @@ section_number Code = 0
 section_number Data = 1
 section_number Undefined = 2
 
--- a letter or `_`
-abbrev pub begins_label : ℕ → Bool
-begins_label b = is_ascii_alphabetic b || b == 95
-
--- a letter, a digit, `_` or `.`
-abbrev pub goes_on_label : ℕ → Bool
-goes_on_label b = is_ascii_alphanumeric b || (b == 95 || b == 46)
-
-abbrev pub is_label_name : List ℕ → Bool
-is_label_name [] = false
-is_label_name (b ∷ bytes) = begins_label b && list_all goes_on_label bytes
-
 -- A symbol of the code names a word or the end of the code, one of the data a byte of its data or zeroed bytes or
 -- their end. An undefined one has offset 0.
 abbrev pub offset_fits : Sizes → SymbolSection → ℕ → Bool
@@ -63,7 +50,7 @@ comes_behind before name =
 
 unfoldable pub symbol_fits : Sizes → List Named → Named → Bool
 symbol_fits z before s =
-    nat_le (length s.name) 1024 && (is_label_name s.name && (offset_fits z s.section s.offset && comes_behind before s.name))
+    nat_le (length s.name) 1024 && (is_label s.name && (offset_fits z s.section s.offset && comes_behind before s.name))
 
 -- what stands before a name
 abbrev pub front_at : ℕ → List ℕ → Read Front

@@ -114,7 +114,7 @@ fn joined<'m>(
 }
 
 // The image of instructions and data bytes.
-fn image_of(fields: &LevelFields, segment: Segment, output: Output) -> Image
+fn image_with(fields: &LevelFields, segment: Segment, output: Output) -> Image
     requires fields { FieldsFit (level_numbers fields.now (length output.code.items)
         (segment ∷ [])) }
     requires level { fields.now.level ≡ 1 }
@@ -160,7 +160,7 @@ fn linked_at<'m>(
         return Err(LinkFault::ImageField(field));
     }
     let output = joined(alloc, names, places, totals)?;
-    Ok(image_of(&fields, segment, output))
+    Ok(image_with(&fields, segment, output))
 }
 
 /// The image that modules link to, 64 modules at most. Its entry is the address of a name. Memory taken

@@ -1,8 +1,7 @@
 //! Symbols: the labels of a module, by name.
 
 ghost use Rattle.std.specs.Prelude.{◌≡◌};
-ghost use Rattle.std.specs.List.{list_all};
-ghost use Rattle.alpha_link.specs.Symbols.{begins_label, goes_on_label, is_label_name, section_of, section_number};
+ghost use Rattle.alpha_link.specs.Symbols.{section_of, section_number};
 
 /// Where a symbol stands.
 #[derive(Clone, Copy, Debug, PartialEq, Eq)]
@@ -60,32 +59,4 @@ pub(crate) struct Front {
     pub size: u16,
     /// How many bytes of the section stand before it.
     pub offset: u32,
-}
-
-fn begins_label(byte: u8) -> bool
-    ensures { result ≡ begins_label byte }
-{
-    byte.is_ascii_alphabetic() || byte == b'_'
-}
-
-fn goes_on_label(byte: u8) -> bool
-    ensures { result ≡ goes_on_label byte }
-{
-    byte.is_ascii_alphanumeric() || byte == b'_' || byte == b'.'
-}
-
-fn goes_on_label_to_end(bytes: &[u8]) -> bool
-    ensures { result ≡ list_all goes_on_label bytes.now }
-{
-    bytes.iter().all(|b| goes_on_label(*b))
-}
-
-/// Whether bytes are a whole label: a letter or `_`, and then letters, digits, `_` and `.`.
-pub(crate) fn is_label_name(name: &[u8]) -> bool
-    ensures { result ≡ is_label_name name.now }
-{
-    match name {
-        [] => false,
-        [first, others @ ..] => begins_label(*first) && goes_on_label_to_end(others),
-    }
 }

@@ -1,6 +1,6 @@
 //! The symbols of a module, read and written.
 
-ghost use Rattle.std.specs.Prelude.{◌≡◌, ◌≢◌, ◌≤◌, ◌<◌, ◌^◌, ◌++◌, ◌∷◌, [], length, map, All, OnOk, IfErr};
+ghost use Rattle.std.specs.Prelude.{◌≡◌, ◌≢◌, ◌≤◌, ◌<◌, ◌^◌, ◌++◌, [], length, All, OnOk, IfErr};
 ghost use Rattle.std.specs.List.{flat_map};
 ghost use Rattle.alpha_link.specs.declared.fault.ModuleFault.TheVariants as faults;
 ghost use Rattle.alpha_link.specs.Reading.{Gives, items_at};
@@ -11,9 +11,10 @@ use crate::ModuleFault;
 use crate::header::Sizes;
 use crate::number::{halfword_at, push_halfword};
 use crate::read::taken;
-use crate::symbol::{Front, Symbol, SymbolSection, is_label_name};
+use crate::symbol::{Front, Symbol, SymbolSection};
 use crate::symbol_list::{FRONT_BYTES, ReadSymbols, SymbolList};
 use alpha_image::{longword_at, push_longword};
+use alpha_token::is_label;
 use std::alloc::{AllocError, Global};
 
 /// The most bytes of a symbol's name.
@@ -73,7 +74,7 @@ pub(crate) fn symbol_fits(
         (record { section = section; offset = offset; name = name.now }) }
 {
     name.len() <= LONGEST_NAME
-        && is_label_name(name)
+        && is_label(name)
         && offset_fits(sizes, section, offset)
         && comes_behind(before, name)
 }

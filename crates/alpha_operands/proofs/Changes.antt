@@ -1,5 +1,6 @@
 -- What the value of a token changes among the operands.
 use Rattle.std.proofs.Common.{◌≡◌, ◌⊎◌, Bool, true, false, cond, Option, Some, None, Result, Ok, Err, length, refl, sym, inl, inr}
+use Rattle.alpha_token.specs.Bytes.{is_label}
 use Rattle.alpha_token.specs.Numeral.{number_value}
 use Rattle.alpha_token.specs.Tokens.{Lexeme}
 use Rattle.alpha_operands.specs.declared.piece.Piece.{Piece}
@@ -9,7 +10,7 @@ use Rattle.alpha_operands.specs.declared.operands.LineFaultKind.{LineFaultKind}
 use Rattle.alpha_operands.specs.declared.operands.LineFaultKind.TheVariants.{UnknownName, BadOperands, OutOfRange}
 use Rattle.alpha_operands.specs.Names.{register_of, operator_of}
 use Rattle.alpha_operands.specs.Ranges.{number_of, offset_of}
-use Rattle.alpha_operands.specs.Operands.{Slots, is_label, between_quotes, with_value, filled}
+use Rattle.alpha_operands.specs.Operands.{Slots, between_quotes, with_value, filled}
 
 pub a_value : {A : Type 0} (x : Option A) (kind : LineFaultKind) (f : A → Slots) (r : Slots) → with_value x kind f ≡ Ok r → (v : A) × (x ≡ Some v) × (f v ≡ r)
 a_value None kind f r h = cc

@@ -1,6 +1,7 @@
 -- The fault that is read is the first of all that the tokens have.
 use Rattle.std.proofs.Common.{◌≡◌, ◌⊎◌, ℕ, ◌≤◌, ◌<◌, List, [], Bool, true, false, cond, Option, Some, None, Result, Ok, Err, length, refl, sym, ◌∙◌, ap, inl, inr, arith}
 use Rattle.std.specs.Option.{is_some}
+use Rattle.alpha_token.specs.Bytes.{is_label}
 use Rattle.alpha_token.specs.Numeral.{number_value}
 use Rattle.alpha_token.specs.Tokens.{Lexeme, Tokens, End, Bad, Next, left_of}
 use Rattle.alpha_operands.specs.declared.piece.Piece.{Piece}
@@ -14,7 +15,7 @@ use Rattle.alpha_operands.specs.Names.{register_of, operator_of}
 use Rattle.alpha_operands.specs.Ranges.{number_of, offset_of}
 use Rattle.alpha_operands.specs.Pieces.{kind_of}
 use Rattle.alpha_operands.specs.Shapes.{Pattern}
-use Rattle.alpha_operands.specs.Operands.{Slots, nothing, is_label, with_value, filled}
+use Rattle.alpha_operands.specs.Operands.{Slots, nothing, with_value, filled}
 use Rattle.alpha_operands.specs.Walk.{is_whole, piece_behind, front_after, sign_after, is_unknown, stuck_at, fault, go_on, taken, follow}
 use Rattle.alpha_operands.specs.Grammar.{GoesOn, AreOperands, AmongTokens, HasFault, fault_at, kind_order, NoLater}
 use Rattle.alpha_token.proofs.Order.{Falls}

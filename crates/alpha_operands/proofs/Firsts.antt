@@ -1,6 +1,7 @@
 -- The first value of a list, where it is a number or a label and nothing else stands before its comma.
 use Rattle.std.proofs.Common.{◌≡◌, ℕ, pos, List, [], ◌∷◌, true, Option, None, Some, length, refl, inl, inr, arith}
 use Rattle.std.specs.Option.{option_and_then}
+use Rattle.alpha_token.specs.Bytes.{is_label}
 use Rattle.alpha_token.specs.Numeral.{number_value}
 use Rattle.alpha_token.specs.declared.token.TokenKind.TheVariants as kinds
 use Rattle.alpha_token.specs.Tokens.{Lexeme, Next, token_at, tokens}
@@ -12,7 +13,7 @@ use Rattle.alpha_operands.specs.declared.shape.Shape.{Shape}
 use Rattle.alpha_operands.specs.declared.shape.Shape.TheVariants as shapes
 use Rattle.alpha_operands.specs.Ranges.{number_of}
 use Rattle.alpha_operands.specs.Shapes.{patterns}
-use Rattle.alpha_operands.specs.Operands.{is_label, filled}
+use Rattle.alpha_operands.specs.Operands.{filled}
 use Rattle.alpha_operands.specs.Values.{number, label, list_shape, first_value, next_of, number_piece, HasNumber, HasLabel, IsPast}
 
 pub token-comma : (s : List ℕ) → tokens (44 ∷ s) ≡ Next (record { kind = kinds.Comma; text = 44 ∷ []; rest = s }) (tokens s)

@@ -1,6 +1,7 @@
 -- What was read as a list of values is read to its end, a value after the other.
 use Rattle.std.proofs.Common.{◌≡◌, ◌≤◌, ℕ, ℤ, List, [], ◌∷◌, ◌++◌, Bool, true, false, cond, ◌||◌, Option, Some, None, Ok, Err, length, refl, sym, ◌∙◌, ap, subst, arith}
 use Rattle.std.specs.Option.{option_and_then}
+use Rattle.alpha_token.specs.Bytes.{is_label}
 use Rattle.alpha_token.specs.Numeral.{number_value}
 use Rattle.alpha_token.specs.Tokens.{Lexeme, Tokens, End, Bad, Next, left_of, tokens}
 use Rattle.alpha_token.proofs.Reading.{tokens-empty}
@@ -18,7 +19,7 @@ use Rattle.alpha_operands.specs.declared.operands.LineFaultKind.TheVariants.{Unk
 use Rattle.alpha_operands.specs.Names.{register_of, operator_of}
 use Rattle.alpha_operands.specs.Ranges.{number_of, offset_of}
 use Rattle.alpha_operands.specs.Shapes.{Pattern, patterns}
-use Rattle.alpha_operands.specs.Operands.{Slots, nothing, is_label, with_value, filled}
+use Rattle.alpha_operands.specs.Operands.{Slots, nothing, with_value, filled}
 use Rattle.alpha_operands.specs.Walk.{is_whole, piece_behind, front_after, sign_after, follow, operands}
 use Rattle.alpha_operands.specs.Values.{Listed, number, label, list_shape, then_on, up_to_comma, first_operands, value_in, value_of, first_value, next_of, AreValuesOf, IsWholeList, IsReadAsList}
 use Rattle.alpha_operands.proofs.Changes.{a_value, a_label, a_given, filled-changes}

@@ -3,6 +3,7 @@ use Rattle.std.proofs.Common.{◌≡◌, ◌⊎◌, ℕ, ℤ, ◌-◌, ◌^◌, 
 use Prim.Native.Nat.{zero, suc}
 use Rattle.std.specs.Option.{option_map}
 use Rattle.std.proofs.lemmas.Bool.Decides.{nat_tests}
+use Rattle.alpha_token.specs.Bytes.{is_label}
 use Rattle.alpha_token.specs.Numeral.{number_value}
 use Rattle.alpha_token.specs.Tokens.{Lexeme, Tokens, End, Bad, Next, tokens}
 use Rattle.alpha_token.proofs.Strings.{mapped}
@@ -20,7 +21,7 @@ use Rattle.alpha_operands.specs.declared.operands.LineFaultKind.TheVariants.{Out
 use Rattle.alpha_operands.specs.declared.values.ListValue.{ListValue}
 use Rattle.alpha_operands.specs.Ranges.{number_of, offset_of, in_range, modulo}
 use Rattle.alpha_operands.specs.Shapes.{Pattern, patterns}
-use Rattle.alpha_operands.specs.Operands.{Slots, nothing, is_label, filled}
+use Rattle.alpha_operands.specs.Operands.{Slots, nothing, filled}
 use Rattle.alpha_operands.specs.Walk.{is_whole, piece_behind, front_after, sign_after}
 use Rattle.alpha_operands.specs.Values.{Listed, number, label, view, list_shape, ended, then_on, up_to_comma, first_operands, value_in, value_of, first_value, next_of, IsOfSize}
 use Rattle.alpha_operands.proofs.Changes.{a_value, a_label, a_given}

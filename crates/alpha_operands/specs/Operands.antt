@@ -1,7 +1,7 @@
 -- The operands of a statement, filled in token by token.
-use Rattle.std.specs.Prelude.{◌≡◌, ℕ, ℤ, pos, List, Bool, not, ◌&&◌, ◌==◌, ◌-◌, Option, None, Some, Result, Ok, Err, length, slice_index, take, drop, if◌then◌else◌}
-use Rattle.std.specs.List.{list_all}
+use Rattle.std.specs.Prelude.{◌≡◌, ℕ, ℤ, pos, List, ◌-◌, Option, None, Some, Result, Ok, Err, length, take, drop, if◌then◌else◌}
 use Rattle.std.specs.Option.{option_map}
+use Rattle.alpha_token.specs.Bytes.{is_label}
 use Rattle.alpha_token.specs.Numeral.{number_value}
 use Rattle.alpha_token.specs.Tokens.{Lexeme}
 use Rattle.alpha_operands.specs.declared.names.Half.{Half}
@@ -48,10 +48,6 @@ Gives view (Err e) given = given ≡ Err e
 -- no operands yet
 abbrev pub nothing : Slots
 nothing = record { ra = None; rb = None; rc = None; number = None; half = None; label = None; offset = pos 0; text = None; left = 0 }
-
--- a name is that of a label: it doesn't begin with `.`, and has no `/`
-abbrev pub is_label : List ℕ → Bool
-is_label name = not (slice_index name 0 == 46) && list_all (λ b. not (b == 47)) name
 
 -- what stands between the quotes of a string
 abbrev pub between_quotes : List ℕ → List ℕ

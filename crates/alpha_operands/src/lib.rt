@@ -27,7 +27,7 @@ mod walk;
 pub use laws::{laws_of_lists, laws_of_operands};
 pub use names::{Half, operator, register};
 pub use number::{Number, Sign, number_at};
-pub use operands::{LineFaultKind, Operands, is_label, offset_at};
+pub use operands::{LineFaultKind, Operands, offset_at};
 pub use piece::Piece;
 pub use shape::Shape;
 pub use values::{Expr, ListValue, next_value};

@@ -1,13 +1,12 @@
-ghost use Rattle.std.specs.Prelude.{◌≡◌, ◌==◌, not, Ok, Err, OnOk, IfErr};
-ghost use Rattle.std.specs.List.{list_all};
+ghost use Rattle.std.specs.Prelude.{◌≡◌, Ok, Err, OnOk, IfErr};
 ghost use Rattle.alpha_token.specs.Numeral.{number_value};
 ghost use Rattle.alpha_token.specs.Tokens.{lexeme};
 ghost use Rattle.alpha_operands.specs.Ranges.{number_of, offset_of};
-ghost use Rattle.alpha_operands.specs.Operands.{slots, is_label, between_quotes, filled};
+ghost use Rattle.alpha_operands.specs.Operands.{slots, between_quotes, filled};
 
 use crate::number::number_at;
 use crate::{Half, Number, Piece, Sign, operator, register};
-use alpha_token::{Token, number};
+use alpha_token::{Token, is_label, number};
 use alpha_words::Reg;
 
 /// What is wrong with a line, in the order in which it is answered at one column.
@@ -83,20 +82,6 @@ fn offset_of(sign: Sign, text: &[u8]) -> Option<i64>
     ensures { result ≡ offset_of sign (number_value text.now) }
 {
     offset_at(sign, number(text)?)
-}
-
-// Whether a name has no `/`.
-fn has_no_slash(name: &[u8]) -> bool
-    ensures { result ≡ list_all (λ b. not (b == 47)) name.now }
-{
-    name.iter().all(|b| *b != b'/')
-}
-
-/// Whether a name, the text of a token of that kind, is that of a label: it doesn't begin with `.`, and has no `/`.
-pub fn is_label(name: &[u8]) -> bool
-    ensures { result ≡ is_label name.now }
-{
-    name.first() != Some(&b'.') && has_no_slash(name)
 }
 
 // What stands between the quotes of a string.

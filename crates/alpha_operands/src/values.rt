@@ -10,8 +10,8 @@ ghost use Rattle.alpha_operands.specs.Values.{view, list_shape, first_operands, 
 
 use crate::operands::{NOTHING, fill, number_of};
 use crate::walk::{Reached, sign_after};
-use crate::{Number, Operands, Piece, Shape, Sign, is_label};
-use alpha_token::{Step, Token, TokenKind, next};
+use crate::{Number, Operands, Piece, Shape, Sign};
+use alpha_token::{Step, Token, TokenKind, is_label, next};
 
 /// A label with an offset, 0 where none stands behind it.
 #[derive(Clone, Copy, Debug)]

@@ -11,12 +11,12 @@ use Rattle.alpha_pal.specs.declared.fault.Fault.{Fault}
 use Rattle.alpha_pal.specs.declared.fault.Fault.TheVariants.{Input, Output, Notes}
 use Rattle.alpha_pal.specs.declared.pal_end.PalEnd.{PalEnd}
 use Rattle.alpha_pal.specs.declared.pal_end.Passed.TheVariants.{Nothing}
-use Rattle.alpha_pal.specs.declared.serve.Request.{Request}
+use Rattle.alpha_pal.specs.declared.serve.SystemCall.{SystemCall}
 use Rattle.alpha_pal.specs.declared.serve.Answer.{Answer}
 use Rattle.alpha_pal.specs.declared.serve.Answer.TheVariants.{Read, Wrote, Error, Exit}
 use Rattle.alpha_pal.specs.Kernel.{KernelState, entered, entry_regs}
 use Rattle.alpha_pal.specs.Call.{Outside, outside, goes, signals, call}
-use Rattle.alpha_pal.specs.Serve.{request_of, after_serve}
+use Rattle.alpha_pal.specs.Serve.{system_call_of, after_serve}
 use Rattle.alpha_pal.specs.CallEffect.{ServeEffect, CallEffect, GoesOn, InputCause, SinkCause, seen, end_of, regs_after}
 use Rattle.alpha_pal.proofs.Serving.{rest_of, Takes-nothing}
 use Rattle.alpha_pal.proofs.Callsys.{callsys-does}
@@ -101,8 +101,8 @@ same_seen regs regs' mem mem' unique left left' written written' e0 e1 e2 e3 = s
 
 served_effect : (served : Result Answer Fault) (regs regs' : List ℕ) (mem mem' : List Block) (unique : ℕ)
     (left left' written written' : Option (List ℕ))
-    → ServeEffect (request_of regs) served mem mem' left left' written written' → regs' ≡ regs_after served regs
-    → CallEffect Callsys (end_of (request_of regs) served) (seen regs mem unique left written)
+    → ServeEffect (system_call_of regs) served mem mem' left left' written written' → regs' ≡ regs_after served regs
+    → CallEffect Callsys (end_of (system_call_of regs) served) (seen regs mem unique left written)
     (seen regs' mem' unique left' written')
 served_effect (Ok (Read n)) regs regs' mem mem' unique left left' written written' h set = record {
   taken = h.taken;
@@ -149,11 +149,11 @@ served_effect (Err Output) regs regs' mem mem' unique left left' written written
 served_effect (Err Notes) regs regs' mem mem' unique left left' written written' h set = absurd h
 
 -- a system call between its entry and its return
-pub callsys_effect : (request : Request) (served : Result Answer Fault) (end : Result PalEnd Fault) (k : KernelState)
+pub callsys_effect : (request : SystemCall) (served : Result Answer Fault) (end : Result PalEnd Fault) (k : KernelState)
     (f : Frame) (regs entry answer now : List ℕ) (mem mem' : List Block) (unique : ℕ)
     (left left' written written' : Option (List ℕ))
     → length regs ≡ 32
-    → request ≡ request_of regs
+    → request ≡ system_call_of regs
     → k ≡ entered f regs
     → f.gp ≡ reg regs 29
     → entry ≡ entry_regs regs
@@ -168,14 +168,14 @@ callsys_effect request served end k f regs entry answer now mem mem' unique left
     ∙ (ap (λ x. put (put answer 29 x) 30 k.user_stack) (ap (λ (s : KernelState). s.frame.gp) state ∙ gp)
     ∙ (ap (λ x. put (put answer 29 (reg regs 29)) 30 x) (ap (λ (s : KernelState). s.user_stack) state)
     ∙ ap (λ l. put (put l 29 (reg regs 29)) 30 (reg regs 30)) (answer_is ∙ ap (regs_after served) entry_is))) in
-    let effect = subst (λ (r : Request). ServeEffect r served mem mem' left left' written written') asked h in
+    let effect = subst (λ (r : SystemCall). ServeEffect r served mem mem' left left' written written') asked h in
     subst (λ (e : Result PalEnd Fault). CallEffect Callsys e (seen regs mem unique left written)
-    (seen now mem' unique left' written')) (sym (end_is ∙ ap (λ (r : Request). end_of r served) asked))
+    (seen now mem' unique left' written')) (sym (end_is ∙ ap (λ (r : SystemCall). end_of r served) asked))
     (served_effect served regs now mem mem' unique left left' written written' effect
     (set ∙ restored served regs sized))
 
 -- the causes of a system call's result are those of its end
-pub input_cause : (request : Request) (served : Result Answer Fault) (end : Result PalEnd Fault) (before now : ℕ)
+pub input_cause : (request : SystemCall) (served : Result Answer Fault) (end : Result PalEnd Fault) (before now : ℕ)
     → end ≡ end_of request served → InputCause served before now → InputCause end before now
 input_cause request served end before now is h =
     subst (λ (e : Result PalEnd Fault). InputCause e before now) (sym is) (by served h)
@@ -187,7 +187,7 @@ input_cause request served end before now is h =
     by (Ok (Exit v)) h = h
     by (Err fault) h = h
 
-pub sink_cause : (request : Request) (served : Result Answer Fault) (end : Result PalEnd Fault) (before now : ℕ)
+pub sink_cause : (request : SystemCall) (served : Result Answer Fault) (end : Result PalEnd Fault) (before now : ℕ)
     → end ≡ end_of request served → SinkCause served before now → SinkCause end before now
 sink_cause request served end before now is h =
     subst (λ (e : Result PalEnd Fault). SinkCause e before now) (sym is) (by served h)

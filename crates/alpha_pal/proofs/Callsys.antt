@@ -6,7 +6,7 @@ use Rattle.alpha_mem.specs.Intent.{Load, Store}
 use Rattle.alpha_mem.specs.Block.{Block, shapes, within}
 use Rattle.alpha_mem.specs.Memory.{bytes_at, write_bytes}
 use Rattle.alpha_pal.specs.Call.{Outside, outside, Called, exits, answers, callsys, call}
-use Rattle.alpha_pal.specs.Serve.{Served, serve, request_of, after_serve}
+use Rattle.alpha_pal.specs.Serve.{Served, serve, system_call_of, after_serve}
 
 either : (P : Called → Type 0) (b : Bool) (x y : Called) → P x → P y → P (cond b x y)
 either P true x y p q = p
@@ -32,7 +32,7 @@ both : (regs : List ℕ) (b : Bool) (x y : Called) (s t : Served) → x ≡ afte
 both regs true x y s t p q = p
 both regs false x y s t p q = q
 
-pub callsys-does : (regs : List ℕ) (mem : List Block) (o : Outside) → call Callsys regs mem o ≡ after_serve regs (serve (request_of regs) mem o)
+pub callsys-does : (regs : List ℕ) (mem : List Block) (o : Outside) → call Callsys regs mem o ≡ after_serve regs (serve (system_call_of regs) mem o)
 unfolding call serve
 callsys-does regs mem o =
     both regs (eqb (reg regs 0) 1) _ _ _ _ refl

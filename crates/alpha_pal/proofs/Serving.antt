@@ -7,7 +7,7 @@ use Rattle.std.proofs.KnownBytes.{Appends-nil}
 use Rattle.alpha_mem.specs.Intent.{Load, Store}
 use Rattle.alpha_mem.specs.Block.{Block, shapes, within}
 use Rattle.alpha_mem.specs.Memory.{bytes_at, write_bytes, IsLayout}
-use Rattle.alpha_pal.specs.declared.serve.Request.{Request}
+use Rattle.alpha_pal.specs.declared.serve.SystemCall.{SystemCall}
 use Rattle.alpha_pal.specs.declared.serve.Answer.{Answer}
 use Rattle.alpha_pal.specs.declared.serve.Answer.TheVariants.{Read, Wrote, Error, Exit}
 use Rattle.alpha_pal.specs.Taken.{HasTaken, TakesLess, NothingLeft}
@@ -44,25 +44,25 @@ rest_of-ended (Some xs) (Some ys) h = h
 
 -- ---- which call it is
 
-serve-exit : (r : Request) (mem : List Block) (o : Outside) → r.number ≡ 1 → serve r mem o ≡ served (Exit r.a0) mem o
+serve-exit : (r : SystemCall) (mem : List Block) (o : Outside) → r.number ≡ 1 → serve r mem o ≡ served (Exit r.a0) mem o
 unfolding serve
 serve-exit r mem o e = rw e refl
 
-serves-read : (r : Request) (mem : List Block) (o : Outside) → r.number ≡ 3 → serve r mem o ≡ serve_read r mem o
+serves-read : (r : SystemCall) (mem : List Block) (o : Outside) → r.number ≡ 3 → serve r mem o ≡ serve_read r mem o
 unfolding serve
 serves-read r mem o e = rw e refl
 
-serves-write : (r : Request) (mem : List Block) (o : Outside) → r.number ≡ 4 → serve r mem o ≡ serve_write r mem o
+serves-write : (r : SystemCall) (mem : List Block) (o : Outside) → r.number ≡ 4 → serve r mem o ≡ serve_write r mem o
 unfolding serve
 serves-write r mem o e = rw e refl
 
-serve-none : (r : Request) (mem : List Block) (o : Outside) → r.number ≢ 1 → r.number ≢ 3 → r.number ≢ 4 → serve r mem o ≡ served (Error 78) mem o
+serve-none : (r : SystemCall) (mem : List Block) (o : Outside) → r.number ≢ 1 → r.number ≢ 3 → r.number ≢ 4 → serve r mem o ≡ served (Error 78) mem o
 unfolding serve
 serve-none r mem o n1 n3 n4 = rw (ne_eqb r.number 1 n1, ne_eqb r.number 3 n3, ne_eqb r.number 4 n4) refl
 
 -- ---- answers that change nothing
 
-Serves-same : (r : Request) (answer : Answer) (mem : List Block) (left written : Option (List ℕ))
+Serves-same : (r : SystemCall) (answer : Answer) (mem : List Block) (left written : Option (List ℕ))
     → IsPassed (passed_by r answer) mem [] [] → ((o : Outside) → serve r mem o ≡ served answer mem o)
     → Serves r answer mem mem left left written written
 Serves-same r answer mem left written passes same = record {
@@ -77,32 +77,32 @@ Serves-same r answer mem left written passes same = record {
   passes = passes;
 }
 
-pub Serves-exit : (r : Request) (mem : List Block) → r.number ≡ 1 → (o : Outside) → serve r mem o ≡ served (Exit r.a0) mem o
+pub Serves-exit : (r : SystemCall) (mem : List Block) → r.number ≡ 1 → (o : Outside) → serve r mem o ≡ served (Exit r.a0) mem o
 Serves-exit r mem e o = serve-exit r mem o e
 
-pub Serves-none : (r : Request) (mem : List Block) (left written : Option (List ℕ)) → r.number ≢ 1 → r.number ≢ 3 → r.number ≢ 4 → Serves r (Error 78) mem mem left left written written
+pub Serves-none : (r : SystemCall) (mem : List Block) (left written : Option (List ℕ)) → r.number ≢ 1 → r.number ≢ 3 → r.number ≢ 4 → Serves r (Error 78) mem mem left left written written
 Serves-none r mem left written n1 n3 n4 =
     Serves-same r (Error 78) mem left written (refl, refl) (λ o. serve-none r mem o n1 n3 n4)
 
 -- ---- read
 
-read-descriptor : (r : Request) (mem : List Block) (o : Outside) → r.a0 ≢ 0 → serve_read r mem o ≡ served (Error 9) mem o
+read-descriptor : (r : SystemCall) (mem : List Block) (o : Outside) → r.a0 ≢ 0 → serve_read r mem o ≡ served (Error 9) mem o
 read-descriptor r mem o bad = rw (ne_eqb r.a0 0 bad) refl
 
-read-range : (r : Request) (mem : List Block) (o : Outside) → r.a0 ≡ 0 → within (shapes mem) Store r.a1 r.a2 ≡ false → serve_read r mem o ≡ served (Error 14) mem o
+read-range : (r : SystemCall) (mem : List Block) (o : Outside) → r.a0 ≡ 0 → within (shapes mem) Store r.a1 r.a2 ≡ false → serve_read r mem o ≡ served (Error 14) mem o
 read-range r mem o good bad = rw (good, bad) refl
 
-read-good : (r : Request) (mem : List Block) (o : Outside) → r.a0 ≡ 0 → within (shapes mem) Store r.a1 r.a2 ≡ true
+read-good : (r : SystemCall) (mem : List Block) (o : Outside) → r.a0 ≡ 0 → within (shapes mem) Store r.a1 r.a2 ≡ true
     → serve_read r mem o ≡ served (Read (length (take r.a2 o.input))) (write_bytes mem r.a1 (take r.a2 o.input))
     (outside o.unique (drop r.a2 o.input) o.output)
 read-good r mem o good range = rw (good, range) refl
 
-pub read_bad_descriptor : (r : Request) (mem : List Block) (left written : Option (List ℕ)) → r.number ≡ 3 → r.a0 ≢ 0 → Serves r (Error 9) mem mem left left written written
+pub read_bad_descriptor : (r : SystemCall) (mem : List Block) (left written : Option (List ℕ)) → r.number ≡ 3 → r.a0 ≢ 0 → Serves r (Error 9) mem mem left left written written
 read_bad_descriptor r mem left written number bad =
     Serves-same r (Error 9) mem left written (refl, refl)
     (λ o. serves-read r mem o number ∙ read-descriptor r mem o bad)
 
-pub read_bad_range : (r : Request) (mem : List Block) (left written : Option (List ℕ)) → r.number ≡ 3 → r.a0 ≡ 0 → within (shapes mem) Store r.a1 r.a2 ≡ false → Serves r (Error 14) mem mem left left written written
+pub read_bad_range : (r : SystemCall) (mem : List Block) (left written : Option (List ℕ)) → r.number ≡ 3 → r.a0 ≡ 0 → within (shapes mem) Store r.a1 r.a2 ≡ false → Serves r (Error 14) mem mem left left written written
 read_bad_range r mem left written number good bad =
     Serves-same r (Error 14) mem left written (refl, refl)
     (λ o. serves-read r mem o number ∙ read-range r mem o good bad)
@@ -116,7 +116,7 @@ drop-taken : (taken rest : List ℕ) (n : ℕ) → length taken ≤ n → (lengt
 drop-taken taken rest n fits ended =
     ⊎_elim (λ (p : length taken < n). let whole : taken ++ rest ≡ taken = ap (λ l. taken ++ l) (ended p) ∙ append-nil taken in ap (drop n) whole ∙ (drop_all n taken fits ∙ sym (ended p))) (λ (p : n ≤ length taken). drop_at taken rest n (omega arith)) (cases_lt (length taken) n)
 
-pub read_done : (r : Request) (mem mem' : List Block) (left left' written : Option (List ℕ)) (n : ℕ)
+pub read_done : (r : SystemCall) (mem mem' : List Block) (left left' written : Option (List ℕ)) (n : ℕ)
     → IsLayout (shapes mem) → r.number ≡ 3 → r.a0 ≡ 0 → IsTrue (within (shapes mem) Store r.a1 r.a2)
     → HasTaken mem mem' r.a1 n left left' → n ≤ r.a2 → (n < r.a2 → NothingLeft left left')
     → Serves r (Read n) mem mem' left left' written written
@@ -146,7 +146,7 @@ read_done r mem mem' left left' written n layout number good range h fits ended 
       passes = (there.0, there.1, refl);
     }
 
-pub read_failed : (r : Request) (mem mem' : List Block) (left left' : Option (List ℕ)) → IsLayout (shapes mem)
+pub read_failed : (r : SystemCall) (mem mem' : List Block) (left left' : Option (List ℕ)) → IsLayout (shapes mem)
     → r.number ≡ 3 → r.a0 ≡ 0 → IsTrue (within (shapes mem) Store r.a1 r.a2) → TakesLess mem mem' r.a1 r.a2 left left'
     → TakesPart r mem mem' left left'
 read_failed r mem mem' left left' layout number good range h = record {
@@ -163,27 +163,27 @@ read_failed r mem mem' left left' layout number good range h = record {
 
 -- ---- write
 
-write-descriptor : (r : Request) (mem : List Block) (o : Outside) → r.a0 ≢ 1 → serve_write r mem o ≡ served (Error 9) mem o
+write-descriptor : (r : SystemCall) (mem : List Block) (o : Outside) → r.a0 ≢ 1 → serve_write r mem o ≡ served (Error 9) mem o
 write-descriptor r mem o bad = rw (ne_eqb r.a0 1 bad) refl
 
-write-range : (r : Request) (mem : List Block) (o : Outside) → r.a0 ≡ 1 → within (shapes mem) Load r.a1 r.a2 ≡ false → serve_write r mem o ≡ served (Error 14) mem o
+write-range : (r : SystemCall) (mem : List Block) (o : Outside) → r.a0 ≡ 1 → within (shapes mem) Load r.a1 r.a2 ≡ false → serve_write r mem o ≡ served (Error 14) mem o
 write-range r mem o good bad = rw (good, bad) refl
 
-write-good : (r : Request) (mem : List Block) (o : Outside) → r.a0 ≡ 1 → within (shapes mem) Load r.a1 r.a2 ≡ true
+write-good : (r : SystemCall) (mem : List Block) (o : Outside) → r.a0 ≡ 1 → within (shapes mem) Load r.a1 r.a2 ≡ true
     → serve_write r mem o ≡ served (Wrote r.a2) mem (outside o.unique o.input (o.output ++ bytes_at mem r.a1 r.a2))
 write-good r mem o good range = rw (good, range) refl
 
-pub write_bad_descriptor : (r : Request) (mem : List Block) (left written : Option (List ℕ)) → r.number ≡ 4 → r.a0 ≢ 1 → Serves r (Error 9) mem mem left left written written
+pub write_bad_descriptor : (r : SystemCall) (mem : List Block) (left written : Option (List ℕ)) → r.number ≡ 4 → r.a0 ≢ 1 → Serves r (Error 9) mem mem left left written written
 write_bad_descriptor r mem left written number bad =
     Serves-same r (Error 9) mem left written (refl, refl)
     (λ o. serves-write r mem o number ∙ write-descriptor r mem o bad)
 
-pub write_bad_range : (r : Request) (mem : List Block) (left written : Option (List ℕ)) → r.number ≡ 4 → r.a0 ≡ 1 → within (shapes mem) Load r.a1 r.a2 ≡ false → Serves r (Error 14) mem mem left left written written
+pub write_bad_range : (r : SystemCall) (mem : List Block) (left written : Option (List ℕ)) → r.number ≡ 4 → r.a0 ≡ 1 → within (shapes mem) Load r.a1 r.a2 ≡ false → Serves r (Error 14) mem mem left left written written
 write_bad_range r mem left written number good bad =
     Serves-same r (Error 14) mem left written (refl, refl)
     (λ o. serves-write r mem o number ∙ write-range r mem o good bad)
 
-pub write_done : (r : Request) (mem : List Block) (left written written' : Option (List ℕ)) (bytes : List ℕ)
+pub write_done : (r : SystemCall) (mem : List Block) (left written written' : Option (List ℕ)) (bytes : List ℕ)
     → r.number ≡ 4 → r.a0 ≡ 1 → IsTrue (within (shapes mem) Load r.a1 r.a2) → bytes ≡ bytes_at mem r.a1 r.a2
     → Appends written written' bytes → Serves r (Wrote r.a2) mem mem left left written written'
 write_done r mem left written written' bytes number good range these wrote = record {

@@ -9,7 +9,7 @@ use Rattle.alpha_io.specs.Written.{WritesPrefix}
 use Rattle.alpha_mem.specs.Intent.{Load, Store}
 use Rattle.alpha_mem.specs.Block.{Block, shapes, within}
 use Rattle.alpha_mem.specs.Memory.{bytes_at, write_bytes, IsLayout}
-use Rattle.alpha_pal.specs.declared.serve.Request.{Request}
+use Rattle.alpha_pal.specs.declared.serve.SystemCall.{SystemCall}
 use Rattle.alpha_pal.specs.declared.fault.Fault.{Fault}
 use Rattle.alpha_pal.specs.declared.fault.Fault.TheVariants.{Input, Output, Notes}
 use Rattle.alpha_pal.specs.declared.serve.Answer.{Answer}
@@ -20,7 +20,7 @@ use Rattle.alpha_pal.specs.declared.pal_end.Passed.{Passed}
 use Rattle.alpha_pal.specs.declared.pal_end.Passed.TheVariants.{Nothing, Took, Put}
 use Rattle.alpha_pal.specs.Kernel.{KernelState, call_frame}
 use Rattle.alpha_pal.specs.Call.{Outside, outside, goes, exits, signals, call}
-use Rattle.alpha_pal.specs.Serve.{read_call, write_call, input_descriptor, output_descriptor, served, serve, request_of, answered}
+use Rattle.alpha_pal.specs.Serve.{read_call, write_call, input_descriptor, output_descriptor, served, serve, system_call_of, answered}
 use Rattle.alpha_pal.specs.Passed.{IsPassed}
 
 -- where the input was told, it was `taken` and then `rest`, and `rest` is left
@@ -29,7 +29,7 @@ Takes None now taken rest = ⊤
 Takes (Some xs) now taken rest = (xs ≡ taken ++ rest) × (now ≡ Some rest)
 
 -- what an answer to a request says that it took or put
-abbrev pub passed_by : Request → Answer → Passed
+abbrev pub passed_by : SystemCall → Answer → Passed
 passed_by r (Read n) = Took r.a1 n
 passed_by r (Wrote n) = Put r.a1 n
 passed_by r (Error n) = Nothing
@@ -38,7 +38,7 @@ passed_by r (Exits v) = Nothing
 -- the answer and the memory are those of the definition, at an input of what was taken and the rest,
 -- and what was put is the output's growth. Both stand in memory.
 pub record Serves
-    (r : Request) (answer : Answer) (mem mem' : List Block)
+    (r : SystemCall) (answer : Answer) (mem mem' : List Block)
     (left left' written written' : Option (List ℕ)) : Type 0 where
   pub taken : List ℕ
   pub rest : List ℕ
@@ -51,7 +51,7 @@ pub record Serves
 
 -- a good read whose source failed: the bytes taken so far are in memory, whose blocks lie apart, and fewer than were
 -- asked for
-pub record TakesPart (r : Request) (mem mem' : List Block) (left left' : Option (List ℕ)) : Type 0 where
+pub record TakesPart (r : SystemCall) (mem mem' : List Block) (left left' : Option (List ℕ)) : Type 0 where
   pub layout : IsLayout (shapes mem)
   pub number : r.number ≡ read_call
   pub descriptor : r.a0 ≡ input_descriptor
@@ -63,14 +63,14 @@ pub record TakesPart (r : Request) (mem mem' : List Block) (left left' : Option 
   pub there : mem' ≡ write_bytes mem r.a1 taken
 
 -- a good write whose sink failed: a prefix of the bytes was put
-pub record PutsPart (r : Request) (mem : List Block) (written written' : Option (List ℕ)) : Type 0 where
+pub record PutsPart (r : SystemCall) (mem : List Block) (written written' : Option (List ℕ)) : Type 0 where
   pub number : r.number ≡ write_call
   pub descriptor : r.a0 ≡ output_descriptor
   pub range : IsTrue (within (shapes mem) Load r.a1 r.a2)
   pub prefix : WritesPrefix written written' (bytes_at mem r.a1 r.a2)
 
 -- a system call's effect on memory, input and output, by its result
-abbrev pub ServeEffect : Request → Result Answer Fault → List Block → List Block
+abbrev pub ServeEffect : SystemCall → Result Answer Fault → List Block → List Block
     → Option (List ℕ) → Option (List ℕ) → Option (List ℕ) → Option (List ℕ) → Type 0
 ServeEffect r (Ok (Read n)) mem mem' left left' written written' = Serves r (Read n) mem mem' left left' written written'
 ServeEffect r (Ok (Wrote n)) mem mem' left left' written written' = Serves r (Wrote n) mem mem' left left' written written'
@@ -82,7 +82,7 @@ ServeEffect r (Err Output) mem mem' left left' written written' = PutsPart r mem
 ServeEffect r (Err Notes) mem mem' left left' written written' = ⊥
 
 -- how a call ends, by a system call's result
-abbrev pub end_of : Request → Result Answer Fault → Result PalEnd Fault
+abbrev pub end_of : SystemCall → Result Answer Fault → Result PalEnd Fault
 end_of r (Ok (Read n)) = Ok (Goes (passed_by r (Read n)))
 end_of r (Ok (Wrote n)) = Ok (Goes (passed_by r (Wrote n)))
 end_of r (Ok (Error n)) = Ok (Goes (passed_by r (Error n)))
@@ -135,11 +135,11 @@ CallEffect function (Ok (Exit v)) old new = ((o : Outside) → call function old
 CallEffect function (Ok (Signal code)) old new = ((o : Outside) → call function old.regs old.mem o ≡ signals code) × (new ≡ old)
 CallEffect function (Err Input) old new =
     (function ≡ Callsys)
-    × TakesPart (request_of old.regs) old.mem new.mem old.left new.left
+    × TakesPart (system_call_of old.regs) old.mem new.mem old.left new.left
     × (new ≡ record old { mem = new.mem; left = new.left })
 CallEffect function (Err Output) old new =
     (function ≡ Callsys)
-    × PutsPart (request_of old.regs) old.mem old.written new.written
+    × PutsPart (system_call_of old.regs) old.mem old.written new.written
     × (new ≡ record old { written = new.written })
 CallEffect function (Err Notes) old new = ⊥
 

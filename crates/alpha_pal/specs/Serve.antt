@@ -5,7 +5,7 @@ use Rattle.alpha_words.specs.Regs.{reg, put}
 use Rattle.alpha_mem.specs.Intent.{Load, Store}
 use Rattle.alpha_mem.specs.Block.{Block, shapes, within}
 use Rattle.alpha_mem.specs.Memory.{bytes_at, write_bytes}
-use Rattle.alpha_pal.specs.declared.serve.Request.{Request}
+use Rattle.alpha_pal.specs.declared.serve.SystemCall.{SystemCall}
 use Rattle.alpha_pal.specs.declared.serve.Answer.{Answer}
 use Rattle.alpha_pal.specs.declared.serve.Answer.TheVariants.{Read, Wrote, Error, Exit}
 use Rattle.alpha_pal.specs.Call.{Outside, outside, Called, goes, exits}
@@ -47,7 +47,7 @@ abbrev pub served : Answer → List Block → Outside → Served
 served answer mem after = record { answer = answer; mem = mem; after = after }
 
 -- read takes bytes of the input to memory until there are as many as asked for, or the input has ended
-abbrev pub serve_read : Request → List Block → Outside → Served
+abbrev pub serve_read : SystemCall → List Block → Outside → Served
 serve_read r mem o =
     if not (r.a0 == input_descriptor) then served (Error bad_descriptor) mem o else
     if not (within (shapes mem) Store r.a1 r.a2) then served (Error bad_range) mem o else
@@ -56,14 +56,14 @@ serve_read r mem o =
     (outside o.unique (drop r.a2 o.input) o.output)
 
 -- write puts bytes of memory to the output
-abbrev pub serve_write : Request → List Block → Outside → Served
+abbrev pub serve_write : SystemCall → List Block → Outside → Served
 serve_write r mem o =
     if not (r.a0 == output_descriptor) then served (Error bad_descriptor) mem o else
     if not (within (shapes mem) Load r.a1 r.a2) then served (Error bad_range) mem o else
     served (Wrote r.a2) mem (outside o.unique o.input (o.output ++ bytes_at mem r.a1 r.a2))
 
 -- a number that is none of the three is no system call
-unfoldable pub serve : Request → List Block → Outside → Served
+unfoldable pub serve : SystemCall → List Block → Outside → Served
 serve r mem o =
     if r.number == exit_call then served (Exit r.a0) mem o else
     if r.number == read_call then serve_read r mem o else
@@ -71,8 +71,8 @@ serve r mem o =
     served (Error no_such_call) mem o
 
 -- the system call that the registers ask for
-abbrev pub request_of : List ℕ → Request
-request_of regs = record { number = reg regs 0; a0 = reg regs 16; a1 = reg regs 17; a2 = reg regs 18 }
+abbrev pub system_call_of : List ℕ → SystemCall
+system_call_of regs = record { number = reg regs 0; a0 = reg regs 16; a1 = reg regs 17; a2 = reg regs 18 }
 
 -- success leaves the count in R0 and 0 in R19, an error its number in R0 and 1 in R19
 abbrev pub answered : Answer → List ℕ → List ℕ

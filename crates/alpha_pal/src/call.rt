@@ -8,7 +8,7 @@ use crate::frame::Frame;
 use crate::kernel::{Kernel, USER_STATUS};
 use crate::named::{A0, GP, V0, reg};
 use crate::pal_end::{PalEnd, Passed};
-use crate::serve::{Request, finish};
+use crate::serve::{SystemCall, finish};
 use alpha_io::{Sink, Source};
 use alpha_mem::Memory;
 use alpha_words::{PalCall, RegFile};
@@ -74,7 +74,7 @@ impl Kernel {
         ensures input { InputCause result (S.faults input.old) (S.faults input.new) }
         ensures sink { SinkCause result (K.faults out.old) (K.faults out.new) }
     {
-        let request = Request::of(regs);
+        let request = SystemCall::of(regs);
         let frame = Frame {
             ps: USER_STATUS,
             pc: next,

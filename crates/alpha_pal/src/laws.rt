@@ -3,7 +3,7 @@ ghost use Rattle.alpha_words.specs.declared.PalCall.{PalCall};
 ghost use Rattle.alpha_words.specs.declared.PalCall.TheVariants.{Callsys};
 ghost use Rattle.alpha_mem.specs.Block.{Block, shapes};
 ghost use Rattle.alpha_pal.specs.Call.{Outside, goes, call};
-ghost use Rattle.alpha_pal.specs.Serve.{serve, request_of, after_serve};
+ghost use Rattle.alpha_pal.specs.Serve.{serve, system_call_of, after_serve};
 ghost use Rattle.alpha_pal.specs.declared.pal_end.Passed.{Passed};
 ghost use Rattle.alpha_pal.specs.CallEffect.{Seen, GoesOn, GoesOnTold};
 
@@ -18,7 +18,7 @@ pub fn laws_of_calls()
         (o o' : Outside) → call function regs mem o ≡ goes regs' mem' o'
         → length regs' ≡ length regs }
     ensures served { (regs : List ℕ) (mem : List Block) (o : Outside)
-        → call Callsys regs mem o ≡ after_serve regs (serve (request_of regs) mem o) }
+        → call Callsys regs mem o ≡ after_serve regs (serve (system_call_of regs) mem o) }
     ensures told { (function : PalCall) (passed : Passed) (old new : Seen) (left : List ℕ)
         → old.left ≡ Some left → GoesOn function passed old new
         → GoesOnTold function old new left }

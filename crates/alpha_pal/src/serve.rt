@@ -1,7 +1,7 @@
 ghost use Rattle.std.specs.Prelude.{◌≡◌, ℕ, List, Option};
 ghost use Rattle.alpha_words.specs.Regs.{IsFile};
 ghost use Rattle.alpha_mem.specs.Block.{shapes};
-ghost use Rattle.alpha_pal.specs.Serve.{request_of};
+ghost use Rattle.alpha_pal.specs.Serve.{system_call_of};
 ghost use Rattle.alpha_pal.specs.CallEffect.{ServeEffect, InputCause, SinkCause, end_of, regs_after};
 
 use crate::fault::Fault;
@@ -33,7 +33,7 @@ const BAD_RANGE: u64 = 14;
 
 /// What a system call is asked: its number from R0, and its arguments from R16 to R18.
 #[derive(Clone, Copy, Debug)]
-pub(crate) struct Request {
+pub(crate) struct SystemCall {
     pub number: u64,
     pub a0: u64,
     pub a1: u64,
@@ -51,13 +51,13 @@ pub(crate) enum Answer {
     Exit(u64),
 }
 
-impl Request {
+impl SystemCall {
     // The request in the registers.
-    pub(crate) fn of(regs: &RegFile) -> Request
-        ensures value { result ≡ request_of regs.now }
+    pub(crate) fn of(regs: &RegFile) -> SystemCall
+        ensures value { result ≡ system_call_of regs.now }
         ensures file { IsFile regs.now }
     {
-        Request {
+        SystemCall {
             number: regs.get(reg(V0)),
             a0: regs.get(reg(A0)),
             a1: regs.get(reg(A1)),
@@ -131,7 +131,7 @@ impl Request {
 
 // How the call ends, with the answer in the registers.
 pub(crate) fn finish(
-    request: Request,
+    request: SystemCall,
     served: Result<Answer, Fault>,
     regs: &mut RegFile,
 ) -> Result<PalEnd, Fault>

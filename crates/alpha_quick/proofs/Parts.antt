@@ -1,17 +1,15 @@
 -- A line says what its parts say.
-use Rattle.std.proofs.Common.{◌≡◌, ℕ, List, [], ◌∷◌, ◌++◌, true, false, not, ◌==◌, eqb, Option, None, Some, is_some, Ok, refl, sym, ◌∙◌, ap, arith}
+use Rattle.std.proofs.Common.{◌≡◌, ℕ, List, [], ◌∷◌, ◌++◌, true, false, eqb, Option, None, Some, is_some, Ok, refl, sym, ◌∙◌, ap, arith}
 use Rattle.std.specs.List.{list_all}
 use Rattle.std.specs.Option.{option_map}
 use Rattle.std.proofs.lemmas.Bool.Decides.{nat_tests}
 use Rattle.alpha_token.specs.declared.token.TokenKind.TheVariants as kinds
-use Rattle.alpha_token.specs.Bytes.{begins_name, goes_on_name}
+use Rattle.alpha_token.specs.Bytes.{begins_label, goes_on_label, is_label, begins_name, goes_on_name}
 use Rattle.alpha_token.specs.Tokens.{Next, tokens}
 use Rattle.alpha_token.proofs.Choices.{both}
-use Rattle.alpha_operands.specs.Operands.{is_label}
 use Rattle.alpha_text.specs.Heads.{head_name}
 use Rattle.alpha_text.specs.Statements.{Said}
 use Rattle.alpha_text.specs.Behind.{Stops}
-use Rattle.alpha_text.specs.References.{begins_label, goes_on_label}
 use Rattle.alpha_text.specs.Reading.{statement_of, line_of}
 use Rattle.alpha_text.proofs.Behind.{statement_says, line_says}
 use Rattle.alpha_text.proofs.Spelling.{token-begun}
@@ -19,40 +17,32 @@ use Rattle.alpha_quick.specs.Parts.{SaysNamed}
 use Rattle.alpha_quick.specs.Lead.{HasStatement}
 use Rattle.alpha_quick.specs.Rest.{IsBehind}
 
--- what goes on a label goes on a name, and isn't `/`
-pub label_parts : (s : List ℕ) → list_all goes_on_label s ≡ true → (list_all goes_on_name s ≡ true) × (list_all (λ b. not (b == 47)) s ≡ true)
-label_parts [] h = (refl, refl)
-label_parts (b ∷ s) h =
+-- what goes on a label goes on a name
+pub label_goes_on : (s : List ℕ) → list_all goes_on_label s ≡ true → list_all goes_on_name s ≡ true
+label_goes_on [] h = refl
+label_goes_on (b ∷ s) h =
     let (here, more) = both (goes_on_label b) (list_all goes_on_label s) h in
-    let (name, plain) = both (goes_on_name b) (not (b == 47)) here in
-    let (names, plains) = label_parts s more in
-    (rw (name, names) refl, rw (plain, plains) refl)
+    rw (here, label_goes_on s more) refl
 
-letter_begins : (b : ℕ) → begins_label (b ∷ []) ≡ true → (begins_name b ≡ true) × (eqb b 46 ≡ false)
-letter_begins b h = (grind (arith, nat_tests), grind (arith, nat_tests))
+letter_begins : (b : ℕ) → begins_label b ≡ true → (begins_name b ≡ true) × (eqb b 46 ≡ false)
+letter_begins b h = (rw h refl, grind (arith, nat_tests))
 
 -- a label before what ends it
-pub label_tokens : (label s : List ℕ) → begins_label label ≡ true → list_all goes_on_name label ≡ true → Stops goes_on_name s → tokens (label ++ s) ≡ Next (record { kind = kinds.Name; text = label; rest = s }) (tokens s)
-label_tokens [] s h all stop = cc
-label_tokens (b ∷ ds) s h all stop =
-    let (a, rest) = both (goes_on_name b) (list_all goes_on_name ds) all in
-    token-begun b ds s (letter_begins b h).0 (letter_begins b h).1 rest stop
-
--- what begins with a letter or `_` and has no `/` is a label
-pub label_good : (label : List ℕ) → begins_label label ≡ true → list_all (λ b. not (b == 47)) label ≡ true → is_label label ≡ true
-label_good [] begins plain = cc
-label_good (b ∷ s) begins plain = rw (plain, (letter_begins b begins).1) refl
+pub label_tokens : (label s : List ℕ) → is_label label ≡ true → Stops goes_on_name s → tokens (label ++ s) ≡ Next (record { kind = kinds.Name; text = label; rest = s }) (tokens s)
+label_tokens [] s h stop = cc
+label_tokens (b ∷ ds) s h stop =
+    let (first, others) = both (begins_label b) (list_all goes_on_label ds) h in
+    let (begins, plain) = letter_begins b first in
+    token-begun b ds s begins plain (label_goes_on ds others) stop
 
 -- a line that begins with a label
-label_says : (label rest : List ℕ) (s : Said) → begins_label label ≡ true → list_all goes_on_label label ≡ true → statement_of (tokens rest) ≡ Ok s → line_of (tokens (label ++ (58 ∷ rest))) ≡ Ok (record { label = Some label; statement = s })
-label_says label rest s begins all h =
-    let (names, plain) = label_parts label all in
-    rw (label_tokens label (58 ∷ rest) begins names refl, label_good label begins plain, h) refl
+label_says : (label rest : List ℕ) (s : Said) → is_label label ≡ true → statement_of (tokens rest) ≡ Ok s → line_of (tokens (label ++ (58 ∷ rest))) ≡ Ok (record { label = Some label; statement = s })
+label_says label rest s is h = rw (label_tokens label (58 ∷ rest) is refl, is, h) refl
 
 -- a line has the statement that stands behind its label
 pub behind_says : (line text : List ℕ) (label : Option (List ℕ)) (s : Said) → IsBehind line label text → HasStatement text s → line_of (tokens line) ≡ Ok (record { label = label; statement = s })
 behind_says line text None s same has = ap line_of same ∙ has.1
-behind_says line text (Some label) s (rest, begins, all, same, behind) has = ap line_of same ∙ label_says label rest s begins all (ap statement_of behind ∙ has.0)
+behind_says line text (Some label) s (rest, is, same, behind) has = ap line_of same ∙ label_says label rest s is (ap statement_of behind ∙ has.0)
 
 -- a line without a label
 pub bare_line : {A : Type 0} (now : A → List ℕ) (line text : List ℕ) (label : Option A) → is_some label ≡ false → IsBehind line (option_map now label) text → tokens line ≡ tokens text

@@ -6,6 +6,7 @@ use Rattle.alpha_table.specs.declared.names.Mnemonic.{Mnemonic}
 use Rattle.alpha_table.specs.declared.names.Mnemonic.TheVariants as mnemonics
 use Rattle.alpha_table.specs.declared.op.Op.{Op}
 use Rattle.alpha_table.specs.declared.op.Op.TheVariants.{Bis, Ornot, Subl, Subq, SublV, SubqV, Addl}
+use Rattle.alpha_token.specs.Bytes.{goes_on_label}
 use Rattle.alpha_token.specs.Tokens.{tokens}
 use Rattle.alpha_operands.specs.declared.piece.Piece.{Piece}
 use Rattle.alpha_operands.specs.declared.piece.Piece.TheVariants as pieces
@@ -18,7 +19,6 @@ use Rattle.alpha_text.specs.declared.head.Own.TheVariants as owns
 use Rattle.alpha_text.specs.Heads.{head_name, own_shape}
 use Rattle.alpha_text.specs.Statements.{Said, code, pseudo_form}
 use Rattle.alpha_text.specs.Behind.{IsApart, SaysBy}
-use Rattle.alpha_text.specs.References.{goes_on_label}
 use Rattle.alpha_text.specs.Reading.{LineSaid}
 
 -- the instruction that a pseudo-operation stands for with the operands behind it

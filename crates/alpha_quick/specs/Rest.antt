@@ -1,9 +1,8 @@
 -- A line as far as it was read.
 use Rattle.std.specs.Prelude.{◌≡◌, ◌++◌, ◌∷◌, ℕ, List, true, false, Option, None, Some, IfSome}
-use Rattle.std.specs.List.{list_all}
 use Rattle.std.specs.Option.{option_map}
+use Rattle.alpha_token.specs.Bytes.{is_label}
 use Rattle.alpha_token.specs.Tokens.{tokens}
-use Rattle.alpha_text.specs.References.{begins_label, goes_on_label}
 use Rattle.alpha_text.specs.Statements.{Said, code}
 use Rattle.alpha_quick.specs.declared.line.Rest.{Rest}
 use Rattle.alpha_quick.specs.Lead.{Reaches, HasStatement}
@@ -12,7 +11,7 @@ use Rattle.alpha_quick.specs.Lead.{Reaches, HasStatement}
 abbrev pub IsBehind : List ℕ → Option (List ℕ) → List ℕ → Type 0
 IsBehind line None text = tokens line ≡ tokens text
 IsBehind line (Some label) text =
-    (rest : List ℕ) × (begins_label label ≡ true) × (list_all goes_on_label label ≡ true) × (tokens line ≡ tokens (label ++ (58 ∷ rest))) × (tokens rest ≡ tokens text)
+    (rest : List ℕ) × (is_label label ≡ true) × (tokens line ≡ tokens (label ++ (58 ∷ rest))) × (tokens rest ≡ tokens text)
 
 -- The first bytes and those behind them stand behind the label. The instruction at their front is their statement, or makes
 -- it with the words that are left, if it is to reach a label.

@@ -1,5 +1,6 @@
 -- The words of operands, each at the front of what is left of a line.
 use Rattle.std.specs.Prelude.{◌≡◌, ◌⊎◌, ℕ, ℤ, pos, List, true, Some}
+use Rattle.alpha_token.specs.Bytes.{is_label}
 use Rattle.alpha_token.specs.declared.token.TokenKind.{TokenKind}
 use Rattle.alpha_token.specs.declared.token.TokenKind.TheVariants as kinds
 use Rattle.alpha_token.specs.Numeral.{number_value}
@@ -15,7 +16,6 @@ use Rattle.alpha_operands.specs.declared.number.Number.{Number}
 use Rattle.alpha_operands.specs.declared.piece.Piece.{Piece}
 use Rattle.alpha_operands.specs.declared.piece.Piece.TheVariants as pieces
 use Rattle.alpha_operands.specs.Ranges.{number_of, offset_of}
-use Rattle.alpha_operands.specs.Operands.{is_label}
 
 -- a token stands at the front of a line, and this behind it
 abbrev pub HasToken : List ℕ → TokenKind → List ℕ → List ℕ → Type 0

@@ -1,12 +1,12 @@
 ghost use Rattle.std.specs.Prelude.{◌≡◌, ◌<◌, ◌++◌, true, IsTrue, length};
 ghost use Rattle.std.specs.List.{list_all};
-ghost use Rattle.alpha_token.specs.Bytes.{goes_on_name};
+ghost use Rattle.alpha_token.specs.Bytes.{goes_on_label, is_label, goes_on_name};
 ghost use Rattle.alpha_text.specs.Behind.{Stops};
 ghost use Rattle.alpha_quick.specs.Keys.{key_of, IsKeyed};
 ghost use Rattle.alpha_quick.specs.Parts.{class_of, are_classes};
-ghost use Rattle.alpha_text.specs.References.{goes_on_label, begins_label};
 
 use crate::key::NameKey;
+use alpha_token::begins_label;
 
 // For each byte, 1 where it goes on a label, and otherwise 0.
 static CLASSES: [u8; 256] = [
@@ -71,6 +71,18 @@ impl<'a> Front<'a> {
         Front { name, key, behind }
     }
 
+    /// Whether its bytes, which go on a label, are one.
+    #[inline(always)]
+    pub(crate) fn is_label(&self) -> bool
+        requires { list_all goes_on_label self.now.name.now ≡ true }
+        ensures { result ≡ is_label self.now.name.now }
+    {
+        match self.name {
+            [first, ..] => begins_label(*first),
+            [] => false,
+        }
+    }
+
     /// The front of a line with `/v`, if that stands behind it.
     #[inline(always)]
     pub(crate) fn with_trap(&self, line: &'a [u8]) -> Front<'a>
@@ -87,17 +99,6 @@ impl<'a> Front<'a> {
             }
             _ => *self,
         }
-    }
-}
-
-/// Whether a name begins with a letter or `_`.
-#[inline(always)]
-pub(crate) fn begins_label(name: &[u8]) -> bool
-    ensures { result ≡ begins_label name.now }
-{
-    match name {
-        [first, ..] => first.is_ascii_alphabetic() || *first == b'_',
-        [] => false,
     }
 }
 

@@ -4,7 +4,6 @@
 //! programs write them, which it reads in one pass. [`read_insn`] stops at the instruction of a line that has no
 //! label and names none, as most lines; of a line that it doesn't read so it gives the [`Rest`], which goes on to its
 //! item.
-//! [`read_code`] answers such an instruction alone.
 //!
 //! `line.rt` cuts a line into a label, a name and the words behind it, by `front.rt`; `rows.rt` finds what the
 //! name stands for by its key, a number of `key.rt`; `words.rt` and `groups.rt` read the words, and `forms.rt`
@@ -24,4 +23,4 @@ mod reach;
 mod rows;
 mod words;
 
-pub use line::{Rest, read_code, read_insn, read_line};
+pub use line::{Rest, read_insn, read_line};

@@ -6,7 +6,6 @@ ghost use Rattle.std.specs.Option.{option_map};
 ghost use Rattle.alpha_token.specs.Tokens.{tokens};
 ghost use Rattle.alpha_operands.specs.Operands.{Gives};
 ghost use Rattle.alpha_text.specs.Behind.{IsApart};
-ghost use Rattle.alpha_text.specs.References.{goes_on_label};
 ghost use Rattle.alpha_text.specs.Statements.{said, code, empty};
 ghost use Rattle.alpha_text.specs.Reading.{item_said, statement_of, line_of, read};
 ghost use Rattle.alpha_quick.specs.Keys.{key_of, IsKeyed};
@@ -17,7 +16,7 @@ ghost use Rattle.alpha_quick.specs.Words.{HasEnd};
 
 use crate::data::of_directive;
 use crate::forms::{Lead, of_own, of_row};
-use crate::front::{Front, begins_label};
+use crate::front::Front;
 use crate::reach::reached;
 use crate::rows::{own_named, row_named};
 use crate::words::{behind_blanks, behind_byte, is_end, spaced};
@@ -107,7 +106,7 @@ impl<'a> Cut<'a> {
         let text = behind_blanks(line);
         let front = Front::of(text);
         match behind_byte(b':', front.behind) {
-            Some(rest) if begins_label(front.name) => {
+            Some(rest) if front.is_label() => {
                 let label = Some(front.name);
                 let text = spaced(rest);
                 let front = Front::of(text);
@@ -216,18 +215,6 @@ pub fn read_insn(line: &[u8]) -> Result<Insn, Rest<'_>>
             reaches: false,
             left: line,
         }),
-    }
-}
-
-/// The instruction of a line that has no label and names none. `None` may also stand for a line that has such an
-/// instruction.
-#[inline(always)]
-pub fn read_code(line: &[u8]) -> Option<Insn>
-    ensures { IfSome result (λ i. line_of (tokens line.now) ≡ Ok (unlabelled i)) }
-{
-    match read_insn(line) {
-        Ok(insn) => Some(insn),
-        Err(_) => None,
     }
 }
 

@@ -7,7 +7,7 @@ ghost use Rattle.alpha_token.specs.Tokens.{tokens};
 ghost use Rattle.alpha_quick.specs.Words.{HasMark, HasComma, HasRegister, HasNumber, HasLabel, HasOpened, HasEnd, HasSigned};
 ghost use Rattle.alpha_text.specs.Behind.{Stops};
 
-use crate::front::{Front, begins_label, ends_name};
+use crate::front::{Front, ends_name};
 use alpha_operands::{Half, Sign};
 use alpha_token::{Step, TokenKind, next, without_blanks};
 use alpha_words::Reg;
@@ -339,7 +339,7 @@ pub(crate) fn label(s: &[u8]) -> Option<(&[u8], &[u8])>
     ensures { IfSome result (λ r. HasLabel s.now r.0.now r.1.now) }
 {
     let front = Front::of(s);
-    if begins_label(front.name) && ends_name(front.behind) {
+    if front.is_label() && ends_name(front.behind) {
         Some((front.name, front.behind))
     } else {
         None

@@ -1,7 +1,7 @@
 //! What is gathered of a run while it is made.
 
 ghost use Rattle.std.specs.Prelude.{◌≡◌, ◌≤◌, ◌++◌, [], length, vec_capacity, nat_le, true, false, IfOk};
-ghost use Rattle.alpha_replay.specs.Journal.{most_bytes, most_units, parts};
+ghost use Rattle.alpha_replay.specs.Journal.{most_bytes, parts};
 ghost use Rattle.alpha_replay.specs.Endings.{FitsEnding};
 ghost use Rattle.alpha_replay.specs.Items.{FitsItem, is_units};
 ghost use Rattle.alpha_replay.specs.Gathered.{no_moves, closed, closed_by, with_item, gathered_by};

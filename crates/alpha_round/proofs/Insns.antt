@@ -21,6 +21,7 @@ use Rattle.alpha_table.specs.Op.{op_row}
 use Rattle.alpha_table.specs.Row.{IsInsn, IsSigned, IsSource}
 use Rattle.alpha_table.specs.Decoded.{decoded}
 use Rattle.alpha_words.specs.declared.PalCall.{PalCall}
+use Rattle.alpha_token.specs.Bytes.{is_label}
 use Rattle.alpha_token.specs.Numeral.{number_value}
 use Rattle.alpha_token.specs.Tokens.{Lexeme, Tokens, End, Bad, Next, left_of, tokens}
 use Rattle.alpha_token.proofs.Choices.{choose}
@@ -36,7 +37,7 @@ use Rattle.alpha_operands.specs.declared.operands.LineFaultKind.TheVariants.{Unk
 use Rattle.alpha_operands.specs.Names.{register_of, operator_of, registers, named, numbered}
 use Rattle.alpha_operands.specs.Ranges.{signed, in_range, call_of, number_of, offset_of, IsNumber}
 use Rattle.alpha_operands.specs.Shapes.{Pattern, patterns}
-use Rattle.alpha_operands.specs.Operands.{Slots, nothing, is_label, filled}
+use Rattle.alpha_operands.specs.Operands.{Slots, nothing, filled}
 use Rattle.alpha_operands.specs.Walk.{is_whole, piece_behind, front_after, sign_after, follow}
 use Rattle.alpha_operands.specs.Grammar.{AreOperands}
 use Rattle.alpha_operands.proofs.Apart.{shapes-distinct}

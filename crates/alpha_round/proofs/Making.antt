@@ -4,7 +4,6 @@ use Rattle.std.specs.List.{flat_map, filter_map}
 use Rattle.std.proofs.lemmas.List.{take-append-drop, append-nil, length-drop}
 use Rattle.alpha_table.specs.declared.form.Form.{Form}
 use Rattle.alpha_table.specs.Decoded.{decoded}
-use Rattle.alpha_text.specs.Statements.{Said}
 use Rattle.alpha_text.specs.Statements as says
 use Rattle.alpha_image.specs.declared.version.Version.{Version}
 use Rattle.alpha_image.specs.declared.version.Version.TheVariants.{One, Two}

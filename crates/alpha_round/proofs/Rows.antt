@@ -13,7 +13,7 @@ use Rattle.alpha_operands.specs.Ranges.{number_of}
 use Rattle.alpha_operands.specs.Shapes.{patterns}
 use Rattle.alpha_operands.specs.Operands.{Slots, filled}
 use Rattle.alpha_operands.specs.Walk.{follow}
-use Rattle.alpha_operands.specs.Values.{Listed, first_value, next_of}
+use Rattle.alpha_operands.specs.Values.{first_value, next_of}
 use Rattle.alpha_operands.specs.Values as listed
 use Rattle.alpha_operands.proofs.Lists.{values-none}
 use Rattle.alpha_text.proofs.Spelling.{token-num, token-comma, number_value-decimal}

@@ -13,7 +13,7 @@ use Rattle.alpha_pal.specs.declared.pal_end.Passed.{Passed}
 use Rattle.alpha_pal.specs.declared.pal_end.Passed.TheVariants.{Took, Put}
 use Rattle.alpha_pal.specs.Kernel.{KernelState}
 use Rattle.alpha_pal.specs.Call.{call}
-use Rattle.alpha_pal.specs.Serve.{request_of}
+use Rattle.alpha_pal.specs.Serve.{system_call_of}
 use Rattle.alpha_pal.specs.CallEffect.{TakesPart, PutsPart}
 use Rattle.alpha_pal.proofs.Takings.{there_behind}
 use Rattle.alpha_pal.proofs.Serving.{rest_of, Takes-nothing}
@@ -112,7 +112,7 @@ writes_all m input output class number descriptor range = rw (class, number, des
 
 -- a read whose source failed: the step to the machine after a read that takes all it asks for, of which some was taken
 pub input_breaks : (old new : Machine) (input : Drawn) (out : Sunk) → class_here old ≡ Some (barrier (Some Callsys))
-    → TakesPart (request_of old.regs) old.memory new.memory input.old input.new → new ≡ record old { memory = new.memory; kernel = new.kernel }
+    → TakesPart (system_call_of old.regs) old.memory new.memory input.old input.new → new ≡ record old { memory = new.memory; kernel = new.kernel }
     → kernel_here old new → input.before ≤ input.now → Rose input.before input.now → Idles out → SeqBreaks faults.Input old new input out
 input_breaks old new input out class part stays kernel later cause idle =
     let next = part.taken ++ part.rest in
@@ -165,7 +165,7 @@ input_breaks old new input out class part stays kernel later cause idle =
 
 -- a write whose sink failed: the step to the machine after a write, of whose bytes a front was put
 pub output_breaks : (old new : Machine) (input : Drawn) (out : Sunk) → class_here old ≡ Some (barrier (Some Callsys))
-    → PutsPart (request_of old.regs) old.memory out.old out.new → new ≡ record old { kernel = new.kernel }
+    → PutsPart (system_call_of old.regs) old.memory out.old out.new → new ≡ record old { kernel = new.kernel }
     → kernel_here old new → out.before ≤ out.now → HasFailed out → Rests input → SeqBreaks faults.Output old new input out
 output_breaks old new input out class part unmade kernel later cause rests =
     let next = rest_of input.old input.old in

@@ -43,7 +43,7 @@ use Rattle.alpha_image.proofs.CodeInsns.{decoded_there, class_here}
 use Rattle.alpha_seq.specs.declared.machine.Machine.{Machine}
 use Rattle.alpha_seq.specs.State.{State, Went, Stepped, stepped}
 use Rattle.alpha_seq.specs.Step.{next_pc, setting, unless, loaded, computed, branch_target}
-use Rattle.alpha_seq.specs.Machine.{program_of, state_of}
+use Rattle.alpha_seq.specs.Machine.{state_of}
 use Rattle.alpha_seq.specs.Machine as of_machine
 use Rattle.alpha_seq.specs.Executed.{Does, GoesOn, filled}
 use Rattle.alpha_seq.specs.Rushed.{Rushed, machine_at, Passes, Rushes}

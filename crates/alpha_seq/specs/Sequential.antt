@@ -7,7 +7,7 @@ use Rattle.alpha_pal.specs.declared.fault.Fault.{Fault}
 use Rattle.alpha_pal.specs.declared.fault.Fault.TheVariants as faults
 use Rattle.alpha_pal.specs.declared.pal_end.Passed.{Passed}
 use Rattle.alpha_pal.specs.CallEffect.{TakesPart, PutsPart}
-use Rattle.alpha_pal.specs.Serve.{request_of}
+use Rattle.alpha_pal.specs.Serve.{system_call_of}
 use Rattle.alpha_seq.specs.declared.machine.Machine.{Machine}
 use Rattle.alpha_seq.specs.declared.event.Event.{Event as Seen}
 use Rattle.alpha_seq.specs.declared.event.Event.TheVariants as events
@@ -65,7 +65,7 @@ entered m = record m { kernel = kernel_left (class_here m) (next_pc (state_of m 
 -- A read whose source failed: the bytes taken so far are in memory, and all else is as before but for the kernel's frame.
 pub record ReadsPart (old new : Machine) (input : Drawn) (out : Sunk) : Type 0 where
   pub class : class_here old ≡ Some (barrier (Some Callsys))
-  pub part : TakesPart (request_of old.regs) old.memory new.memory input.old input.new
+  pub part : TakesPart (system_call_of old.regs) old.memory new.memory input.old input.new
   pub same : new ≡ record (entered old) { memory = new.memory }
   pub idle : Idles out
 
@@ -73,7 +73,7 @@ pub record ReadsPart (old new : Machine) (input : Drawn) (out : Sunk) : Type 0 w
 -- can be made anew.
 pub record WritesPart (old new : Machine) (input : Drawn) (out : Sunk) : Type 0 where
   pub class : class_here old ≡ Some (barrier (Some Callsys))
-  pub part : PutsPart (request_of old.regs) old.memory out.old out.new
+  pub part : PutsPart (system_call_of old.regs) old.memory out.old out.new
   pub same : new ≡ entered old
   pub rests : Rests input
 

@@ -5,7 +5,6 @@ pub mod Items
 pub mod LineFaults
 pub mod Lines
 pub mod Names
-pub mod NameTexts
 pub mod References
 pub mod Registers
 pub mod Returns

@@ -1,5 +1,6 @@
 -- The fault that is read of a line is the first of all that it has.
 use Rattle.std.proofs.Common.{◌≡◌, ◌⊎◌, ℕ, List, [], ◌+◌, ◌-◌, ◌<◌, ◌≤◌, Bool, true, false, cond, Option, Some, None, Result, Ok, Err, length, length-drop, drop, refl, sym, ◌∙◌, ap, inl, inr, arith}
+use Rattle.alpha_token.specs.Bytes.{is_label}
 use Rattle.alpha_token.specs.declared.token.TokenKind.TheVariants as kinds
 use Rattle.alpha_token.specs.Tokens.{Lexeme, Tokens, End, Bad, Next, left_of, tokens}
 use Rattle.alpha_operands.specs.declared.number.Sign.TheVariants as signs
@@ -8,7 +9,7 @@ use Rattle.alpha_operands.specs.declared.operands.LineFaultKind.TheVariants.{Bad
 use Rattle.alpha_operands.specs.declared.walk.OperandFault.{OperandFault}
 use Rattle.alpha_operands.specs.Pieces.{same_kind}
 use Rattle.alpha_operands.specs.Shapes.{patterns}
-use Rattle.alpha_operands.specs.Operands.{Slots, nothing, is_label}
+use Rattle.alpha_operands.specs.Operands.{Slots, nothing}
 use Rattle.alpha_operands.specs.Walk.{operands, is_unknown, stuck_at}
 use Rattle.alpha_operands.specs.Grammar.{HasFault, NoLater, fault_at}
 use Rattle.alpha_operands.proofs.Grammar.{same_kind-is, same_kind-same}

@@ -1,13 +1,14 @@
 -- What is read of a line is its grammar, and the fault that is read is the first.
 use Rattle.std.proofs.Common.{◌≡◌, ℕ, List, [], Bool, true, false, cond, eqb, Option, Some, None, Result, Ok, Err, length, drop, get_or, refl, sym, ◌∙◌, ap, inl, inr, arith}
 use Rattle.std.proofs.lemmas.Bool.Decides.{nat_tests}
+use Rattle.alpha_token.specs.Bytes.{is_label}
 use Rattle.alpha_token.specs.declared.token.TokenKind.TheVariants as kinds
 use Rattle.alpha_token.specs.Tokens.{Lexeme, Tokens, End, Bad, Next, tokens}
 use Rattle.alpha_operands.specs.declared.number.Sign.TheVariants as signs
 use Rattle.alpha_operands.specs.declared.walk.OperandFault.{OperandFault}
 use Rattle.alpha_operands.specs.Pieces.{same_kind}
 use Rattle.alpha_operands.specs.Shapes.{patterns}
-use Rattle.alpha_operands.specs.Operands.{Slots, nothing, is_label}
+use Rattle.alpha_operands.specs.Operands.{Slots, nothing}
 use Rattle.alpha_operands.specs.Walk.{operands}
 use Rattle.alpha_operands.specs.Grammar.{AreOperands}
 use Rattle.alpha_operands.proofs.Grammar.{same_kind-is, same_kind-same, follow-spells, spells-follow}

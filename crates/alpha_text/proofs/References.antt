@@ -1,16 +1,14 @@
 -- A line that is read says whole labels and small offsets, and of an instruction with an address displacement 0.
-use Rattle.std.proofs.Common.{◌≡◌, ◌≤◌, ◌<◌, ◌^◌, ◌-◌, ℕ, zero, suc, ℤ, pos, neg_ℤ, List, [], ◌∷◌, Bool, true, false, cond, not, ◌||◌, eqb, Option, Some, None, Ok, Err, IfSome, length, length-drop, length-take, drop, subst, nat_lt, refl, sym, ◌∙◌, ap, inl, inr, arith, lit≤}
+use Rattle.std.proofs.Common.{◌≡◌, ◌≤◌, ◌<◌, ◌^◌, ◌-◌, ℕ, zero, suc, ℤ, pos, neg_ℤ, List, [], ◌∷◌, Bool, true, false, cond, Option, Some, None, Ok, Err, IfSome, length, length-drop, length-take, drop, subst, nat_lt, refl, ap, inl, inr, arith, lit≤}
 use Rattle.std.specs.Option.{option_map, option_map_or, option_and_then}
-use Rattle.std.specs.List.{list_all, prefix_len, AllByRecursion}
-use Rattle.std.specs.Char.{is_ascii_alphabetic}
-use Rattle.std.specs.Int.{is_in_range}
+use Rattle.std.specs.List.{prefix_len, AllByRecursion}
 use Rattle.std.proofs.lemmas.Bool.Decides.{nat_tests}
 use Rattle.alpha_table.specs.declared.form.Form.TheVariants.{Mem}
 use Rattle.alpha_table.specs.declared.names.Mnemonic.TheVariants as mnemonics
 use Rattle.alpha_table.specs.declared.rows.MemOp.{MemOp}
 use Rattle.alpha_table.specs.declared.rows.BranchOp.{BranchOp}
 use Rattle.alpha_token.specs.declared.token.TokenKind.TheVariants as kinds
-use Rattle.alpha_token.specs.Bytes.{is_blank, goes_on_name}
+use Rattle.alpha_token.specs.Bytes.{is_blank, is_label}
 use Rattle.alpha_token.specs.Numeral.{number_value}
 use Rattle.alpha_token.specs.Tokens.{Lexeme, Tokens, End, Bad, Next, left_of, tokens}
 use Rattle.alpha_operands.specs.declared.names.Half.{Half}
@@ -24,66 +22,27 @@ use Rattle.alpha_operands.specs.declared.piece.Piece.TheVariants as pieces
 use Rattle.alpha_operands.specs.declared.shape.Shape.{Shape}
 use Rattle.alpha_operands.specs.declared.operands.LineFaultKind.TheVariants.{UnknownName, OutOfRange}
 use Rattle.alpha_operands.specs.Names.{register_of, operator_of}
-use Rattle.alpha_operands.specs.Pieces.{kind_of}
 use Rattle.alpha_operands.specs.Ranges.{signed, number_of, offset_of}
 use Rattle.alpha_operands.specs.Shapes.{Pattern, patterns}
-use Rattle.alpha_operands.specs.Operands.{Slots, nothing, is_label, filled}
+use Rattle.alpha_operands.specs.Operands.{Slots, nothing, filled}
 use Rattle.alpha_operands.specs.Values.{Listed, number, label as listed_label, ended, then_on, up_to_comma, first_operands, value_in, value_of, first_value, list_shape, AreValuesOf}
 use Rattle.alpha_operands.specs.Walk.{is_whole, piece_behind, front_after, sign_after, follow}
 use Rattle.alpha_operands.specs.Grammar.{AreOperands}
 use Rattle.alpha_operands.proofs.Apart.{shapes-distinct}
 use Rattle.alpha_operands.proofs.Changes.{a_value, a_label, a_given}
 use Rattle.alpha_operands.proofs.Sizes.{value-sized}
-use Rattle.alpha_operands.proofs.Grammar.{at_end, took, went, piece_behind-is, spells-follow}
+use Rattle.alpha_operands.proofs.Grammar.{at_end, took, went, spells-follow}
 use Rattle.alpha_text.specs.declared.head.Own.TheVariants as owns
 use Rattle.alpha_text.specs.declared.head.Head.{Head}
 use Rattle.alpha_text.specs.declared.head.Head.TheVariants as heads
 use Rattle.alpha_text.specs.Heads.{shape_of}
 use Rattle.alpha_text.specs.Statements.{Said, said_by, half_said, memory_said, branch_said, entry_said}
 use Rattle.alpha_text.specs.Reading.{LineSaid, list_in, read}
-use Rattle.alpha_text.specs.References.{goes_on_label}
 use Rattle.alpha_text.specs.Grammar.{IsStatement, IsLabelled, IsLine, IsBehindLabel}
 use Rattle.alpha_token.proofs.Order.{Falls, tokens-fall}
 use Rattle.alpha_token.proofs.Reading.{tokens-behind}
-use Rattle.alpha_text.specs.References.{IsWholeLabel, IsLabel, IsOffset, IsReference, IsListedWell, RefersWell, IsWell}
+use Rattle.alpha_text.specs.References.{IsLabel, IsOffset, IsReference, IsListedWell, RefersWell, IsWell}
 use Rattle.alpha_text.proofs.Lines.{read-is}
-use Rattle.alpha_text.proofs.NameTexts.{IsNameText, NamesWell, names_well}
-use Rattle.alpha_token.proofs.Choices.{both}
-
--- a name that begins as a label and has no `/` is a whole label
-untrue : (a : Bool) → not a ≡ true → a ≡ false
-untrue true e = cc
-untrue false e = refl
-
-begins : (a c d : Bool) → (a || (c || d)) ≡ true → d ≡ false → (a || c) ≡ true
-begins true c d e f = refl
-begins false true d e f = refl
-begins false false d e f = let one : false ≡ true = sym f ∙ e in cc
-
-goes_on : (u l n c d f : Bool) → ((u || l) || c) ≡ true → (((n || u) || l) || (c || (d || f))) ≡ true
-goes_on true l true c d f e = refl
-goes_on true l false c d f e = refl
-goes_on false true true c d f e = refl
-goes_on false true false c d f e = refl
-goes_on false false true true d f e = refl
-goes_on false false false true d f e = refl
-goes_on false false n false d f e = cc
-
-all_go_on : (s : List ℕ) → list_all goes_on_name s ≡ true → list_all (λ b. not (eqb b 47)) s ≡ true → list_all goes_on_label s ≡ true
-all_go_on [] h k = refl
-all_go_on (b ∷ s) h k =
-    let (a, more) = both (goes_on_name b) (list_all goes_on_name s) h in
-    let (c, others) = both (not (eqb b 47)) (list_all (λ b. not (eqb b 47)) s) k in
-    rw (a, c) (all_go_on s more others)
-
-whole_label : (name : List ℕ) → IsNameText name → is_label name ≡ true → IsWholeLabel name
-whole_label [] t h = absurd t
-whole_label (b ∷ s) (first, others) h =
-    let (dot, slashes) = both (not (eqb b 46)) (list_all (λ c. not (eqb c 47)) (b ∷ s)) h in
-    let (slash, more) = both (not (eqb b 47)) (list_all (λ c. not (eqb c 47)) s) slashes in
-    let one : (is_ascii_alphabetic b || eqb b 95) ≡ true = begins (is_ascii_alphabetic b) (eqb b 95) (eqb b 46) first (untrue (eqb b 46) dot) in
-    let on : goes_on_name b ≡ true = goes_on (is_in_range 65 90 b) (is_in_range 97 122 b) (is_in_range 48 57 b) (eqb b 95) (eqb b 46) (eqb b 47) one in
-    rw (one, on, slash) (all_go_on s others more)
 
 -- a label's offset
 negated : (n : ℕ) → n < 2 ^ 31 → IsOffset (neg_ℤ (pos n))
@@ -108,38 +67,38 @@ Refers n o = IfSome o.label (IsLabel n) × IsOffset o.offset
 nothing-refers : (n : ℕ) → Refers n nothing
 nothing-refers n = (tt, lit≤ tt)
 
-filled-refers : (n : ℕ) (p : Piece) (t : Lexeme) (sign : Sign) (o r : Slots) → kind_of p ≡ t.kind → (t.kind ≡ kinds.Name → IsNameText t.text) → length t.text ≤ n → Refers n o → filled p t sign o ≡ Ok r → Refers n r
+filled-refers : (n : ℕ) (p : Piece) (t : Lexeme) (sign : Sign) (o r : Slots) → length t.text ≤ n → Refers n o → filled p t sign o ≡ Ok r → Refers n r
 unfolding filled
-filled-refers n pieces.Ra t sign o r same name size good h = let (v, e, k) = a_value (register_of t.text) UnknownName _ r h in rw (← k) good
-filled-refers n pieces.Rb t sign o r same name size good h = let (v, e, k) = a_value (register_of t.text) UnknownName _ r h in rw (← k) good
-filled-refers n pieces.Rc t sign o r same name size good h = let (v, e, k) = a_value (register_of t.text) UnknownName _ r h in rw (← k) good
-filled-refers n pieces.Operator t sign o r same name size good h = let (v, e, k) = a_value (operator_of t.text) UnknownName _ r h in rw (← k) good
-filled-refers n pieces.Label t sign o r same name size good h = let (b, k) = a_label (is_label t.text) _ r h in rw (← k) ((whole_label t.text (name (sym same)) b, size), good.1)
-filled-refers n pieces.Offset t sign o r same name size good h = let (v, e, k) = a_value (offset_of sign (number_value t.text)) OutOfRange _ r h in rw (← k) (good.0, offset_well sign (number_value t.text) v e)
-filled-refers n pieces.Text t sign o r same name size good h = rw (← a_given _ r h) good
-filled-refers n pieces.Comma t sign o r same name size good h = rw (← a_given _ r h) good
-filled-refers n pieces.Again t sign o r same name size good h = rw (← a_given _ r h) good
-filled-refers n pieces.Open t sign o r same name size good h = rw (← a_given _ r h) good
-filled-refers n pieces.Close t sign o r same name size good h = rw (← a_given _ r h) good
-filled-refers n pieces.Minus t sign o r same name size good h = rw (← a_given _ r h) good
-filled-refers n pieces.Plus t sign o r same name size good h = rw (← a_given _ r h) good
-filled-refers n pieces.Less t sign o r same name size good h = rw (← a_given _ r h) good
-filled-refers n pieces.Dot t sign o r same name size good h = rw (← a_given _ r h) good
-filled-refers n p t sign o r same name size good h = let (v, e, k) = a_value (number_of p sign (number_value t.text)) OutOfRange _ r h in rw (← k) good
+filled-refers n pieces.Ra t sign o r size good h = let (v, e, k) = a_value (register_of t.text) UnknownName _ r h in rw (← k) good
+filled-refers n pieces.Rb t sign o r size good h = let (v, e, k) = a_value (register_of t.text) UnknownName _ r h in rw (← k) good
+filled-refers n pieces.Rc t sign o r size good h = let (v, e, k) = a_value (register_of t.text) UnknownName _ r h in rw (← k) good
+filled-refers n pieces.Operator t sign o r size good h = let (v, e, k) = a_value (operator_of t.text) UnknownName _ r h in rw (← k) good
+filled-refers n pieces.Label t sign o r size good h = let (b, k) = a_label (is_label t.text) _ r h in rw (← k) ((b, size), good.1)
+filled-refers n pieces.Offset t sign o r size good h = let (v, e, k) = a_value (offset_of sign (number_value t.text)) OutOfRange _ r h in rw (← k) (good.0, offset_well sign (number_value t.text) v e)
+filled-refers n pieces.Text t sign o r size good h = rw (← a_given _ r h) good
+filled-refers n pieces.Comma t sign o r size good h = rw (← a_given _ r h) good
+filled-refers n pieces.Again t sign o r size good h = rw (← a_given _ r h) good
+filled-refers n pieces.Open t sign o r size good h = rw (← a_given _ r h) good
+filled-refers n pieces.Close t sign o r size good h = rw (← a_given _ r h) good
+filled-refers n pieces.Minus t sign o r size good h = rw (← a_given _ r h) good
+filled-refers n pieces.Plus t sign o r size good h = rw (← a_given _ r h) good
+filled-refers n pieces.Less t sign o r size good h = rw (← a_given _ r h) good
+filled-refers n pieces.Dot t sign o r size good h = rw (← a_given _ r h) good
+filled-refers n p t sign o r size good h = let (v, e, k) = a_value (number_of p sign (number_value t.text)) OutOfRange _ r h in rw (← k) good
 
-follow-refers : (n m : ℕ) (all : List Pattern) (front : Pattern) (sign : Sign) (ts : Tokens) (o r : Slots) → m ≤ n → Falls m ts → NamesWell ts → Refers n o → follow all front sign ts o ≡ Ok r → Refers n r
-follow-refers n m all front sign (End left) o r low falls names good h = rw (← (at_end (is_whole all front) o r left h).1) good
-follow-refers n m all front sign (Bad left) o r low falls names good h = cc
-follow-refers n m all front sign (Next t ts) o r low (left, some, behind) (name, more) good h =
+follow-refers : (n m : ℕ) (all : List Pattern) (front : Pattern) (sign : Sign) (ts : Tokens) (o r : Slots) → m ≤ n → Falls m ts → Refers n o → follow all front sign ts o ≡ Ok r → Refers n r
+follow-refers n m all front sign (End left) o r low falls good h = rw (← (at_end (is_whole all front) o r left h).1) good
+follow-refers n m all front sign (Bad left) o r low falls good h = cc
+follow-refers n m all front sign (Next t ts) o r low (left, some, behind) good h =
     let size : length t.text ≤ n = omega arith in
     let rest : length t.rest ≤ n = omega arith in
     let (p, e, g) = took t sign o (piece_behind all front t.kind) (λ p filled. follow all (front_after front p) (sign_after p) ts filled) r h in
     let (next, f, on) = went (left_of t) (filled p t sign o) (λ filled. follow all (front_after front p) (sign_after p) ts filled) r g in
-    follow-refers n (length t.rest) all (front_after front p) (sign_after p) ts next r rest behind more (filled-refers n p t sign o next (piece_behind-is all front t.kind p e).1 name size good f) on
+    follow-refers n (length t.rest) all (front_after front p) (sign_after p) ts next r rest behind (filled-refers n p t sign o next size good f) on
 
 operands-refer : (n : ℕ) (head : Head) (line : List ℕ) (o : Slots) → length line ≤ n → AreOperands (patterns (shape_of head)) (tokens line) o → Refers n o
 operands-refer n head line o low (q, c, s) =
-    follow-refers n (length line) (patterns (shape_of head)) [] signs.Plus (tokens line) nothing o low (tokens-fall line) (names_well line) (nothing-refers n)
+    follow-refers n (length line) (patterns (shape_of head)) [] signs.Plus (tokens line) nothing o low (tokens-fall line) (nothing-refers n)
     (spells-follow (patterns (shape_of head)) (shapes-distinct (shape_of head)) [] q signs.Plus (tokens line) nothing o c s)
 
 -- the values of a list
@@ -152,22 +111,22 @@ then_refers : (n : ℕ) (r : _) (more : Slots → Option (Slots × List ℕ)) (f
 then_refers n (Err why) more found good on h = cc
 then_refers n (Ok next) more found good on h = on next (good next refl) h
 
-up_refers : (n : ℕ) (t : Lexeme) (sign : Sign) (o : Slots) (x : Option Piece) (more : Piece → Slots → Option (Slots × List ℕ)) (found : Slots × List ℕ) → ((p : Piece) → x ≡ Some p → kind_of p ≡ t.kind)
-    → (t.kind ≡ kinds.Name → IsNameText t.text) → length t.text ≤ n → Refers n o → ((p : Piece) (next : Slots) → Refers n next → more p next ≡ Some found → Refers n found.0) → up_to_comma t sign o x more ≡ Some found → Refers n found.0
-up_refers n t sign o None more found same name size good on h = cc
-up_refers n t sign o (Some pieces.Again) more found same name size good on h =
+up_refers : (n : ℕ) (t : Lexeme) (sign : Sign) (o : Slots) (x : Option Piece) (more : Piece → Slots → Option (Slots × List ℕ)) (found : Slots × List ℕ)
+    → length t.text ≤ n → Refers n o → ((p : Piece) (next : Slots) → Refers n next → more p next ≡ Some found → Refers n found.0) → up_to_comma t sign o x more ≡ Some found → Refers n found.0
+up_refers n t sign o None more found size good on h = cc
+up_refers n t sign o (Some pieces.Again) more found size good on h =
     let e : o ≡ found.0 = ap (λ (x : Option (Slots × List ℕ)). option_map_or (λ f. f.0) x o) h in rw (← e) good
-up_refers n t sign o (Some p) more found same name size good on h =
-    then_refers n (filled p t sign o) (more p) found (λ next e. filled-refers n p t sign o next (same p refl) name size good e) (λ next. on p next) h
+up_refers n t sign o (Some p) more found size good on h =
+    then_refers n (filled p t sign o) (more p) found (λ next e. filled-refers n p t sign o next size good e) (λ next. on p next) h
 
-first-refers : (n m : ℕ) (all : List Pattern) (front : Pattern) (sign : Sign) (ts : Tokens) (o : Slots) (found : Slots × List ℕ) → m ≤ n → Falls m ts → NamesWell ts → Refers n o → first_operands all front sign ts o ≡ Some found → Refers n found.0
-first-refers n m all front sign (End left) o found low falls names good h = rw (← ended_is _ o found h) good
-first-refers n m all front sign (Bad left) o found low falls names good h = cc
-first-refers n m all front sign (Next t ts) o found low (left, some, behind) (name, more) good h =
+first-refers : (n m : ℕ) (all : List Pattern) (front : Pattern) (sign : Sign) (ts : Tokens) (o : Slots) (found : Slots × List ℕ) → m ≤ n → Falls m ts → Refers n o → first_operands all front sign ts o ≡ Some found → Refers n found.0
+first-refers n m all front sign (End left) o found low falls good h = rw (← ended_is _ o found h) good
+first-refers n m all front sign (Bad left) o found low falls good h = cc
+first-refers n m all front sign (Next t ts) o found low (left, some, behind) good h =
     let size : length t.text ≤ n = omega arith in
     let rest : length t.rest ≤ n = omega arith in
-    up_refers n t sign o (piece_behind all front t.kind) (λ p filled. first_operands all (front_after front p) (sign_after p) ts filled) found (λ p e. (piece_behind-is all front t.kind p e).1) name size good
-    (λ p next well on. first-refers n (length t.rest) all (front_after front p) (sign_after p) ts next found rest behind more well on) h
+    up_refers n t sign o (piece_behind all front t.kind) (λ p filled. first_operands all (front_after front p) (sign_after p) ts filled) found size good
+    (λ p next well on. first-refers n (length t.rest) all (front_after front p) (sign_after p) ts next found rest behind well on) h
 
 value-refers : (size : ℕ) (n : Option Number) (offset : ℤ) (name : Option (List ℕ)) (v : Listed) → IfSome name (IsLabel size) → IsOffset offset → value_in n offset name ≡ Some v → IsListedWell size v
 value-refers size n offset (Some name) v a b h = let e : listed_label name offset ≡ v = cc in rw (← e) (a, b)
@@ -185,7 +144,7 @@ first_found : (n : ℕ) (s : Shape) (list : List ℕ) (o : Option (Slots × List
     → option_and_then (λ found. option_map {U = Listed × List ℕ} (λ v. (v, found.1)) (value_of found.0)) o ≡ Some x → IsListedWell n x.0
 first_found n s list None x low e h = cc
 first_found n s list (Some found) x low e h =
-    found_value n found (value_of found.0) x refl (first-refers n (length list) (patterns s) [] signs.Plus (tokens list) nothing found low (tokens-fall list) (names_well list) (nothing-refers n) e) h
+    found_value n found (value_of found.0) x refl (first-refers n (length list) (patterns s) [] signs.Plus (tokens list) nothing found low (tokens-fall list) (nothing-refers n) e) h
 
 first_value-refers : (n : ℕ) (s : Shape) (list : List ℕ) (x : Listed × List ℕ) → length list ≤ n → first_value s list ≡ Some x → IsListedWell n x.0
 unfolding first_value
@@ -247,19 +206,19 @@ statement-refers n line (Next t ts) s low e (left, some, behind) (k, head, found
     let in_rest = in_list t.rest o.left in
     rw says (said_by-refers n head o _ (omega (arith, in_rest)) (operands-refer n head t.rest o rest (subst (λ (us : Tokens). AreOperands (patterns (shape_of head)) us o) (tokens-behind line t ts e) a)))
 
-labelled-well : (n : ℕ) (ts : Tokens) (l : LineSaid) → NamesWell ts → Falls n ts → IsLabelled ts → IsBehindLabel ts l → IsWell n l
-labelled-well n (End left) l names f there h = absurd h
-labelled-well n (Bad left) l names f there h = absurd h
-labelled-well n (Next t ts) l (name, more) (left, some, behind) (kind, colon) (good, is, s) =
+labelled-well : (n : ℕ) (ts : Tokens) (l : LineSaid) → Falls n ts → IsLabelled ts → IsBehindLabel ts l → IsWell n l
+labelled-well n (End left) l f there h = absurd h
+labelled-well n (Bad left) l f there h = absurd h
+labelled-well n (Next t ts) l (left, some, behind) there (good, is, s) =
     let rest : length (drop 1 t.rest) ≤ n = omega (arith, length-drop 1 t.rest) in
     let size : length t.text ≤ n = omega arith in
     record {
-      label = rw is (whole_label t.text (name kind) good, size);
+      label = rw is (good, size);
       statement = statement-refers n (drop 1 t.rest) (tokens (drop 1 t.rest)) l.statement rest refl (tokens-fall (drop 1 t.rest)) s;
     }
 
 line-well : (line : List ℕ) (l : LineSaid) → IsLine (tokens line) l → IsWell (length line) l
-line-well line l (inl (there, h)) = labelled-well (length line) (tokens line) l (names_well line) (tokens-fall line) there h
+line-well line l (inl (there, h)) = labelled-well (length line) (tokens line) l (tokens-fall line) there h
 line-well line l (inr (none, is, s)) = record { label = rw is tt; statement = statement-refers (length line) line (tokens line) l.statement (omega arith) refl (tokens-fall line) s }
 
 pub read-well : (line : List ℕ) (l : LineSaid) → read line ≡ Ok l → IsWell (length line) l

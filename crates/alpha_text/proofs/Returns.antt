@@ -13,7 +13,7 @@ use Rattle.alpha_table.specs.declared.rows.BranchOp.{BranchOp}
 use Rattle.alpha_table.specs.declared.form.Form.{Form}
 use Rattle.alpha_table.specs.Op.{op_row}
 use Rattle.alpha_token.specs.declared.token.TokenKind.TheVariants as kinds
-use Rattle.alpha_token.specs.Bytes.{is_blank}
+use Rattle.alpha_token.specs.Bytes.{is_blank, is_label}
 use Rattle.alpha_token.specs.Numeral.{number_value}
 use Rattle.alpha_token.specs.Tokens.{Lexeme, Tokens, End, Bad, Next, left_of, tokens}
 use Rattle.alpha_token.proofs.Returns.{returned, prefix-return, lexeme-returned, Returned, tokens-returned}
@@ -30,7 +30,7 @@ use Rattle.alpha_operands.specs.Names.{register_of, operator_of}
 use Rattle.alpha_operands.specs.Ranges.{number_of, offset_of}
 use Rattle.alpha_operands.specs.Pieces.{same_kind}
 use Rattle.alpha_operands.specs.Shapes.{Pattern, patterns}
-use Rattle.alpha_operands.specs.Operands.{Slots, nothing, is_label, between_quotes, with_value, filled}
+use Rattle.alpha_operands.specs.Operands.{Slots, nothing, between_quotes, with_value, filled}
 use Rattle.alpha_operands.specs.Walk.{is_whole, piece_behind, front_after, sign_after, go_on, taken, follow, operands}
 use Rattle.alpha_text.specs.declared.head.Own.{Own}
 use Rattle.alpha_text.specs.declared.head.Own.TheVariants as owns

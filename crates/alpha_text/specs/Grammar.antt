@@ -1,12 +1,13 @@
 -- The line grammar and the places of a line's faults, apart from how a line is read.
 use Rattle.std.specs.Prelude.{◌≡◌, ◌⊎◌, ℕ, ◌+◌, ◌-◌, List, true, false, Some, None, length, [], drop, slice_index}
+use Rattle.alpha_token.specs.Bytes.{is_label}
 use Rattle.alpha_token.specs.declared.token.TokenKind.TheVariants as kinds
 use Rattle.alpha_token.specs.Tokens.{Tokens, End, Bad, Next, left_of, tokens}
 use Rattle.alpha_operands.specs.declared.number.Sign.TheVariants as signs
 use Rattle.alpha_operands.specs.declared.operands.LineFaultKind.TheVariants.{BadToken, UnknownName, BadOperands}
 use Rattle.alpha_operands.specs.declared.walk.OperandFault.{OperandFault}
 use Rattle.alpha_operands.specs.Shapes.{patterns}
-use Rattle.alpha_operands.specs.Operands.{Slots, is_label}
+use Rattle.alpha_operands.specs.Operands.{Slots}
 use Rattle.alpha_operands.specs.Grammar.{AreOperands, AmongTokens, HasFault, NoLater, fault_at}
 use Rattle.alpha_text.specs.declared.head.Head.{Head}
 use Rattle.alpha_text.specs.declared.reader.LineFault.{LineFault}

@@ -3,13 +3,13 @@ use Rattle.std.specs.Prelude.{ℕ, List, Bool, Option, None, Some, Result, Ok, E
 use Rattle.std.specs.Option.{option_map}
 use Rattle.std.specs.List.{prefix_len}
 use Rattle.alpha_token.specs.declared.token.TokenKind.TheVariants as kinds
-use Rattle.alpha_token.specs.Bytes.{is_blank}
+use Rattle.alpha_token.specs.Bytes.{is_blank, is_label}
 use Rattle.alpha_token.specs.Tokens.{Lexeme, Tokens, End, Bad, Next, left_of, tokens}
 use Rattle.alpha_operands.specs.declared.operands.LineFaultKind.TheVariants.{BadToken, UnknownName, BadOperands}
 use Rattle.alpha_operands.specs.declared.walk.OperandFault.{OperandFault}
 use Rattle.alpha_operands.specs.Pieces.{same_kind}
 use Rattle.alpha_operands.specs.Shapes.{patterns}
-use Rattle.alpha_operands.specs.Operands.{Slots, is_label}
+use Rattle.alpha_operands.specs.Operands.{Slots}
 use Rattle.alpha_operands.specs.Walk.{operands, stuck_at}
 use Rattle.alpha_operands.specs.Grammar.{fault_at}
 use Rattle.alpha_text.specs.declared.head.Head.{Head}

@@ -1,35 +1,21 @@
 -- What a line says of the labels that it defines and names.
-use Rattle.std.specs.Prelude.{⊤, ◌≡◌, ◌≤◌, ◌<◌, ◌^◌, ◌+◌, ◌==◌, ◌||◌, ◌&&◌, ℕ, ℤ, pos, negsuc, List, [], ◌∷◌, length, Bool, true, false, not, IfSome}
-use Rattle.std.specs.List.{list_all, AllByRecursion}
-use Rattle.std.specs.Char.{is_ascii_alphabetic}
+use Rattle.std.specs.Prelude.{⊤, ◌≡◌, ◌≤◌, ◌<◌, ◌^◌, ◌+◌, ℕ, ℤ, pos, negsuc, List, length, true, IfSome}
+use Rattle.std.specs.List.{AllByRecursion}
 use Rattle.alpha_table.specs.declared.form.Form.{Form}
 use Rattle.alpha_table.specs.declared.form.Form.TheVariants.{Mem, Branch}
-use Rattle.alpha_token.specs.Bytes.{goes_on_name}
+use Rattle.alpha_token.specs.Bytes.{is_label}
 use Rattle.alpha_operands.specs.Values.{Listed, number, label as listed_label, AreValuesOf}
 use Rattle.alpha_text.specs.Statements.{Said, target, high, low, entry_label, values}
 use Rattle.alpha_text.specs.Reading.{LineSaid}
-
--- a name that begins with a letter or `_`
-abbrev pub begins_label : List ℕ → Bool
-begins_label [] = false
-begins_label (b ∷ s) = is_ascii_alphabetic b || b == 95
-
--- what goes on a name but `/`
-abbrev pub goes_on_label : ℕ → Bool
-goes_on_label b = goes_on_name b && not (b == 47)
-
--- a letter or `_`, and then letters, digits, `_` and `.`
-abbrev pub IsWholeLabel : List ℕ → Type 0
-IsWholeLabel name = (begins_label name && list_all goes_on_label name) ≡ true
 
 -- from -(2 ^ 31 - 1) to 2 ^ 31 - 1
 abbrev pub IsOffset : ℤ → Type 0
 IsOffset (pos n) = n < 2 ^ 31
 IsOffset (negsuc n) = n + 1 < 2 ^ 31
 
--- a whole label of at most n bytes
+-- a label of at most n bytes
 abbrev pub IsLabel : ℕ → List ℕ → Type 0
-IsLabel n name = IsWholeLabel name × (length name ≤ n)
+IsLabel n name = (is_label name ≡ true) × (length name ≤ n)
 
 abbrev pub IsReference : ℕ → List ℕ → ℤ → Type 0
 IsReference n name offset = IsLabel n name × IsOffset offset

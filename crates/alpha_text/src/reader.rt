@@ -10,8 +10,8 @@ ghost use Rattle.alpha_text.specs.Reading.{item_said, list_in, with_operands, na
 use crate::Statement;
 use crate::head::Head;
 use crate::statement::of_head;
-use alpha_operands::{LineFaultKind, OperandFault, is_label, stuck_at};
-use alpha_token::{Step, Token, TokenKind, next, without_blanks};
+use alpha_operands::{LineFaultKind, OperandFault, stuck_at};
+use alpha_token::{Step, Token, TokenKind, is_label, next, without_blanks};
 
 /// What a line says.
 #[derive(Clone, Copy, Debug)]

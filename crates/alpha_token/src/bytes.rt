@@ -1,8 +1,8 @@
 ghost use Rattle.std.specs.Prelude.{◌≡◌, ◌≤◌, ◌-◌, length, take, drop};
-ghost use Rattle.std.specs.List.{prefix_len};
+ghost use Rattle.std.specs.List.{list_all, prefix_len};
 ghost use Rattle.std.specs.Str.Lines.{strip_carriage_return};
 ghost use Rattle.std.specs.Char.{is_ascii_alphabetic, is_ascii_alphanumeric, is_ascii_digit, is_ascii_hexdigit};
-ghost use Rattle.alpha_token.specs.Bytes.{is_blank, begins_name, goes_on_name};
+ghost use Rattle.alpha_token.specs.Bytes.{is_blank, begins_label, goes_on_label, is_label, begins_name, goes_on_name};
 
 /// Whether a byte is a blank: a space or a tab.
 #[inline(always)]
@@ -12,16 +12,46 @@ pub fn is_blank(b: u8) -> bool
     b == b' ' || b == b'\t'
 }
 
+/// Whether a byte begins a label: a letter or `_`.
+#[inline(always)]
+pub fn begins_label(b: u8) -> bool
+    ensures { result ≡ begins_label b }
+{
+    b.is_ascii_alphabetic() || b == b'_'
+}
+
+fn goes_on_label(b: u8) -> bool
+    ensures { result ≡ goes_on_label b }
+{
+    b.is_ascii_alphanumeric() || b == b'_' || b == b'.'
+}
+
+fn go_on_label(bytes: &[u8]) -> bool
+    ensures { result ≡ list_all goes_on_label bytes.now }
+{
+    bytes.iter().all(|b| goes_on_label(*b))
+}
+
+/// Whether bytes are a label: a letter or `_`, and then letters, digits, `_` and `.`.
+pub fn is_label(name: &[u8]) -> bool
+    ensures { result ≡ is_label name.now }
+{
+    match name {
+        [] => false,
+        [first, others @ ..] => begins_label(*first) && go_on_label(others),
+    }
+}
+
 pub(crate) fn begins_name(b: u8) -> bool
     ensures { result ≡ begins_name b }
 {
-    b.is_ascii_alphabetic() || b == b'_' || b == b'.'
+    begins_label(b) || b == b'.'
 }
 
 fn goes_on_name(b: u8) -> bool
     ensures { result ≡ goes_on_name b }
 {
-    b.is_ascii_alphanumeric() || b == b'_' || b == b'.' || b == b'/'
+    goes_on_label(b) || b == b'/'
 }
 
 /// A line without the one carriage return at its end, if it has one.

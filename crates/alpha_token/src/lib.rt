@@ -4,6 +4,7 @@
 //!   the line's end or comment, or a byte that begins no token. Tokens are the longest possible.
 //! - [`number`] is the value of a number's text, [`next_byte`] the first byte that the text of a
 //!   string stands for.
+//! - [`is_label`] tells the names that a label may have, and [`begins_label`] the first byte of one.
 //! - [`is_blank`] tells the bytes between tokens, and [`without_return`] takes a line's carriage return off.
 //! - [`laws_of_strings`] says that what stands between the quotes of a string is read to its end.
 //!
@@ -17,7 +18,7 @@ mod numeral;
 mod quoted;
 mod token;
 
-pub use bytes::{is_blank, without_return};
+pub use bytes::{begins_label, is_blank, is_label, without_return};
 pub use laws::laws_of_strings;
 pub use numeral::number;
 pub use quoted::next_byte;

@@ -15,7 +15,6 @@ use Rattle.alpha_imprecise.specs.Made.{begun, ShownWild, LostTrap, shown_making,
 use Rattle.alpha_imprecise.specs.Free.{run_making_over}
 use Rattle.alpha_imprecise.proofs.FreeFilling.{filled}
 use Rattle.alpha_imprecise.proofs.FreeDrawing.{free_draws}
-use Rattle.alpha_cmd.specs.declared.status.Status.TheVariants.{ShelfFault}
 use Rattle.alpha_cmd.specs.declared.status.Status.TheVariants as statuses
 use Rattle.alpha_cmd.specs.Outcome.{goes, Then, Gives}
 use Rattle.alpha_cmd.specs.Image.{Reads, ImageOf, Judges}

@@ -16,14 +16,14 @@ pub(crate) fn module_of(alloc: Global, source: &[u8]) -> Result<Vec<u8>, Stop>
     ensures { Computes (Modules source.now) (λ bytes. bytes.items) result }
 {
     match make_module(alloc, source) {
-        Ok(module) => spelled(alloc, &module),
+        Ok(module) => spelled_module(alloc, &module),
         Err(AsmFault::NoMemory) => Err(Stop::Said(Status::NoMemory)),
         Err(fault) => Err(Stop::Said(Status::BadSource(fault))),
     }
 }
 
 // The spelling of a module whose code is accepted.
-fn spelled(alloc: Global, module: &Module<'_>) -> Result<Vec<u8>, Stop>
+fn spelled_module(alloc: Global, module: &Module<'_>) -> Result<Vec<u8>, Stop>
     ensures { Computes (Spells «module».now) (λ bytes. bytes.items) result }
 {
     match verdict(module) {

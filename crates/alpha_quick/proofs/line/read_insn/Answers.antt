@@ -3,12 +3,12 @@ use Rattle.std.specs.Option.{option_map}
 use Rattle.alpha_token.specs.Tokens.{tokens}
 use Rattle.alpha_text.specs.Statements.{code}
 use Rattle.alpha_quick.specs.Rest.{IsBehind}
-use Rattle.alpha_quick.proofs.Parts.{label_parts, named_line, bare_line}
+use Rattle.alpha_quick.proofs.Parts.{label_goes_on, named_line, bare_line}
 use Rattle.alpha_quick.proofs.line.read_insn.Goals as goal
 use Rattle.alpha_quick.proofs.line.read_insn.Goals.{then-lead, else-lead}
 
 pub with_trap-whole-requires-clause-key : goal.with_trap-whole-requires-clause-key
-with_trap-whole-requires-clause-key c = ((label_parts c.of-cut.result.front.name.now c.of-cut.ensures.name).0, c.of-cut.ensures.key)
+with_trap-whole-requires-clause-key c = (label_goes_on c.of-cut.result.front.name.now c.of-cut.ensures.name, c.of-cut.ensures.key)
 
 pub returns-then-is_some-clause-rest : goal.returns-then-is_some-clause-rest
 returns-then-is_some-clause-rest c =

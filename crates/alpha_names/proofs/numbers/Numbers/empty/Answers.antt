@@ -1,4 +1,4 @@
-use Rattle.std.proofs.Common.{◌≡◌, ℕ, ap}
+use Rattle.std.proofs.Common.{ap}
 use Rattle.alpha_names.specs.Tree.{slot_in}
 use Rattle.alpha_names.specs.Hashes.{quick_hash}
 use Rattle.alpha_names.specs.Finder.{taken_or, number_in_crowd}

@@ -1,4 +1,3 @@
-use Rattle.std.proofs.Common.{◌≡◌}
 use Rattle.alpha_names.specs.declared.others.Others.{Others}
 use Rattle.alpha_names.proofs.Finding.{grows_other}
 use Rattle.alpha_names.proofs.others.Others.add.Goals as goal

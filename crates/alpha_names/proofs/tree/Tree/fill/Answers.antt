@@ -1,5 +1,4 @@
-use Rattle.std.proofs.Common.{◌≡◌, ◌%◌, ℕ, refl, ap, sym, subst}
-use Rattle.std.specs.Prelude.{OnOk}
+use Rattle.std.proofs.Common.{◌%◌, refl, ap, sym, subst}
 use Rattle.alpha_names.specs.Tree.{slot_of, HasNumber, Fills, slot_in}
 use Rattle.alpha_names.specs.declared.tree.Entry.{Entry}
 use Rattle.alpha_names.proofs.Searching.{has_number}

@@ -1,6 +1,6 @@
 use Rattle.std.proofs.Common.{◌≡◌, ◌≤◌, ◌-◌, true, length, take}
 use Rattle.std.specs.List.{list_all}
-use Rattle.alpha_text.specs.References.{goes_on_label}
+use Rattle.alpha_token.specs.Bytes.{goes_on_label}
 use Rattle.alpha_quick.specs.Keys.{key_of}
 use Rattle.alpha_quick.proofs.front.Front.of.Given as goal
 

@@ -1,6 +1,6 @@
 use Rattle.std.proofs.Common.{false, refl}
 use Rattle.alpha_pal.proofs.Serving.{write_bad_descriptor, write_bad_range, write_done, false_with}
-use Rattle.alpha_pal.proofs.serve.Request.write.Goals as goal
+use Rattle.alpha_pal.proofs.serve.SystemCall.write.Goals as goal
 
 pub returns-then-self-ne-OUTPUT-clause-effect : goal.returns-then-self-ne-OUTPUT-clause-effect
 returns-then-self-ne-OUTPUT-clause-effect g c =

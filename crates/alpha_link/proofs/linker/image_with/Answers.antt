@@ -4,7 +4,7 @@ use Rattle.alpha_image.specs.declared.version.Version.TheVariants.{One}
 use Rattle.alpha_image.specs.Fields.{level_numbers}
 use Rattle.alpha_asm.specs.Program.{program_of, program_with}
 use Rattle.alpha_asm.proofs.Making.{insns_of_words}
-use Rattle.alpha_link.proofs.linker.image_of.Goals as goal
+use Rattle.alpha_link.proofs.linker.image_with.Goals as goal
 
 pub returns : goal.returns
 returns c =

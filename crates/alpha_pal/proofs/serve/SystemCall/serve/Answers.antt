@@ -1,6 +1,6 @@
 use Rattle.std.proofs.Common.{◌≢◌, refl, arith}
 use Rattle.alpha_pal.proofs.Serving.{Serves-exit, Serves-none}
-use Rattle.alpha_pal.proofs.serve.Request.serve.Goals as goal
+use Rattle.alpha_pal.proofs.serve.SystemCall.serve.Goals as goal
 
 pub returns-in-1-clause-effect : goal.returns-in-1-clause-effect
 returns-in-1-clause-effect g c = (λ o. Serves-exit c.args.self c.args.mem.now c.in-1.is o, refl, refl, refl)

@@ -1,6 +1,6 @@
 use Rattle.std.proofs.Common.{refl}
 use Rattle.alpha_pal.proofs.Serving.{read_bad_descriptor, read_bad_range, read_done, read_failed, false_with}
-use Rattle.alpha_pal.proofs.serve.Request.read.Goals as goal
+use Rattle.alpha_pal.proofs.serve.SystemCall.read.Goals as goal
 
 pub returns-then-self-ne-INPUT-clause-effect : goal.returns-then-self-ne-INPUT-clause-effect
 returns-then-self-ne-INPUT-clause-effect g c =
