@@ -1,9 +1,7 @@
 -- What a name and the words behind it say.
 use Rattle.std.proofs.Common.{◌≡◌, ◌⊎◌, ℕ, ℤ, pos, List, Option, Some, None, IfSome, Ok, refl, sym, ◌∙◌, ap, subst, inl, inr}
 use Rattle.std.specs.Prelude.{length, true, false}
-use Rattle.std.specs.Option.{unwrap_or}
 use Rattle.alpha_table.specs.Op.{op_row}
-use Rattle.alpha_table.specs.Row.{OperandsFit}
 use Rattle.alpha_table.specs.declared.names.Mnemonic.{Mnemonic}
 use Rattle.alpha_table.specs.declared.names.Mnemonic.TheVariants as mnemonics
 use Rattle.alpha_table.specs.declared.form.Form.{Form}
@@ -34,11 +32,11 @@ use Rattle.alpha_text.specs.declared.head.Head.TheVariants as heads
 use Rattle.alpha_text.specs.declared.head.Own.{Own}
 use Rattle.alpha_text.specs.declared.head.Own.TheVariants as owns
 use Rattle.alpha_text.specs.Heads.{branch_shape, operate_shape}
-use Rattle.alpha_text.specs.Statements.{Said, code, target, half_said, operate_form, own_said, link, move_number}
+use Rattle.alpha_text.specs.Statements.{Said, code, target, half_said, operate_form, own_said, link, move_number, operation_of}
 use Rattle.alpha_text.specs.Reading.{list_in}
 use Rattle.alpha_text.specs.Behind.{Says, SaysBy}
 use Rattle.alpha_quick.specs.declared.forms.Lead.{Lead}
-use Rattle.alpha_quick.specs.Parts.{StandsFor, IsAlone, operation_of}
+use Rattle.alpha_quick.specs.Parts.{StandsFor, IsAlone}
 use Rattle.alpha_quick.specs.Lead.{Reaches, Leads}
 use Rattle.alpha_quick.specs.Words.{HasComma, HasNumber, HasEnd, HasSigned, HasFirst, HasPair, HasUnary, HasBinary, HasJump, HasLast, HasLastBase, HasTail, HasTarget, HasAddress, HasDistance}
 
@@ -253,14 +251,6 @@ unfolding operands patterns filled
 says_alone (mnemonics.Misc op) i line is e = (nothing, rw e.1, ap code (sym is))
 says_alone (mnemonics.Pal call) i line is e = (nothing, rw e.1, ap code (sym is))
 says_alone row i line is e = absurd is
-
--- the operation of a pseudo-operation takes any operands
-any_rule : (own : Own) → (op_row (unwrap_or (operation_of own) Bis)).operands ≡ rules.Any
-any_rule owns.Mov = refl
-any_rule own = refl
-
-pub takes_any : (own : Own) (op : Op) (ra : ℕ) (src : Src) → operation_of own ≡ Some op → OperandsFit (op_row op).operands ra src
-takes_any own op ra src e = let same : unwrap_or (operation_of own) Bis ≡ op = rw e in rw (← same, any_rule own) tt
 
 pub stands_pair : (own : Own) (op : Op) (rb rc : ℕ) (line : List ℕ) → operation_of own ≡ Some op → HasPair line rb rc → StandsFor own line (Operate op 31 (Reg rb) rc)
 unfolding operands patterns filled

@@ -4,8 +4,6 @@ use Rattle.alpha_table.specs.declared.form.Form.{Form}
 use Rattle.alpha_table.specs.declared.form.Form.TheVariants.{Misc, Pal}
 use Rattle.alpha_table.specs.declared.names.Mnemonic.{Mnemonic}
 use Rattle.alpha_table.specs.declared.names.Mnemonic.TheVariants as mnemonics
-use Rattle.alpha_table.specs.declared.op.Op.{Op}
-use Rattle.alpha_table.specs.declared.op.Op.TheVariants.{Bis, Ornot, Subl, Subq, SublV, SubqV, Addl}
 use Rattle.alpha_token.specs.Bytes.{goes_on_label}
 use Rattle.alpha_token.specs.Tokens.{tokens}
 use Rattle.alpha_operands.specs.declared.piece.Piece.{Piece}
@@ -24,17 +22,6 @@ use Rattle.alpha_text.specs.Reading.{LineSaid}
 -- the instruction that a pseudo-operation stands for with the operands behind it
 abbrev pub StandsFor : Own → List ℕ → Form → Type 0
 StandsFor own behind i = (o : Slots) × (operands (patterns (own_shape own)) (tokens behind) ≡ Ok o) × (pseudo_form own o ≡ Some i)
-
--- the operation that a pseudo-operation of two registers stands for
-abbrev pub operation_of : Own → Option Op
-operation_of owns.Mov = Some Bis
-operation_of owns.Not = Some Ornot
-operation_of owns.Negl = Some Subl
-operation_of owns.Negq = Some Subq
-operation_of owns.NeglV = Some SublV
-operation_of owns.NegqV = Some SubqV
-operation_of owns.Sextl = Some Addl
-operation_of own = None
 
 -- how many bytes a value of a directive has, and the piece of its numbers
 abbrev pub values_of : Own → Option (ℕ × Piece)

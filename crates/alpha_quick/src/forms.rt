@@ -4,13 +4,10 @@ ghost use Rattle.std.specs.Prelude.{◌≡◌, List, ℕ, IfSome, true, false};
 ghost use Rattle.alpha_table.specs.Op.{op_row};
 ghost use Rattle.alpha_table.specs.declared.names.Mnemonic.TheVariants as mnemonics;
 ghost use Rattle.alpha_table.specs.declared.op.OperandRule.TheVariants as rules;
-ghost use Rattle.alpha_table.specs.declared.form.Form.TheVariants.{Operate};
-ghost use Rattle.alpha_table.specs.declared.form.Src.TheVariants as sources;
-ghost use Rattle.alpha_table.specs.declared.op.Op.TheVariants.{Bis};
 ghost use Rattle.alpha_text.specs.declared.head.Own.TheVariants as owns;
 ghost use Rattle.alpha_text.specs.Statements.{code};
 ghost use Rattle.alpha_text.specs.Behind.{Says};
-ghost use Rattle.alpha_quick.specs.Parts.{StandsFor, IsAlone, operation_of};
+ghost use Rattle.alpha_quick.specs.Parts.{StandsFor, IsAlone};
 ghost use Rattle.alpha_quick.specs.Lead.{Leads};
 ghost use Rattle.alpha_quick.specs.Words.{HasFirst};
 
@@ -18,7 +15,9 @@ use crate::groups::{binary, distance, first, jump, last, last_base, pair, tail, 
 use crate::words::{comma, is_end, number, signed};
 use alpha_operands::{Number, Piece, Sign, number_at};
 use alpha_table::{BranchOp, Form, Insn, JumpKind, MemOp, Mnemonic, Op, OperandRule, Src};
-use alpha_text::{Own, link, move_number};
+use alpha_text::{
+    Own, RETURN_HINT, cleared, link, move_number, of_no_source, of_zero, operation, return_register,
+};
 use alpha_words::Reg;
 
 /// An instruction that a name gives with the words behind it, or with their front: then what is left of them names
@@ -186,8 +185,7 @@ fn bare(kind: JumpKind, words: &[u8]) -> Option<Insn>
 {
     match kind {
         JumpKind::Ret => {
-            let rb = Reg::new(26)?;
-            let (ra, hint) = (Reg::ZERO, 1);
+            let (ra, rb, hint) = (Reg::ZERO, return_register(), RETURN_HINT);
             if is_end(words) {
                 Insn::of(Form::Jump { kind, ra, rb, hint })
             } else {
@@ -218,8 +216,7 @@ fn one_source(op: Op, words: &[u8]) -> Option<Insn>
     let Some((src, rc)) = unary(words) else {
         return None;
     };
-    let ra = Reg::ZERO;
-    Some(Insn::operate(op, ra, src, rc))
+    Some(of_zero(op, src, rc))
 }
 
 // An operate instruction of one source that is a register.
@@ -229,8 +226,7 @@ fn one_register(op: Op, words: &[u8]) -> Option<Insn>
     ensures { IfSome result (λ i. Says (mnemonics.Operate op) words.now (code i)) }
 {
     let registers = pair(words)?;
-    let (ra, src, rc) = (Reg::ZERO, Src::Reg(registers.rb), registers.rc);
-    Some(Insn::operate(op, ra, src, rc))
+    Some(of_zero(op, Src::Reg(registers.rb), registers.rc))
 }
 
 // An operate instruction of no source.
@@ -240,8 +236,7 @@ fn no_source(op: Op, words: &[u8]) -> Option<Insn>
     ensures { IfSome result (λ i. Says (mnemonics.Operate op) words.now (code i)) }
 {
     let rc = last(words)?;
-    let (ra, src) = (Reg::ZERO, Src::Lit(1));
-    Some(Insn::operate(op, ra, src, rc))
+    Some(of_no_source(op, rc))
 }
 
 // An operate instruction that doesn't have two sources.
@@ -330,23 +325,6 @@ fn move_of_number(words: &[u8]) -> Option<Insn>
     Some(move_number(n, rc))
 }
 
-// The operation that a pseudo-operation of two registers stands for.
-#[inline(always)]
-fn operation(own: Own) -> Option<Op>
-    ensures { result ≡ operation_of own }
-{
-    match own {
-        Own::Mov => Some(Op::Bis),
-        Own::Not => Some(Op::Ornot),
-        Own::Negl => Some(Op::Subl),
-        Own::Negq => Some(Op::Subq),
-        Own::NeglV => Some(Op::SublV),
-        Own::NegqV => Some(Op::SubqV),
-        Own::Sextl => Some(Op::Addl),
-        _ => None,
-    }
-}
-
 // A pseudo-operation of two registers.
 #[inline(always)]
 fn paired(own: Own, words: &[u8]) -> Option<Insn>
@@ -354,16 +332,7 @@ fn paired(own: Own, words: &[u8]) -> Option<Insn>
 {
     let op = operation(own)?;
     let registers = pair(words)?;
-    let (ra, src, rc) = (Reg::ZERO, Src::Reg(registers.rb), registers.rc);
-    Some(Insn::operate(op, ra, src, rc))
-}
-
-// The instruction that sets a register to 0.
-#[inline(always)]
-fn cleared(rc: Reg) -> Insn
-    ensures { result ≡ Operate Bis 31 (sources.Reg 31) rc }
-{
-    Insn::operate(Op::Bis, Reg::ZERO, Src::Reg(Reg::ZERO), rc)
+    Some(of_zero(op, Src::Reg(registers.rb), registers.rc))
 }
 
 // `nop`.

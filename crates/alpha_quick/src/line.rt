@@ -3,6 +3,7 @@
 ghost use Rattle.std.specs.Prelude.{◌≡◌, ◌≤◌, ◌++◌, IfSome, IfOk, IfErr, Ok, length, true};
 ghost use Rattle.std.specs.List.{list_all};
 ghost use Rattle.std.specs.Option.{option_map};
+ghost use Rattle.alpha_token.specs.Bytes.{goes_on_label};
 ghost use Rattle.alpha_token.specs.Tokens.{tokens};
 ghost use Rattle.alpha_operands.specs.Operands.{Gives};
 ghost use Rattle.alpha_text.specs.Behind.{IsApart};

@@ -1,6 +1,6 @@
 -- What a statement says: from its name and its operands.
 use Rattle.std.specs.Prelude.{ℕ, ℤ, pos, negsuc, List, [], Option, None, Some, if◌then◌else◌, nat_le}
-use Rattle.std.specs.Option.{unwrap_or}
+use Rattle.std.specs.Option.{unwrap_or, option_map}
 use Rattle.alpha_words.specs.declared.PalCall.{PalCall}
 use Rattle.alpha_words.specs.declared.PalCall.TheVariants.{Bpt}
 use Rattle.alpha_table.specs.declared.names.Mnemonic.{Mnemonic}
@@ -173,20 +173,25 @@ abbrev pub entry_said : Slots → Option (List ℕ) → Said
 entry_said o (Some label) = entry_label label o.offset
 entry_said o None = entry_at (whole_in o.number)
 
+-- the operation that a pseudo-operation of one register stands for, with R31 as its first source
+abbrev pub operation_of : Own → Option Op
+operation_of owns.Mov = Some Bis
+operation_of owns.Not = Some Ornot
+operation_of owns.Negl = Some Subl
+operation_of owns.Negq = Some Subq
+operation_of owns.NeglV = Some SublV
+operation_of owns.NegqV = Some SubqV
+operation_of owns.Sextl = Some Addl
+operation_of own = None
+
 -- the instruction that a pseudo-operation, or `call_pal`, stands for
 abbrev pub pseudo_form : Own → Slots → Option Form
 pseudo_form owns.Mov o = Some (move_said o o.number)
 pseudo_form owns.Clr o = Some (Operate Bis 31 (Reg 31) (reg o.rc))
 pseudo_form owns.Nop o = Some (Operate Bis 31 (Reg 31) 31)
 pseudo_form owns.Unop o = Some (Mem LdqU 31 30 (pos 0))
-pseudo_form owns.Not o = Some (of_zero Ornot o)
-pseudo_form owns.Negl o = Some (of_zero Subl o)
-pseudo_form owns.Negq o = Some (of_zero Subq o)
-pseudo_form owns.NeglV o = Some (of_zero SublV o)
-pseudo_form owns.NegqV o = Some (of_zero SubqV o)
-pseudo_form owns.Sextl o = Some (of_zero Addl o)
 pseudo_form owns.CallPal o = Some (Pal (call_in o.number))
-pseudo_form _ o = None
+pseudo_form own o = option_map (λ op. of_zero op o) (operation_of own)
 
 -- the statement of a directive; `list` is the text from the first operand to the end of the last
 abbrev pub directive_said : Own → Slots → List ℕ → Said

@@ -1,7 +1,10 @@
 ghost use Rattle.std.specs.Prelude.{◌≡◌, ◌<◌, ◌^◌, IfSome};
 ghost use Rattle.std.specs.Option.{unwrap_or};
-ghost use Rattle.alpha_table.specs.Row.{IsInsn, IsSigned, IsSource};
+ghost use Rattle.alpha_table.specs.Row.{IsInsn, IsSigned, IsSource, OperandsFit};
 ghost use Rattle.alpha_table.specs.Op.{op_row};
+ghost use Rattle.alpha_table.specs.declared.form.Form.TheVariants.{Operate};
+ghost use Rattle.alpha_table.specs.declared.form.Src.TheVariants.{Lit};
+ghost use Rattle.alpha_table.specs.declared.op.OperandRule.TheVariants.{Version};
 ghost use Rattle.alpha_operands.specs.Ranges.{IsNumber};
 ghost use Rattle.alpha_operands.specs.Operands.{slots};
 ghost use Rattle.alpha_text.specs.Statements.{said, displacement_in, words_in, hint_in, jump_hint, jump_form, half_said, source_in, memory_said, branch_said, link, operate_form, insn_said, reg};
@@ -10,6 +13,9 @@ use crate::Statement;
 use alpha_operands::{Expr, Half, Number, Operands};
 use alpha_table::{BranchOp, Form, Insn, JumpKind, MemOp, Mnemonic, Op, OperandRule, Src};
 use alpha_words::Reg;
+
+/// The hint of `ret` alone.
+pub const RETURN_HINT: u16 = 1;
 
 // The instruction of a form whose fields are within their row.
 pub(crate) fn insn(form: Form) -> Insn
@@ -114,12 +120,20 @@ fn words(number: Option<Number>) -> i32
     }
 }
 
+/// R26, which holds a return address: `bsr` writes it where its line names no register, and `ret` alone jumps by it.
+#[inline(always)]
+pub fn return_register() -> Reg
+    ensures { result ≡ 26 }
+{
+    numbered(26)
+}
+
 /// The register that a branch writes where its line names none: R26 for `bsr`, and R31 for all others.
 pub fn link(op: BranchOp) -> Reg
     ensures { result ≡ link op }
 {
     match op {
-        BranchOp::Bsr => numbered(26),
+        BranchOp::Bsr => return_register(),
         _ => Reg::ZERO,
     }
 }
@@ -165,7 +179,7 @@ fn jump_hint(rb: Option<Reg>, number: Option<Number>) -> u16
 {
     match rb {
         Some(_) => hint(number),
-        None => 1,
+        None => RETURN_HINT,
     }
 }
 
@@ -175,7 +189,7 @@ fn jump(kind: JumpKind, o: &Operands<'_>) -> Insn
     ensures { result ≡ jump_form kind (slots o.now) }
 {
     let ra = reg(o.ra);
-    let rb = register(o.rb, numbered(26));
+    let rb = register(o.rb, return_register());
     let hint = jump_hint(o.rb, o.number);
     insn(Form::Jump { kind, ra, rb, hint })
 }
@@ -191,6 +205,24 @@ fn source(number: Option<Number>, rb: Option<Reg>) -> Src
     }
 }
 
+/// An operate instruction whose first source is R31.
+#[inline(always)]
+pub fn of_zero(op: Op, src: Src, rc: Reg) -> Insn
+    requires { OperandsFit (op_row op).operands 31 src }
+    ensures { result ≡ Operate op 31 src rc }
+{
+    Insn::operate(op, Reg::ZERO, src, rc)
+}
+
+/// An operate instruction of no source: its first is R31, and its second 1.
+#[inline(always)]
+pub fn of_no_source(op: Op, rc: Reg) -> Insn
+    requires { (op_row op).operands ≡ Version }
+    ensures { result ≡ Operate op 31 (Lit 1) rc }
+{
+    of_zero(op, Src::Lit(1), rc)
+}
+
 // An operate instruction.
 fn operate(op: Op, o: &Operands<'_>) -> Insn
     ensures { result ≡ operate_form (op_row op).operands op (slots o.now) }
@@ -204,28 +236,13 @@ fn operate(op: Op, o: &Operands<'_>) -> Insn
         }
         OperandRule::Unary => {
             let src = source(o.number, o.rb);
-            insn(Form::Operate {
-                op,
-                ra: Reg::ZERO,
-                src,
-                rc,
-            })
+            of_zero(op, src, rc)
         }
         OperandRule::UnaryRegister => {
             let src = Src::Reg(reg(o.rb));
-            insn(Form::Operate {
-                op,
-                ra: Reg::ZERO,
-                src,
-                rc,
-            })
+            of_zero(op, src, rc)
         }
-        OperandRule::Version => insn(Form::Operate {
-            op,
-            ra: Reg::ZERO,
-            src: Src::Lit(1),
-            rc,
-        }),
+        OperandRule::Version => of_no_source(op, rc),
     }
 }
 

@@ -1,30 +1,17 @@
-ghost use Rattle.std.specs.Prelude.{◌≡◌};
-ghost use Rattle.alpha_table.specs.Row.{IsSource};
+ghost use Rattle.std.specs.Prelude.{◌≡◌, IfSome};
 ghost use Rattle.alpha_table.specs.Op.{op_row};
 ghost use Rattle.alpha_table.specs.declared.form.Form.TheVariants.{Operate};
+ghost use Rattle.alpha_table.specs.declared.form.Src.TheVariants as sources;
+ghost use Rattle.alpha_table.specs.declared.op.Op.TheVariants.{Bis};
 ghost use Rattle.alpha_table.specs.declared.op.OperandRule.TheVariants.{Any};
 ghost use Rattle.alpha_operands.specs.Operands.{slots};
-ghost use Rattle.alpha_text.specs.Statements.{call_in, move_number, move_said, of_zero, pseudo_form};
+ghost use Rattle.alpha_text.specs.Statements.{call_in, move_number, move_said, of_zero, operation_of, pseudo_form};
 
 use crate::head::Own;
-use crate::instruction::{insn, numbered, reg};
+use crate::instruction::{insn, numbered, of_zero, reg};
 use alpha_operands::{Number, Operands};
 use alpha_table::{Form, Insn, MemOp, Op, Src};
 use alpha_words::{PalCall, Reg};
-
-// An operation whose first source is R31.
-fn of_zero(op: Op, src: Src, rc: Reg) -> Insn
-    requires rule { (op_row op).operands ≡ Any }
-    requires source { IsSource src }
-    ensures { result ≡ Operate op 31 src rc }
-{
-    insn(Form::Operate {
-        op,
-        ra: Reg::ZERO,
-        src,
-        rc,
-    })
-}
 
 // An operation of a register, whose first source is R31.
 fn of_register(op: Op, o: &Operands<'_>) -> Insn
@@ -34,6 +21,33 @@ fn of_register(op: Op, o: &Operands<'_>) -> Insn
     let src = Src::Reg(reg(o.rb));
     let rc = reg(o.rc);
     of_zero(op, src, rc)
+}
+
+/// The operation that a pseudo-operation of one register stands for, with R31 as its first source. `None` of all
+/// others.
+#[inline(always)]
+pub fn operation(own: Own) -> Option<Op>
+    ensures value { result ≡ operation_of own }
+    ensures rule { IfSome result (λ op. (op_row op).operands ≡ Any) }
+{
+    match own {
+        Own::Mov => Some(Op::Bis),
+        Own::Not => Some(Op::Ornot),
+        Own::Negl => Some(Op::Subl),
+        Own::Negq => Some(Op::Subq),
+        Own::NeglV => Some(Op::SublV),
+        Own::NegqV => Some(Op::SubqV),
+        Own::Sextl => Some(Op::Addl),
+        _ => None,
+    }
+}
+
+/// The instruction that sets a register to 0, `clr`, and that of R31, `nop`.
+#[inline(always)]
+pub fn cleared(rc: Reg) -> Insn
+    ensures { result ≡ Operate Bis 31 (sources.Reg 31) rc }
+{
+    of_zero(Op::Bis, Src::Reg(Reg::ZERO), rc)
 }
 
 /// The instruction that `mov` of a number stands for: that of a literal where it is one, and else of an address.
@@ -78,24 +92,18 @@ pub(crate) fn of_pseudo(own: Own, o: &Operands<'_>) -> Option<Insn>
 {
     match own {
         Own::Mov => Some(moved(o)),
-        Own::Clr => {
-            let rc = reg(o.rc);
-            Some(of_zero(Op::Bis, Src::Reg(Reg::ZERO), rc))
-        }
-        Own::Nop => Some(of_zero(Op::Bis, Src::Reg(Reg::ZERO), Reg::ZERO)),
+        Own::Clr => Some(cleared(reg(o.rc))),
+        Own::Nop => Some(cleared(Reg::ZERO)),
         Own::Unop => Some(insn(Form::Mem {
             op: MemOp::LdqU,
             ra: Reg::ZERO,
             rb: numbered(30),
             disp: 0,
         })),
-        Own::Not => Some(of_register(Op::Ornot, o)),
-        Own::Negl => Some(of_register(Op::Subl, o)),
-        Own::Negq => Some(of_register(Op::Subq, o)),
-        Own::NeglV => Some(of_register(Op::SublV, o)),
-        Own::NegqV => Some(of_register(Op::SubqV, o)),
-        Own::Sextl => Some(of_register(Op::Addl, o)),
         Own::CallPal => Some(insn(Form::Pal(call(o.number)))),
-        _ => None,
+        _ => {
+            let op = operation(own)?;
+            Some(of_register(op, o))
+        }
     }
 }
