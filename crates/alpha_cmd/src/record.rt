@@ -21,7 +21,7 @@ ghost use Rattle.alpha_cmd.specs.Kept.{Serves};
 use crate::Status;
 use crate::decision::Decision;
 use crate::devices::Devices;
-use crate::imprecise::{ImpreciseCall, Begun, prepared};
+use crate::imprecise::{Begun, ImpreciseCall, prepared};
 use alpha_io::{Failed, Shelf, Sink, Source};
 use alpha_replay::{Journal, JournalEnd, journal_bytes, make_journal};
 use alpha_request::RunOptions;
