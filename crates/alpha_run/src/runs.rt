@@ -64,7 +64,11 @@ fn hasten<M: Steps, O: Observer>(machine: &mut M, observer: &mut O, left: &mut u
     ensures same { M.stays machine.old machine.new }
     ensures ready { M.ready machine.new }
 {
-    let count = machine.rush(observer.room().min(*left));
+    let room = observer.room();
+    if room == 0 {
+        return;
+    }
+    let count = machine.rush(room.min(*left));
     observer.pass(count);
     *left -= count;
 }
