@@ -83,15 +83,6 @@ follow_more segments i end end' d up within clear e =
     let clears : clears end s ≡ true = grind (arith, nat_tests) in
     rw (drop-cons segments i d within, add-one, e) (follow-cons end s (drop (suc i) segments) (bases_above segments i d up within) clears)
 
--- a segment that begins before the end
-pub follow_none : (segments : List Segment) (i end : ℕ) (d : Segment) → i < length segments
-    → 0 < size_of_segment (get_or segments i d) → (get_or segments i d).base < end
-    → follow end (drop i segments) ≡ false
-follow_none segments i end d within some before =
-    let s = get_or segments i d in
-    let clears : clears end s ≡ false = grind (arith, nat_tests) in
-    rw (drop-cons segments i d within, clears) refl
-
 -- a region that meets a segment
 pub meets_one : (r : Region) (segments : List Segment) (i : ℕ) (d : Segment) → i < length segments → are_apart r (segment_region (get_or segments i d)) ≡ false → list_all (are_apart r) (map segment_region segments) ≡ false
 meets_one r segments i d within e =

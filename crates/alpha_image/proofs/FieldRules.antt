@@ -88,13 +88,6 @@ zeroed_bytes_decide n =
     Decides-and (nat_le (sum_by size_of_segment n.segments) 16777216) (list_all (λ s. nat_le (s.base + size_of_segment s) (2 ^ 30)) n.segments)
     (at_most_decides (sum_by size_of_segment n.segments) 16777216) (ends_decide n.segments)
 
--- the ends of segments that pass the test
-pub zeroed_bytes_fit-ends : (segments : List Segment) → IsTrue (zeroed_bytes_fit segments) → All (λ s. s.base + size_of_segment s ≤ 2 ^ 30) segments
-unfolding zeroed_bytes_fit
-zeroed_bytes_fit-ends segments t =
-    let both = Decides-and (nat_le (sum_by size_of_segment segments) 16777216) (list_all (λ s. nat_le (s.base + size_of_segment s) (2 ^ 30)) segments) (at_most_decides (sum_by size_of_segment segments) 16777216) (ends_decide segments) in
-    (both.0 t).1
-
 stack_bytes_decide : (n : Numbers) → IsTrue (stack_bytes_fit n.stack) ↔ StackBytesFit n
 unfolding stack_bytes_fit
 stack_bytes_decide n = (λ t. grind (arith, nat_tests), λ r. grind (arith, nat_tests))

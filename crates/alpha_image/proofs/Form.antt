@@ -172,11 +172,6 @@ pub Refuses-form_fault : (e : ImageFault) (bytes : List ℕ) → e ≢ NoMemory 
 unfolding first_fault
 Refuses-form_fault e bytes ne h = Refuses-option_or e (form_fault bytes) (word_fault (numbered_level (numbers_of bytes).level) (words_in bytes)) ne h
 
--- a fault at the front is the fault of the form
-pub Refuses-front_fault : (e : ImageFault) (bytes : List ℕ) → e ≢ NoMemory → Refuses e (front_fault (version_of bytes) bytes) → Refuses e (form_fault bytes)
-unfolding form_fault
-Refuses-front_fault e bytes ne h = Refuses-option_or e (front_fault (version_of bytes) bytes) _ ne h
-
 -- behind a good form the first fault is that of the words
 pub first_fault-words : (bytes : List ℕ) → form_fault bytes ≡ None → word_fault (numbered_level (numbers_of bytes).level) (words_in bytes) ≡ first_fault bytes
 unfolding first_fault

@@ -159,11 +159,6 @@ unfolding front quadword longword
 length-front One n = refl
 length-front Two n = omega (arith, length-append (flat_map segment_numbers n.segments) [], length-segment_numbers n.segments)
 
-pub starts-front : (v : Version) (n : Numbers) (rest : List ℕ) → front v n ++ rest ≡ magic v ++ drop 8 (front v n ++ rest)
-unfolding front
-starts-front One n rest = refl
-starts-front Two n rest = refl
-
 -- the other way round
 segment_numbers-in : (bytes : List ℕ) → IsBytes bytes → 16 ≤ length bytes → segment_numbers (segment_in bytes) ++ drop 16 bytes ≡ bytes
 segment_numbers-in bytes fits long =

@@ -2,7 +2,7 @@
 use Rattle.std.proofs.Common.{◌≡◌, ℕ, zero, suc, ◌+◌, ◌*◌, ◌/◌, ◌%◌, ◌^◌, ◌<◌, ◌≤◌, List, [], ◌∷◌, ◌++◌, length, get_or, take, drop, inl, inr, refl, sym, ap, ◌∙◌, arith}
 use Rattle.std.specs.Int.{byte_at, bytes_low_first}
 use Rattle.std.proofs.Math.Nat.{div-div-eq-div-mul, pow-succ'}
-use Rattle.std.proofs.lemmas.List.{drop_at, drop-drop, take-append-drop, get_or-drop, get_or-take, get_or_past, length-take, length-drop}
+use Rattle.std.proofs.lemmas.List.{drop-drop, take-append-drop, get_or-drop, get_or-take, get_or_past, length-take, length-drop}
 use Rattle.std.proofs.lemmas.Bool.{cases_lt}
 use Rattle.byteorder.specs.Endian.{little_from}
 use Rattle.byteorder.specs.Numbers.{little_from-cons, little_from-lt, little_number-reads_back}
@@ -51,10 +51,6 @@ bytes_of_number (suc n) (b ∷ bytes) fits long =
     let lowest : (b + 256 * y) % 256 ≡ b = omega arith in
     rw (moved, lowest, bytes_low_first-above n 0 b y small, bytes_of_number n bytes (IsBytes-rest b bytes fits) (omega arith)) refl
 
-pub length-quadword : (n : ℕ) → length (quadword n) ≡ 8
-unfolding quadword
-length-quadword n = refl
-
 pub length-longword : (n : ℕ) → length (longword n) ≡ 4
 unfolding longword
 length-longword n = refl
@@ -87,11 +83,6 @@ pub longword_at-front : (bytes : List ℕ) (offset n : ℕ) (rest : List ℕ) �
 unfolding longword longword_at
 longword_at-front bytes offset n rest e small =
     ap (λ (t : List ℕ). little_from 0 4 t) e ∙ little_number-reads_back 4 n rest small
-
--- what stands behind a part
-pub drop-part : (bytes part rest : List ℕ) (offset n next : ℕ) → drop offset bytes ≡ part ++ rest → length part ≡ n → next ≡ offset + n → drop next bytes ≡ rest
-drop-part bytes part rest offset n next e len at =
-    ap (λ (k : ℕ). drop k bytes) at ∙ (sym (drop-drop n offset bytes) ∙ (ap (drop n) e ∙ drop_at part rest n len))
 
 -- a number, and what stands behind it
 pub drop-quadword : (bytes : List ℕ) (offset next : ℕ) → IsBytes bytes → next ≤ length bytes → next ≡ offset + 8 → drop offset bytes ≡ quadword (quadword_at offset bytes) ++ drop next bytes

@@ -4,11 +4,11 @@ use Rattle.alpha_table.specs.Class.{Class}
 use Rattle.alpha_pal.specs.Kernel.{KernelState}
 use Rattle.alpha_seq.specs.declared.machine.Machine.{Machine}
 use Rattle.alpha_seq.specs.State.{Program}
-use Rattle.alpha_seq.specs.Machine.{program_of, state_of}
+use Rattle.alpha_seq.specs.Machine.{state_of}
 use Rattle.alpha_imprecise.specs.Moment.{Trap, Choice, Happening, Precisely, Triggered, Waited, Reported, Lost}
 use Rattle.alpha_imprecise.specs.Run.{WildRun, finished, advance_wild}
 use Rattle.alpha_imprecise.specs.Made.{Making, advance_making, steps_making}
-use Rattle.alpha_imprecise.specs.Wild.{WildState, bare, begun_at}
+use Rattle.alpha_imprecise.specs.Wild.{bare}
 use Rattle.alpha_imprecise.specs.Free.{Free, wild_over, advance_free, run_free, making_over, advance_making_over, run_making_over, kernel_by, kernel_made, kernel_making_over, lefts_making}
 use Rattle.alpha_imprecise.proofs.Making.{making_step}
 use Rattle.alpha_imprecise.proofs.Settling.{advance-over}
@@ -30,13 +30,6 @@ kernel_making-last g (first ∷ inputs) input k kernel =
 pub advance_making_over-going : (g : Program) (k : Making) (input : List ℕ) → finished k.run.last ≡ false
     → advance_making_over g k input ≡ advance_making g (making_over input k)
 advance_making_over-going g k input going = ap (λ b. cond b k (advance_making g (making_over input k))) going
-
--- the input at the beginning is that of no step
-pub begun-any : (w : WildState) (bytes words : List ℕ) (inputs : List (List ℕ)) (input : List ℕ)
-    → run_making_over (program_of w.machine) (inputs ++ input ∷ []) (begun_at w bytes [] words)
-    ≡ run_making_over (program_of w.machine) (inputs ++ input ∷ []) (begun_at w [] [] words)
-begun-any w bytes words [] input = refl
-begun-any w bytes words (first ∷ inputs) input = refl
 
 -- ---- where the input is told
 

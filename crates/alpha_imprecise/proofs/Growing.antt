@@ -1,6 +1,5 @@
 -- What a run by coming words has put and noted stays, and more may follow.
-use Rattle.std.proofs.Common.{◌≡◌, ◌≤◌, ◌<◌, ◌+◌, ◌||◌, ℕ, zero, suc, Bool, true, false, cond, not, Option, None, Some, sym, subst, ⊎_elim, arith}
-use Rattle.std.proofs.Math.Nat.{eq-or-lt_of_le}
+use Rattle.std.proofs.Common.{◌||◌, ℕ, Bool, true, false, cond, not, Option, None, Some}
 use Rattle.alpha_table.specs.declared.columns.MemAccess.{MemAccess}
 use Rattle.alpha_table.specs.Class.{Class, operate, trigger, address, load, store, load_locked, store_conditional, branch, jump, barrier, idle}
 use Rattle.alpha_values.specs.TrapOp.{stops}
@@ -12,8 +11,8 @@ use Rattle.alpha_imprecise.specs.Moment.{Trap, Choice, Moment}
 use Rattle.alpha_imprecise.specs.Step.{triggers, landed, can_wait, spoilt, spoilt_conditional, wild_at}
 use Rattle.alpha_imprecise.proofs.Landed.{report_at}
 use Rattle.alpha_imprecise.specs.Run.{finished, wild_marks}
-use Rattle.alpha_imprecise.specs.Chosen.{most_waited, draw, chosen}
-use Rattle.alpha_imprecise.specs.Made.{Making, extended_making, advance_making, is_settled, settled_within, made}
+use Rattle.alpha_imprecise.specs.Chosen.{draw, chosen}
+use Rattle.alpha_imprecise.specs.Made.{Making, extended_making, advance_making}
 
 -- ---- steps
 
@@ -86,26 +85,3 @@ advance_begins g k =
       output = wild-more g (next_class g k.run.state.pc) k.run.state k.run.pending d.choice;
       trace = Grows-by k.run.trace (wild_marks m.happened m.state);
     })
-
-pub within_begins : (fuel : ℕ) (g : Program) (k : Making) → Begins k (settled_within fuel g k)
-within_begins zero g k = begins_same k
-within_begins (suc fuel) g k =
-    let next = advance_making g k in
-    begins_either (is_settled k) k k (settled_within fuel g next) (begins_same k)
-    (begins_then k next (settled_within fuel g next) (advance_begins g k) (within_begins fuel g next))
-
--- a run of fewer units begins one of more
-pub made_begins : (g : Program) (k : Making) (m n : ℕ) → n ≤ m → Begins (made g k n) (made g k m)
-made_begins g k zero n h =
-    let same : n ≡ 0 = omega (arith, h) in
-    subst (λ j. Begins (made g k j) (made g k 0)) (sym same) (begins_same (made g k 0))
-made_begins g k (suc m) n h =
-    ⊎_elim
-    (λ (same : n ≡ suc m). subst (λ j. Begins (made g k j) (made g k (suc m))) (sym same) (begins_same (made g k (suc m))))
-    (λ (below : n < suc m).
-    let there : n ≤ m = omega (arith, below) in
-    let l = made g k m in
-    let next = advance_making g l in
-    begins_then (made g k n) l (made g k (suc m)) (made_begins g k m n there)
-    (begins_then l next (made g k (suc m)) (advance_begins g l) (within_begins (most_waited + 1) g next)))
-    (eq-or-lt_of_le h)

@@ -1,6 +1,6 @@
 -- Laws of a count of faults over one call and over calls in a row.
-use Rattle.std.proofs.Common.{◌≡◌, ℕ, ◌≤◌, Err, ⊎_elim, arith}
-use Rattle.alpha_io.specs.Faults.{next_count, Rose, Calm, HasCause, HasCauseOr}
+use Rattle.std.proofs.Common.{◌≡◌, ℕ, ◌≤◌, arith}
+use Rattle.alpha_io.specs.Faults.{next_count, Rose, Calm}
 
 pub Rose-next_count : (before : ℕ) → Rose before (next_count before)
 Rose-next_count before = omega arith
@@ -30,11 +30,3 @@ Calm-second before middle now first second calm = record { same = omega arith; b
 
 pub Calm-trans : (before middle now : ℕ) → Calm before middle → Calm middle now → Calm before now
 Calm-trans before middle now first second = record { same = omega arith; below = omega arith }
-
--- a call that failed by a fault wasn't calm
-pub HasCause-calm : {T E : Type 0} (before now : ℕ) (e : E) → HasCause {T = T} before now (Err e) → Calm before now → ⊥
-HasCause-calm before now e cause calm = Rose-not_calm before now cause.err calm
-
--- a call that failed while the count was calm was refused
-pub HasCauseOr-calm : {T E : Type 0} (refused : Type 0) (before now : ℕ) (e : E) → HasCauseOr {T = T} refused before now (Err e) → Calm before now → refused
-HasCauseOr-calm refused before now e cause calm = ⊎_elim (λ (rose : Rose before now). absurd (Rose-not_calm before now rose calm)) (λ (h : refused). h) cause.err

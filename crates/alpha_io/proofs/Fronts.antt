@@ -1,7 +1,7 @@
 -- The front of a file that was read so far.
 use Rattle.std.specs.Prelude.{⊤}
-use Rattle.std.proofs.Common.{◌≡◌, ℕ, ◌+◌, ◌<◌, ◌≤◌, List, [], ◌++◌, length, take, drop, Option, None, Some, IsSomeAnd, sym, ap, ◌∙◌, refl, arith, length-take, length-append, take-add, take_all}
-use Rattle.alpha_io.specs.Files.{Files, IfTold, HasFile, IsPiece}
+use Rattle.std.proofs.Common.{◌≡◌, ℕ, ◌+◌, List, [], ◌++◌, length, take, drop, Option, None, Some, IsSomeAnd, sym, ap, ◌∙◌, arith, length-append, take-add}
+use Rattle.alpha_io.specs.Files.{Files, IfTold, IsPiece}
 
 -- of a file that isn't there nothing was read
 abbrev pub FrontOf : Option (List ℕ) → List ℕ → Type 0
@@ -12,14 +12,6 @@ FrontOf (Some file) front = take (length front) file ≡ front
 abbrev pub IsFront : Files → List ℕ → List ℕ → Type 0
 IsFront None name front = ⊤
 IsFront (Some files) name front = FrontOf (files name) front
-
-FrontOf-start : (o : Option (List ℕ)) → FrontOf o []
-FrontOf-start None = refl
-FrontOf-start (Some file) = refl
-
-pub IsFront-start : (a : Files) (name : List ℕ) → IsFront a name []
-IsFront-start None name = tt
-IsFront-start (Some files) name = FrontOf-start (files name)
 
 FrontOf-more : (o : Option (List ℕ)) (front : List ℕ) (at n : ℕ) (buffer : List ℕ) → at ≡ length front → n ≡ length (take n buffer) → FrontOf o front
     → IsSomeAnd o (λ file. IsPiece file at n buffer) → FrontOf o (front ++ take n buffer)
@@ -34,25 +26,3 @@ pub IsFront-more : (a : Files) (name front : List ℕ) (at n : ℕ) (buffer : Li
     → IfTold a name (λ file. IsPiece file at n buffer) → IsFront a name (front ++ take n buffer)
 IsFront-more None name front at n buffer here whole before piece = tt
 IsFront-more (Some files) name front at n buffer here whole before piece = FrontOf-more (files name) front at n buffer here whole before piece
-
-FrontOf-whole : (o : Option (List ℕ)) (front : List ℕ) (at n : ℕ) (buffer : List ℕ) → at ≡ length front → n ≡ 0 → FrontOf o front
-    → IsSomeAnd o (λ file. IsPiece file at n buffer) → IsSomeAnd o (λ file. file ≡ front)
-FrontOf-whole None front at n buffer here none before piece = piece
-FrontOf-whole (Some file) front at n buffer here none before piece =
-    let past : length file ≤ length front = omega (arith, piece.end.0 none) in
-    sym (take_all (length front) file past) ∙ before
-
--- where no byte is left, the front is the whole file
-pub IsFront-whole : (a : Files) (name front : List ℕ) (at n : ℕ) (buffer : List ℕ) → at ≡ length front → n ≡ 0 → IsFront a name front
-    → IfTold a name (λ file. IsPiece file at n buffer) → HasFile a name front
-IsFront-whole None name front at n buffer here none before piece = tt
-IsFront-whole (Some files) name front at n buffer here none before piece = FrontOf-whole (files name) front at n buffer here none before piece
-
-FrontOf-longer : (o : Option (List ℕ)) (front : List ℕ) (limit : ℕ) → limit < length front → FrontOf o front → IsSomeAnd o (λ file. limit < length file)
-FrontOf-longer None front limit longer before = absurd (omega (arith, ap length before))
-FrontOf-longer (Some file) front limit longer before = omega (arith, ap length before, length-take (length front) file)
-
--- a file is no shorter than its front
-pub IsFront-longer : (a : Files) (name front : List ℕ) (limit : ℕ) → limit < length front → IsFront a name front → IfTold a name (λ file. limit < length file)
-IsFront-longer None name front limit longer before = tt
-IsFront-longer (Some files) name front limit longer before = FrontOf-longer (files name) front limit longer before

@@ -1,6 +1,6 @@
 -- Calls in a row on a new file.
-use Rattle.std.proofs.Common.{◌∙◌, ℕ, List, [], ◌∷◌, ◌++◌, Option, None, Some, Result, Ok, Err, OnErr, refl, ap, subst, append_assoc}
-use Rattle.alpha_io.specs.Keeping.{Call, Wrote, Synced, Renamed, Removed, Failed, Adds, Makes, BreaksOff, GivesUp}
+use Rattle.std.proofs.Common.{◌∙◌, ℕ, List, [], ◌∷◌, ◌++◌, Option, None, Some, Result, Ok, Err, OnErr, refl, ap, append_assoc}
+use Rattle.alpha_io.specs.Keeping.{Call, Wrote, Synced, Renamed, Failed, Adds, Makes, BreaksOff}
 
 -- first these calls, then those
 pub Adds-then : (a b c : Option (List Call)) (xs ys : List Call) → Adds a b xs → Adds b c ys → Adds a c (xs ++ ys)
@@ -32,14 +32,6 @@ off_rename a b c d bytes (Err e) wrote synced renamed = record {
   calls = Adds-then a c d (Wrote bytes ∷ Synced ∷ []) (Failed ∷ []) (Adds-then a b c (Wrote bytes ∷ []) (Synced ∷ []) wrote synced) renamed;
 }
 
--- a new file that was removed behind that
-pub gives_up : (a b c : Option (List Call)) (bytes : List ℕ) → BreaksOff a b bytes → Adds b c (Removed ∷ []) → GivesUp a c bytes
-gives_up a b c bytes off removed = record {
-  done = off.done;
-  next = off.next;
-  rest = off.rest;
-  front = off.front;
-  calls = subst (Adds a c) (append_assoc off.done (Failed ∷ []) (Removed ∷ [])) (Adds-then a b c (off.done ++ Failed ∷ []) (Removed ∷ []) off.calls removed);
 }
 
 -- what holds anyhow holds where a call failed

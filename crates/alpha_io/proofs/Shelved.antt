@@ -38,14 +38,6 @@ Lacks-kept None (Some g) name p h = absurd p
 Lacks-kept (Some f) None name p h = absurd p
 Lacks-kept (Some f) (Some g) name p h = sym (p name) ∙ h
 
-IfSomeAnd-holds : (o : Option (List ℕ)) (P Q : List ℕ → Type 0) → ((file : List ℕ) → P file → Q file) → IsSomeAnd o P → IsSomeAnd o Q
-IfSomeAnd-holds None P Q f h = h
-IfSomeAnd-holds (Some file) P Q f h = f file h
-
-pub IfTold-weaker : (a : Files) (name : List ℕ) (P Q : List ℕ → Type 0) → ((file : List ℕ) → P file → Q file) → IfTold a name P → IfTold a name Q
-IfTold-weaker None name P Q f h = tt
-IfTold-weaker (Some g) name P Q f h = IfSomeAnd-holds (g name) P Q f h
-
 absent : (o : Option (List ℕ)) (P : List ℕ → Type 0) → o ≡ None → IsSomeAnd o P → ⊥
 absent None P none h = h
 absent (Some file) P none h = cc
@@ -63,21 +55,4 @@ KeepsOtherFiles-after_kept (Some f) None c name p q = absurd p
 KeepsOtherFiles-after_kept (Some f) (Some g) None name p q = q
 KeepsOtherFiles-after_kept (Some f) (Some g) (Some h) name p q = λ other differs. q other differs ∙ p other
 
-pub KeepsOtherFiles-kept_after : (a b c : Files) (name : List ℕ) → KeepsOtherFiles a b name → KeepsFiles b c → KeepsOtherFiles a c name
-KeepsOtherFiles-kept_after None None None name p q = tt
-KeepsOtherFiles-kept_after None None (Some h) name p q = q
-KeepsOtherFiles-kept_after None (Some g) c name p q = absurd p
-KeepsOtherFiles-kept_after (Some f) None c name p q = absurd p
-KeepsOtherFiles-kept_after (Some f) (Some g) None name p q = q
-KeepsOtherFiles-kept_after (Some f) (Some g) (Some h) name p q = λ other differs. q other ∙ p other differs
-
 -- ---- where files are told
-
--- told files stay told, and each name has what it had
-pub KeepsFiles-told : (f : List ℕ → Option (List ℕ)) (new : Files) → KeepsFiles (Some f) new → (g : List ℕ → Option (List ℕ)) × (new ≡ Some g) × ((name : List ℕ) → g name ≡ f name)
-KeepsFiles-told f None p = absurd p
-KeepsFiles-told f (Some g) p = (g, refl, p)
-
--- a name that is told to be there has its bytes
-pub IfTold-there : (f : List ℕ → Option (List ℕ)) (name file : List ℕ) (P : List ℕ → Type 0) → f name ≡ Some file → IfTold (Some f) name P → P file
-IfTold-there f name file P there h = subst (λ o. IsSomeAnd o P) there h

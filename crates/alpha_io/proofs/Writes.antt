@@ -1,5 +1,5 @@
 -- Laws of what was written, over calls in a row.
-use Rattle.std.proofs.Common.{◌≡◌, ℕ, List, [], ◌++◌, take, drop, Option, None, Some, refl, sym, ap, ◌∙◌, subst, append_assoc, append-nil, take-append-drop}
+use Rattle.std.proofs.Common.{◌≡◌, ℕ, List, [], ◌++◌, take, drop, Option, None, Some, refl, sym, ap, ◌∙◌, append_assoc, append-nil, take-append-drop}
 use Rattle.std.specs.Io.KnownBytes.{Appends, Keeps}
 use Rattle.std.proofs.KnownBytes.{Appends-nil, Appends-trans, Appends-kept}
 use Rattle.alpha_io.specs.Written.{WritesPrefix}
@@ -36,22 +36,12 @@ pub record WritesFront (old new : Option (List ℕ)) (bytes rest : List ℕ) : T
   pub whole : done ++ rest ≡ bytes
   pub written : Appends old new done
 
-pub WritesFront-start : (a : Option (List ℕ)) (bytes : List ℕ) → WritesFront a a bytes bytes
-WritesFront-start a bytes = record { done = []; whole = refl; written = Appends-nil a }
-
 pub WritesFront-more : (a b c : Option (List ℕ)) (bytes rest : List ℕ) (n : ℕ) → WritesFront a b bytes rest → Appends b c (take n rest) → WritesFront a c bytes (drop n rest)
 WritesFront-more a b c bytes rest n front more = record {
   done = front.done ++ take n rest;
   whole = append_assoc front.done (take n rest) (drop n rest) ∙ ap (λ l. front.done ++ l) (take-append-drop n rest) ∙ front.whole;
   written = Appends-trans a b c front.done (take n rest) front.written more;
 }
-
-pub WritesFront-prefix : (a b c : Option (List ℕ)) (bytes rest : List ℕ) → WritesFront a b bytes rest → Keeps b c → WritesPrefix a c bytes
-WritesFront-prefix a b c bytes rest front stays = record { done = front.done; rest = rest; whole = front.whole; written = Appends-kept a b c front.done front.written stays }
-
-pub WritesFront-end : (a b : Option (List ℕ)) (bytes rest : List ℕ) → WritesFront a b bytes rest → rest ≡ [] → Appends a b bytes
-WritesFront-end a b bytes rest front none =
-    subst (Appends a b) (sym (append-nil front.done) ∙ ap (λ l. front.done ++ l) (sym none) ∙ front.whole) front.written
 
 -- ---- where the bytes are told
 

@@ -1,6 +1,5 @@
 -- Numbers of names that are found in two trees and a map, and what another number changes of them.
 use Rattle.std.proofs.Common.{◌≡◌, ℕ, List, Bool, true, false, cond, Option, None, Some, if◌then◌else◌, refl, ap, sym, ◌∙◌, Result, Ok, Err}
-use Rattle.std.proofs.Math.Path.{fun_ext}
 use Rattle.std.specs.Prelude.{OnOk, OnErr, IfOk}
 use Rattle.std.specs.Borrow.{Bor}
 use Rattle.std.specs.BTreeMap.{get_by}
@@ -77,11 +76,6 @@ keeps_elsewhere slot hash before behind keeps = λ is_right name number e.
     stage_keeps is_right (seek_in slot (hash name)) (seek_in slot (hash name)) (before is_right name) (behind is_right name) number
     (λ l f g. g) (keeps is_right name number) e
 
-pub keeps_same : (old new : ℕ → Slot) (hash : List ℕ → ℕ) (elsewhere : Finder) → ((place : ℕ) → new place ≡ old place) →
-    Keeps (found_by old hash elsewhere) (found_by new hash elsewhere)
-keeps_same old new hash elsewhere same = λ is_right name number e.
-    ap (λ (f : ℕ → Slot). taken_or is_right (seek_in f (hash name)) (elsewhere is_right name)) (fun_ext same) ∙ e
-
 -- the number of a name has been put into the map
 abbrev pub Puts : Others → Others → List ℕ → ℕ → Type 0
 Puts old new added number = (q : Bor (List ℕ)) → get_by (λ n. slice_cmp nat_cmp q.now n.now) new.numbers
@@ -105,10 +99,6 @@ grows_other old new name number puts = (
       ∙ ap (λ (b : Bool). if b then Some number else None) only.0,
 )
 
-pub on_ok : {X E : Type 0} (r : Result X E) (P Q : Type 0) → (P → Q) → OnOk r P → OnOk r Q
-on_ok (Ok x) P Q f h = f h
-on_ok (Err e) P Q f h = tt
-
 pub on_err : {X E : Type 0} (r : Result X E) (P Q : Type 0) → (P → Q) → OnErr r P → OnErr r Q
 on_err (Ok x) P Q f h = tt
 on_err (Err e) P Q f h = f h
@@ -117,13 +107,6 @@ pub not_free : (l : Look) → ((place : ℕ) → l ≡ Free place → ⊥) → i
 not_free (Free place) h = absurd (h place refl)
 not_free (Taken number) h = refl
 not_free Deep h = refl
-
--- what is found where the tree has no right number
-pub passes : (is_right : ℕ → Bool) (l : Look) (elsewhere : Option ℕ) → ((place : ℕ) → l ≡ Free place → ⊥) → ((number : ℕ) → l ≡ Taken number → is_right number ≡ false) →
-    taken_or is_right l elsewhere ≡ elsewhere
-passes is_right (Free place) elsewhere taken wrong = absurd (taken place refl)
-passes is_right (Taken number) elsewhere taken wrong = ap (λ (b : Bool). if b then Some number else elsewhere) (wrong number refl)
-passes is_right Deep elsewhere taken wrong = refl
 
 pub if_ok : {X E : Type 0} (r : Result X E) (P Q : X → Type 0) → ((x : X) → P x → Q x) → IfOk r P → IfOk r Q
 if_ok (Ok x) P Q f h = f x h

@@ -138,9 +138,6 @@ at_one left a b f g e k h = rw (e, k) (inr (refl, h))
 pub further : (left : ℕ) (a : LineFaultKind) (f g : OperandFault) → f ≡ fault_at left a → g.left < left → NoLater f g
 further left a f g e h = rw e (inl h)
 
-unknown_least : (a : LineFaultKind) → a ≡ UnknownName → (b : LineFaultKind) → b ≡ UnknownName → kind_order a ≤ kind_order b
-unknown_least a h b k = rw (h, k) (omega arith)
-
 pub stuck_most : (t : Lexeme) → kind_order (stuck_at t) ≤ 3
 stuck_most t = elim (stuck t (is_unknown t.kind t.text) refl) [ inl (u, k) ↦ rw k (omega arith) | inr k ↦ rw k (omega arith) ]
 

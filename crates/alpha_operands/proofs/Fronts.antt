@@ -1,6 +1,6 @@
 -- The fronts of patterns.
 use Rattle.std.proofs.Common.{◌≡◌, ℕ, ◌+◌, [], ◌∷◌, ◌++◌, Bool, true, false, cond, ◌&&◌, Option, Some, None, MatchOption, Bor, take, drop, length, add-one, ◌==◌, if◌then◌else◌, refl, sym, ◌∙◌, ap}
-use Rattle.std.proofs.Common.{◌≤◌, length-append, arith}
+use Rattle.std.proofs.Common.{arith}
 use Rattle.std.proofs.lemmas.Bool.Decides.{nat_tests}
 use Rattle.std.specs.Cmp.Lexicographic.{pointwise}
 use Rattle.std.specs.Option.{option_map}
@@ -75,9 +75,6 @@ take-front (a ∷ front) p rest (b ∷ q) e =
     let tail : q ≡ front ++ p ∷ rest = cc in
     let head : b ≡ a = cc in
     rw (head, add-one) (ap (λ t. a ∷ t) (rw add-one at (take-front front p rest q tail)))
-
-pub front-fits : (front : Pattern) (p : Piece) (q : Pattern) → ((rest : Pattern) × (q ≡ front ++ p ∷ rest)) → length front + 1 ≤ length q
-front-fits front p q (rest, e) = rw (e, length-append front (p ∷ rest)) (omega arith)
 
 pub front_after-take : (front : Pattern) (p : Piece) (q : Pattern) → (p ≡ Again → ⊥) → ((rest : Pattern) × (q ≡ front ++ p ∷ rest)) → take (length front + 1) q ≡ front_after front p
 front_after-take front Again q apart (rest, e) = absurd (apart refl)

@@ -67,13 +67,6 @@ never_zero r e = by (eqb r 31) refl e
     by true t f = cc
     by false t f = let same : r ≡ 31 = cc in let u = ap (λ k. eqb k 31) same in cc
 
-pub small_set : (r x : ℕ) → but_zero (Some r) ≡ Some x → r ≡ x
-small_set r x e = by (eqb r 31) e
-  where
-    by : (b : Bool) → cond b None (Some r) ≡ Some x → r ≡ x
-    by true f = cc
-    by false f = cc
-
 pub counted_set : (r : ℕ) → r < 31 → but_zero (Some r) ≡ Some r
 counted_set r small = by (eqb r 31) refl
   where

@@ -1,5 +1,5 @@
 -- Runs in which each step finds an input of its own.
-use Rattle.std.proofs.Common.{◌≡◌, ℕ, zero, suc, true, false, cond, List, [], ◌∷◌, ◌++◌, length, refl, sym, ap, ◌∙◌, length-append, arith}
+use Rattle.std.proofs.Common.{◌≡◌, ℕ, zero, suc, true, false, cond, List, [], ◌∷◌, ◌++◌, refl, sym, ap, ◌∙◌}
 use Rattle.alpha_pal.specs.Kernel.{KernelState}
 use Rattle.alpha_seq.specs.declared.machine.Machine.{Machine}
 use Rattle.alpha_seq.specs.State.{Program, State}
@@ -36,20 +36,7 @@ kernel_next-here g r m left put k goes here program =
     ∙ ap (λ (s : State). kernel_left (next_class g s.pc) (next_pc s) s.regs k) here
     ∙ ap (λ (p : Program). kernel_left (next_class p m.pc) (next_pc (state_of m [] [])) m.regs k) (sym program)
 
--- the input at the beginning is that of no step
-pub start-any : (g : Program) (s : State) (bytes : List ℕ) (inputs : List (List ℕ)) (input : List ℕ)
-    → run_over g (inputs ++ input ∷ []) (started (over_input bytes s)) ≡ run_over g (inputs ++ input ∷ []) (started s)
-start-any g s bytes [] input = refl
-start-any g s bytes (first ∷ inputs) input = refl
-
 -- ---- where the input is told
-
-pub length-lefts : (g : Program) (s : State) (n : ℕ) → length (lefts g s n) ≡ n
-length-lefts g s zero = refl
-length-lefts g s (suc n) =
-    let one = length-append (lefts g s n) ((after g s n).state.outside.input ∷ []) in
-    let before = length-lefts g s n in
-    omega arith
 
 advance-own : (g : Program) (r : Run) → advance_over g r r.state.outside.input ≡ advance g r
 advance-own g r = refl

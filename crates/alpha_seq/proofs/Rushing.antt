@@ -1,5 +1,5 @@
 -- Words that only go on, by the places at which they stand.
-use Rattle.std.proofs.Common.{◌≡◌, ℕ, zero, suc, ◌+◌, ◌*◌, ◌-◌, ◌/◌, ◌%◌, ◌^◌, ◌<◌, ℤ, pos, negsuc, ◌+ℤ◌, ◌*ℤ◌, Bool, true, false, cond, eqb, List, length, map, slice_get, Option, None, Some, refl, sym, ap, subst, ◌∙◌, add-one, FitsSigned, w32, arith}
+use Rattle.std.proofs.Common.{◌≡◌, ℕ, zero, suc, ◌+◌, ◌*◌, ◌-◌, ◌%◌, ◌^◌, ◌<◌, ℤ, pos, negsuc, ◌+ℤ◌, ◌*ℤ◌, Bool, true, false, cond, eqb, List, length, map, slice_get, Option, None, Some, refl, sym, ap, subst, ◌∙◌, add-one, FitsSigned, w32, arith}
 use Rattle.std.specs.Option.{option_map_or, option_and_then}
 use Rattle.std.proofs.lemmas.Bool.{false≢true}
 use Rattle.std.proofs.lemmas.Int.{ints}
@@ -19,7 +19,7 @@ use Rattle.alpha_table.specs.declared.columns.MemAccess.{MemAccess}
 use Rattle.alpha_table.specs.declared.form.Src.{Src}
 use Rattle.alpha_table.specs.declared.form.Form.{Form}
 use Rattle.alpha_table.specs.Op.{role_trap, trap_of, op_row}
-use Rattle.alpha_table.specs.Class.{Class, operate, trigger, address, load, store, branch, jump, idle}
+use Rattle.alpha_table.specs.Class.{Class, operate, trigger, address, load, store, branch, idle}
 use Rattle.alpha_table.specs.ClassOf.{operate_class, class_of}
 use Rattle.alpha_table.specs.Code.{class_at}
 use Rattle.alpha_table.specs.Decoded.{decoded}
@@ -243,20 +243,6 @@ Passes-branch c ra disp regs mem place to taken image fits takes is = record {
     by base true = displaced_place base place disp fits
     by base false = next_place base place
 
-pub Passes-jump : (ra rb : ℕ) (regs : List ℕ) (mem : List Block) (place next to : ℕ) (image : Parts)
-    → next ≡ (image.code_base + 4 * ((place + 1) % 2 ^ 64)) % 2 ^ 64
-    → reg regs rb / 4 * 4 ≡ (image.code_base + 4 * to) % 2 ^ 64
-    → Passes image (jump ra rb) regs mem place (put regs ra next) mem to
-Passes-jump ra rb regs mem place next to image is target = record {
-  does = λ m same. record {
-    is = λ input output.
-        let s = state_of (machine_at m regs mem place) input output in
-        let left : next_pc s ≡ next = next_place m.image.code_base place ∙ (ap (λ (p : Parts). (p.code_base + 4 * ((place + 1) % 2 ^ 64)) % 2 ^ 64) same ∙ sym is) in
-        ap (λ (n : ℕ). goes s (put regs ra n) mem (reg regs rb / 4 * 4)) left
-        ∙ ap (goes s (put regs ra next) mem) (target ∙ ap (λ (p : Parts). (p.code_base + 4 * to) % 2 ^ 64) (sym same));
-    program = refl;
-    kernel = refl;
-  };
 }
 
 -- the same, where what is left is named otherwise

@@ -1,8 +1,8 @@
 -- What a step or a run did to its devices, which may tell nothing.
 use Rattle.std.specs.Prelude.{◌≡◌, ◌≤◌, ℕ, List, Option}
 use Rattle.alpha_io.specs.declared.source.Source.{Ghosts}
-use Rattle.alpha_io.specs.Faults.{Calm, Rose}
-use Rattle.alpha_io.specs.Sunk.{Sunk, IsCalm, HasFailed}
+use Rattle.alpha_io.specs.Faults.{Rose}
+use Rattle.alpha_io.specs.Sunk.{Sunk, HasFailed}
 
 -- What a call did to a source: its bytes still to come and its count of faults, before the call and after it.
 pub record Drawn : Type 0 where
@@ -29,30 +29,11 @@ pub record Idles (s : Sunk) : Type 0 where
   pub written : s.new ≡ s.old
   pub same : s.now ≡ s.before
 
--- where a device stands in between
-abbrev pub drawn_until : Drawn → Option (List ℕ) → ℕ → Drawn
-drawn_until d left faults = record d { new = left; now = faults }
-
 abbrev pub drawn_from : Drawn → Option (List ℕ) → ℕ → Drawn
 drawn_from d left faults = record d { old = left; before = faults }
 
-abbrev pub sunk_until : Sunk → Option (List ℕ) → ℕ → Sunk
-sunk_until s written faults = record s { new = written; now = faults }
-
 abbrev pub sunk_from : Sunk → Option (List ℕ) → ℕ → Sunk
 sunk_from s written faults = record s { old = written; before = faults }
-
--- no device failed
-pub record AreCalm (input : Drawn) (out notes : Sunk) : Type 0 where
-  pub source : Calm input.before input.now
-  pub sink : IsCalm out
-  pub lines : IsCalm notes
-
--- no count of faults rose
-pub record HasNoFault (input : Drawn) (out notes : Sunk) : Type 0 where
-  pub source : input.now ≡ input.before
-  pub sink : out.now ≡ out.before
-  pub lines : notes.now ≡ notes.before
 
 -- the input's count alone rose
 pub record HasInputFault (input : Drawn) (out notes : Sunk) : Type 0 where

@@ -1,5 +1,5 @@
 -- What a window knows after one more word, or before the first.
-use Rattle.std.proofs.Common.{◌≡◌, ◌≢◌, ◌<◌, ◌+◌, ◌⊎◌, ℕ, Option, Some, None, List, [], ◌∷◌, ◌++◌, length, slice_index, slice_set, ap, inl, inr, ⊎_elim, arith, sym, refl, ◌∙◌, length-set, get_or-set_same, get_or-set_other}
+use Rattle.std.proofs.Common.{◌≡◌, ◌≢◌, ◌<◌, ◌+◌, ◌⊎◌, ℕ, Option, Some, List, [], ◌∷◌, ◌++◌, length, slice_index, slice_set, ap, inl, inr, ⊎_elim, arith, sym, refl, ◌∙◌, length-set, get_or-set_same, get_or-set_other}
 use Rattle.std.proofs.lemmas.Bool.{cases_eq}
 use Rattle.alpha_words.specs.Regs.{Has}
 use Rattle.alpha_table.specs.declared.columns.InsnKind.{InsnKind}
@@ -60,11 +60,6 @@ notes_set code at r word before after h e small size set = record {
       (cases_eq k r);
 }
 
-pub notes_no_set : (code : List ℕ) (at : ℕ) (word : Columns) (before : List ℕ) → HasColumns code at word → word.sets ≡ None → length before ≡ 32
-    → Notes (Sets code at) at before before
-notes_no_set code at word before h e size = record {
-  size = size;
-  either = λ k. inr (λ s. let t = h.sets in cc, refl);
 }
 
 -- A window after a word of a shadow, by what became of its parts.
@@ -129,7 +124,3 @@ pub loaded : (k : InsnKind) (access : Option MemAccess) (a : MemAccess) (t : Tri
     → (next_triggers (Some k) t ts ≡ ts) × (next_loads (Some k) access ts ls ≡ ls ++ reach_of a ∷ [])
 loaded k access a t [] ls e f not = absurd (not refl)
 loaded k access a t (u ∷ us) ls e f not = rw (e, f) (refl, refl)
-
-pub not_loaded : (k : InsnKind) (access : Option MemAccess) (t : Trigger) (ts : List Trigger) (ls : List Reach) → k ≡ kinds.Load → access ≡ None
-    → (next_triggers (Some k) t ts ≡ ts) × (next_loads (Some k) access ts ls ≡ ls)
-not_loaded k access t ts ls e f = rw (e, f) (refl, refl)

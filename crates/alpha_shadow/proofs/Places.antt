@@ -42,9 +42,6 @@ pub first_lacks : (code : List ℕ) (at : ℕ) (P : ℕ → Type 0) (first : ℕ
     → ((p : ℕ) → first ≤ p → P p → P first) → (P first → ⊥) → IsFirstThat code at P None
 first_lacks code at P first f falls not = λ p h q. not (falls p (f.2 p h tt) q)
 
-pub first_missing : (code : List ℕ) (at : ℕ) (P : ℕ → Type 0) → IsFirstThat code at (λ p. Unit {0}) None → IsFirstThat code at P None
-first_missing code at P f = λ p h q. f p h tt
-
 -- what the window's look-ups say
 
 pub window_first : (code : List ℕ) (w : Window) (at : ℕ) → Summarizes code w at → (o : Option ℕ) → o ≡ option_map place_of (slice_get w.triggers.items 0)

@@ -122,14 +122,6 @@ first_open code at =
     first_that code at (λ t. true) (λ p. Unit {0}) (λ p e. tt) (λ p u. refl) (slice_get (open_triggers code at) 0)
     (subst (Finds code at (λ t. true)) (find_first (open_triggers code at)) (find_open code (λ t. true) at))
 
--- no open trigger leaves the list empty
-pub none_open : (code : List ℕ) (at : ℕ) → ((p : ℕ) → IsOpen code p at → ⊥) → open_triggers code at ≡ []
-none_open code at none = cases (open_triggers code at) refl
-  where
-    cases : (ts : List Trigger) → open_triggers code at ≡ ts → ts ≡ []
-    cases [] e = refl
-    cases (t ∷ ts) e = absurd (none t.place (subst (λ ts. IsFirstThat code at (λ p. Unit {0}) (option_map (λ t. t.place) (slice_get ts 0))) e (first_open code at)).0)
-
 -- the list after one more word
 pub open_triggers_next : (code : List ℕ) (at : ℕ) (kind : InsnKind) (destination : ℕ) → kind_at code at ≡ Some kind → destination_of code at ≡ destination
     → open_triggers code (at + 1) ≡ next_triggers (Some kind) (record { place = at; destination = destination }) (open_triggers code at)

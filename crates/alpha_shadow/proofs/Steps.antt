@@ -55,18 +55,6 @@ found_next code at n c found trigger e before next less = record {
       (split code at n p c d e within b);
 }
 
--- nothing was found so far
-pub first_next : (code : List ℕ) (at n : ℕ) (c : Condition) (trigger : ℕ) → condition_number c ≡ n + 1 → IsLeastUpTo code at n None
-    → IsFirstBroken code at c (Some trigger) → IsLeastThere code at (n + 1) (record { trigger = trigger; at = at; condition = c })
-first_next code at n c trigger e before next = record {
-  place = refl;
-  broken = next.0;
-  number = omega arith;
-  least = λ p d within b. ⊎_elim
-      (λ q. absurd (before p d q b))
-      (λ q. let f = next.1 p q.1 in
-      ⊎_elim (λ (r : trigger < p). inl r) (λ (r : p ≤ trigger). inr (omega arith, omega (arith, q.0))) (cases_lt trigger p))
-      (split code at n p c d e within b);
 }
 
 -- C8 holds at no place of the code

@@ -133,10 +133,6 @@ found o f = by0 (0x10 == o) refl
     by0 true e = subst (IsFound f) (eqb-true 0x10 o e) refl
     by0 false e = by1 (0x11 == o) refl e
 
-source_same : (w : ℕ) → source_in w ≡ source_of w
-unfolding source_of
-source_same w = refl
-
 and_true : (b : Bool) → b ≡ (b && true)
 and_true true = refl
 and_true false = refl

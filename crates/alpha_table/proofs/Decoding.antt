@@ -22,7 +22,7 @@ use Rattle.alpha_table.specs.Op.{op_row}
 use Rattle.alpha_table.specs.Rows.{mem_row, branch_row, jump_kind, misc_row, fetch_function, pal_function}
 use Rattle.alpha_table.specs.Row.{Row, SourceField, IsSource, IsRegister, OperandsFit, IsInsn}
 use Rattle.alpha_table.specs.Decoded.{every_op, every_mem, every_branch, every_jump, every_misc, every_pal, operate_at, memory_at, branch_at, jump_at, fetch_at, pal_at, source_of, source_is, is_register, operands_fit, memory_form, branch_form, jump_form, operate_form, misc_form, fetch_form, pal_form, decoded}
-use Rattle.alpha_table.specs.Insn.{source_in, form_in, form_row, Stands, is_at, takes_any, suits, is_free, is_operate}
+use Rattle.alpha_table.specs.Insn.{source_in, form_in, form_row, Stands, is_at, suits, is_free, is_operate}
 use Rattle.alpha_table.specs.declared.rows.JumpKind.TheVariants as jumps
 use Rattle.alpha_table.specs.declared.insn.InsnRow.{InsnRow}
 use Rattle.alpha_table.specs.declared.insn.InsnRow.TheVariants as rows
@@ -325,15 +325,6 @@ IsInsn-Row w (Pal call) h = tt
 
 -- a word of one format's opcodes stands for no instruction of another
 
-pub only_pal : (w : ℕ) → field 31 26 w ≡ 0 → ((call : PalCall) → Row w (Pal call) → ⊥) → (i : Form) → Row w i → ⊥
-only_pal w e none (Mem op ra rb disp) h = let o = opcode-memory op in omega arith
-only_pal w e none (Branch op ra disp) h = let o = opcode-branch op in omega arith
-only_pal w e none (Jump kind ra rb hint) h = omega arith
-only_pal w e none (Operate op ra src rc) h = let o = opcode-operate op in omega arith
-only_pal w e none (Misc op) h = omega arith
-only_pal w e none (Fetch modify rb) h = omega arith
-only_pal w e none (Pal call) h = none call h
-
 pub only_operate : (w : ℕ) → (0x10 ≤ field 31 26 w) × (field 31 26 w ≤ 0x1c) → (field 31 26 w ≢ 0x18) → (field 31 26 w ≢ 0x1a) → ((op : Op) (ra : ℕ) (src : Src) (rc : ℕ) → Row w (Operate op ra src rc) → ⊥) → (i : Form) → Row w i → ⊥
 only_operate w e no_misc no_jump none (Mem op ra rb disp) h = let o = opcode-memory op in omega arith
 only_operate w e no_misc no_jump none (Branch op ra disp) h = let o = opcode-branch op in omega arith
@@ -342,15 +333,6 @@ only_operate w e no_misc no_jump none (Operate op ra src rc) h = none op ra src 
 only_operate w e no_misc no_jump none (Misc op) h = no_misc h.0
 only_operate w e no_misc no_jump none (Fetch modify rb) h = no_misc h.0
 only_operate w e no_misc no_jump none (Pal call) h = omega arith
-
-pub only_misc : (w : ℕ) → field 31 26 w ≡ 0x18 → ((op : MiscOp) → Row w (Misc op) → ⊥) → ((modify : Bool) (rb : ℕ) → Row w (Fetch modify rb) → ⊥) → (i : Form) → Row w i → ⊥
-only_misc w e misc fetch (Mem op ra rb disp) h = let o = opcode-memory op in omega arith
-only_misc w e misc fetch (Branch op ra disp) h = let o = opcode-branch op in omega arith
-only_misc w e misc fetch (Jump kind ra rb hint) h = omega arith
-only_misc w e misc fetch (Operate op ra src rc) h = let o = opcode-operate op in omega arith
-only_misc w e misc fetch (Misc op) h = misc op h
-only_misc w e misc fetch (Fetch modify rb) h = fetch modify rb h
-only_misc w e misc fetch (Pal call) h = omega arith
 
 -- each number of two bits is a kind
 pub kind_found : (n : ℕ) → n < 4 → n ≡ jump_kind (unwrap_or (jump_at n) jumps.Jmp)
@@ -392,12 +374,6 @@ refused_operate w op row refused =
               (subst (λ r. OperandsFit (op_row other).operands r src) (sym h.2) h.5)),
         )
 
-any_fit : (rule : OperandRule) (ra : ℕ) (src : Src) → takes_any rule ≡ true → OperandsFit rule ra src
-any_fit Any ra src h = tt
-any_fit Unary ra src h = cc
-any_fit UnaryRegister ra src h = cc
-any_fit Version ra src h = cc
-
 -- operands fit by what they are
 pub same_fit : (a b : OperandRule) (r n : ℕ) (x y : Src) → a ≡ b → r ≡ n → x ≡ y → OperandsFit a r x → OperandsFit b n y
 same_fit a b r n x y e f g h = subst (λ k. OperandsFit k n y) e (subst (λ m. OperandsFit a m y) f (subst (λ z. OperandsFit a r z) g h))
@@ -408,18 +384,6 @@ pub operate_stands : (w : ℕ) (op : Op) → is_at (field 31 26 w) (field 11 5 w
 operate_stands w op h src fit =
     let e = both ((op_row op).opcode == field 31 26 w) ((op_row op).function == field 11 5 w) h in
     (refl, (sym (eqb-true _ _ e.0), sym (eqb-true _ _ e.1), refl, src, refl, fit))
-
--- the same, where the row takes any operands
-pub any_stands : (w : ℕ) (op : Op) → suits (field 31 26 w) (field 11 5 w) (rows.Operate op) ≡ true → SourceField w (source_in w) → Stands (rows.Operate op) w
-any_stands w op h src =
-    let e = both (is_at (field 31 26 w) (field 11 5 w) op) (takes_any (op_row op).operands) h in
-    operate_stands w op e.0 src (any_fit (op_row op).operands (field 25 21 w) (source_in w) e.1)
-
--- a word without a second source
-pub refused_any : (w : ℕ) (op : Op) → suits (field 31 26 w) (field 11 5 w) (rows.Operate op) ≡ true → (SourceField w (source_in w) → ⊥) → (i : Form) → Row w i → ⊥
-refused_any w op h refused =
-    let e = both (is_at (field 31 26 w) (field 11 5 w) op) (takes_any (op_row op).operands) h in
-    refused_operate w op e.0 (λ p. refused p.0)
 
 -- whether an operate word has a second source
 pub literal_source : (w : ℕ) → field 12 12 w ≡ 1 → SourceField w (source_in w)

@@ -158,13 +158,6 @@ token-begun b ds s begins dot rest stop =
     let (plain, apart) = begins_apart b begins in
     token-next b ds s kinds.Name plain apart (name_at b (ds ++ s) begins dot ∙ ap (λ n. Some (kinds.Name, n)) (prefix_len-run goes_on_name ds s rest stop))
 
-pub token-name : (name s : List ℕ) → is_word name ≡ true → Stops goes_on_name s → tokens (name ++ s) ≡ Next (record { kind = kinds.Name; text = name; rest = s }) (tokens s)
-token-name [] s h stop = cc
-token-name (b ∷ ds) s h stop =
-    let (a, rest) = both (is_ascii_alphabetic b) (list_all goes_on_name ds) h in
-    let (begins, dot) = letter_apart b a in
-    token-begun b ds s begins dot rest stop
-
 pub tokens-none : tokens [] ≡ End 0
 unfolding tokens
 tokens-none = refl

@@ -1,12 +1,8 @@
 -- The length of a string, a byte of its text after the other.
-use Rattle.std.proofs.Common.{◌≡◌, ℕ, List, [], ◌∷◌, ◌≤◌, ◌<◌, ◌+◌, ◌-◌, true, false, eqb, Option, None, Some, drop, length, length-drop, refl, ◌∙◌, ap, arith}
+use Rattle.std.proofs.Common.{◌≡◌, ℕ, List, [], ◌∷◌, ◌≤◌, ◌<◌, ◌+◌, ◌-◌, false, eqb, Option, None, Some, drop, length, length-drop, refl, ◌∙◌, ap, arith}
 use Prim.Native.Nat.{zero, suc}
 use Rattle.std.specs.Option.{option_map}
 use Rattle.alpha_token.specs.Quoted.{byte_at, first_byte, is_closed, quoted_len}
-
-unmapped : {A B : Type 0} (f : A → B) (o : Option A) → option_map f o ≡ None → o ≡ None
-unmapped f None e = refl
-unmapped f (Some x) e = cc
 
 pub mapped : {A B : Type 0} (f : A → B) (o : Option A) (y : B) → option_map f o ≡ Some y → (x : A) × (o ≡ Some x) × (f x ≡ y)
 mapped f None y e = cc
@@ -33,14 +29,6 @@ quoted_len-skip (suc k) (b ∷ s) = ap (option_map suc) (quoted_len-skip k s) �
 -- behind the first byte of the text
 behind : (b : ℕ) (s : List ℕ) (v : ℕ × ℕ) → eqb b 34 ≡ false → byte_at (b ∷ s) ≡ Some v → quoted_len 0 (b ∷ s) ≡ option_map (λ n. n + suc v.1) (quoted_len 0 (drop v.1 s))
 behind b s v plain at = rw (plain, at, quoted_len-skip v.1 s) (grown v.1 (quoted_len 0 (drop v.1 s)))
-
-pub quoted_len-closed : (s : List ℕ) → is_closed s ≡ true → quoted_len 0 s ≡ Some 0
-quoted_len-closed [] h = cc
-quoted_len-closed (b ∷ s) h = rw h refl
-
-pub quoted_len-none : (s : List ℕ) → is_closed s ≡ false → first_byte s ≡ None → quoted_len 0 s ≡ None
-quoted_len-none [] h none = refl
-quoted_len-none (b ∷ s) h none = rw (h, unmapped _ (byte_at (b ∷ s)) none) refl
 
 sums : (whole left more : ℕ) (rest : List ℕ) → suc left ≤ whole → length rest ≡ left - more →
     option_map (λ n. n + (whole - suc left)) (option_map (λ n. n + suc more) (quoted_len 0 rest)) ≡ option_map (λ n. n + (whole - length rest)) (quoted_len 0 rest)

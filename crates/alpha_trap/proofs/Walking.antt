@@ -23,14 +23,6 @@ pub record Walked (code : List ℕ) (mask left at to : ℕ) : Type 0 where
   pub straight : Straight code at to
   pub none : (k : ℕ) → at ≤ k → Fits code mask k to → ⊥
 
--- at the end nothing was passed
-pub walked_start : (code : List ℕ) (mask to : ℕ) → Walked code mask mask to to
-walked_start code mask to = record {
-  met = λ r h. inl h;
-  within = λ r h. h;
-  unmet = λ r h s. let low : to ≤ s.0 = s.1 in let high : s.0 < to = s.2 in absurd (omega arith);
-  straight = λ k low high. absurd (omega arith);
-  none = λ k low f. let high = f.before in absurd (omega arith);
 }
 
 -- the walk has come to one past the place before
@@ -66,18 +58,6 @@ none_more code mask at to above here k low f = ⊎_elim
     (λ (apart : k ≡ at → ⊥). above k (omega arith) f)
     (cases_eq k at)
 
--- past a word that is no trigger
-pub walked_on : (code : List ℕ) (mask left at to : ℕ) → Walked code mask left (at + 1) to → kind (class_at code at) ≢ Some kinds.Barrier
-    → kind (class_at code at) ≢ Some kinds.Turn → trap_rc (class_at code at) ≡ None → kind (class_at code at) ≢ Some kinds.Trigger → Walked code mask left at to
-walked_on code mask left at to w b t plain not_trigger = record {
-  met = λ r h. ⊎_elim (λ (q : Has left r). inl q) (λ (s : SpoiltIn code (at + 1) to r). inr (spoilt_more code at to r s)) (w.met r h);
-  within = w.within;
-  unmet = λ r h s. ⊎_elim
-      (λ (here : trap_rc (class_at code at) ≡ Some r). cc)
-      (λ (q : SpoiltIn code (at + 1) to r). w.unmet r h q)
-      (spoilt_split code at to r s);
-  straight = straight_more code at to w.straight b t;
-  none = none_more code mask at to w.none (λ f. not_trigger f.trigger);
 }
 
 -- at a trigger, whose destination is left no more
