@@ -113,13 +113,7 @@ tried_not_input shelf input words w t quiet tried = says_not_input shelf input �
 -- the kind of a command is that of its form
 pub kind_is : (command : Command) → (form_of command).kind ≡ kind_of command
 kind_is (of_image what file) = refl
-kind_is (make what file out) = refl
-kind_is (link entry out files) = refl
-kind_is (replay file journal) = refl
-kind_is (record_run options choices force file out) = refl
-kind_is (run options file) = refl
-kind_is (imprecise options choices force file) = refl
-kind_is (trial blocks) = refl
+kind_is command = refl
 
 ends_by : (command : Command) (s : Status) → (form_of command).kind.ends s → EndsBy command s
 ends_by command s = subst (λ (k : Kind). k.ends s) (kind_is command)

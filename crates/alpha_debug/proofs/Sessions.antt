@@ -55,12 +55,8 @@ answer-grows g (Break at) s =
     (Grows-by (text_of s) ok) (Grows-by (text_of s) (ended (codes "full"))) (Grows-by (text_of s) ok)
 answer-grows g (Clear at) s = Grows-by (text_of s) _
 answer-grows g Quit s = Grows-same (text_of s)
-answer-grows g Registers s = Grows-by (text_of s) _
 answer-grows g (Memory at count) s = Grows-by (text_of s) _
-answer-grows g (Listing at count) s = Grows-by (text_of s) _
-answer-grows g Shadow s = Grows-by (text_of s) _
-answer-grows g Log s = Grows-by (text_of s) _
-answer-grows g Unknown s = Grows-by (text_of s) _
+answer-grows g command s = Grows-by (text_of s) _
 
 -- ---- steps, and the place
 

@@ -54,14 +54,8 @@ over-seen (Overflowed at) passed = refl
 over-seen (Ends end) passed = refl
 
 end-seen : (event : Seen) → end_of (event_of event) ≡ end_by (Some event)
-end-seen events.Went = refl
 end-seen (events.Barrier passed) = refl
-end-seen (events.Overflowed at) = refl
-end-seen (events.Triggered value) = refl
-end-seen (events.Waited wait) = refl
-end-seen (events.Reported at) = refl
-end-seen (events.Ended end) = refl
-end-seen (events.Lost pc mask) = refl
+end-seen event = refl
 
 -- what the definition says of it, over an empty input
 step-is : (p : Print) (old new : Machine) → SeqGoes old p new → [] ≡ found_by p → (text : List ℕ)

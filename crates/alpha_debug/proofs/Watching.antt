@@ -45,11 +45,7 @@ passed-all waits (events.Barrier passes.Nothing) mem taken bytes h = none-put wa
 passed-all waits (events.Barrier (passes.Took addr len)) mem taken bytes h = none-put waits bytes h.2
 passed-all waits (events.Barrier (passes.Put addr len)) mem taken bytes h = put-within waits mem addr len bytes h.0 h.2
 passed-all waits (events.Overflowed at) mem taken bytes h = none-put waits bytes h.1
-passed-all waits (events.Triggered value) mem taken bytes h = none-put waits bytes h.1
-passed-all waits (events.Waited wait) mem taken bytes h = none-put waits bytes h.1
-passed-all waits (events.Reported at) mem taken bytes h = none-put waits bytes h.1
-passed-all waits (events.Ended end) mem taken bytes h = none-put waits bytes h.1
-passed-all waits (events.Lost pc mask) mem taken bytes h = none-put waits bytes h.1
+passed-all waits event mem taken bytes h = none-put waits bytes h.1
 
 -- and so of steps in a row
 pub row-bytes : (w : Watcher) (ps : List Print) (old new : Machine) → Row SeqGoes old ps new

@@ -58,12 +58,7 @@ AreSteady of_code (i ∷ is) = SteadyCoded of_code (coded i.statement) × AreSte
 
 words_class : (insn : Form) (d : ℤ) → form_class (displaced insn (Words d)) ≡ form_class insn
 words_class (Mem op ra rb disp) d = refl
-words_class (Branch op ra disp) d = refl
-words_class (Jump kind ra rb hint) d = refl
-words_class (Operate op ra src rc) d = refl
-words_class (Misc op) d = refl
-words_class (Fetch modify rb) d = refl
-words_class (Pal call) d = refl
+words_class insn d = refl
 
 words_choice : (insn : Form) (b : Bool) (d : ℤ) → form_class (option_map_or (displaced insn) (cond b (Some (Words d)) None) insn) ≡ form_class insn
 words_choice insn true d = words_class insn d
@@ -81,11 +76,7 @@ address_op _ ra rb old new h = cc
 bytes_class : (insn : Form) (d : ℤ) → is_address insn ≡ true → form_class (displaced insn (Bytes d)) ≡ form_class insn
 bytes_class (Mem op ra rb disp) d h = address_op op ra rb disp d h
 bytes_class (Branch op ra disp) d h = refl
-bytes_class (Jump kind ra rb hint) d h = refl
-bytes_class (Operate op ra src rc) d h = refl
-bytes_class (Misc op) d h = refl
-bytes_class (Fetch modify rb) d h = refl
-bytes_class (Pal call) d h = refl
+bytes_class insn d h = refl
 
 half_class : (insn : Form) (f : ℕ → ℤ) (o : Option ℕ) → is_address insn ≡ true → form_class (option_map_or (displaced insn) (option_map (λ n. Bytes (f n)) o) insn) ≡ form_class insn
 half_class insn f None h = refl

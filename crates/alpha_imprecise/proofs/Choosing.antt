@@ -39,32 +39,12 @@ use Rattle.alpha_imprecise.specs.WildEffect.{IsKernelBy, GoesBy, wild_uses, wild
 -- ---- no test of a step looks at the devices
 
 pub triggers-told : (o : Option Class) (m : Machine) (input output : List ℕ) → triggers o (state_of m input output) ≡ triggers o (bare m)
-triggers-told None m input output = refl
 triggers-told (Some (operate op ra src rc)) m input output = refl
-triggers-told (Some (trigger op ra src rc)) m input output = refl
-triggers-told (Some (address op ra rb disp)) m input output = refl
-triggers-told (Some (load extension at ra)) m input output = refl
-triggers-told (Some (store at ra)) m input output = refl
-triggers-told (Some (load_locked extension at ra)) m input output = refl
-triggers-told (Some (store_conditional at ra)) m input output = refl
-triggers-told (Some (branch condition ra disp)) m input output = refl
-triggers-told (Some (jump ra rb)) m input output = refl
-triggers-told (Some (barrier call)) m input output = refl
-triggers-told (Some idle) m input output = refl
+triggers-told o m input output = refl
 
 pub can_wait-told : (o : Option Class) (m : Machine) (input output : List ℕ) → can_wait o (state_of m input output) ≡ can_wait o (bare m)
-can_wait-told None m input output = refl
 can_wait-told (Some (operate op ra src rc)) m input output = refl
-can_wait-told (Some (trigger op ra src rc)) m input output = refl
-can_wait-told (Some (address op ra rb disp)) m input output = refl
-can_wait-told (Some (load extension at ra)) m input output = refl
-can_wait-told (Some (store at ra)) m input output = refl
-can_wait-told (Some (load_locked extension at ra)) m input output = refl
-can_wait-told (Some (store_conditional at ra)) m input output = refl
-can_wait-told (Some (branch condition ra disp)) m input output = refl
-can_wait-told (Some (jump ra rb)) m input output = refl
-can_wait-told (Some (barrier call)) m input output = refl
-can_wait-told (Some idle) m input output = refl
+can_wait-told o m input output = refl
 
 pub must_report-told : (o : Option Class) (m : Machine) (input output : List ℕ) (n : ℕ) → must_report o (state_of m input output) n ≡ must_report o (bare m) n
 must_report-told o m input output n = ap (λ (b : Bool). not b || nat_le 1024 n) (can_wait-told o m input output)
@@ -143,14 +123,7 @@ loud g (Some (trigger op ra src rc)) s e =
     by true = refl
     by false = refl
 loud g (Some (address op ra rb disp)) s e = cc
-loud g (Some (load extension at ra)) s e = cc
-loud g (Some (store at ra)) s e = cc
-loud g (Some (load_locked extension at ra)) s e = cc
-loud g (Some (store_conditional at ra)) s e = cc
-loud g (Some (branch condition ra disp)) s e = cc
-loud g (Some (jump ra rb)) s e = cc
-loud g (Some (barrier call)) s e = cc
-loud g (Some idle) s e = cc
+loud g o s e = cc
 
 pub goes_exact : (old new : Machine) → GoesOn old new → triggers (class_here old) (bare old) ≡ false
 goes_exact old new h = by (triggers (class_here old) (bare old)) refl

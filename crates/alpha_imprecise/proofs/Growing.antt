@@ -46,11 +46,8 @@ spoilt-more (Some (load extension at ra)) s c = quiet s
 spoilt-more (Some (store at ra)) s c = quiet s
 spoilt-more (Some (load_locked extension at ra)) s c = quiet s
 spoilt-more (Some (store_conditional at ra)) s c = conditional-more (matches s.lock (lock_block at s)) at ra s c
-spoilt-more (Some (branch None ra disp)) s c = quiet s
 spoilt-more (Some (branch (Some condition) ra disp)) s c = quiet s
-spoilt-more (Some (jump ra rb)) s c = quiet s
-spoilt-more (Some (barrier call)) s c = quiet s
-spoilt-more (Some idle) s c = quiet s
+spoilt-more o s c = quiet s
 
 wild-more : (g : Program) (o : Option Class) (s : State) (pending : Option Trap) (c : Choice) → More s (wild_at g o s pending c).state
 wild-more g o s None c = either s (triggers o s) _ _ (quiet s) (step-grows g o s)

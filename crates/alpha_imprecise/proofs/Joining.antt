@@ -30,14 +30,8 @@ idle_sink written count = record { old = written; new = written; before = count;
 -- a step that passes nothing says so
 passes-nothing : (w : WildState) (choice : Choice) (happened : Happening) (mem : List Block)
     → HasPassed (shown_as (class_here w.machine) choice Nothing happened) mem [] []
-passes-nothing w choice (Precisely Went) mem = (refl, refl)
-passes-nothing w choice (Precisely Barriered) mem = (refl, refl)
 passes-nothing w choice (Precisely (Overflowed at)) mem = (refl, refl)
-passes-nothing w choice (Precisely (Ends end)) mem = (refl, refl)
-passes-nothing w choice Triggered mem = (refl, refl)
-passes-nothing w choice Waited mem = (refl, refl)
-passes-nothing w choice (Reported at) mem = (refl, refl)
-passes-nothing w choice (Lost pc mask) mem = (refl, refl)
+passes-nothing w choice happened mem = (refl, refl)
 
 -- a step that leaves the input and the output alone
 pub alone : (event : Seen) (old new : WildState) (choice : Choice) (left written : Option (List ℕ)) (faults count : ℕ)

@@ -20,14 +20,8 @@ use Rattle.alpha_imprecise.proofs.Making.{Settles, none, over, longer, chosen_se
 
 -- the answer says whether the run is over
 pub over-shown : (o : Option Class) (choice : Choice) (passed : Passed) (h : Happening) → is_over (shown_as o choice passed h) ≡ finished h
-over-shown o choice passed (Precisely Went) = refl
-over-shown o choice passed (Precisely Barriered) = refl
 over-shown o choice passed (Precisely (Overflowed at)) = refl
-over-shown o choice passed (Precisely (Ends end)) = refl
-over-shown o choice passed Triggered = refl
-over-shown o choice passed Waited = refl
-over-shown o choice passed (Reported at) = refl
-over-shown o choice passed (Lost pc mask) = refl
+over-shown o choice passed h = refl
 
 settles_as : (t : Trap) (old new : WildState) (p : Print) → trap_in old.pending ≡ Some t → (did : WildGoes old p new)
     → Settles (waited_in old.pending) (moment (state_of new.machine [] []) (trap_in new.pending) did.by.happened)

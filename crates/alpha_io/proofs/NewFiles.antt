@@ -32,8 +32,6 @@ off_rename a b c d bytes (Err e) wrote synced renamed = record {
   calls = Adds-then a c d (Wrote bytes ∷ Synced ∷ []) (Failed ∷ []) (Adds-then a b c (Wrote bytes ∷ []) (Synced ∷ []) wrote synced) renamed;
 }
 
-}
-
 -- what holds anyhow holds where a call failed
 pub OnErr-any : {T E P : Type 0} (result : Result T E) → P → OnErr result P
 OnErr-any (Ok x) p = tt

@@ -228,8 +228,6 @@ enters_still row old new keeps entered = record {
   found = λ k s here defined is_right only. keeps is_right s.name k (entered.found k s here defined is_right only);
 }
 
-}
-
 pub nothing_found : (o : Option ℕ) → address_at [] o ≡ None
 nothing_found None = refl
 nothing_found (Some k) = refl

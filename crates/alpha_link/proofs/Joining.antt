@@ -46,7 +46,6 @@ pub record Joined (all : List Located) (n : ℕ) (code : List Form) (bytes : Lis
   pub code_size : length code ≡ words_in (take n all)
   pub bytes_size : length bytes ≡ filled_in (take n all)
 
-}
   where
     begins : (ls : List Located) → StandBehind 0 0 ls → data_behind all [] ls ≡ data_in all ls
     begins [] s = refl

@@ -116,7 +116,4 @@ code_refused total n bytes code (BadWord place word) e h =
     let there : bad_place One (words_of (take (4 * n) bytes)) ≡ Some place = ap (λ (t : List ℕ). bad_place One (words_of t)) (sym e) ∙ bad_place_is (words_of code) (bad_place One (words_of code)) place word h in
     rw there refl
 code_refused total n bytes code (Short a) e h = tt
-code_refused total n bytes code Magic e h = tt
-code_refused total n bytes code (Field a) e h = tt
-code_refused total n bytes code (Length a b) e h = tt
-code_refused total n bytes code NoMemory e h = tt
+code_refused total n bytes code fault e h = tt

@@ -42,32 +42,12 @@ abbrev over_moment : List ℕ → Moment → Moment
 over_moment i m = record m { state = over_input i m.state }
 
 triggers_over : (o : Option Class) (s : State) (i : List ℕ) → triggers o (over_input i s) ≡ triggers o s
-triggers_over None s i = refl
 triggers_over (Some (operate op ra src rc)) s i = refl
-triggers_over (Some (trigger op ra src rc)) s i = refl
-triggers_over (Some (address op ra rb disp)) s i = refl
-triggers_over (Some (load extension at ra)) s i = refl
-triggers_over (Some (store at ra)) s i = refl
-triggers_over (Some (load_locked extension at ra)) s i = refl
-triggers_over (Some (store_conditional at ra)) s i = refl
-triggers_over (Some (branch condition ra disp)) s i = refl
-triggers_over (Some (jump ra rb)) s i = refl
-triggers_over (Some (barrier call)) s i = refl
-triggers_over (Some idle) s i = refl
+triggers_over o s i = refl
 
 can_wait_over : (o : Option Class) (s : State) (i : List ℕ) → can_wait o (over_input i s) ≡ can_wait o s
-can_wait_over None s i = refl
 can_wait_over (Some (operate op ra src rc)) s i = refl
-can_wait_over (Some (trigger op ra src rc)) s i = refl
-can_wait_over (Some (address op ra rb disp)) s i = refl
-can_wait_over (Some (load extension at ra)) s i = refl
-can_wait_over (Some (store at ra)) s i = refl
-can_wait_over (Some (load_locked extension at ra)) s i = refl
-can_wait_over (Some (store_conditional at ra)) s i = refl
-can_wait_over (Some (branch condition ra disp)) s i = refl
-can_wait_over (Some (jump ra rb)) s i = refl
-can_wait_over (Some (barrier call)) s i = refl
-can_wait_over (Some idle) s i = refl
+can_wait_over o s i = refl
 
 conditional_over : (b : Bool) (at : MemAccess) (ra : ℕ) (s : State) (c : Choice) (i : List ℕ)
     → spoilt_conditional b at ra (over_input i s) c ≡ over_input i (spoilt_conditional b at ra s c)
@@ -83,11 +63,8 @@ spoilt_over (Some (load extension at ra)) s c i = refl
 spoilt_over (Some (store at ra)) s c i = refl
 spoilt_over (Some (load_locked extension at ra)) s c i = refl
 spoilt_over (Some (store_conditional at ra)) s c i = conditional_over (matches s.lock (lock_block at s)) at ra s c i
-spoilt_over (Some (branch None ra disp)) s c i = refl
 spoilt_over (Some (branch (Some condition) ra disp)) s c i = refl
-spoilt_over (Some (jump ra rb)) s c i = refl
-spoilt_over (Some (barrier call)) s c i = refl
-spoilt_over (Some idle) s c i = refl
+spoilt_over o s c i = refl
 
 either_over : (b : Bool) (x y fed other : Moment) (i : List ℕ) → fed ≡ over_moment i x → other ≡ over_moment i y → cond b fed other ≡ over_moment i (cond b x y)
 either_over true x y fed other i e h = e
@@ -152,10 +129,7 @@ asks (Some (barrier (Some Callsys))) s e =
     let t = three (eqb (reg s.regs 0) 3) (eqb (reg s.regs 16) 0) (within (shapes s.mem) Store (reg s.regs 17) (reg s.regs 18)) e in
     record { class = refl; number = eqb-true (reg s.regs 0) 3 t.0; descriptor = eqb-true (reg s.regs 16) 0 t.1; range = t.2 }
 asks (Some (barrier (Some Imb))) s e = absurd cc
-asks (Some (barrier (Some Rdunique))) s e = absurd cc
-asks (Some (barrier (Some Wrunique))) s e = absurd cc
-asks (Some (barrier (Some Gentrap))) s e = absurd cc
-asks (Some idle) s e = absurd cc
+asks o s e = absurd cc
 
 -- the bytes that it takes
 abbrev taken_of : State → List ℕ

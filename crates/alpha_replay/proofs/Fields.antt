@@ -84,32 +84,14 @@ ending_in-HasNumbers (suc (suc (suc (suc (suc (suc (suc zero))))))) a b h u = re
 ending_in-HasNumbers (suc (suc (suc (suc (suc (suc (suc (suc k)))))))) a b h u = absurd (omega arith)
 
 pub ending_in-numbers : (e : Ending) → ending_in (ending_kind e) (ending_first e) (ending_second e) ≡ e
-ending_in-numbers Spent = refl
 ending_in-numbers (Exit value) = refl
-ending_in-numbers (Signal code pc) = refl
-ending_in-numbers (Fetch pc) = refl
-ending_in-numbers (Access pc addr) = refl
-ending_in-numbers (Align pc addr) = refl
-ending_in-numbers (Lost pc mask) = refl
-ending_in-numbers (Overflow pc) = refl
+ending_in-numbers e = refl
 
 -- the numbers of an ending are good
 pub ending_kind-lt : (e : Ending) → ending_kind e < 8
-ending_kind-lt Spent = omega arith
 ending_kind-lt (Exit value) = omega arith
-ending_kind-lt (Signal code pc) = omega arith
-ending_kind-lt (Fetch pc) = omega arith
-ending_kind-lt (Access pc addr) = omega arith
-ending_kind-lt (Align pc addr) = omega arith
-ending_kind-lt (Lost pc mask) = omega arith
-ending_kind-lt (Overflow pc) = omega arith
+ending_kind-lt e = omega arith
 
 pub unused_are_zero-ending : (e : Ending) → unused_are_zero (ending_kind e) (ending_first e) (ending_second e) ≡ true
-unused_are_zero-ending Spent = refl
 unused_are_zero-ending (Exit value) = refl
-unused_are_zero-ending (Signal code pc) = refl
-unused_are_zero-ending (Fetch pc) = refl
-unused_are_zero-ending (Access pc addr) = refl
-unused_are_zero-ending (Align pc addr) = refl
-unused_are_zero-ending (Lost pc mask) = refl
-unused_are_zero-ending (Overflow pc) = refl
+unused_are_zero-ending e = refl

@@ -48,11 +48,8 @@ spoilt-any (Some (store_conditional at ra)) s value a b = by (matches s.lock (lo
     by : (m : Bool) → spoilt_conditional m at ra s (waiting value a) ≡ spoilt_conditional m at ra s (waiting value b)
     by true = refl
     by false = refl
-spoilt-any (Some (branch None ra disp)) s value a b = refl
 spoilt-any (Some (branch (Some c) ra disp)) s value a b = refl
-spoilt-any (Some (jump ra rb)) s value a b = refl
-spoilt-any (Some (barrier call)) s value a b = refl
-spoilt-any (Some idle) s value a b = refl
+spoilt-any o s value a b = refl
 
 -- R31 is added to no mask
 mask-none : (o : Option Class) (mask : ℕ) (adds : Bool) → mask_after o mask (adds && adds_here o) ≡ mask_after o mask adds

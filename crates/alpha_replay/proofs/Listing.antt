@@ -161,14 +161,8 @@ no_bytes [] e = refl
 no_bytes (x ∷ l) e = absurd (let h = eqb-true (length (x ∷ l)) 0 e in omega (arith, h))
 
 ending_again : (e : Ending) → ending_in (ending_kind e) (ending_first e) (ending_second e) ≡ e
-ending_again endings.Spent = refl
 ending_again (endings.Exit value) = refl
-ending_again (endings.Signal code pc) = refl
-ending_again (endings.Fetch pc) = refl
-ending_again (endings.Access pc addr) = refl
-ending_again (endings.Align pc addr) = refl
-ending_again (endings.Lost pc mask) = refl
-ending_again (endings.Overflow pc) = refl
+ending_again e = refl
 
 same_is : (a b : Ending) → same_ending a b ≡ true → b ≡ a
 same_is a b e =

@@ -44,14 +44,8 @@ shown-happened o c passed (Reported at) = refl
 shown-happened o c passed (Lost pc mask) = refl
 
 pub over-finished : (event : Seen) → finished (happened_of event) ≡ is_over event
-over-finished events.Went = refl
 over-finished (events.Barrier passed) = refl
-over-finished (events.Overflowed at) = refl
-over-finished (events.Triggered value) = refl
-over-finished (events.Waited w) = refl
-over-finished (events.Reported at) = refl
-over-finished (events.Ended end) = refl
-over-finished (events.Lost pc mask) = refl
+over-finished event = refl
 
 -- ---- the move of a kind of step
 

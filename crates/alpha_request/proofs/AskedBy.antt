@@ -89,16 +89,7 @@ named_text word n =
 
 text_named : (n : Name) → name_of (word_of n) ≡ Some n
 text_named (names.OfImage images.Check) = refl
-text_named (names.OfImage images.Dis) = refl
-text_named (names.Make sources.Asm) = refl
-text_named (names.Make sources.Fix) = refl
-text_named (names.Make sources.Module) = refl
-text_named names.Link = refl
-text_named names.Replay = refl
-text_named names.Record = refl
-text_named names.Run = refl
-text_named (names.OfImage images.Debug) = refl
-text_named names.Trial = refl
+text_named n = refl
 
 -- ---- both ways
 

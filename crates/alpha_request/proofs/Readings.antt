@@ -26,12 +26,7 @@ use Rattle.alpha_request.specs.Reading.{Matches, Reads}
 pub simple_and_free : (name : Name) → is_simple_and_free (app_of_name name) ≡ true
 unfolding clap_on_literals
 simple_and_free (names.OfImage what) = refl
-simple_and_free (names.Make what) = refl
-simple_and_free names.Link = refl
-simple_and_free names.Replay = refl
-simple_and_free names.Record = refl
-simple_and_free names.Run = refl
-simple_and_free names.Trial = refl
+simple_and_free name = refl
 
 simple : (name : Name) → is_simple (app_of_name name) ≡ true
 simple name = (and_parts (is_simple (app_of_name name)) (is_free_app (built (app_of_name name))) (simple_and_free name)).0

@@ -83,14 +83,7 @@ module _ (g : Program) (good : IsImage g.image) (safety : IsSafe g.image.words) 
       let at = placed w.state (trigger op ra src rc) is in
       trailing at.0 (at.0 + 1) (trail_start g good safety at.0 t w c at.1 at.2)
   sure_triggered w c (Some (address op ra rb disp)) is over = absurd cc
-  sure_triggered w c (Some (load extension at ra)) is over = absurd cc
-  sure_triggered w c (Some (store at ra)) is over = absurd cc
-  sure_triggered w c (Some (load_locked extension at ra)) is over = absurd cc
-  sure_triggered w c (Some (store_conditional at ra)) is over = absurd cc
-  sure_triggered w c (Some (branch condition ra disp)) is over = absurd cc
-  sure_triggered w c (Some (jump ra rb)) is over = absurd cc
-  sure_triggered w c (Some (barrier call)) is over = absurd cc
-  sure_triggered w c (Some idle) is over = absurd cc
+  sure_triggered w c o is over = absurd cc
 
   sure_calm : (w : WildRun) (c : Choice) → Sure g (extended_wild w (wild g w.state None c))
   sure_calm w c = by (triggers (next_class g w.state.pc) w.state) refl

@@ -70,14 +70,7 @@ module _ (g : Program) (good : IsImage g.image) (safe : IsSafe g.image.words) wh
         (traps g.how r.state rc (trigger_value g.how t r.state.regs) (overflow_of op (reg r.state.regs ra) (source_value r.state.regs src)) there)
         (overflows g good safe h.at h.to t r (clear w) c is h.matched h.pc h.pc_too h.trace)
     overflow_on (Some (address op ra rb disp)) is over = cc
-    overflow_on (Some (load extension at ra)) is over = cc
-    overflow_on (Some (store at ra)) is over = cc
-    overflow_on (Some (load_locked extension at ra)) is over = cc
-    overflow_on (Some (store_conditional at ra)) is over = cc
-    overflow_on (Some (branch condition ra disp)) is over = cc
-    overflow_on (Some (jump ra rb)) is over = cc
-    overflow_on (Some (barrier call)) is over = cc
-    overflow_on (Some idle) is over = cc
+    overflow_on o is over = cc
 
     at_word : (o : Option Class) → class_at g.image.words h.at ≡ o
         → Together g (extended_by r (step g o r.state)) (extended_wild (clear w) (wild_at g o w.state None c))

@@ -98,14 +98,7 @@ module _ (g : Program) (good : IsImage g.image) (safe : IsSafe g.image.words) wh
         (traps g.how r.state rc (trigger_value g.how t r.state.regs) (overflow_of op (reg r.state.regs ra) (source_value r.state.regs src)) over)
         (overflows g good safe at.0 at.0 t r (beside r units last) c at.1 (match_same g.image.words at.0 r.state ready) at.2 refl refl)
     same_overflow (Some (address op ra rb disp)) is over = cc
-    same_overflow (Some (load extension at ra)) is over = cc
-    same_overflow (Some (store at ra)) is over = cc
-    same_overflow (Some (load_locked extension at ra)) is over = cc
-    same_overflow (Some (store_conditional at ra)) is over = cc
-    same_overflow (Some (branch condition ra disp)) is over = cc
-    same_overflow (Some (jump ra rb)) is over = cc
-    same_overflow (Some (barrier call)) is over = cc
-    same_overflow (Some idle) is over = cc
+    same_overflow o is over = cc
 
     same_on : Together g (extended_by r (step g (next_class g r.state.pc) r.state)) (extended_wild (beside r units last) (wild g r.state None c))
     same_on = by (triggers (next_class g r.state.pc) r.state) refl

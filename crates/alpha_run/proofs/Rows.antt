@@ -64,7 +64,6 @@ Feeds-append (Some left) mid last (p ∷ ps) qs fed found = (fed.0, Feeds-append
 
 -- ---- no step yet
 
-}
   where
     feeds : (left : Option (List ℕ)) → Feeds left [] left
     feeds None = tt

@@ -243,8 +243,6 @@ Passes-branch c ra disp regs mem place to taken image fits takes is = record {
     by base true = displaced_place base place disp fits
     by base false = next_place base place
 
-}
-
 -- the same, where what is left is named otherwise
 pub Passes-to : (image : Parts) (class : Class) (regs : List ℕ) (mem : List Block) (place : ℕ) (r r' : List ℕ) (m m' : List Block) (p p' : ℕ)
     → r' ≡ r → m' ≡ m → p' ≡ p → Passes image class regs mem place r m p → Passes image class regs mem place r' m' p'

@@ -20,14 +20,7 @@ numbered n =
 pub numbered-condition_number : (c : Condition) → numbered (condition_number c) ≡ c
 unfolding numbered
 numbered-condition_number ZeroDestination = refl
-numbered-condition_number SourceLost = refl
-numbered-condition_number SameDestination = refl
-numbered-condition_number WildBase = refl
-numbered-condition_number LoadThenStore = refl
-numbered-condition_number Locked = refl
-numbered-condition_number Turn = refl
-numbered-condition_number Open = refl
-numbered-condition_number Long = refl
+numbered-condition_number c = refl
 
 -- two conditions with one number are one
 pub condition_number-injective : (c d : Condition) → condition_number c ≡ condition_number d → c ≡ d

@@ -115,12 +115,7 @@ kind_numbered n =
 kind_numbered-kind_number : (k : InsnKind) → kind_numbered (kind_number k) ≡ k
 unfolding kind_numbered kind_number
 kind_numbered-kind_number kinds.Plain = refl
-kind_numbered-kind_number kinds.Trigger = refl
-kind_numbered-kind_number kinds.Barrier = refl
-kind_numbered-kind_number kinds.Load = refl
-kind_numbered-kind_number kinds.Store = refl
-kind_numbered-kind_number kinds.Locked = refl
-kind_numbered-kind_number kinds.Turn = refl
+kind_numbered-kind_number k = refl
 
 kind_is : (o : Option InsnKind) (k : InsnKind) → Decided (o ≡ Some k)
 kind_is None k = inr (λ e. cc)

@@ -124,7 +124,4 @@ room code at w kinds.Trigger s before none within k =
 room code at w kinds.Load s before none within k =
     subst (λ ls. length ls < 1025) (sym s.loads) (few code at kinds.Load before none within k (λ e. cc) (open_triggers code at) refl).1
 room code at w kinds.Plain s before none within k = tt
-room code at w kinds.Store s before none within k = tt
-room code at w kinds.Locked s before none within k = tt
-room code at w kinds.Barrier s before none within k = tt
-room code at w kinds.Turn s before none within k = tt
+room code at w kind s before none within k = tt

@@ -150,10 +150,7 @@ any_open_load code store (suc n) = by_kind (any_open_load code store n) (kind_at
     by_kind before (Some kinds.Turn) e = ended (λ on. on.1 e)
     by_kind before (Some kinds.Load) e = more before e (access_at code n) refl (open_triggers code n) refl
     by_kind before (Some kinds.Trigger) e = still before (λ b. cc, λ t. cc) (λ t. cc)
-    by_kind before (Some kinds.Plain) e = still before (λ b. cc, λ t. cc) (λ t. cc)
-    by_kind before (Some kinds.Store) e = still before (λ b. cc, λ t. cc) (λ t. cc)
-    by_kind before (Some kinds.Locked) e = still before (λ b. cc, λ t. cc) (λ t. cc)
-    by_kind before None e = still before (λ b. cc, λ t. cc) (λ t. cc)
+    by_kind before x e = still before (λ b. cc, λ t. cc) (λ t. cc)
 
 -- the open loads stand after the first trigger, at different places
 pub loads_room : (code : List ℕ) (at : ℕ) (f : Trigger) → slice_get (open_triggers code at) 0 ≡ Some f

@@ -60,8 +60,6 @@ notes_set code at r word before after h e small size set = record {
       (cases_eq k r);
 }
 
-}
-
 -- A window after a word of a shadow, by what became of its parts.
 pub passed : (code : List ℕ) (at : ℕ) (w after : Window) (word : Columns) → Summarizes code w at → HasColumns code at word
     → after.triggers.items ≡ next_triggers (Some word.kind) (record { place = at; destination = destination_of code at }) w.triggers.items
@@ -92,11 +90,7 @@ skipped code at w kind s k t other =
     still : (k : InsnKind) → k ≢ kinds.Trigger → (t : Trigger) → next_triggers (Some k) t [] ≡ []
     still kinds.Trigger not t = absurd (not refl)
     still kinds.Barrier not t = refl
-    still kinds.Turn not t = refl
-    still kinds.Plain not t = refl
-    still kinds.Load not t = refl
-    still kinds.Store not t = refl
-    still kinds.Locked not t = refl
+    still k not t = refl
 
 -- the lists after a word of each kind
 

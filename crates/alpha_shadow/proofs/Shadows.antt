@@ -99,10 +99,7 @@ find_open code test (suc n) = by_kind (find_open code test n) (kind_at code n) r
     by_kind before (Some kinds.Trigger) e =
         rw find-append (finds_more code n test e (find test (open_triggers code n)) before (test (trigger_at code n)) refl)
     by_kind before (Some kinds.Plain) e = finds_still code n test (λ b. cc, λ t. cc) (λ t. cc) _ before
-    by_kind before (Some kinds.Load) e = finds_still code n test (λ b. cc, λ t. cc) (λ t. cc) _ before
-    by_kind before (Some kinds.Store) e = finds_still code n test (λ b. cc, λ t. cc) (λ t. cc) _ before
-    by_kind before (Some kinds.Locked) e = finds_still code n test (λ b. cc, λ t. cc) (λ t. cc) _ before
-    by_kind before None e = finds_still code n test (λ b. cc, λ t. cc) (λ t. cc) _ before
+    by_kind before x e = finds_still code n test (λ b. cc, λ t. cc) (λ t. cc) _ before
 
 -- what a search says, where the test decides a fact of the trigger's place
 pub first_that : (code : List ℕ) (at : ℕ) (test : Trigger → Bool) (P : ℕ → Type 0)

@@ -55,8 +55,6 @@ found_next code at n c found trigger e before next less = record {
       (split code at n p c d e within b);
 }
 
-}
-
 -- C8 holds at no place of the code
 pub open_next : (code : List ℕ) (at : ℕ) (found : Option Broken) → at < length code → IsLeastUpTo code at 7 found → IsLeastUpTo code at 8 found
 open_next code at found within before = none_next code at 7 Open found refl before (λ p b. let e = b.holds in omega arith)
@@ -67,26 +65,12 @@ nothing_yet code at = λ p d within b. positive d within
   where
     positive : (d : Condition) → condition_number d ≤ 0 → ⊥
     positive ZeroDestination h = omega arith
-    positive SourceLost h = omega arith
-    positive SameDestination h = omega arith
-    positive WildBase h = omega arith
-    positive LoadThenStore h = omega arith
-    positive Locked h = omega arith
-    positive Turn h = omega arith
-    positive Open h = omega arith
-    positive Long h = omega arith
+    positive d h = omega arith
 
 -- there are no more than nine
 pub number_bound : (d : Condition) → condition_number d ≤ 9
 number_bound ZeroDestination = lit≤ tt
-number_bound SourceLost = lit≤ tt
-number_bound SameDestination = lit≤ tt
-number_bound WildBase = lit≤ tt
-number_bound LoadThenStore = lit≤ tt
-number_bound Locked = lit≤ tt
-number_bound Turn = lit≤ tt
-number_bound Open = lit≤ tt
-number_bound Long = lit≤ tt
+number_bound d = lit≤ tt
 
 -- a condition that breaks nothing there
 pub skip : (code : List ℕ) (at n : ℕ) (c : Condition) (found : Option Broken) → condition_number c ≡ n + 1 → IsFirstBroken code at c None

@@ -36,15 +36,7 @@ unless_zero d = cases (d == 31) refl
 class_destination : (c : Class) → class_kind c ≡ kinds.Trigger → trap_rc (Some c) ≡ Some (unwrap_or (sets (Some c)) 31)
 class_destination (trigger op ra src rc) e = ap Some (sym (unless_zero rc))
 class_destination (operate op ra src rc) e = cc
-class_destination (address op ra rb disp) e = cc
-class_destination (load extension at ra) e = cc
-class_destination (store at ra) e = cc
-class_destination (load_locked extension at ra) e = cc
-class_destination (store_conditional at ra) e = cc
-class_destination (branch condition ra disp) e = cc
-class_destination (jump ra rb) e = cc
-class_destination (barrier call) e = cc
-class_destination idle e = cc
+class_destination c e = cc
 
 -- what a trigger sets tells its destination
 pub trigger_destination : (code : List ℕ) (at : ℕ) → kind_at code at ≡ Some kinds.Trigger → destination_at code at ≡ Some (destination_of code at)
@@ -81,15 +73,7 @@ no_access code at k e none = cases (class_at code at) refl e
 class_no_set : (c : Class) → class_kind c ≡ kinds.Barrier → sets (Some c) ≡ None
 class_no_set (barrier call) e = refl
 class_no_set (operate op ra src rc) e = cc
-class_no_set (trigger op ra src rc) e = cc
-class_no_set (address op ra rb disp) e = cc
-class_no_set (load extension at ra) e = cc
-class_no_set (store at ra) e = cc
-class_no_set (load_locked extension at ra) e = cc
-class_no_set (store_conditional at ra) e = cc
-class_no_set (branch condition ra disp) e = cc
-class_no_set (jump ra rb) e = cc
-class_no_set idle e = cc
+class_no_set c e = cc
 
 -- a barrier sets no register
 pub no_set : (code : List ℕ) (at : ℕ) → kind_at code at ≡ Some kinds.Barrier → sets_at code at ≡ None

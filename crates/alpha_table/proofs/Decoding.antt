@@ -295,12 +295,8 @@ same_signed half full f g a b h = cases (ltb f half) (ltb g half) h
 pub same_word : (v w : ℕ) (i : Form) → v < 2 ^ 32 → w < 2 ^ 32 → Row v i → Row w i → v ≡ w
 same_word v w (Mem op ra rb disp) a b h g = let d = same_signed (2 ^ 15) (2 ^ 16) (field 15 0 v) (field 15 0 w) (omega arith) (omega arith) (h.3 ∙ sym g.3) in omega arith
 same_word v w (Branch op ra disp) a b h g = let d = same_signed (2 ^ 20) (2 ^ 21) (field 20 0 v) (field 20 0 w) (omega arith) (omega arith) (h.2 ∙ sym g.2) in omega arith
-same_word v w (Jump kind ra rb hint) a b h g = omega arith
 same_word v w (Operate op ra (Reg rb) rc) a b h g = omega arith
-same_word v w (Operate op ra (Lit n) rc) a b h g = omega arith
-same_word v w (Misc op) a b h g = omega arith
-same_word v w (Fetch modify rb) a b h g = omega arith
-same_word v w (Pal call) a b h g = omega arith
+same_word v w i a b h g = omega arith
 
 signed_range : (half full f : ℕ) → half + half ≡ full → f < full → (pos 0 ≤ℤ (cond (ltb f half) (pos f) (pos f -ℤ pos full) +ℤ pos half)) × (cond (ltb f half) (pos f) (pos f -ℤ pos full) <ℤ pos half)
 signed_range half full f twice h = cases (ltb f half) refl
@@ -417,11 +413,7 @@ plain_stands w rows.Jump h told =
     let kind = kind_found (field 15 14 w) (omega arith) in
     (refl, (eqb-true _ _ h, refl, refl, kind, refl))
 plain_stands w (rows.Misc op) h told = cc
-plain_stands w (rows.Fetch modify) h told = cc
-plain_stands w (rows.Pal call) h told = cc
-plain_stands w (rows.Operate op) h told = cc
-plain_stands w (rows.Ruled op) h told = cc
-plain_stands w rows.Other h told = cc
+plain_stands w row h told = cc
 
 -- no word has the row of those that have none
 pub other_stands : (w : ℕ) (row : InsnRow) → Stands row w → row ≡ rows.Other → (i : Form) → Row w i → ⊥

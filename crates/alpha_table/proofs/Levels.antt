@@ -30,14 +30,7 @@ level_in-class_of (Mem memories.Ldwu ra rb disp) = level_load (ra == 31) _ _ ra
 level_in-class_of (Mem memories.Ldl ra rb disp) = level_load (ra == 31) _ _ ra
 level_in-class_of (Mem memories.Ldq ra rb disp) = level_load (ra == 31) _ _ ra
 level_in-class_of (Mem _ ra rb disp) = refl
-level_in-class_of (Branch op ra disp) = refl
-level_in-class_of (Jump kind ra rb hint) = refl
-level_in-class_of (Misc miscs.Trapb) = refl
-level_in-class_of (Misc _) = refl
-level_in-class_of (Fetch modify rb) = refl
-level_in-class_of (Pal call) = refl
-level_in-class_of (Operate ops.Ctpop ra src rc) = refl
-level_in-class_of (Operate _ ra src rc) = refl
+level_in-class_of i = refl
 
 IsLow : Level → Level → Type 0
 IsLow level own = level_number own ≤ level_number level

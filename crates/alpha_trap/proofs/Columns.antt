@@ -14,28 +14,14 @@ trigger_has_rc None e = cc
 trigger_has_rc (Some (operate op ra src rc)) e = cc
 trigger_has_rc (Some (trigger op ra src rc)) e = refl
 trigger_has_rc (Some (address op ra rb disp)) e = cc
-trigger_has_rc (Some (load extension at ra)) e = cc
-trigger_has_rc (Some (store at ra)) e = cc
-trigger_has_rc (Some (load_locked extension at ra)) e = cc
-trigger_has_rc (Some (store_conditional at ra)) e = cc
-trigger_has_rc (Some (branch condition ra disp)) e = cc
-trigger_has_rc (Some (jump ra rb)) e = cc
-trigger_has_rc (Some (barrier call)) e = cc
-trigger_has_rc (Some idle) e = cc
+trigger_has_rc c e = cc
 
 pub has_rc_trigger : (c : Option Class) → is_some (trap_rc c) ≡ true → kind c ≡ Some kinds.Trigger
 has_rc_trigger None e = cc
 has_rc_trigger (Some (operate op ra src rc)) e = cc
 has_rc_trigger (Some (trigger op ra src rc)) e = refl
 has_rc_trigger (Some (address op ra rb disp)) e = cc
-has_rc_trigger (Some (load extension at ra)) e = cc
-has_rc_trigger (Some (store at ra)) e = cc
-has_rc_trigger (Some (load_locked extension at ra)) e = cc
-has_rc_trigger (Some (store_conditional at ra)) e = cc
-has_rc_trigger (Some (branch condition ra disp)) e = cc
-has_rc_trigger (Some (jump ra rb)) e = cc
-has_rc_trigger (Some (barrier call)) e = cc
-has_rc_trigger (Some idle) e = cc
+has_rc_trigger c e = cc
 
 -- a word that runs straight on is neither a barrier nor a turn
 

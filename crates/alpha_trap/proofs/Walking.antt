@@ -23,8 +23,6 @@ pub record Walked (code : List ℕ) (mask left at to : ℕ) : Type 0 where
   pub straight : Straight code at to
   pub none : (k : ℕ) → at ≤ k → Fits code mask k to → ⊥
 
-}
-
 -- the walk has come to one past the place before
 pub walked_next : (code : List ℕ) (mask left place to : ℕ) → 0 < place → Walked code mask left place to → Walked code mask left (place - 1 + 1) to
 walked_next code mask left place to some w =
@@ -57,8 +55,6 @@ none_more code mask at to above here k low f = ⊎_elim
     (λ (same : k ≡ at). here (subst (λ j. Fits code mask j to) same f))
     (λ (apart : k ≡ at → ⊥). above k (omega arith) f)
     (cases_eq k at)
-
-}
 
 -- at a trigger, whose destination is left no more
 spoilt_now : (code : List ℕ) (mask left fewer at to rc : ℕ) → Walked code mask left (at + 1) to → at < to → trap_rc (class_at code at) ≡ Some rc

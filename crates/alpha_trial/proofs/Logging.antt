@@ -97,11 +97,8 @@ spoilt_count (Some (store_conditional at ra)) s c = by (matches s.lock (lock_blo
     by : (b : Bool) → (spoilt_conditional b at ra s c).count ≡ s.count
     by true = refl
     by false = refl
-spoilt_count (Some (branch None ra disp)) s c = refl
 spoilt_count (Some (branch (Some condition) ra disp)) s c = refl
-spoilt_count (Some (jump ra rb)) s c = refl
-spoilt_count (Some (barrier call)) s c = refl
-spoilt_count (Some idle) s c = refl
+spoilt_count o s c = refl
 
 trap_total : (g : Program) (o : Option Class) (s : State) (t : Trap) (c : Choice) → total (wild_at g o s (Some t) c) ≤ s.count + 1
 trap_total g o s t c = by (c.report || not (can_wait o s))

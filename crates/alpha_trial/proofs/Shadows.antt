@@ -243,17 +243,8 @@ found_in x y (suc (suc (suc (suc (suc (suc (suc (suc (suc k))))))))) rest later 
 -- the ending has none
 ending_plain : (t : ℕ) → kind_at ending_words t ≡ Some kinds.Trigger → ⊥
 unfolding class_at class_in
-ending_plain zero h = cc
-ending_plain (suc zero) h = cc
-ending_plain (suc (suc zero)) h = cc
-ending_plain (suc (suc (suc zero))) h = cc
-ending_plain (suc (suc (suc (suc zero)))) h = cc
-ending_plain (suc (suc (suc (suc (suc zero))))) h = cc
-ending_plain (suc (suc (suc (suc (suc (suc zero)))))) h = cc
-ending_plain (suc (suc (suc (suc (suc (suc (suc zero))))))) h = cc
-ending_plain (suc (suc (suc (suc (suc (suc (suc (suc zero)))))))) h = cc
-ending_plain (suc (suc (suc (suc (suc (suc (suc (suc (suc zero))))))))) h = cc
 ending_plain (suc (suc (suc (suc (suc (suc (suc (suc (suc (suc t)))))))))) h = cc
+ending_plain t h = cc
 
 found : (n : ℕ) (g : Lcg) (t : ℕ) → kind_at (blocks_words n g ++ ending_words) t ≡ Some kinds.Trigger → Found (blocks_words n g ++ ending_words) t
 found zero g t h = absurd (ending_plain t h)
