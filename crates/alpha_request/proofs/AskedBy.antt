@@ -89,6 +89,7 @@ named_text word n =
 
 text_named : (n : Name) → name_of (word_of n) ≡ Some n
 text_named (names.OfImage images.Check) = refl
+text_named (names.Make sources.Asm) = refl
 text_named n = refl
 
 -- ---- both ways
