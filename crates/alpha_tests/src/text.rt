@@ -2,7 +2,7 @@ mod bytes;
 mod near;
 
 use LineFaultKind::{BadOperands, BadToken, OutOfRange, UnknownName};
-use alpha_quick::read_line;
+use alpha_quick::{read_insn, read_line};
 use alpha_text::{Item, LineBuf, LineFault, LineFaultKind, Statement, write_line};
 
 // The item of a line that is no longer than a line may be, by the quick reader.
@@ -76,6 +76,42 @@ fn spellings_of_instructions(rt: HostRuntime) {
         let mut to = LineBuf::new();
         rewrite(line, &mut to);
         assert!(rt; to.bytes() == *want, "{line:?}");
+    }
+}
+
+// A line of each shape that programs write often, with an instruction and no label.
+static PLAIN: [&[u8]; 24] = [
+    b"ldq $1,8($30)",
+    b"\tldq_u $1,-8($30)\t# first",
+    b"stl $31,($16)",
+    b"lda $sp,-64($sp)",
+    b"beq $1,.+8",
+    b"br $31,.-4",
+    b"addq $1,$2,$3",
+    b"addq/v $1,255,$3",
+    b"mulq/v\t$1,$2,$3",
+    b"sextb $1,$2",
+    b"sextw 255,$2",
+    b"ctpop $1,$2",
+    b"implver $0",
+    b"jmp $31,($27),0",
+    b"jsr $26,($27)",
+    b"ret $31,($26),1",
+    b"ret",
+    b"mov $1,$2",
+    b"mov -1,$2",
+    b"clr $3",
+    b"negq/v $1,$2",
+    b"  nop  ",
+    b"trapb",
+    b"callsys",
+];
+
+/// Such lines are read in one pass, and not left to the reader by tokens.
+#[test]
+fn plain_lines_are_read_in_one_pass(rt: HostRuntime) {
+    for line in &PLAIN {
+        assert!(rt; read_insn(line).is_ok(), "{line:?}");
     }
 }
 
