@@ -4,6 +4,7 @@ use Rattle.std.specs.Prelude.{IfSome}
 use Rattle.std.specs.Option.{option_or}
 use Rattle.std.specs.List.{AllByRecursion}
 use Rattle.std.proofs.lemmas.Bool.{ltb-false}
+use Rattle.alpha_table.specs.declared.form.Form.TheVariants.{Mem, Branch}
 use Rattle.alpha_operands.specs.Values.{Listed, IsWholeList}
 use Rattle.alpha_operands.specs.Values as listed
 use Rattle.alpha_text.specs.declared.reader.LineFault.{LineFault}
@@ -45,9 +46,12 @@ refers_within n m _ h r = tt
 
 -- what a statement that a module may have asks for
 insn_well : (s : Said) → RefersWell 1024 s → suits_module s ≡ true → IfSome (coded s) IsReached
-insn_well (says.target insn name offset) r h = r
-insn_well (says.high insn name offset) (a, r) h = ((a, h), r)
-insn_well (says.low insn name offset) (a, r) h = ((a, h), r)
+insn_well (says.target (Branch op ra disp) name offset) (a, r) h = (rw a refl, r)
+insn_well (says.target insn name offset) (a, r) h = absurd a
+insn_well (says.high (Mem op ra rb disp) name offset) (a, r) h = (rw (h, a) refl, r)
+insn_well (says.high insn name offset) (a, r) h = absurd a
+insn_well (says.low (Mem op ra rb disp) name offset) (a, r) h = (rw (h, a) refl, r)
+insn_well (says.low insn name offset) (a, r) h = absurd a
 insn_well _ r h = tt
 
 cells_listed : (bytes : ℕ) (all : List Listed) → AllByRecursion (IsListedWell 1024) all → AllByRecursion IsCell (map (cell_of bytes) all)

@@ -4,8 +4,6 @@ use Rattle.std.specs.Option.{unwrap_or, option_or, option_map_or}
 use Rattle.std.specs.Str.{bytes_eq}
 use Rattle.alpha_words.specs.Levels.{level_number}
 use Rattle.alpha_table.specs.declared.form.Form.{Form}
-use Rattle.alpha_table.specs.declared.form.Form.TheVariants.{Mem}
-use Rattle.alpha_table.specs.declared.rows.MemOp.TheVariants.{Lda, Ldah}
 use Rattle.alpha_table.specs.Columns.{level_of}
 use Rattle.alpha_text.specs.Statements.{Said}
 use Rattle.alpha_text.specs.Statements as says
@@ -18,7 +16,8 @@ use Rattle.alpha_asm.specs.declared.place.Section.{Section}
 use Rattle.alpha_asm.specs.declared.place.Section.TheVariants as sections
 use Rattle.alpha_asm.specs.declared.place.Spot.{Spot}
 use Rattle.alpha_asm.specs.declared.place.Spot.TheVariants as spots
-use Rattle.alpha_asm.specs.Statement.{coded, data_size, section_in, level_in, segment_in, zeroed_in, align_in, is_statement, code_base_in, data_base_in, stack_in, Entry, entry_in}
+use Rattle.alpha_asm.specs.declared.statement.Use.TheVariants.{High, Low}
+use Rattle.alpha_asm.specs.Statement.{suits, coded, data_size, section_in, level_in, segment_in, zeroed_in, align_in, is_statement, code_base_in, data_base_in, stack_in, Entry, entry_in}
 
 -- The place of an item: what the items before it have made.
 pub record Place : Type 0 where
@@ -183,22 +182,14 @@ is_misplaced p (says.align n) = not (is_data p.section)
 is_misplaced p (says.values bytes list) = not (is_data p.section) || p.has_zero
 is_misplaced p (says.text text) = not (is_data p.section) || p.has_zero
 
-abbrev pub is_ldah : Form → Bool
-is_ldah (Mem Ldah ra rb disp) = true
-is_ldah insn = false
-
-abbrev pub is_lda : Form → Bool
-is_lda (Mem Lda ra rb disp) = true
-is_lda insn = false
-
 -- A statement that a module may have: none of the fields, levels and segments of the image, which a link gives, and
 -- half of an address in an LDAH or LDA alone.
 abbrev pub suits_module : Said → Bool
 suits_module says.empty = true
 suits_module (says.code insn) = true
 suits_module (says.target insn label offset) = true
-suits_module (says.high insn label offset) = is_ldah insn
-suits_module (says.low insn label offset) = is_lda insn
+suits_module (says.high insn label offset) = suits High insn
+suits_module (says.low insn label offset) = suits Low insn
 suits_module (says.level n) = false
 suits_module (says.segment base) = false
 suits_module (says.code_base n) = false

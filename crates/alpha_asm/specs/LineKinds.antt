@@ -1,21 +1,12 @@
 -- What a line is to whoever puts instructions before it.
-use Rattle.std.specs.Prelude.{◌==◌, ℤ, pos, negsuc, Bool, true, false, not, ◌&&◌, ◌||◌, List, map, if◌then◌else◌}
-use Rattle.alpha_table.specs.declared.form.Form.{Form}
-use Rattle.alpha_table.specs.declared.form.Form.TheVariants.{Branch as branch}
+use Rattle.std.specs.Prelude.{Bool, not, ◌&&◌, List, map, if◌then◌else◌}
 use Rattle.alpha_text.specs.Statements.{Said}
 use Rattle.alpha_text.specs.Statements as says
 use Rattle.alpha_text.specs.Reading.{LineSaid}
 use Rattle.alpha_asm.specs.declared.line_kind.LineKind.{LineKind}
 use Rattle.alpha_asm.specs.declared.line_kind.LineKind.TheVariants.{Other, Insn, Bound}
-use Rattle.alpha_asm.specs.Layout.{is_lda, is_ldah}
-
-abbrev pub is_nothing : ℤ → Bool
-is_nothing (pos n) = n == 0
-is_nothing (negsuc n) = false
-
-abbrev pub is_branch : Form → Bool
-is_branch (branch op ra disp) = true
-is_branch insn = false
+use Rattle.alpha_asm.specs.declared.statement.Use.TheVariants.{Branch}
+use Rattle.alpha_asm.specs.Statement.{suits, suits_half, is_zero}
 
 -- an instruction, which names no place in its own way where this is so
 abbrev pub insn_if : Bool → LineKind
@@ -23,10 +14,10 @@ insn_if free = if free then Insn else Bound
 
 abbrev pub line_kind : Said → LineKind
 line_kind says.empty = Other
-line_kind (says.code insn) = insn_if (not (is_branch insn))
-line_kind (says.target insn label offset) = insn_if (is_nothing offset)
-line_kind (says.high insn label offset) = insn_if (is_nothing offset && (is_lda insn || is_ldah insn))
-line_kind (says.low insn label offset) = insn_if (is_nothing offset && (is_lda insn || is_ldah insn))
+line_kind (says.code insn) = insn_if (not (suits Branch insn))
+line_kind (says.target insn label offset) = insn_if (is_zero offset)
+line_kind (says.high insn label offset) = insn_if (is_zero offset && suits_half insn)
+line_kind (says.low insn label offset) = insn_if (is_zero offset && suits_half insn)
 line_kind (says.level n) = Other
 line_kind (says.segment base) = Other
 line_kind (says.code_base n) = Other

@@ -1,6 +1,8 @@
 -- What a statement asks of the assembler, apart from where it stands.
-use Rattle.std.specs.Prelude.{ℕ, zero, suc, ℤ, Bool, true, false, List, [], ◌∷◌, length, map, sum_by, Option, None, Some}
+use Rattle.std.specs.Prelude.{ℕ, zero, suc, ℤ, pos, negsuc, Bool, true, false, ◌==◌, ◌||◌, List, [], ◌∷◌, length, map, sum_by, Option, None, Some}
 use Rattle.alpha_table.specs.declared.form.Form.{Form}
+use Rattle.alpha_table.specs.declared.form.Form.TheVariants as forms
+use Rattle.alpha_table.specs.declared.rows.MemOp.TheVariants.{Lda, Ldah}
 use Rattle.alpha_token.specs.Quoted.{first_byte}
 use Rattle.alpha_operands.specs.Values.{Listed, next_of}
 use Rattle.alpha_operands.specs.Values as listed
@@ -10,6 +12,22 @@ use Rattle.alpha_asm.specs.declared.statement.Use.{Use}
 use Rattle.alpha_asm.specs.declared.statement.Use.TheVariants.{Branch, High, Low}
 use Rattle.alpha_asm.specs.declared.place.Section.{Section}
 use Rattle.alpha_asm.specs.declared.place.Section.TheVariants.{Code, Data}
+
+-- The instruction that an address goes into by this use: a branch, an LDAH, an LDA. A program may have half of an
+-- address in any other memory instruction too, a module in these alone.
+abbrev pub suits : Use → Form → Bool
+suits Branch (forms.Branch op ra disp) = true
+suits High (forms.Mem Ldah ra rb disp) = true
+suits Low (forms.Mem Lda ra rb disp) = true
+suits by insn = false
+
+-- LDAH or LDA
+abbrev pub suits_half : Form → Bool
+suits_half insn = suits High insn || suits Low insn
+
+abbrev pub is_zero : ℤ → Bool
+is_zero (pos n) = n == 0
+is_zero (negsuc n) = false
 
 -- the address of a label, with an offset
 pub record Reference : Type 0 where

@@ -1,14 +1,14 @@
 -- What the source of a module makes before any address is put in.
-use Rattle.std.specs.Prelude.{⊤, ◌≡◌, ◌≤◌, ℕ, List, length, map, true, None, IfSome}
+use Rattle.std.specs.Prelude.{⊤, ◌≡◌, ◌≤◌, ℕ, Bool, false, IsTrue, ◌&&◌, List, length, map, None, IfSome}
 use Rattle.std.specs.List.{flat_map, AllByRecursion}
 use Rattle.alpha_table.specs.declared.form.Form.{Form}
-use Rattle.alpha_text.specs.References.{IsLabel, IsReference, HasNoWords, HasNoBytes}
+use Rattle.alpha_table.specs.declared.form.Form.TheVariants.{Mem, Branch}
+use Rattle.alpha_text.specs.References.{IsLabel, IsReference}
 use Rattle.alpha_text.specs.Reading.{LineSaid}
 use Rattle.alpha_asm.specs.declared.statement.Use.{Use}
-use Rattle.alpha_asm.specs.declared.statement.Use.TheVariants as uses
 use Rattle.alpha_asm.specs.declared.unlinked.Unlinked.{Unlinked}
-use Rattle.alpha_asm.specs.Statement.{Reference, Coded, coded, Cell, number, address, cells, level_in, segment_in, entry_in}
-use Rattle.alpha_asm.specs.Layout.{is_ldah, is_lda, layout, end, spot_of}
+use Rattle.alpha_asm.specs.Statement.{suits, is_zero, Reference, Coded, coded, Cell, number, address, cells, level_in, segment_in, entry_in}
+use Rattle.alpha_asm.specs.Layout.{layout, end, spot_of}
 use Rattle.alpha_asm.specs.Patches.{fix_of, raw_insns, raw_bytes, fixes}
 use Rattle.alpha_asm.specs.Labels.{spot_named}
 
@@ -26,14 +26,18 @@ pub record Makes (is : List LineSaid) (u : Unlinked) : Type 0 where
 abbrev pub IsAddress : Reference → Type 0
 IsAddress r = IsReference 1024 r.label r.offset
 
+-- an instruction with displacement 0
+abbrev pub is_undisplaced : Form → Bool
+is_undisplaced (Branch op ra disp) = is_zero disp
+is_undisplaced (Mem op ra rb disp) = is_zero disp
+is_undisplaced insn = false
+
 -- an instruction that an address is put into, with displacement 0 until then
-abbrev pub Takes : Use → Form → Type 0
-Takes uses.Branch insn = HasNoWords insn
-Takes uses.High insn = HasNoBytes insn × (is_ldah insn ≡ true)
-Takes uses.Low insn = HasNoBytes insn × (is_lda insn ≡ true)
+abbrev pub takes : Use → Form → Bool
+takes by insn = suits by insn && is_undisplaced insn
 
 abbrev pub IsReached : Coded → Type 0
-IsReached c = IfSome c.reach (λ r. Takes r.0 c.insn × IsAddress r.1)
+IsReached c = IfSome c.reach (λ r. IsTrue (takes r.0 c.insn) × IsAddress r.1)
 
 abbrev pub IsCell : Cell → Type 0
 IsCell (number bytes value) = ⊤

@@ -1,8 +1,8 @@
 ghost use Rattle.std.specs.Prelude.{◌≡◌};
 ghost use Rattle.alpha_text.specs.Statements.{said};
-ghost use Rattle.alpha_asm.specs.Layout.{is_ldah, is_lda, suits_module, is_barred};
+ghost use Rattle.alpha_asm.specs.Layout.{suits_module, is_barred};
 
-use alpha_table::{Form, Insn, MemOp};
+use crate::statement::Use;
 use alpha_text::Statement;
 
 /// What a source is of.
@@ -12,26 +12,6 @@ pub enum SourceKind {
     Program,
     /// A module, which other modules are linked to later.
     Module,
-}
-
-/// Whether an instruction is an LDAH.
-pub(crate) fn is_ldah(insn: &Insn) -> bool
-    ensures { result ≡ is_ldah insn.now }
-{
-    match insn.form() {
-        Form::Mem { op, .. } => op == MemOp::Ldah,
-        _ => false,
-    }
-}
-
-/// Whether an instruction is an LDA.
-pub(crate) fn is_lda(insn: &Insn) -> bool
-    ensures { result ≡ is_lda insn.now }
-{
-    match insn.form() {
-        Form::Mem { op, .. } => op == MemOp::Lda,
-        _ => false,
-    }
 }
 
 // Whether a module may have a statement, wherever it stands.
@@ -46,8 +26,8 @@ fn suits_module(statement: &Statement<'_>) -> bool
         | Statement::Stack(_)
         | Statement::EntryAt(_)
         | Statement::EntryLabel(_) => false,
-        Statement::High { insn, .. } => is_ldah(insn),
-        Statement::Low { insn, .. } => is_lda(insn),
+        Statement::High { insn, .. } => Use::High.suits(insn),
+        Statement::Low { insn, .. } => Use::Low.suits(insn),
         Statement::Empty
         | Statement::Code(_)
         | Statement::Target { .. }

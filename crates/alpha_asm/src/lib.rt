@@ -26,8 +26,9 @@
 //!
 //! [`Section`], [`Spot`], [`Use`] and [`Displacement`] are what its definitions speak of, for crates that
 //! cite them, and [`Labels`], [`Patch`], [`Need`] and [`RelocationKind`] what [`Unlinked`] has. [`put_insn`] and
-//! [`put_quad`] put an address in, here and in a link, and [`padding`] rounds sizes. [`CODE_BASE`],
-//! [`DATA_BASE`] and [`STACK_BYTES`] are what an image has without statements of them.
+//! [`put_quad`] put an address in, here and in a link, [`Use::suits`] says which instruction it goes into, and
+//! [`padding`] rounds sizes. [`CODE_BASE`], [`DATA_BASE`] and [`STACK_BYTES`] are what an image has without
+//! statements of them.
 //!
 //! `specs/Statement.antt` has what a statement asks, `specs/Layout.antt` where each item stands,
 //! `specs/Program.antt` the program that the items make, and `specs/Assembled.antt` the image of a

@@ -2,10 +2,10 @@
 
 ghost use Rattle.std.specs.Prelude.{◌≡◌, ◌++◌, ◌∷◌, [], true, OnOk};
 ghost use Rattle.alpha_text.specs.Statements.{said, code};
-ghost use Rattle.alpha_asm.specs.LineKinds.{is_branch, insn_if, line_kind};
+ghost use Rattle.alpha_asm.specs.LineKinds.{insn_if, line_kind};
 
-use crate::kind::{is_lda, is_ldah};
-use alpha_table::{Form, Insn};
+use crate::statement::Use;
+use alpha_table::Insn;
 use alpha_text::Statement;
 use std::alloc::{AllocError, Global};
 
@@ -18,12 +18,6 @@ pub enum LineKind {
     Insn,
     /// What it says may depend on where instructions stand.
     Bound,
-}
-
-fn is_branch(insn: &Insn) -> bool
-    ensures { result ≡ is_branch insn.now }
-{
-    matches!(insn.form(), Form::Branch { .. })
 }
 
 // An instruction, which names no place in its own way where this is so.
@@ -42,10 +36,10 @@ fn line_kind(statement: &Statement<'_>) -> LineKind
     ensures { result ≡ line_kind (said statement.now) }
 {
     match statement {
-        Statement::Code(insn) => insn_if(!is_branch(insn)),
+        Statement::Code(insn) => insn_if(!Use::Branch.suits(insn)),
         Statement::Target { target, .. } => insn_if(target.offset == 0),
         Statement::High { insn, address } | Statement::Low { insn, address } => {
-            insn_if(address.offset == 0 && (is_lda(insn) || is_ldah(insn)))
+            insn_if(address.offset == 0 && (Use::High.suits(insn) || Use::Low.suits(insn)))
         }
         Statement::EntryAt(_) | Statement::EntryLabel(_) | Statement::Values { .. } => {
             LineKind::Bound
@@ -100,7 +94,7 @@ impl LineKinds {
             self.new.items.items ≡ self.old.items.items ++ line_kind (code insn.now) ∷ []) }
     {
         if self.gathers {
-            self.items.push(insn_if(!is_branch(insn)))?;
+            self.items.push(insn_if(!Use::Branch.suits(insn)))?;
         }
         Ok(())
     }

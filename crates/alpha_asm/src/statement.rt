@@ -1,11 +1,11 @@
 ghost use Rattle.std.specs.Prelude.{◌≡◌};
 ghost use Rattle.std.specs.Option.{option_map};
 ghost use Rattle.alpha_text.specs.Statements.{said};
-ghost use Rattle.alpha_asm.specs.Statement.{coded, section_in, level_in, segment_in, zeroed_in, is_statement};
+ghost use Rattle.alpha_asm.specs.Statement.{suits, coded, section_in, level_in, segment_in, zeroed_in, is_statement};
 ghost use Rattle.alpha_asm.specs.Patches.{coded_of};
 
 use crate::place::Section;
-use alpha_table::Insn;
+use alpha_table::{Form, Insn, MemOp};
 use alpha_text::{Expr, Statement};
 
 /// How an instruction uses the address of a label.
@@ -17,6 +17,21 @@ pub enum Use {
     High,
     /// Its displacement is the low half.
     Low,
+}
+
+impl Use {
+    /// Whether an instruction is of the kind that this use is for: a branch, an LDAH, an LDA.
+    #[inline]
+    pub fn suits(self, insn: &Insn) -> bool
+        ensures { result ≡ suits self insn.now }
+    {
+        match (self, insn.form()) {
+            (Use::Branch, Form::Branch { .. }) => true,
+            (Use::High, Form::Mem { op, .. }) => op == MemOp::Ldah,
+            (Use::Low, Form::Mem { op, .. }) => op == MemOp::Lda,
+            _ => false,
+        }
+    }
 }
 
 /// An instruction, and what its displacement is to reach.

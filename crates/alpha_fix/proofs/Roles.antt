@@ -2,20 +2,18 @@
 use Rattle.std.proofs.Common.{◌≡◌, ℕ, List, ◌∷◌, map, Bool, true, false, not, ◌&&◌, ◌||◌, refl, ◌∙◌, ap}
 use Rattle.std.specs.Prelude.{is_some}
 use Rattle.alpha_table.specs.declared.form.Form.{Form}
-use Rattle.alpha_table.specs.declared.form.Form.TheVariants.{Mem, Branch, Jump, Operate, Misc, Fetch, Pal}
-use Rattle.alpha_table.specs.declared.rows.MemOp.TheVariants.{Lda, Ldah}
 use Rattle.alpha_text.specs.Statements.{Said}
 use Rattle.alpha_text.specs.Statements as says
 use Rattle.alpha_asm.specs.declared.line_kind.LineKind.{LineKind}
 use Rattle.alpha_asm.specs.declared.line_kind.LineKind.TheVariants as kinds
-use Rattle.alpha_asm.specs.LineKinds.{is_nothing, is_branch, insn_if, line_kind, kinds_of}
-use Rattle.alpha_asm.specs.Layout.{is_lda, is_ldah}
-use Rattle.alpha_asm.specs.Statement.{Reference, to, coded, cells}
+use Rattle.alpha_asm.specs.LineKinds.{insn_if, line_kind, kinds_of}
+use Rattle.alpha_asm.specs.declared.statement.Use.TheVariants.{Branch}
+use Rattle.alpha_asm.specs.Statement.{suits, suits_half, is_zero, Reference, to, coded, cells}
 use Rattle.alpha_asm.specs.Assembled.{item_at}
 use Rattle.alpha_asm.specs.declared.lines.Line.{Line}
 use Rattle.alpha_fix.specs.declared.barriers.Role.TheVariants as roles
 use Rattle.alpha_asm.specs.SourceLines.{SourceLine, source_lines, line_item}
-use Rattle.alpha_fix.specs.FixedLines.{is_address, is_off, is_fixed}
+use Rattle.alpha_fix.specs.FixedLines.{is_off, is_fixed}
 use Rattle.alpha_asm.specs.SourceLines.{IsFirst}
 use Rattle.alpha_fix.specs.Lines.{role}
 use Rattle.alpha_fix.proofs.Values.{none_in_text}
@@ -23,6 +21,10 @@ use Rattle.alpha_fix.proofs.Values.{none_in_text}
 free : (b : Bool) → insn_if b ≡ kinds.Insn → b ≡ true
 free true e = refl
 free false e = cc
+
+unlike : (b : Bool) → insn_if (not b) ≡ kinds.Insn → b ≡ false
+unlike true e = cc
+unlike false e = refl
 
 never_other : (b : Bool) → insn_if b ≡ kinds.Other → ⊥
 never_other true e = cc
@@ -37,29 +39,18 @@ unless_not : (a b : Bool) → b ≡ true → (a && not b) ≡ false
 unless_not true b e = rw e refl
 unless_not false b e = refl
 
-address : (insn : Form) → (is_lda insn || is_ldah insn) ≡ true → is_address insn ≡ true
-address (Mem Lda ra rb disp) e = refl
-address (Mem Ldah ra rb disp) e = refl
-address _ e = cc
-
 -- an instruction with half of an address that is none in its own way
-half : (of_code : List ℕ → Bool) (insn : Form) (r : Reference) → (is_nothing r.offset && (is_lda insn || is_ldah insn)) ≡ true
-    → (is_off of_code r ≡ false) × ((of_code r.label && not (is_address insn)) ≡ false)
+half : (of_code : List ℕ → Bool) (insn : Form) (r : Reference) → (is_zero r.offset && suits_half insn) ≡ true
+    → (is_off of_code r ≡ false) × ((of_code r.label && not (suits_half insn)) ≡ false)
 half of_code insn r e =
-    let (nothing, good) = both (is_nothing r.offset) (is_lda insn || is_ldah insn) e in
-    (unless_not (of_code r.label) (is_nothing r.offset) nothing, unless_not (of_code r.label) (is_address insn) (address insn good))
+    let (nothing, good) = both (is_zero r.offset) (suits_half insn) e in
+    (unless_not (of_code r.label) (is_zero r.offset) nothing, unless_not (of_code r.label) (suits_half insn) good)
 
 pub insn_role : (of_code : List ℕ → Bool) (base : ℕ) (s : Said) → line_kind s ≡ kinds.Insn → roles.Insn ≡ role (is_fixed of_code base s) (is_some (coded s))
 unfolding cells
-insn_role of_code base (says.code (Branch op ra disp)) e = cc
-insn_role of_code base (says.code (Mem op ra rb disp)) e = refl
-insn_role of_code base (says.code (Jump kind ra rb hint)) e = refl
-insn_role of_code base (says.code (Operate op ra src rc)) e = refl
-insn_role of_code base (says.code (Misc op)) e = refl
-insn_role of_code base (says.code (Fetch modify rb)) e = refl
-insn_role of_code base (says.code (Pal call)) e = refl
+insn_role of_code base (says.code insn) e = rw (unlike (suits Branch insn) e) refl
 insn_role of_code base (says.target insn label offset) e =
-    let none : is_off of_code (to label offset) ≡ false = unless_not (of_code label) (is_nothing offset) (free (is_nothing offset) e) in
+    let none : is_off of_code (to label offset) ≡ false = unless_not (of_code label) (is_zero offset) (free (is_zero offset) e) in
     rw none refl
 insn_role of_code base (says.high insn label offset) e =
     let (none, good) = half of_code insn (to label offset) (free _ e) in
@@ -74,7 +65,7 @@ text_role of_code base text = ap (λ b. role (false || (b || (false || false))) 
 
 pub other_role : (of_code : List ℕ → Bool) (base : ℕ) (s : Said) → line_kind s ≡ kinds.Other → roles.Other ≡ role (is_fixed of_code base s) (is_some (coded s))
 unfolding cells
-other_role of_code base (says.code insn) e = absurd (never_other (not (is_branch insn)) e)
+other_role of_code base (says.code insn) e = absurd (never_other (not (suits Branch insn)) e)
 other_role of_code base (says.target insn label offset) e = absurd (never_other _ e)
 other_role of_code base (says.high insn label offset) e = absurd (never_other _ e)
 other_role of_code base (says.low insn label offset) e = absurd (never_other _ e)

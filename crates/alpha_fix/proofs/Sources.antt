@@ -19,7 +19,7 @@ use Rattle.alpha_image.specs.Parts.{Parts, IsImage}
 use Rattle.alpha_shadow.specs.Broken.{IsAccepted}
 use Rattle.alpha_asm.specs.declared.fault.AsmFault.{AsmFault}
 use Rattle.alpha_asm.specs.declared.fault.AsmFault.TheVariants.{Undefined, ImageField, Reach, LongLine}
-use Rattle.alpha_asm.specs.Statement.{Coded, coded, Entry}
+use Rattle.alpha_asm.specs.Statement.{suits_half, Coded, coded, Entry}
 use Rattle.alpha_asm.specs.Layout.{Place, Placed, start, behind, placed, layout, first, fields, is_of_code}
 use Rattle.alpha_asm.specs.Program.{Program, program_of, names_in, undefined_line, unmet_line, code_in, known, numbers_of, program, insn_in}
 use Rattle.alpha_asm.specs.declared.kind.SourceKind.TheVariants as source_kinds
@@ -28,7 +28,7 @@ use Rattle.alpha_image.specs.FieldTests.{least_bad_field}
 use Rattle.alpha_fix.specs.Cuts.{trapb, barred, without, HasBroken}
 use Rattle.alpha_asm.specs.SourceLines.{SourceLine, ended, unended, line_bytes, line_text, with_feed, source_lines, line_item}
 use Rattle.alpha_fix.specs.FixedSource.{is_cut, trapb_line, has_insn, has_word, word_count, bar_if, then_bar, fixed_lines, fixed_source}
-use Rattle.alpha_fix.specs.FixedLines.{items_of, is_over_distance, is_address, takes_half, enters_within, is_fixed, least_line, names_code, code_base, fixed_line}
+use Rattle.alpha_fix.specs.FixedLines.{items_of, is_over_distance, takes_half, enters_within, is_fixed, least_line, names_code, code_base, fixed_line}
 use Rattle.alpha_fix.specs.Fix.{HasImage, HasCuts, IsFixedSource}
 use Rattle.alpha_fix.proofs.Barring.{accepted, needed}
 use Rattle.alpha_asm.proofs.Splitting.{joined, texts_of}
@@ -195,8 +195,8 @@ half_steady false b e f = cc
 said_steady : (of_code : List ℕ → Bool) (s : Said) → takes_half of_code s ≡ false → SteadyCoded of_code (coded s)
 said_steady of_code (says.code insn) e = tt
 said_steady of_code (says.target insn label offset) e = tt
-said_steady of_code (says.high insn label offset) e = half_steady (of_code label) (is_address insn) e
-said_steady of_code (says.low insn label offset) e = half_steady (of_code label) (is_address insn) e
+said_steady of_code (says.high insn label offset) e = half_steady (of_code label) (suits_half insn) e
+said_steady of_code (says.low insn label offset) e = half_steady (of_code label) (suits_half insn) e
 said_steady of_code _ e = tt
 
 free_said : (of_code : List ℕ → Bool) (base : ℕ) (s : Said) → is_fixed of_code base s ≡ false → takes_half of_code s ≡ false

@@ -4,7 +4,6 @@ use Rattle.std.specs.Option.{option_map, option_map_or}
 use Rattle.std.specs.List.{flat_map, filter_map, All, cons_option}
 use Rattle.std.proofs.lemmas.List.{map-append}
 use Rattle.std.proofs.lemmas.List.Elements.{All-head, All-tail}
-use Rattle.alpha_table.specs.declared.rows.MemOp.{MemOp}
 use Rattle.alpha_table.specs.declared.rows.MemOp.TheVariants.{Lda, Ldah}
 use Rattle.alpha_table.specs.declared.form.Form.{Form}
 use Rattle.alpha_table.specs.declared.form.Form.TheVariants.{Mem, Branch, Jump, Operate, Misc, Fetch, Pal}
@@ -20,11 +19,10 @@ use Rattle.alpha_asm.specs.declared.patch.Displacement.TheVariants.{Words, Bytes
 use Rattle.alpha_asm.specs.declared.place.Spot.{Spot}
 use Rattle.alpha_asm.specs.declared.place.Spot.TheVariants.{Code, Data}
 use Rattle.alpha_asm.specs.declared.statement.Use.{Use}
-use Rattle.alpha_asm.specs.Statement.{Reference, Coded, coded}
+use Rattle.alpha_asm.specs.Statement.{suits_half, Reference, Coded, coded}
 use Rattle.alpha_asm.specs.Layout.{Place, Placed, behind, placed, is_of_code}
 use Rattle.alpha_asm.specs.Program.{Known, spot_address, address_of, words_over, high_half, low_half, halved, displaced, insn_in, code_in}
 use Rattle.alpha_fix.specs.FixedSource.{bar_if}
-use Rattle.alpha_fix.specs.FixedLines.{is_address, is_address_op}
 use Rattle.alpha_fix.proofs.FixedItems.{trapb_said, trapb_item, fixed_items}
 use Rattle.alpha_fix.proofs.Cores.{blur}
 use Rattle.alpha_fix.proofs.Steady.{steady, word_class}
@@ -43,8 +41,8 @@ pub record KnownAlike (k k2 : Known) : Type 0 where
 abbrev pub SteadyReach : (List ℕ → Bool) → Form → Option (Use × Reference) → Type 0
 SteadyReach of_code insn None = Unit {0}
 SteadyReach of_code insn (Some (branches, r)) = Unit {0}
-SteadyReach of_code insn (Some (High, r)) = of_code r.label ≡ true → is_address insn ≡ true
-SteadyReach of_code insn (Some (Low, r)) = of_code r.label ≡ true → is_address insn ≡ true
+SteadyReach of_code insn (Some (High, r)) = of_code r.label ≡ true → suits_half insn ≡ true
+SteadyReach of_code insn (Some (Low, r)) = of_code r.label ≡ true → suits_half insn ≡ true
 
 abbrev pub SteadyCoded : (List ℕ → Bool) → Option Coded → Type 0
 SteadyCoded of_code None = Unit {0}
@@ -68,17 +66,12 @@ over_class : (insn : Form) (d : ℤ) → form_class (option_map_or (displaced in
 over_class insn (pos d) = words_choice insn (eqb (d % 4) 0 && nat_lt d (2 ^ 22)) (pos (d / 4))
 over_class insn (negsuc d) = words_choice insn (eqb ((d + 1) % 4) 0 && nat_le (d + 1) (2 ^ 22)) (neg_ℤ (pos ((d + 1) / 4)))
 
-address_op : (op : MemOp) (ra rb : ℕ) (old new : ℤ) → is_address_op op ≡ true → form_class (Mem op ra rb new) ≡ form_class (Mem op ra rb old)
-address_op Lda ra rb old new h = refl
-address_op Ldah ra rb old new h = refl
-address_op _ ra rb old new h = cc
+bytes_class : (insn : Form) (d : ℤ) → suits_half insn ≡ true → form_class (displaced insn (Bytes d)) ≡ form_class insn
+bytes_class (Mem Lda ra rb disp) d h = refl
+bytes_class (Mem Ldah ra rb disp) d h = refl
+bytes_class _ d h = cc
 
-bytes_class : (insn : Form) (d : ℤ) → is_address insn ≡ true → form_class (displaced insn (Bytes d)) ≡ form_class insn
-bytes_class (Mem op ra rb disp) d h = address_op op ra rb disp d h
-bytes_class (Branch op ra disp) d h = refl
-bytes_class insn d h = refl
-
-half_class : (insn : Form) (f : ℕ → ℤ) (o : Option ℕ) → is_address insn ≡ true → form_class (option_map_or (displaced insn) (option_map (λ n. Bytes (f n)) o) insn) ≡ form_class insn
+half_class : (insn : Form) (f : ℕ → ℤ) (o : Option ℕ) → suits_half insn ≡ true → form_class (option_map_or (displaced insn) (option_map (λ n. Bytes (f n)) o) insn) ≡ form_class insn
 half_class insn f None h = refl
 half_class insn f (Some n) h = bytes_class insn (f n) h
 
@@ -103,7 +96,7 @@ module _ (k k2 : Known) (same : KnownAlike k k2) where
       same_address (k.spots r.label) r.offset
       ∙ ap (λ s. pos (option_map_or (spot_address k2) s 0) +ℤ r.offset) (same_spot (k.spots r.label) (k2.spots r.label) (same.same_spots r.label) h)
 
-  half_same : (insn : Form) (f : ℕ → ℤ) (r : Reference) → (is_of_code (k.spots r.label) ≡ true → is_address insn ≡ true)
+  half_same : (insn : Form) (f : ℕ → ℤ) (r : Reference) → (is_of_code (k.spots r.label) ≡ true → suits_half insn ≡ true)
       → form_class (option_map_or (displaced insn) (option_map (λ n. Bytes (f n)) (halved (address_of k r))) insn)
       ≡ form_class (option_map_or (displaced insn) (option_map (λ n. Bytes (f n)) (halved (address_of k2 r))) insn)
   half_same insn f r h = by (is_of_code (k.spots r.label)) refl

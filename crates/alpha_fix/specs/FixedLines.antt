@@ -1,17 +1,13 @@
 -- Lines that fix where words of the code stand: a word before them would make them name another one, or none.
-use Rattle.std.specs.Prelude.{ℕ, ◌+◌, ◌==◌, ◌&&◌, ◌||◌, Bool, true, false, not, List, [], ◌∷◌, ◌++◌, map, Option, None, Some, if◌then◌else◌}
+use Rattle.std.specs.Prelude.{ℕ, ◌+◌, ◌==◌, ◌&&◌, ◌||◌, Bool, false, not, List, [], ◌∷◌, ◌++◌, map, Option, None, Some, if◌then◌else◌}
 use Rattle.std.specs.Option.{option_map, option_and_then}
 use Rattle.std.specs.List.{list_any, filter_map}
 use Rattle.std.specs.Str.Lines.{lines}
-use Rattle.alpha_table.specs.declared.rows.MemOp.{MemOp}
-use Rattle.alpha_table.specs.declared.rows.MemOp.TheVariants.{Lda, Ldah}
-use Rattle.alpha_table.specs.declared.form.Form.{Form}
-use Rattle.alpha_table.specs.declared.form.Form.TheVariants.{Mem, Branch}
 use Rattle.alpha_text.specs.Statements.{Said}
 use Rattle.alpha_text.specs.Statements as says
 use Rattle.alpha_text.specs.Reading.{LineSaid}
-use Rattle.alpha_asm.specs.Statement.{Reference, coded, Cell, number, address, cells, Entry, entry_at, entry_of, entry_in}
-use Rattle.alpha_asm.specs.LineKinds.{is_nothing}
+use Rattle.alpha_asm.specs.declared.statement.Use.TheVariants.{Branch}
+use Rattle.alpha_asm.specs.Statement.{suits, suits_half, is_zero, Reference, coded, Cell, number, address, cells, Entry, entry_at, entry_of, entry_in}
 use Rattle.alpha_asm.specs.Layout.{layout, fields, spot_of, is_of_code}
 use Rattle.alpha_asm.specs.Program.{list_of, code_base_of}
 use Rattle.alpha_asm.specs.Assembled.{item_at}
@@ -22,23 +18,13 @@ items_of source = map item_at (lines source)
 
 -- A branch over a distance, `.+N` or `.-N`: where a branch names a label, the statement is another one.
 abbrev pub is_over_distance : Said → Bool
-is_over_distance (says.code (Branch op ra disp)) = true
+is_over_distance (says.code insn) = suits Branch insn
 is_over_distance _ = false
 
-abbrev pub is_address_op : MemOp → Bool
-is_address_op Lda = true
-is_address_op Ldah = true
-is_address_op _ = false
-
--- LDA or LDAH
-abbrev pub is_address : Form → Bool
-is_address (Mem op ra rb disp) = is_address_op op
-is_address _ = false
-
--- half of the address of a label that names code, in another instruction
+-- half of the address of a label that names code, in another instruction than LDA or LDAH
 abbrev pub takes_half : (List ℕ → Bool) → Said → Bool
-takes_half of_code (says.high insn label offset) = of_code label && not (is_address insn)
-takes_half of_code (says.low insn label offset) = of_code label && not (is_address insn)
+takes_half of_code (says.high insn label offset) = of_code label && not (suits_half insn)
+takes_half of_code (says.low insn label offset) = of_code label && not (suits_half insn)
 takes_half of_code _ = false
 
 -- an entry at an address that isn't the code base
@@ -62,7 +48,7 @@ references s =
 
 -- an address some way off a label that names code
 abbrev pub is_off : (List ℕ → Bool) → Reference → Bool
-is_off of_code r = of_code r.label && not (is_nothing r.offset)
+is_off of_code r = of_code r.label && not (is_zero r.offset)
 
 -- whether a statement fixes where words stand, by which labels name code and by the code base
 abbrev pub is_fixed : (List ℕ → Bool) → ℕ → Said → Bool

@@ -4,10 +4,9 @@ ghost use Rattle.alpha_operands.specs.Values.{view};
 ghost use Rattle.alpha_text.specs.Statements.{said};
 ghost use Rattle.alpha_asm.specs.Statement.{cell_of, values_up_to};
 ghost use Rattle.alpha_asm.specs.Patches.{reference_of};
-ghost use Rattle.alpha_fix.specs.FixedLines.{items_of, is_over_distance, is_address, takes_half, enters_within, cell_reference, references, is_off, is_fixed, names_code};
+ghost use Rattle.alpha_fix.specs.FixedLines.{items_of, is_over_distance, takes_half, enters_within, cell_reference, references, is_off, is_fixed, names_code};
 
-use alpha_asm::Symbols;
-use alpha_table::{Form, Insn, MemOp};
+use alpha_asm::{Symbols, Use};
 use alpha_text::{Expr, ListValue, Statement, next_value};
 
 // Whether a statement is a branch over a distance.
@@ -15,28 +14,19 @@ fn is_over_distance(statement: &Statement<'_>) -> bool
     ensures { result ≡ is_over_distance (said statement.now) }
 {
     match *statement {
-        Statement::Code(insn) => matches!(insn.form(), Form::Branch { .. }),
+        Statement::Code(insn) => Use::Branch.suits(&insn),
         _ => false,
     }
 }
 
-// Whether an instruction is LDA or LDAH.
-fn is_address(insn: &Insn) -> bool
-    ensures { result ≡ is_address insn.now }
-{
-    match insn.form() {
-        Form::Mem { op, .. } => matches!(op, MemOp::Lda | MemOp::Ldah),
-        _ => false,
-    }
-}
-
-// Whether a statement has half of the address of a label that names code, in another instruction.
+// Whether a statement has half of the address of a label that names code, in another instruction than
+// LDA or LDAH.
 fn takes_half<'a>(symbols: &Symbols<'a>, statement: &Statement<'a>) -> bool
     ensures { result ≡ takes_half (names_code (items_of symbols.now)) (said statement.now) }
 {
     match *statement {
         Statement::High { insn, address } | Statement::Low { insn, address } => {
-            symbols.names_code(address.label) && !is_address(&insn)
+            symbols.names_code(address.label) && !(Use::High.suits(&insn) || Use::Low.suits(&insn))
         }
         _ => false,
     }

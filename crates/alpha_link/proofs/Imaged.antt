@@ -31,10 +31,11 @@ use Rattle.alpha_asm.specs.declared.patch.Displacement.{Displacement}
 use Rattle.alpha_asm.specs.Layout.{padding}
 use Rattle.alpha_asm.specs.Program.{reached, displaced}
 use Rattle.alpha_asm.specs.Patches.{overlaid}
+use Rattle.alpha_asm.specs.Unlinked.{takes}
 use Rattle.alpha_asm.proofs.Reaching.{reaches-like}
 use Rattle.alpha_asm.specs.declared.patch.RelocationKind.{RelocationKind}
+use Rattle.alpha_asm.specs.declared.patch.RelocationKind.TheVariants as kinds
 use Rattle.alpha_link.specs.declared.relocation.Relocation.{Relocation}
-use Rattle.alpha_link.specs.Relocations.{is_taken_by}
 use Rattle.alpha_link.specs.Parts.{ModuleParts, IsModule}
 use Rattle.alpha_link.specs.declared.output.Output.{Output}
 use Rattle.alpha_link.specs.Output.{StandBehind, JoinsOne}
@@ -74,7 +75,8 @@ displacement_reaches addresses l r d e = go (use_of r.kind) (target addresses r)
     go (Some by) (Some a) h = record { by = by; pc = 0x10000 + 4 * l.words + r.offset; address = a; reached_so = h }
 
 insn_allowed : (kind : RelocationKind) (d : Displacement) (i : Form) → Reaches d → IsAllowed i → IsAllowed (insn_with kind d i)
-insn_allowed kind d i h good = either (is_taken_by kind i)
+insn_allowed kinds.Quad d i h good = good
+insn_allowed (kinds.Insn by) d i h good = either (takes by i)
   where
     either : (b : Bool) → IsAllowed (cond b (displaced i d) i)
     either true = displaced_allowed h.by h.pc h.address d i h.reached_so good

@@ -7,9 +7,8 @@ use Rattle.std.proofs.lemmas.List.{length-map}
 use Rattle.std.proofs.lemmas.List.Elements.{All-nil, All-cons, All-head, All-tail}
 use Rattle.alpha_words.specs.declared.Level.{Level}
 use Rattle.alpha_table.specs.declared.op.Cond.{Cond}
-use Rattle.alpha_table.specs.declared.rows.BranchOp.{BranchOp}
 use Rattle.alpha_table.specs.Rows.{branch_row}
-use Rattle.alpha_table.specs.declared.rows.MemOp.TheVariants as memories
+use Rattle.alpha_table.specs.declared.rows.MemOp.TheVariants.{Lda, Ldah}
 use Rattle.alpha_table.specs.declared.form.Form.{Form}
 use Rattle.alpha_table.specs.declared.form.Form.TheVariants.{Mem, Branch}
 use Rattle.alpha_table.specs.Class.{Class, branch}
@@ -23,16 +22,17 @@ use Rattle.alpha_image.specs.FieldTests.{least_bad_field}
 use Rattle.alpha_shadow.specs.Broken.{IsAccepted}
 use Rattle.alpha_asm.specs.declared.patch.Displacement.{Displacement}
 use Rattle.alpha_asm.specs.declared.patch.Displacement.TheVariants.{Words, Bytes}
-use Rattle.alpha_asm.specs.Program.{Program, program_of}
+use Rattle.alpha_asm.specs.Program.{Program, program_of, displaced}
+use Rattle.alpha_asm.specs.Unlinked.{takes}
 use Rattle.alpha_link.specs.declared.fault.LinkFault.{LinkFault}
 use Rattle.alpha_link.specs.declared.fault.LinkFault.TheVariants.{Duplicate, Undefined, ImageField, Reach}
 use Rattle.alpha_asm.specs.declared.patch.RelocationKind.{RelocationKind}
 use Rattle.alpha_asm.specs.declared.patch.RelocationKind.TheVariants as kinds
+use Rattle.alpha_asm.specs.declared.statement.Use.{Use}
 use Rattle.alpha_asm.specs.declared.statement.Use.TheVariants as uses
 use Rattle.alpha_link.specs.declared.relocation.Relocation.{Relocation}
 use Rattle.alpha_link.specs.Alike.{HaveSameColumns, AreAlike}
 use Rattle.alpha_link.specs.Parts.{ModuleParts}
-use Rattle.alpha_link.specs.Relocations.{is_zero}
 use Rattle.alpha_link.specs.Linked.{Located, located, places, addresses_of, displacement, insn_with, code_at, code_after, code_of, repeated, missing, unmet, entry_of, numbers_with, unless_refused, linked_at, linked}
 use Rattle.alpha_link.proofs.Joined.{same_columns, accepted_concat, accepted_alike}
 
@@ -92,31 +92,20 @@ turn_alike : (condition : Option Cond) (ra : ℕ) (x y : ℤ) → HaveSameColumn
 turn_alike None ra x y = record { kind = refl; sets = refl; uses = λ r. refl; access = refl; destination = refl }
 turn_alike (Some condition) ra x y = record { kind = refl; sets = refl; uses = λ r. refl; access = refl; destination = refl }
 
-branch_alike : (op : BranchOp) (ra : ℕ) (x y : ℤ) → HaveSameColumns (Some (class_of (Branch op ra x))) (Some (class_of (Branch op ra y)))
-branch_alike op ra x y = turn_alike (branch_row op).condition ra x y
+displaced_alike : (by : Use) (d : Displacement) (insn : Form) → takes by insn ≡ true → HaveSameColumns (Some (class_of insn)) (Some (class_of (displaced insn d)))
+displaced_alike by (Words n) (Branch op ra disp) t = turn_alike (branch_row op).condition ra disp n
+displaced_alike uses.High (Bytes n) (Mem Ldah ra rb disp) t = record { kind = refl; sets = refl; uses = λ r. refl; access = refl; destination = refl }
+displaced_alike uses.Low (Bytes n) (Mem Lda ra rb disp) t = record { kind = refl; sets = refl; uses = λ r. refl; access = refl; destination = refl }
+displaced_alike by (Bytes n) (Mem op ra rb disp) t = absurd cc
+displaced_alike by d insn t = same (Some (class_of insn))
 
-high_alike : (ra rb : ℕ) (x y : ℤ) → HaveSameColumns (Some (class_of (Mem memories.Ldah ra rb x))) (Some (class_of (Mem memories.Ldah ra rb y)))
-high_alike ra rb x y = record { kind = refl; sets = refl; uses = λ r. refl; access = refl; destination = refl }
-
-low_alike : (ra rb : ℕ) (x y : ℤ) → HaveSameColumns (Some (class_of (Mem memories.Lda ra rb x))) (Some (class_of (Mem memories.Lda ra rb y)))
-low_alike ra rb x y = record { kind = refl; sets = refl; uses = λ r. refl; access = refl; destination = refl }
-
-either : (b : Bool) (x y : Form) (c : Option Class) → HaveSameColumns c (Some (class_of x)) → HaveSameColumns c (Some (class_of y)) → HaveSameColumns c (Some (class_of (cond b x y)))
-either true x y c m n = m
-either false x y c m n = n
-
-pub insn_alike : (kind : RelocationKind) (d : Displacement) (insn : Form) → HaveSameColumns (Some (class_of insn)) (Some (class_of (insn_with kind d insn)))
-insn_alike (kinds.Insn uses.Branch) (Words n) (Branch op ra disp) = either (is_zero disp) (Branch op ra n) (Branch op ra disp) (Some (class_of (Branch op ra disp))) (branch_alike op ra disp n) (same (Some (class_of (Branch op ra disp))))
-insn_alike (kinds.Insn uses.Branch) (Bytes n) (Branch op ra disp) = either (is_zero disp) (Branch op ra disp) (Branch op ra disp) (Some (class_of (Branch op ra disp))) (same (Some (class_of (Branch op ra disp)))) (same (Some (class_of (Branch op ra disp))))
-insn_alike (kinds.Insn uses.High) (Bytes n) (Mem memories.Ldah ra rb disp) =
-    either (is_zero disp) (Mem memories.Ldah ra rb n) (Mem memories.Ldah ra rb disp) (Some (class_of (Mem memories.Ldah ra rb disp))) (high_alike ra rb disp n) (same (Some (class_of (Mem memories.Ldah ra rb disp))))
-insn_alike (kinds.Insn uses.High) (Words n) (Mem memories.Ldah ra rb disp) =
-    either (is_zero disp) (Mem memories.Ldah ra rb disp) (Mem memories.Ldah ra rb disp) (Some (class_of (Mem memories.Ldah ra rb disp))) (same (Some (class_of (Mem memories.Ldah ra rb disp)))) (same (Some (class_of (Mem memories.Ldah ra rb disp))))
-insn_alike (kinds.Insn uses.Low) (Bytes n) (Mem memories.Lda ra rb disp) =
-    either (is_zero disp) (Mem memories.Lda ra rb n) (Mem memories.Lda ra rb disp) (Some (class_of (Mem memories.Lda ra rb disp))) (low_alike ra rb disp n) (same (Some (class_of (Mem memories.Lda ra rb disp))))
-insn_alike (kinds.Insn uses.Low) (Words n) (Mem memories.Lda ra rb disp) =
-    either (is_zero disp) (Mem memories.Lda ra rb disp) (Mem memories.Lda ra rb disp) (Some (class_of (Mem memories.Lda ra rb disp))) (same (Some (class_of (Mem memories.Lda ra rb disp)))) (same (Some (class_of (Mem memories.Lda ra rb disp))))
-insn_alike kind d insn = same (Some (class_of insn))
+insn_alike : (kind : RelocationKind) (d : Displacement) (insn : Form) → HaveSameColumns (Some (class_of insn)) (Some (class_of (insn_with kind d insn)))
+insn_alike (kinds.Insn by) d insn = either (takes by insn) refl
+  where
+    either : (b : Bool) → takes by insn ≡ b → HaveSameColumns (Some (class_of insn)) (Some (class_of (cond b (displaced insn d) insn)))
+    either true t = displaced_alike by d insn t
+    either false t = same (Some (class_of insn))
+insn_alike kinds.Quad d insn = same (Some (class_of insn))
 
 put_later : (kind : RelocationKind) (d : Displacement) (place : ℕ) (i : Form) (code : List Form) (o : Option Form)
     → option_map_or (λ insn. slice_set (i ∷ code) (suc place) (insn_with kind d insn)) o (i ∷ code) ≡ i ∷ option_map_or (λ insn. slice_set code place (insn_with kind d insn)) o code

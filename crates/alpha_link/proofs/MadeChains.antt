@@ -1,14 +1,12 @@
 -- The fixes of a module's lines stand where they may, each behind those before it.
 use Rattle.std.proofs.Common.{◌≡◌, ℕ, ◌+◌, ◌*◌, ◌/◌, ◌%◌, ◌<◌, ◌≤◌, true, nat_le, List, [], ◌∷◌, ◌++◌, length, map, take, drop, replicate, Option, None, Some, refl, sym, ap, subst, ◌∙◌, append_assoc, length-append, arith}
-use Rattle.std.specs.Prelude.{IfSome, slice_get, ◌==◌}
+use Rattle.std.specs.Prelude.{IfSome, IsTrue, slice_get, ◌==◌}
 use Rattle.std.specs.Option.{option_map, option_map_or, option_and_then}
 use Rattle.std.specs.List.{AllByRecursion, flat_map, list_all}
 use Rattle.std.proofs.lemmas.Bool.Decides.{nat_tests}
 use Rattle.std.proofs.lemmas.List.{take_at, drop_at}
 use Rattle.alpha_words.specs.Digits.{digits, low_bytes}
 use Rattle.alpha_table.specs.declared.form.Form.{Form}
-use Rattle.alpha_table.specs.declared.form.Form.TheVariants as forms
-use Rattle.alpha_table.specs.declared.rows.MemOp.TheVariants.{Lda, Ldah}
 use Rattle.alpha_table.specs.Decoded.{decoded}
 use Rattle.alpha_table.specs.Encoded.{encoded}
 use Rattle.alpha_text.specs.Statements.{Said}
@@ -16,37 +14,26 @@ use Rattle.alpha_text.specs.Reading.{LineSaid}
 use Rattle.alpha_image.proofs.CodeInsns.{decoded_there}
 use Rattle.alpha_asm.specs.declared.place.Section.TheVariants as sides
 use Rattle.alpha_asm.specs.declared.statement.Use.{Use}
-use Rattle.alpha_asm.specs.declared.statement.Use.TheVariants as uses
 use Rattle.alpha_asm.specs.Statement.{Reference, Coded, coded, Cell, number, address, cells, data_size, entry_in}
 use Rattle.alpha_asm.specs.Layout.{Place, Placed, placed, behind, filled_pad}
 use Rattle.alpha_asm.specs.Program.{Name, name, by_insn, list_of, insn_name, insn_names, entry_names}
 use Rattle.alpha_asm.specs.Patches.{Fix, fix, raw_insns, raw_cells, raw_bytes, cell_fixes, fixes_in, fixes}
-use Rattle.alpha_asm.specs.Unlinked.{IsAddress, Takes, IsReached, IsCell, IsUnlinked}
+use Rattle.alpha_asm.specs.Unlinked.{IsAddress, takes, IsReached, IsCell, IsUnlinked}
 use Rattle.alpha_asm.proofs.Growing.{length-raw_bytes}
 use Rattle.alpha_asm.proofs.Pushing.{length-low_bytes}
 use Rattle.alpha_asm.specs.declared.patch.RelocationKind.TheVariants.{Insn}
-use Rattle.alpha_link.specs.Relocations.{Body, is_taken_by, is_taken_at, is_quad_at, body}
+use Rattle.alpha_link.specs.Relocations.{Body, is_taken_at, is_quad_at, body}
 use Rattle.alpha_link.proofs.MadeSizes.{insns_of, words_behind}
 use Rattle.alpha_link.proofs.MadeRelocations.{Chain}
 
-takes_so : (by : Use) (insn : Form) → Takes by insn → is_taken_by (Insn by) insn ≡ true
-takes_so uses.Branch (forms.Branch op ra disp) h = rw h refl
-takes_so uses.Branch insn h = absurd h
-takes_so uses.High (forms.Mem Ldah ra rb disp) (h, k) = rw h refl
-takes_so uses.High (forms.Mem op ra rb disp) (h, k) = absurd cc
-takes_so uses.High insn (h, k) = absurd h
-takes_so uses.Low (forms.Mem Lda ra rb disp) (h, k) = rw h refl
-takes_so uses.Low (forms.Mem op ra rb disp) (h, k) = absurd cc
-takes_so uses.Low insn (h, k) = absurd h
-
 -- the code has the instruction where it stands
-taken_so : (code : List Form) (insn : Form) (by : Use) (words : ℕ) → map decoded (map encoded code) ≡ map Some code → slice_get code words ≡ Some insn → Takes by insn → is_taken_at (map encoded code) (Insn by) (4 * words) ≡ true
-taken_so code insn by words known there takes =
+taken_so : (code : List Form) (insn : Form) (by : Use) (words : ℕ) → map decoded (map encoded code) ≡ map Some code → slice_get code words ≡ Some insn → takes by insn ≡ true → is_taken_at (map encoded code) by (4 * words) ≡ true
+taken_so code insn by words known there h =
     let aligned : 4 * words % 4 ≡ 0 = omega arith in
     let test : (4 * words % 4 == 0) ≡ true = rw aligned refl in
     let place : 4 * words / 4 ≡ words = omega arith in
     let here = decoded_there (map encoded code) code words insn known there in
-    rw (test, place, here) (takes_so by insn takes)
+    rw (test, place, here) h
 
 get_behind : {A : Type 0} (front rest : List A) (x : A) → slice_get (front ++ x ∷ rest) (length front) ≡ Some x
 get_behind [] rest x = refl
@@ -60,12 +47,12 @@ skip_cells b low line at (address r ∷ cs) fs chain = skip_cells b low line (at
 
 -- the chain behind the fix of an instruction
 reach_one : (code : List Form) (bytes : List ℕ) (low line words : ℕ) (insn : Form) (reach : Option (Use × Reference)) (fs : List Fix) → map decoded (map encoded code) ≡ map Some code → length code ≤ 262144
-    → slice_get code words ≡ Some insn → words < length code → low ≤ 4 * words → IfSome reach (λ r. Takes r.0 insn × IsAddress r.1)
+    → slice_get code words ≡ Some insn → words < length code → low ≤ 4 * words → IfSome reach (λ r. IsTrue (takes r.0 insn) × IsAddress r.1)
     → ((l : ℕ) → l ≤ 4 * (words + 1) → Chain sides.Code (body (map encoded code) bytes) l fs)
     → Chain sides.Code (body (map encoded code) bytes) low (map (fix 0) (list_of (option_map (λ r. name line r.1 (by_insn r.0 words)) reach)) ++ fs)
 reach_one code bytes low line words insn None fs known few there inside behind reached rest = rest low (omega arith)
-reach_one code bytes low line words insn (Some (by, to)) fs known few there inside behind (takes, (label, offset)) rest =
-    let stands = taken_so code insn by words known there takes in
+reach_one code bytes low line words insn (Some (by, to)) fs known few there inside behind (taken, (label, offset)) rest =
+    let stands = taken_so code insn by words known there taken in
     (record { behind = behind; stands = stands; small = omega arith; offset = offset }, rest (4 * words + 1) (omega arith))
 
 code_one : (code : List Form) (bytes : List ℕ) (low line words : ℕ) (o : Option Coded) (fs : List Fix) (front rest : List Form) → map decoded (map encoded code) ≡ map Some code → length code ≤ 262144

@@ -9,7 +9,7 @@ use Rattle.alpha_asm.specs.declared.statement.Use.{Use}
 use Rattle.alpha_asm.specs.Statement.{Reference, Coded, coded, Cell, number, address, cells}
 use Rattle.alpha_asm.specs.Layout.{Place, placed, behind}
 use Rattle.alpha_asm.specs.Program.{Name, name, by_insn, list_of, insn_name, insn_names, cell_name, entry_names, names_in}
-use Rattle.alpha_asm.specs.Unlinked.{IsAddress, Takes, IsReached, IsCell, IsUnlinked}
+use Rattle.alpha_asm.specs.Unlinked.{IsAddress, takes, IsReached, IsCell, IsUnlinked}
 use Rattle.alpha_link.specs.Made.{labels_in, references_in}
 use Rattle.alpha_link.proofs.MadeChains.{no_names}
 
@@ -33,7 +33,7 @@ labels_well p n (i ∷ is) (a, all) = one_more i.label (labels_in (placed (behin
 abbrev NamesWell : Name → Type 0
 NamesWell n = IsLabel 1024 n.reference.label
 
-reach_named : (line words : ℕ) (c : Coded) (r : Option (Use × Reference)) → IfSome r (λ r. Takes r.0 c.insn × IsAddress r.1) → AllByRecursion NamesWell (list_of (option_map (λ r. name line r.1 (by_insn r.0 words)) r))
+reach_named : (line words : ℕ) (c : Coded) (r : Option (Use × Reference)) → IfSome r (λ r. IsTrue (takes r.0 c.insn) × IsAddress r.1) → AllByRecursion NamesWell (list_of (option_map (λ r. name line r.1 (by_insn r.0 words)) r))
 reach_named line words c None h = tt
 reach_named line words c (Some r) (takes, (label, offset)) = (label, tt)
 

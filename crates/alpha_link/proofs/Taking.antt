@@ -9,11 +9,13 @@ use Rattle.alpha_table.specs.Decoded.{decoded}
 use Rattle.alpha_asm.specs.declared.patch.Displacement.{Displacement}
 use Rattle.alpha_asm.specs.declared.patch.RelocationKind.{RelocationKind}
 use Rattle.alpha_asm.specs.declared.patch.RelocationKind.TheVariants.{Insn, Quad}
+use Rattle.alpha_asm.specs.declared.statement.Use.{Use}
 use Rattle.alpha_asm.specs.Program.{displaced}
+use Rattle.alpha_asm.specs.Unlinked.{takes}
 use Rattle.alpha_asm.specs.Patches.{code_at as code_at_any}
 use Rattle.alpha_link.specs.declared.header.Sizes.{Sizes}
 use Rattle.alpha_link.specs.declared.relocation.Relocation.{Relocation}
-use Rattle.alpha_link.specs.Relocations.{Body, body, is_taken_by, stands_at, follows, follows_all, relocation_fits, IsRelocation}
+use Rattle.alpha_link.specs.Relocations.{Body, body, stands_at, follows, follows_all, relocation_fits, IsRelocation}
 use Rattle.alpha_link.specs.Parts.{AreGood}
 use Rattle.alpha_link.specs.Linked.{Located, use_of, displacement, insn_with, code_at, code_after}
 use Rattle.alpha_link.specs.Output.{code_with_all}
@@ -47,14 +49,14 @@ insn_there (w ∷ words) (i ∷ own) e zero = let here : decoded w ≡ Some i = 
 insn_there (w ∷ words) (i ∷ own) e (suc k) = let later : map decoded words ≡ map Some own = cc in insn_there words own later k
 
 -- an instruction that takes an address needs no test
-taken_with : (kind : RelocationKind) (d : Displacement) (place : ℕ) (code : List Form) (o : Option Form) → option_map_or (is_taken_by kind) o false ≡ true
-    → option_map_or (λ insn. slice_set code place (displaced insn d)) o code ≡ option_map_or (λ insn. slice_set code place (insn_with kind d insn)) o code
-taken_with kind d place code None taken = absurd cc
-taken_with kind d place code (Some insn) taken = rw taken refl
+taken_with : (by : Use) (d : Displacement) (place : ℕ) (code : List Form) (o : Option Form) → option_map_or (takes by) o false ≡ true
+    → option_map_or (λ insn. slice_set code place (displaced insn d)) o code ≡ option_map_or (λ insn. slice_set code place (insn_with (Insn by) d insn)) o code
+taken_with by d place code None taken = absurd cc
+taken_with by d place code (Some insn) taken = rw taken refl
 
-taken : (kind : RelocationKind) (o : Option Displacement) (place : ℕ) (code : List Form) → option_map_or (is_taken_by kind) (slice_get code place) false ≡ true → code_at_any o place code ≡ code_at kind place o code
-taken kind None place code t = refl
-taken kind (Some d) place code t = taken_with kind d place code (slice_get code place) t
+taken : (by : Use) (o : Option Displacement) (place : ℕ) (code : List Form) → option_map_or (takes by) (slice_get code place) false ≡ true → code_at_any o place code ≡ code_at (Insn by) place o code
+taken by None place code t = refl
+taken by (Some d) place code t = taken_with by d place code (slice_get code place) t
 
 -- what is put in changes no other place
 get_other : {A : Type 0} (xs : List A) (p k : ℕ) (x : A) → p ≢ k → slice_get (slice_set xs p x) k ≡ slice_get xs k
@@ -87,7 +89,7 @@ one_put : (kind : RelocationKind) (offset : ℕ) (words bytes : List ℕ) (own c
 one_put (Insn by) offset words bytes own code d known stands fresh none =
     let place : offset ≤ 4 * (offset / 4) = omega (arith, eqb-true (offset % 4) 0 (first_true _ _ stands)) in
     let here : slice_get code (offset / 4) ≡ option_and_then decoded (slice_get words (offset / 4)) = fresh refl (offset / 4) place ∙ sym (insn_there words own known (offset / 4)) in
-    taken (Insn by) d (offset / 4) code (ap (λ (o : Option Form). option_map_or (is_taken_by (Insn by)) o false) here ∙ second_true (offset % 4 == 0) _ stands)
+    taken by d (offset / 4) code (ap (λ (o : Option Form). option_map_or (takes by) o false) here ∙ second_true (offset % 4 == 0) _ stands)
 one_put Quad offset words bytes own code d known stands fresh none = rw (none refl) refl
 
 -- the addresses of a module put in behind other code

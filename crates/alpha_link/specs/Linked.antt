@@ -13,6 +13,7 @@ use Rattle.alpha_asm.specs.declared.patch.Displacement.{Displacement}
 use Rattle.alpha_asm.specs.Layout.{first, padding}
 use Rattle.alpha_asm.specs.Program.{Program, program_with, code_base, data_base, stack_bytes, reached, displaced, quadword_of}
 use Rattle.alpha_asm.specs.Patches.{overlaid}
+use Rattle.alpha_asm.specs.Unlinked.{takes}
 use Rattle.alpha_link.specs.declared.fault.LinkFault.{LinkFault}
 use Rattle.alpha_link.specs.declared.fault.LinkFault.TheVariants.{Duplicate, Undefined, Entry, ImageField, Reach}
 use Rattle.alpha_link.specs.declared.symbol.SymbolSection.{SymbolSection}
@@ -21,7 +22,6 @@ use Rattle.alpha_asm.specs.declared.patch.RelocationKind.{RelocationKind}
 use Rattle.alpha_asm.specs.declared.patch.RelocationKind.TheVariants as kinds
 use Rattle.alpha_link.specs.declared.relocation.Relocation.{Relocation}
 use Rattle.alpha_link.specs.Symbols.{Named}
-use Rattle.alpha_link.specs.Relocations.{is_taken_by}
 use Rattle.alpha_link.specs.Parts.{ModuleParts}
 
 -- a module by its number, with the code words and the bytes of the data segment that stand before it
@@ -96,7 +96,8 @@ quadword addresses r = quadword_at_kind r.kind (target addresses r)
 
 -- an instruction with another displacement, where the relocation is one of it
 abbrev pub insn_with : RelocationKind → Displacement → Form → Form
-insn_with kind d insn = if is_taken_by kind insn then displaced insn d else insn
+insn_with (kinds.Insn by) d insn = if takes by insn then displaced insn d else insn
+insn_with kinds.Quad d insn = insn
 
 -- the code with a displacement put in at a place
 abbrev pub code_at : RelocationKind → ℕ → Option Displacement → List Form → List Form

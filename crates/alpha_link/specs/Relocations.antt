@@ -3,9 +3,6 @@ use Rattle.std.specs.Prelude.{◌<◌, ◌^◌, ◌+◌, ◌-◌, ◌/◌, ◌%�
 use Rattle.std.specs.List.{list_all}
 use Rattle.std.specs.Option.{option_map, option_map_or, option_and_then}
 use Rattle.std.specs.Int.{w32, cast_signed, cast_unsigned}
-use Rattle.alpha_table.specs.declared.rows.MemOp.TheVariants.{Lda, Ldah}
-use Rattle.alpha_table.specs.declared.form.Form.{Form}
-use Rattle.alpha_table.specs.declared.form.Form.TheVariants.{Mem, Branch}
 use Rattle.alpha_table.specs.Decoded.{decoded}
 use Rattle.alpha_image.specs.Layout.{longword}
 use Rattle.alpha_image.specs.Reading.{longword_at}
@@ -13,7 +10,9 @@ use Rattle.alpha_link.specs.declared.fault.ModuleFault.TheVariants as faults
 use Rattle.alpha_link.specs.declared.header.Sizes.{Sizes}
 use Rattle.alpha_asm.specs.declared.patch.RelocationKind.{RelocationKind}
 use Rattle.alpha_asm.specs.declared.patch.RelocationKind.TheVariants as kinds
+use Rattle.alpha_asm.specs.declared.statement.Use.{Use}
 use Rattle.alpha_asm.specs.declared.statement.Use.TheVariants as uses
+use Rattle.alpha_asm.specs.Unlinked.{takes}
 use Rattle.alpha_link.specs.declared.relocation.Relocation.{Relocation}
 use Rattle.alpha_link.specs.Reading.{Read}
 
@@ -38,22 +37,10 @@ pub record Body : Type 0 where
 abbrev pub body : List ℕ → List ℕ → Body
 body words bytes = record { words = words; bytes = bytes }
 
--- a displacement of 0
-abbrev pub is_zero : ℤ → Bool
-is_zero (pos zero) = true
-is_zero _ = false
-
--- an instruction whose displacement a relocation of this kind puts in
-abbrev pub is_taken_by : RelocationKind → Form → Bool
-is_taken_by (kinds.Insn uses.Branch) (Branch op ra disp) = is_zero disp
-is_taken_by (kinds.Insn uses.High) (Mem Ldah ra rb disp) = is_zero disp
-is_taken_by (kinds.Insn uses.Low) (Mem Lda ra rb disp) = is_zero disp
-is_taken_by _ _ = false
-
--- the code has such an instruction at an offset
-abbrev pub is_taken_at : List ℕ → RelocationKind → ℕ → Bool
-is_taken_at words kind offset =
-    offset % 4 == 0 && option_map_or (is_taken_by kind) (option_and_then decoded (slice_get words (offset / 4))) false
+-- the code has an instruction at an offset that an address is put into
+abbrev pub is_taken_at : List ℕ → Use → ℕ → Bool
+is_taken_at words by offset =
+    offset % 4 == 0 && option_map_or (takes by) (option_and_then decoded (slice_get words (offset / 4))) false
 
 -- eight zero bytes stand at an offset
 abbrev pub is_quad_at : List ℕ → ℕ → Bool
@@ -62,7 +49,7 @@ is_quad_at bytes offset =
 
 abbrev pub stands_at : Body → RelocationKind → ℕ → Bool
 stands_at b kinds.Quad offset = is_quad_at b.bytes offset
-stands_at b kind offset = is_taken_at b.words kind offset
+stands_at b (kinds.Insn by) offset = is_taken_at b.words by offset
 
 -- The relocations of the code come first, then those of the data. Offsets rise, and quadwords share no byte.
 abbrev pub follows : RelocationKind → ℕ → RelocationKind → ℕ → Bool

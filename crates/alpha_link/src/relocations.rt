@@ -5,16 +5,17 @@ ghost use Rattle.std.specs.List.{flat_map, list_all};
 ghost use Rattle.std.specs.Option.{option_and_then};
 ghost use Rattle.alpha_table.specs.Decoded.{decoded};
 ghost use Rattle.alpha_table.specs.Encoded.{encoded};
+ghost use Rattle.alpha_asm.specs.Unlinked.{is_undisplaced};
 ghost use Rattle.alpha_link.specs.declared.fault.ModuleFault.TheVariants as faults;
 ghost use Rattle.alpha_link.specs.Reading.{Gives, items_at};
-ghost use Rattle.alpha_link.specs.Relocations.{is_taken_by, is_taken_at, is_quad_at, stands_at, follows, follows_all, relocation_fits, relocation_in, relocation_at, relocation_bytes, body};
+ghost use Rattle.alpha_link.specs.Relocations.{is_taken_at, is_quad_at, stands_at, follows, follows_all, relocation_fits, relocation_in, relocation_at, relocation_bytes, body};
 
 use crate::ModuleFault;
 use crate::header::Sizes;
 use crate::relocation::{Relocation, kind_number, kind_of};
 use alpha_asm::{RelocationKind, Use};
 use alpha_image::{longword_at, push_longword};
-use alpha_table::{Form, Insn, MemOp};
+use alpha_table::{Form, Insn};
 use std::alloc::{AllocError, Global};
 
 /// How many bytes a relocation has.
@@ -22,17 +23,13 @@ pub(crate) const RELOCATION_BYTES: usize = 13;
 
 const QUAD_BYTES: usize = 8;
 
-// Whether a relocation of this kind puts in the displacement of an instruction.
-fn is_taken_by(kind: RelocationKind, insn: &Insn) -> bool
-    ensures { result ≡ is_taken_by kind insn.now }
+// Whether an instruction has a displacement, and it is 0.
+fn is_undisplaced(insn: &Insn) -> bool
+    ensures { result ≡ is_undisplaced insn.now }
 {
-    let RelocationKind::Insn(by) = kind else {
-        return false;
-    };
-    match (by, insn.form()) {
-        (Use::Branch, Form::Branch { disp, .. }) => disp == 0,
-        (Use::High, Form::Mem { op, disp, .. }) => op == MemOp::Ldah && disp == 0,
-        (Use::Low, Form::Mem { op, disp, .. }) => op == MemOp::Lda && disp == 0,
+    match insn.form() {
+        Form::Branch { disp, .. } => disp == 0,
+        Form::Mem { disp, .. } => disp == 0,
         _ => false,
     }
 }
@@ -45,16 +42,16 @@ fn insn_at(insns: &[Insn], place: usize) -> Option<Insn>
     insns.get(place).copied()
 }
 
-// Whether the code has such an instruction at an offset.
-fn is_taken_at(insns: &[Insn], kind: RelocationKind, offset: u32) -> bool
+// Whether the code has an instruction at an offset that an address is put into.
+fn is_taken_at(insns: &[Insn], by: Use, offset: u32) -> bool
     requires { map decoded (map encoded insns.now) ≡ map Some insns.now }
-    ensures { result ≡ is_taken_at (map encoded insns.now) kind offset }
+    ensures { result ≡ is_taken_at (map encoded insns.now) by offset }
 {
     if offset % 4 != 0 {
         return false;
     }
     match insn_at(insns, (offset / 4) as usize) {
-        Some(insn) => is_taken_by(kind, &insn),
+        Some(insn) => by.suits(&insn) && is_undisplaced(&insn),
         None => false,
     }
 }
@@ -85,7 +82,7 @@ fn stands_at(insns: &[Insn], filled: &[u8], kind: RelocationKind, offset: u32) -
 {
     match kind {
         RelocationKind::Quad => is_quad_at(filled, offset),
-        RelocationKind::Insn(_) => is_taken_at(insns, kind, offset),
+        RelocationKind::Insn(by) => is_taken_at(insns, by, offset),
     }
 }
 
