@@ -6,7 +6,7 @@ use Rattle.std.proofs.lemmas.List.{map-append}
 use Rattle.std.proofs.lemmas.List.Elements.{All-head, All-tail}
 use Rattle.alpha_table.specs.declared.rows.MemOp.TheVariants.{Lda, Ldah}
 use Rattle.alpha_table.specs.declared.form.Form.{Form}
-use Rattle.alpha_table.specs.declared.form.Form.TheVariants.{Mem, Branch, Jump, Operate, Misc, Fetch, Pal}
+use Rattle.alpha_table.specs.declared.form.Form.TheVariants.{Mem}
 use Rattle.alpha_table.specs.Class.{Class, barrier}
 use Rattle.alpha_table.specs.ClassOf.{class_of}
 use Rattle.alpha_table.specs.Decoded.{decoded}

@@ -1,7 +1,7 @@
 -- What a run by coming words has put and noted stays, and more may follow.
 use Rattle.std.proofs.Common.{◌||◌, ℕ, Bool, true, false, cond, not, Option, None, Some}
 use Rattle.alpha_table.specs.declared.columns.MemAccess.{MemAccess}
-use Rattle.alpha_table.specs.Class.{Class, operate, trigger, address, load, store, load_locked, store_conditional, branch, jump, barrier, idle}
+use Rattle.alpha_table.specs.Class.{Class, operate, trigger, address, load, store, load_locked, store_conditional, branch}
 use Rattle.alpha_values.specs.TrapOp.{stops}
 use Rattle.alpha_trap.specs.Scan.{scan}
 use Rattle.alpha_seq.specs.State.{Program, State}

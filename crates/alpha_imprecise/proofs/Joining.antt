@@ -6,7 +6,7 @@ use Rattle.alpha_io.proofs.Sinks.{Puts-none}
 use Rattle.alpha_mem.specs.Block.{Block}
 use Rattle.alpha_pal.specs.declared.pal_end.Passed.TheVariants.{Nothing}
 use Rattle.alpha_pal.proofs.Serving.{rest_of, Takes-nothing}
-use Rattle.alpha_seq.specs.State.{Went, Barriered, Overflowed, Ends}
+use Rattle.alpha_seq.specs.State.{Overflowed}
 use Rattle.alpha_seq.specs.Machine.{state_of, class_here}
 use Rattle.alpha_seq.specs.Devices.{Drawn}
 use Rattle.alpha_seq.specs.Print.{HasPassed}
@@ -14,7 +14,7 @@ use Rattle.alpha_seq.specs.StepEffect.{Makes}
 use Rattle.alpha_seq.specs.Sequential.{no_words}
 use Rattle.alpha_seq.specs.declared.event.Event.{Event as Seen}
 use Rattle.alpha_seq.proofs.RunSteps.{Takes-told}
-use Rattle.alpha_imprecise.specs.Moment.{Choice, Happening, Precisely, Triggered, Waited, Reported, Lost, moment}
+use Rattle.alpha_imprecise.specs.Moment.{Choice, Happening, Precisely, moment}
 use Rattle.alpha_imprecise.specs.Run.{unit_of}
 use Rattle.alpha_imprecise.specs.Telling.{Telling, Goes, Counts, Moves}
 use Rattle.alpha_imprecise.specs.Wild.{WildState, trap_in}

@@ -4,12 +4,12 @@ use Rattle.alpha_io.specs.Sunk.{Sunk}
 use Rattle.alpha_pal.specs.declared.pal_end.Passed.{Passed}
 use Rattle.alpha_table.specs.Class.{Class}
 use Rattle.alpha_seq.specs.declared.event.Event.{Event as Seen}
-use Rattle.alpha_seq.specs.State.{State, Went, Barriered, Overflowed, Ends}
+use Rattle.alpha_seq.specs.State.{State, Overflowed}
 use Rattle.alpha_seq.specs.Machine.{program_of, state_of, class_here}
 use Rattle.alpha_seq.specs.Devices.{Drawn}
 use Rattle.alpha_seq.specs.Print.{Print, is_over, found_by}
 use Rattle.alpha_imprecise.specs.declared.pending.Pending.{Pending}
-use Rattle.alpha_imprecise.specs.Moment.{Trap, Choice, Happening, Precisely, Triggered, Waited, Reported, Lost, Moment, moment}
+use Rattle.alpha_imprecise.specs.Moment.{Trap, Choice, Happening, Precisely, Moment, moment}
 use Rattle.alpha_imprecise.specs.Step.{wild}
 use Rattle.alpha_imprecise.specs.Run.{finished, unit_of}
 use Rattle.alpha_imprecise.specs.Chosen.{most_waited, Draw, chosen, waited_after}

@@ -10,7 +10,7 @@ use Rattle.alpha_image.specs.Layout.{longword}
 use Rattle.alpha_image.specs.Reading.{words_of}
 use Rattle.alpha_image.specs.Parts.{IsCodeWord}
 use Rattle.alpha_image.specs.declared.fault.ImageFault.{ImageFault}
-use Rattle.alpha_image.specs.declared.fault.ImageFault.TheVariants.{Short, Magic, Field, Length, BadWord, NoMemory}
+use Rattle.alpha_image.specs.declared.fault.ImageFault.TheVariants.{Short, BadWord}
 use Rattle.alpha_image.specs.ImageFault.{bad_place, word_fault}
 use Rattle.alpha_image.specs.Tells.{Refuses}
 use Rattle.alpha_image.proofs.CodeInsns.{words_of_insns}

@@ -7,7 +7,7 @@ use Rattle.alpha_words.specs.declared.Completion.TheVariants.{Wrap, Saturate, St
 use Rattle.alpha_image.specs.FirstOf.{unless}
 use Rattle.alpha_image.proofs.FieldRules.{option_or-none, unless-none}
 use Rattle.alpha_replay.specs.declared.ending.Ending.{Ending}
-use Rattle.alpha_replay.specs.declared.ending.Ending.TheVariants.{Spent, Exit, Signal, Fetch, Access, Align, Lost, Overflow}
+use Rattle.alpha_replay.specs.declared.ending.Ending.TheVariants.{Exit}
 use Rattle.alpha_replay.specs.Endings.{ending_kind, ending_first, ending_second, ending_in, unused_are_zero}
 use Rattle.alpha_replay.specs.Journal.{Numbers, most_bytes, most_items, completion_number}
 use Rattle.alpha_replay.specs.Reading.{completion_in}

@@ -1,6 +1,6 @@
 -- An accepted image loses no trap, from any state with nothing pending, whatever is chosen and whatever inputs its steps find.
 use Rattle.std.proofs.Common.{◌≡◌, ◌≢◌, ◌+◌, ℕ, Bool, true, false, cond, List, [], ◌∷◌, Option, None, Some, refl, sym, ap, subst, ◌∙◌, option_and_then}
-use Rattle.alpha_table.specs.Class.{Class, operate, trigger, address, load, store, load_locked, store_conditional, branch, jump, barrier, idle}
+use Rattle.alpha_table.specs.Class.{Class, operate, trigger, address}
 use Rattle.alpha_table.specs.Code.{class_at}
 use Rattle.alpha_values.specs.TrapOp.{stops}
 use Rattle.alpha_image.specs.Parts.{Parts, IsImage, place_of}

@@ -2,7 +2,7 @@
 use Rattle.std.proofs.Common.{◌≡◌, ◌<◌, ◌≤◌, ◌+◌, ◌⊎◌, ℕ, Option, Some, None, List, length, inl, inr, ⊎_elim, arith, subst, sym, refl, ◌∙◌, lit≤}
 use Rattle.std.proofs.lemmas.Bool.{cases_eq, cases_lt}
 use Rattle.alpha_shadow.specs.declared.broken.Condition.{Condition}
-use Rattle.alpha_shadow.specs.declared.broken.Condition.TheVariants.{ZeroDestination, SourceLost, SameDestination, WildBase, LoadThenStore, Locked, Turn, Open, Long}
+use Rattle.alpha_shadow.specs.declared.broken.Condition.TheVariants.{ZeroDestination, Open}
 use Rattle.alpha_shadow.specs.declared.broken.Broken.{Broken}
 use Rattle.alpha_shadow.specs.Broken.{IsBroken}
 use Rattle.alpha_shadow.specs.Least.{condition_number}

@@ -11,7 +11,7 @@ use Rattle.alpha_table.specs.declared.rows.MiscOp.TheVariants as miscs
 use Rattle.alpha_table.specs.declared.rows.Extension.{Extension}
 use Rattle.alpha_table.specs.declared.columns.MemAccess.{MemAccess}
 use Rattle.alpha_table.specs.declared.form.Form.{Form}
-use Rattle.alpha_table.specs.declared.form.Form.TheVariants.{Mem, Branch, Jump, Operate, Misc, Fetch, Pal}
+use Rattle.alpha_table.specs.declared.form.Form.TheVariants.{Mem}
 use Rattle.alpha_table.specs.Class.{load, idle}
 use Rattle.alpha_table.specs.ClassOf.{class_of}
 use Rattle.alpha_table.specs.Words.{class_in, level_in}
