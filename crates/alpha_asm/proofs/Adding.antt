@@ -1,6 +1,7 @@
 -- A line without a statement, or with an instruction, leaves alone what other statements change.
 use Rattle.std.proofs.Common.{◌≡◌, ℕ, ◌+◌, [], ◌∷◌, ◌++◌, length, map, Bool, true, false, cond, ◌||◌, None, Some, is_some, refl, sym, ◌∙◌, ap, length-append, arith}
 use Rattle.std.proofs.lemmas.List.{append-nil}
+use Rattle.std.proofs.Math.Bool.{or-false}
 use Rattle.alpha_text.specs.Statements.{Said}
 use Rattle.alpha_text.specs.Statements as says
 use Rattle.alpha_text.specs.Reading.{LineSaid}
@@ -42,10 +43,6 @@ or_true : (b : Bool) → (b || true) ≡ true
 or_true true = refl
 or_true false = refl
 
-or_false : (b : Bool) → (b || false) ≡ b
-or_false true = refl
-or_false false = refl
-
 no_pad : (p : Place) (s : Said) → IsPlain s → filled_pad p s ≡ 0
 no_pad p s a = rw a.no_align (zero_both p.has_zero)
   where
@@ -55,7 +52,7 @@ no_pad p s a = rw a.no_align (zero_both p.has_zero)
 
 behind_plain : (p : Place) (s : Said) → IsPlain s → behind p s ≡ record p { begun = p.begun || is_statement s; words = p.words + cond (is_some (coded s)) 1 0 }
 behind_plain p s a =
-    rw (a.no_cells, a.no_section, a.no_level, a.no_segment, a.no_zeroed, a.no_align, or_false p.has_zero) (by p.has_zero)
+    rw (a.no_cells, a.no_section, a.no_level, a.no_segment, a.no_zeroed, a.no_align, or-false p.has_zero) (by p.has_zero)
   where
     plus : (n : ℕ) (b : Bool) → n + (0 + cond {A = ℕ} b 0 0) ≡ n
     plus n true = omega arith
@@ -74,7 +71,7 @@ behind_nothing : (p : Place) (s : Said) → is_statement s ≡ false → p ≡ b
 behind_nothing p s e =
     let (a, none) = plain_nothing s e in
     let z : p.words + 0 ≡ p.words = omega arith in
-    sym (behind_plain p s a ∙ rw (e, none, or_false p.begun, z) refl)
+    sym (behind_plain p s a ∙ rw (e, none, or-false p.begun, z) refl)
 
 same_fields : (f : Fields) (s : Said) → IsPlain s → f ≡ with_fields f s
 same_fields f s a =

@@ -1,19 +1,16 @@
 -- The first line of a source.
-use Rattle.std.proofs.Common.{◌≡◌, ℕ, zero, suc, ◌+◌, ◌<◌, ◌≤◌, List, [], ◌∷◌, ◌++◌, length, map, take, drop, get_or, Bool, true, false, eqb, None, Some, refl, sym, ◌∙◌, ap, arith, eqb-true}
+use Rattle.std.proofs.Common.{◌≡◌, ℕ, zero, suc, ◌+◌, ◌<◌, ◌≤◌, List, [], ◌∷◌, ◌++◌, length, map, take, drop, get_or, true, false, eqb, None, Some, sym, ◌∙◌, ap, arith, eqb-true}
 use Rattle.std.specs.Str.Lines.{lines, strip_carriage_return}
+use Rattle.std.proofs.lemmas.Bool.{false_from_ne_true}
 use Rattle.memchr.specs.Find.{IsFirstByte, is_byte}
 use Rattle.alpha_asm.specs.declared.lines.Line.{Line}
 use Rattle.alpha_asm.specs.SourceLines.{IsFirst, ended, unended, line_text, source_lines}
 use Rattle.alpha_asm.proofs.Splitting.{NoFeed, ended_front, unended_all, texts_of}
 
-not_true : (b : Bool) → (b ≡ true → ⊥) → b ≡ false
-not_true true h = absurd (h refl)
-not_true false h = refl
-
 no_feed : (s : List ℕ) (n : ℕ) → n ≤ length s → ((k : ℕ) → k < n → eqb (get_or s k 0) 10 ≡ true → ⊥) → NoFeed (take n s)
 no_feed s zero h none = tt
 no_feed [] (suc n) h none = absurd (omega arith)
-no_feed (b ∷ s) (suc n) h none = (not_true (eqb b 10) (none 0 (omega arith)), no_feed s n (omega arith) (λ k l. none (suc k) (omega arith)))
+no_feed (b ∷ s) (suc n) h none = (false_from_ne_true (eqb b 10) (none 0 (omega arith)), no_feed s n (omega arith) (λ k l. none (suc k) (omega arith)))
 
 cut_there : (s : List ℕ) (n : ℕ) → n < length s → get_or s n 0 ≡ 10 → s ≡ (take n s ++ 10 ∷ []) ++ drop (suc n) s
 cut_there [] n h e = absurd (omega arith)
@@ -45,7 +42,7 @@ first_found s n l h text bytes feed rest =
 
 all_clean : (s : List ℕ) → ((k : ℕ) → k < length s → eqb (get_or s k 0) 10 ≡ true → ⊥) → NoFeed s
 all_clean [] none = tt
-all_clean (b ∷ s) none = (not_true (eqb b 10) (none 0 (omega arith)), all_clean s (λ k l. none (suc k) (omega arith)))
+all_clean (b ∷ s) none = (false_from_ne_true (eqb b 10) (none 0 (omega arith)), all_clean s (λ k l. none (suc k) (omega arith)))
 
 pub last_found : (s : List ℕ) (l : Line) → 0 < length s → IsFirstByte (is_byte 10) s None → l.text.now ≡ s → l.bytes.now ≡ s → l.ended ≡ false → l.rest.now ≡ [] → IsFirst s l
 last_found [] l some h text bytes feed rest = absurd (omega arith)

@@ -3,11 +3,12 @@ use Rattle.std.proofs.Common.{◌≡◌, ℕ, ℤ, pos, negsuc, ◌+◌, ◌%◌
 use Rattle.std.specs.Option.{option_map, option_map_or}
 use Rattle.std.proofs.lemmas.Bool.Decides.{nat_tests}
 use Rattle.std.proofs.lemmas.Int.{ints}
+use Rattle.std.proofs.lemmas.Bool.{and_parts}
 use Rattle.alpha_table.specs.declared.form.Form.{Form}
 use Rattle.alpha_table.specs.declared.form.Form.TheVariants.{Mem, Branch}
 use Rattle.alpha_table.specs.Columns.{level_of}
 use Rattle.alpha_table.specs.Row.{IsInsn, IsSigned}
-use Rattle.alpha_token.proofs.Choices.{both, choose}
+use Rattle.alpha_token.proofs.Choices.{choose}
 use Rattle.alpha_asm.specs.declared.statement.Use.{Use}
 use Rattle.alpha_asm.specs.declared.statement.Use.TheVariants as uses
 use Rattle.alpha_asm.specs.declared.patch.Displacement.{Displacement}
@@ -32,11 +33,11 @@ displaced-like i d f h = record { insn = h; level = refl }
 words_over-field : (d : ℤ) → IfSome (words_over d) FitsField
 words_over-field (pos d) =
     choose (λ o. IfSome o FitsField) (eqb (d % 4) 0 && nat_lt d (2 ^ 22)) _ _
-    (λ e. let h = both (eqb (d % 4) 0) (nat_lt d (2 ^ 22)) e in let l : d < 2 ^ 22 = grind (arith, nat_tests) in (omega (arith, ints), omega (arith, ints)))
+    (λ e. let h = and_parts (eqb (d % 4) 0) (nat_lt d (2 ^ 22)) e in let l : d < 2 ^ 22 = grind (arith, nat_tests) in (omega (arith, ints), omega (arith, ints)))
     (λ e. tt)
 words_over-field (negsuc d) =
     choose (λ o. IfSome o FitsField) (eqb ((d + 1) % 4) 0 && nat_le (d + 1) (2 ^ 22)) _ _
-    (λ e. let h = both (eqb ((d + 1) % 4) 0) (nat_le (d + 1) (2 ^ 22)) e in let l : d + 1 ≤ 2 ^ 22 = grind (arith, nat_tests) in (omega (arith, ints), omega (arith, ints)))
+    (λ e. let h = and_parts (eqb ((d + 1) % 4) 0) (nat_le (d + 1) (2 ^ 22)) e in let l : d + 1 ≤ 2 ^ 22 = grind (arith, nat_tests) in (omega (arith, ints), omega (arith, ints)))
     (λ e. tt)
 
 high-field : (a : ℤ) → IfSome (reached uses.High 0 a) FitsField

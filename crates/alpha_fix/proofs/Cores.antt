@@ -1,6 +1,7 @@
 -- What a place knows beside how many words stand before it: a barrier leaves it.
 use Rattle.std.proofs.Common.{◌≡◌, ℕ, ◌+◌, List, [], ◌∷◌, ◌++◌, Bool, true, false, cond, ◌&&◌, ◌||◌, nat_eq, Option, Some, None, refl, sym, ◌∙◌, ap, arith}
 use Rattle.std.specs.Option.{option_map, option_or, unwrap_or}
+use Rattle.std.proofs.Math.Bool.{or-false}
 use Rattle.alpha_text.specs.Statements.{Said}
 use Rattle.alpha_text.specs.Reading.{LineSaid}
 use Rattle.alpha_image.specs.declared.segment.Segment.{Segment}
@@ -31,15 +32,11 @@ same_segment s false =
     let z : s.zeroed + 0 ≡ s.zeroed = omega arith in
     ap (λ (n : ℕ). record s { filled = n; zeroed = s.zeroed + 0 }) f ∙ ap (λ (n : ℕ). record s { zeroed = n }) z
 
-or_false : (b : Bool) → (b || false) ≡ b
-or_false true = refl
-or_false false = refl
-
 pub core-barrier : (p : Place) → core (behind p trapb_said) ≡ core p
 unfolding cells
 core-barrier p =
     ap (λ (s : Segment). record (core p) { last = s; has_zero = p.has_zero || false }) (same_segment p.last p.has_zero)
-    ∙ ap (λ (z : Bool). record (core p) { has_zero = z }) (or_false p.has_zero)
+    ∙ ap (λ (z : Bool). record (core p) { has_zero = z }) (or-false p.has_zero)
 
 abbrev pub at : Place → ℕ → LineSaid → Placed
 at p line i = record { place = p; line = line; item = i }

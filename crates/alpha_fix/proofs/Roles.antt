@@ -1,6 +1,7 @@
 -- What a line is to the barriers, by its kind.
 use Rattle.std.proofs.Common.{◌≡◌, ℕ, List, ◌∷◌, map, Bool, true, false, not, ◌&&◌, ◌||◌, refl, ◌∙◌, ap}
 use Rattle.std.specs.Prelude.{is_some}
+use Rattle.std.proofs.lemmas.Bool.{and_parts}
 use Rattle.alpha_table.specs.declared.form.Form.{Form}
 use Rattle.alpha_text.specs.Statements.{Said}
 use Rattle.alpha_text.specs.Statements as says
@@ -30,11 +31,6 @@ never_other : (b : Bool) → insn_if b ≡ kinds.Other → ⊥
 never_other true e = cc
 never_other false e = cc
 
-both : (a b : Bool) → (a && b) ≡ true → (a ≡ true) × (b ≡ true)
-both true true e = (refl, refl)
-both true false e = cc
-both false b e = cc
-
 unless_not : (a b : Bool) → b ≡ true → (a && not b) ≡ false
 unless_not true b e = rw e refl
 unless_not false b e = refl
@@ -43,7 +39,7 @@ unless_not false b e = refl
 half : (of_code : List ℕ → Bool) (insn : Form) (r : Reference) → (is_zero r.offset && suits_half insn) ≡ true
     → (is_off of_code r ≡ false) × ((of_code r.label && not (suits_half insn)) ≡ false)
 half of_code insn r e =
-    let (nothing, good) = both (is_zero r.offset) (suits_half insn) e in
+    let (nothing, good) = and_parts (is_zero r.offset) (suits_half insn) e in
     (unless_not (of_code r.label) (is_zero r.offset) nothing, unless_not (of_code r.label) (suits_half insn) good)
 
 pub insn_role : (of_code : List ℕ → Bool) (base : ℕ) (s : Said) → line_kind s ≡ kinds.Insn → roles.Insn ≡ role (is_fixed of_code base s) (is_some (coded s))

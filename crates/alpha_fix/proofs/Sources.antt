@@ -5,6 +5,7 @@ use Rattle.std.specs.Result.{result_unwrap_or}
 use Rattle.std.specs.List.{flat_map}
 use Rattle.std.specs.Str.Lines.{lines, strip_carriage_return}
 use Rattle.std.proofs.lemmas.Bool.Decides.{nat_tests}
+use Rattle.std.proofs.lemmas.Bool.{or_parts}
 use Rattle.alpha_table.specs.declared.form.Form.{Form}
 use Rattle.alpha_table.specs.declared.form.Form.TheVariants.{Misc}
 use Rattle.alpha_table.specs.declared.rows.MiscOp.TheVariants.{Trapb}
@@ -183,10 +184,6 @@ module _ (returns : (l : List ℕ) (i : LineSaid) → read (l ++ 13 ∷ []) ≡ 
 
 -- without a fixed line no half of an address of the code stands but in LDA and LDAH
 
-or_false : (a b : Bool) → (a || b) ≡ false → (a ≡ false) × (b ≡ false)
-or_false true b e = cc
-or_false false b e = (refl, e)
-
 half_steady : (a b : Bool) → (a && not b) ≡ false → a ≡ true → b ≡ true
 half_steady true true e f = refl
 half_steady true false e f = cc
@@ -201,9 +198,9 @@ said_steady of_code _ e = tt
 
 free_said : (of_code : List ℕ → Bool) (base : ℕ) (s : Said) → is_fixed of_code base s ≡ false → takes_half of_code s ≡ false
 free_said of_code base s e =
-    let a = (or_false (is_over_distance s) _ e).1 in
-    let b = (or_false _ (takes_half of_code s || enters_within base s) a).1 in
-    (or_false (takes_half of_code s) (enters_within base s) b).0
+    let a = (or_parts (is_over_distance s) _ e).1 in
+    let b = (or_parts _ (takes_half of_code s || enters_within base s) a).1 in
+    (or_parts (takes_half of_code s) (enters_within base s) b).0
 
 free_step : (of_code : List ℕ → Bool) (base n : ℕ) (i : LineSaid) (is : List LineSaid) (b : Bool) → is_fixed of_code base i.statement ≡ b
     → cond b (Some n) (least_line (is_fixed of_code base) (n + 1) is) ≡ None → (is_fixed of_code base i.statement ≡ false) × (least_line (is_fixed of_code base) (n + 1) is ≡ None)

@@ -1,6 +1,6 @@
 -- How many words a run by coming words draws at most.
 use Rattle.std.proofs.Common.{◌≡◌, ◌<◌, ◌≤◌, ◌+◌, ◌-◌, ◌*◌, ◌%◌, ◌||◌, ℕ, zero, suc, Bool, true, false, cond, leb, eqb, not, List, Option, Some, None, is_none, drop, refl, sym, ap, subst, ◌∙◌, ⊎_elim, arith}
-use Rattle.std.proofs.lemmas.Bool.{leb-false, cases_Bool}
+use Rattle.std.proofs.lemmas.Bool.{leb-false, cases_Bool, or_parts}
 use Rattle.alpha_table.specs.Class.{Class}
 use Rattle.alpha_seq.specs.State.{Program, State}
 use Rattle.alpha_seq.specs.Step.{next_class}
@@ -14,10 +14,6 @@ use Rattle.alpha_imprecise.proofs.Settling.{stepped_making, advance-going, advan
 
 -- ---- one step
 
-neither : (a b : Bool) → (a || b) ≡ false → (a ≡ false) × (b ≡ false)
-neither true b e = cc
-neither false b e = (refl, e)
-
 -- with a trap pending two words are drawn at most, and none where it has waited long enough
 two_most : (o : Option Class) (s : State) (t : Trap) (n : ℕ) (words : List ℕ) → n ≤ most_waited
     → (draw_at o s (Some t) n words).count ≤ 2 * (most_waited - n)
@@ -30,7 +26,7 @@ two_most o s t n words most = by (must_report o s n) refl
     by : (b : Bool) → must_report o s n ≡ b
         → (cond b (reporting 0) (cond (eqb (first_word words % 4) 0) (reporting 1) (executing (first_word words) (first_word (drop 1 words))))).count ≤ 2 * (most_waited - n)
     by true e = omega arith
-    by false e = drawn (eqb (first_word words % 4) 0) (leb-false most_waited n (neither (not (can_wait o s)) (leb most_waited n) e).1)
+    by false e = drawn (eqb (first_word words % 4) 0) (leb-false most_waited n (or_parts (not (can_wait o s)) (leb most_waited n) e).1)
 
 two_words : (o : Option Class) (s : State) (t : Trap) (n : ℕ) (words : List ℕ) → (draw_at o s (Some t) n words).count ≤ 2
 two_words o s t n words = by (must_report o s n) (eqb (first_word words % 4) 0)

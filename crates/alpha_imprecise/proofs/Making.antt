@@ -1,6 +1,6 @@
 -- Runs that coming words make: each is a run of choices, and a pending trap is settled in time.
-use Rattle.std.proofs.Common.{◌≡◌, ◌<◌, ◌+◌, ◌%◌, ◌||◌, not, ℕ, zero, suc, Bool, true, false, cond, leb, eqb, List, [], ◌∷◌, ◌++◌, drop, Option, Some, None, refl, sym, ap, subst, ◌∙◌}
-use Rattle.std.proofs.lemmas.Bool.{leb-false}
+use Rattle.std.proofs.Common.{◌≡◌, ◌<◌, ◌+◌, ◌%◌, not, ℕ, zero, suc, Bool, true, false, cond, leb, eqb, List, [], ◌∷◌, ◌++◌, drop, Option, Some, None, refl, sym, ap, subst, ◌∙◌}
+use Rattle.std.proofs.lemmas.Bool.{leb-false, or_parts}
 use Rattle.alpha_seq.specs.declared.end.End.TheVariants.{Overflow}
 use Rattle.alpha_seq.specs.State.{Program, State, Ends}
 use Rattle.alpha_seq.specs.Step.{next_class}
@@ -81,10 +81,6 @@ report_settles g s t n = by (scan g.image s.pc t.mask)
     by None = over refl
     by (Some at) = landed_settles g s n at
 
-neither : (a b : Bool) → (a || b) ≡ false → (a ≡ false) × (b ≡ false)
-neither true b e = cc
-neither false b e = (refl, e)
-
 pub chosen_settles : (g : Program) (s : State) (t : Trap) (n : ℕ) (words : List ℕ) → Settles n (chosen g s (Some t) n words)
 chosen_settles g s t n words = by (must_report (next_class g s.pc) s n) refl
   where
@@ -92,7 +88,7 @@ chosen_settles g s t n words = by (must_report (next_class g s.pc) s n) refl
         → (b : Bool) → not (can_wait (next_class g s.pc) s) ≡ b
         → Settles n (cond b (report g s t) (waited (next_class g s.pc) s t (executing c value).choice))
     stays c value e true f = report_settles g s t n
-    stays c value e false f = longer refl (leb-false most_waited n (neither (not (can_wait (next_class g s.pc) s)) (leb most_waited n) e).1)
+    stays c value e false f = longer refl (leb-false most_waited n (or_parts (not (can_wait (next_class g s.pc) s)) (leb most_waited n) e).1)
 
     words_by : must_report (next_class g s.pc) s n ≡ false → (b : Bool)
         → Settles n (wild_at g (next_class g s.pc) s (Some t) (cond b (reporting 1) (executing (first_word words) (first_word (drop 1 words)))).choice)

@@ -1,5 +1,6 @@
 -- Where two patterns of a shape differ first, they differ in the form of a token.
 use Rattle.std.proofs.Common.{◌≡◌, List, [], ◌∷◌, ◌++◌, Bool, true, false, not, cond, ◌&&◌, if◌then◌else◌, refl, inl, inr}
+use Rattle.std.proofs.lemmas.Bool.{and_parts}
 use Rattle.alpha_operands.specs.declared.piece.Piece.{Piece}
 use Rattle.alpha_operands.specs.declared.shape.Shape.{Shape}
 use Rattle.alpha_operands.specs.declared.shape.Shape.TheVariants as shapes
@@ -8,7 +9,6 @@ use Rattle.alpha_operands.specs.Shapes.{Pattern, patterns}
 use Rattle.alpha_operands.specs.Grammar.{IsOneOf}
 use Rattle.alpha_operands.proofs.Fronts.{same_piece-is}
 use Rattle.alpha_operands.proofs.Grammar.{Distinct, same_kind-same, same_piece-same}
-use Rattle.alpha_token.proofs.Choices.{both}
 
 abbrev apart : Pattern → Pattern → Bool
 apart [] q = true
@@ -26,13 +26,13 @@ each_apart (p ∷ ps) qs = apart_from_each p qs && each_apart ps qs
 one_from_each : (p q : Pattern) (qs : List Pattern) → apart_from_each p qs ≡ true → IsOneOf q qs → apart p q ≡ true
 one_from_each p q [] h m = absurd m
 one_from_each p q (x ∷ qs) h m =
-    let (a, b) = both (apart p x) (apart_from_each p qs) h in
+    let (a, b) = and_parts (apart p x) (apart_from_each p qs) h in
     elim m [ inl e ↦ rw (← e) a | inr n ↦ one_from_each p q qs b n ]
 
 two_apart : (p q : Pattern) (ps qs : List Pattern) → each_apart ps qs ≡ true → IsOneOf p ps → IsOneOf q qs → apart p q ≡ true
 two_apart p q [] qs h m n = absurd m
 two_apart p q (x ∷ ps) qs h m n =
-    let (a, b) = both (apart_from_each x qs) (each_apart ps qs) h in
+    let (a, b) = and_parts (apart_from_each x qs) (each_apart ps qs) h in
     elim m [ inl e ↦ rw (← e) (one_from_each x q qs a n) | inr k ↦ two_apart p q ps qs b k n ]
 
 behind_front : (front : Pattern) (a b : Piece) (x y : Pattern) → apart (front ++ a ∷ x) (front ++ b ∷ y) ≡ true → kind_of a ≡ kind_of b → a ≡ b

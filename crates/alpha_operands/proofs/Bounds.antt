@@ -1,6 +1,7 @@
 -- A number from 2^64 on is outside each range.
-use Rattle.std.proofs.Common.{◌≡◌, ℕ, ◌≤◌, ◌<◌, ◌-◌, ◌%◌, ◌^◌, Bool, true, false, None, refl, suc, eqb, leb, ltb, arith, ◌&&◌}
+use Rattle.std.proofs.Common.{◌≡◌, ℕ, ◌≤◌, ◌<◌, ◌-◌, ◌%◌, ◌^◌, Bool, false, None, refl, suc, eqb, leb, ltb, arith}
 use Rattle.std.proofs.lemmas.Bool.Decides.{nat_tests}
+use Rattle.std.proofs.lemmas.Bool.{and_right}
 use Rattle.alpha_operands.specs.declared.piece.Piece.{Piece}
 use Rattle.alpha_operands.specs.declared.piece.Piece.TheVariants.{Displacement, Immediate, Literal, Hint, Distance, Whole, Zeroed, Align, Level, Pal, Nothing, Byte, Word, Long, Quad}
 use Rattle.alpha_operands.specs.declared.number.Sign.{Sign}
@@ -10,10 +11,6 @@ use Rattle.alpha_operands.specs.Ranges.{in_range, if_in, number_of}
 
 none : (b : Bool) (x : Number) → b ≡ false → if_in b x ≡ None
 none b x h = rw h refl
-
-both : (a b : Bool) → b ≡ false → (a && b) ≡ false
-both true b h = h
-both false b h = refl
 
 out : (most least n : ℕ) (sign : Sign) → most < 2 ^ 64 → least < 2 ^ 64 → 2 ^ 64 ≤ n → in_range most least sign n ≡ false
 out most least n signs.Plus a b h = grind (arith, nat_tests)
@@ -31,7 +28,7 @@ number_of-large Displacement sign n h = none _ _ (out 32767 32768 n sign (omega 
 number_of-large Immediate sign n h = none _ _ (out 32767 32768 n sign (omega arith) (omega arith) h)
 number_of-large Literal sign n h = none _ _ (above n 255 (omega arith) h)
 number_of-large Hint sign n h = none _ _ (above n 16383 (omega arith) h)
-number_of-large Distance sign n h = none _ _ (both (eqb (n % 4) 0) _ (out 4194304 4194300 n sign (omega arith) (omega arith) h))
+number_of-large Distance sign n h = none _ _ (and_right (eqb (n % 4) 0) _ (out 4194304 4194300 n sign (omega arith) (omega arith) h))
 number_of-large Whole sign n h = none _ _ (let no : ltb n (2 ^ 64) ≡ false = grind (arith, nat_tests) in no)
 number_of-large Zeroed sign n h = none _ _ (above n 16777216 (omega arith) h)
 number_of-large Align sign n h = none _ _ (above n 13 (omega arith) h)

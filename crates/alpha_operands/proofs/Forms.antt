@@ -3,7 +3,8 @@ use Rattle.std.proofs.Common.{◌≡◌, ℕ, List, [], ◌∷◌, ◌++◌, Boo
 use Rattle.std.specs.List.{list_all}
 use Rattle.std.proofs.lemmas.List.{append-nil}
 use Rattle.std.proofs.lemmas.Bool.Decides.{nat_tests}
-use Rattle.alpha_token.proofs.Choices.{both, choose}
+use Rattle.std.proofs.lemmas.Bool.{and_parts}
+use Rattle.alpha_token.proofs.Choices.{choose}
 use Rattle.alpha_operands.specs.declared.piece.Piece.{Piece}
 use Rattle.alpha_operands.specs.declared.piece.Piece.TheVariants as pieces
 use Rattle.alpha_operands.specs.declared.shape.Shape.{Shape}
@@ -52,13 +53,13 @@ seen_in seen (p ∷ q) = seen_in (seen || is_valued p) q
 one_of : (f : Pattern → Bool) (q : Pattern) (all : List Pattern) → list_all f all ≡ true → IsOneOf q all → f q ≡ true
 one_of f q [] h m = absurd m
 one_of f q (p ∷ ps) h m =
-    let (a, b) = both (f p) (list_all f ps) h in
+    let (a, b) = and_parts (f p) (list_all f ps) h in
     elim m [ inl e ↦ rw (← e) a | inr n ↦ one_of f q ps b n ]
 
 formed_behind : (bytes : ℕ) (seen : Bool) (front q : Pattern) → is_formed bytes seen (front ++ q) ≡ true → is_formed bytes (seen_in seen front) q ≡ true
 unfolding is_formed seen_in
 formed_behind bytes seen [] q h = h
-formed_behind bytes seen (p ∷ front) q h = formed_behind bytes (seen || is_valued p) front q (both (is_listed bytes p && (not (is_again p) || seen)) (is_formed bytes (seen || is_valued p) (front ++ q)) h).1
+formed_behind bytes seen (p ∷ front) q h = formed_behind bytes (seen || is_valued p) front q (and_parts (is_listed bytes p && (not (is_again p) || seen)) (is_formed bytes (seen || is_valued p) (front ++ q)) h).1
 
 seen_in-more : (seen : Bool) (front : Pattern) (p : Piece) → seen_in seen (front ++ p ∷ []) ≡ (seen_in seen front || is_valued p)
 unfolding seen_in
@@ -79,7 +80,7 @@ pub listed_behind : (bytes : ℕ) (all : List Pattern) (front : Pattern) (p : Pi
 unfolding is_formed
 listed_behind bytes all front p formed (rest, m) =
     let h : is_formed bytes (seen_in false front) (p ∷ rest) ≡ true = formed_behind bytes false front (p ∷ rest) (one_of (is_formed bytes false) (front ++ p ∷ rest) all formed m) in
-    both (is_listed bytes p) (not (is_again p) || seen_in false front) (both (is_listed bytes p && (not (is_again p) || seen_in false front)) (is_formed bytes (seen_in false front || is_valued p) rest) h).0
+    and_parts (is_listed bytes p) (not (is_again p) || seen_in false front) (and_parts (is_listed bytes p && (not (is_again p) || seen_in false front)) (is_formed bytes (seen_in false front || is_valued p) rest) h).0
 
 pub seen_whole : (bytes : ℕ) (all : List Pattern) (front : Pattern) → Formed bytes all → IsOneOf front all → seen_in false front ≡ true
 unfolding is_formed

@@ -3,6 +3,7 @@ use Rattle.std.proofs.Common.{◌≡◌, ◌⊎◌, ℕ, ◌==◌, List, [], ◌
 use Rattle.std.specs.Option.{option_or}
 use Rattle.std.proofs.lemmas.List.{append-nil}
 use Rattle.std.proofs.lemmas.Bool.Decides.{nat_tests}
+use Rattle.std.proofs.lemmas.Bool.{eqb-true, or_cases}
 use Rattle.alpha_token.specs.declared.token.TokenKind.{TokenKind}
 use Rattle.alpha_token.specs.declared.token.TokenKind.TheVariants as kinds
 use Rattle.alpha_token.specs.Tokens.{Lexeme, Tokens, End, Bad, Next, left_of}
@@ -30,14 +31,11 @@ unfolding kind_at
 kind_at-number kinds.Name = refl
 kind_at-number k = refl
 
-eqb-is : (m n : ℕ) → eqb m n ≡ true → m ≡ n
-eqb-is m n h = grind (arith, nat_tests)
-
 eqb-same : (n : ℕ) → eqb n n ≡ true
 eqb-same n = grind (arith, nat_tests)
 
 pub same_kind-is : (a b : TokenKind) → same_kind a b ≡ true → a ≡ b
-same_kind-is a b h = sym (kind_at-number a) ∙ ap kind_at (eqb-is (kind_number a) (kind_number b) h) ∙ kind_at-number b
+same_kind-is a b h = sym (kind_at-number a) ∙ ap kind_at (eqb-true (kind_number a) (kind_number b) h) ∙ kind_at-number b
 
 pub same_kind-same : (a b : TokenKind) → a ≡ b → same_kind a b ≡ true
 same_kind-same a b h = rw h (eqb-same (kind_number b))
@@ -104,10 +102,6 @@ is_empty-is None h = cc
 is_empty-is (Some []) h = refl
 is_empty-is (Some (p ∷ q)) h = cc
 
-either : (a b : Bool) → (a || b) ≡ true → (a ≡ true) ⊎ (b ≡ true)
-either true b h = inl refl
-either false b h = inr h
-
 or_true : (a : Bool) → (a || true) ≡ true
 or_true true = refl
 or_true false = refl
@@ -115,7 +109,7 @@ or_true false = refl
 pub is_whole-is : (all : List Pattern) (front : Pattern) → is_whole all front ≡ true → IsOneOf front all
 is_whole-is [] front h = cc
 is_whole-is (q ∷ qs) front h =
-    elim (either (is_empty (rest_of front q)) (is_whole qs front) h) [
+    elim (or_cases (is_empty (rest_of front q)) (is_whole qs front) h) [
       | inl e ↦ inl (rest_of-is front q [] (is_empty-is (rest_of front q) e) ∙ append-nil front)
       | inr e ↦ inr (is_whole-is qs front e)
     ]

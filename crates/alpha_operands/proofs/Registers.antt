@@ -3,7 +3,7 @@ use Rattle.std.proofs.Common.{◌≡◌, ℕ, ◌<◌, List, [], ◌∷◌, Bool
 use Prim.Native.Nat.{zero, suc}
 use Rattle.std.specs.List.{list_all}
 use Rattle.std.proofs.lemmas.Bool.Decides.{nat_tests}
-use Rattle.alpha_token.proofs.Choices.{both}
+use Rattle.std.proofs.lemmas.Bool.{and_parts}
 use Rattle.alpha_operands.specs.Names.{registers, named, HasRow}
 use Rattle.alpha_operands.specs.declared.names.Row.{Row}
 
@@ -22,7 +22,7 @@ are_first all rows = list_all (λ row. is_number (named all row.0) row.1) rows
 pub first_of : (all rows : List (List ℕ × ℕ)) (name : List ℕ) (n : ℕ) → are_first all rows ≡ true → HasRow rows name n → named all name ≡ Some n
 first_of all [] name n h m = absurd m
 first_of all (row ∷ rows) name n h m =
-    let (a, b) = both (is_number (named all row.0) row.1) (are_first all rows) h in
+    let (a, b) = and_parts (is_number (named all row.0) row.1) (are_first all rows) h in
     elim m [
       | inl e ↦ rw (← e.0, ← e.1) (number_is (named all row.0) row.1 a)
       | inr k ↦ first_of all rows name n b k

@@ -3,6 +3,7 @@ use Rattle.std.proofs.Common.{◌≡◌, ◌⊎◌, ℕ, ℤ, ◌-◌, ◌^◌, 
 use Prim.Native.Nat.{zero, suc}
 use Rattle.std.specs.Option.{option_map}
 use Rattle.std.proofs.lemmas.Bool.Decides.{nat_tests}
+use Rattle.std.proofs.lemmas.Bool.{eqb-true}
 use Rattle.alpha_token.specs.Bytes.{is_label}
 use Rattle.alpha_token.specs.Numeral.{number_value}
 use Rattle.alpha_token.specs.Tokens.{Lexeme, Tokens, End, Bad, Next, tokens}
@@ -49,9 +50,6 @@ ranged most least signs.Minus (suc n) small h =
     let l : suc n ≤ least = grind (arith, nat_tests) in
     inr (omega arith, omega arith)
 
-size-is : (bytes n : ℕ) → eqb bytes n ≡ true → bytes ≡ n
-size-is bytes n h = grind (arith, nat_tests)
-
 fine-1 : (sign : Sign) (n : ℕ) → in_range 255 128 sign n ≡ true → IsOfSize 1 (number (modulo sign n))
 fine-1 sign n h = elim (ranged 255 128 sign n (omega arith) h) [ inl l ↦ inl (omega arith) | inr (a, b) ↦ inr (a, b) ]
 
@@ -69,20 +67,20 @@ unfolding filled is_listed number_of
 filled-fine bytes pieces.Byte t sign o r l (n, m) h =
     let (v, e, k) = a_value (number_of pieces.Byte sign (number_value t.text)) OutOfRange _ r h in
     let (b, same) = inside _ _ v e in
-    rw (← k, ← same) (rw (size-is bytes 1 l) (fine-1 sign (number_value t.text) b), m)
+    rw (← k, ← same) (rw (eqb-true bytes 1 l) (fine-1 sign (number_value t.text) b), m)
 filled-fine bytes pieces.Word t sign o r l (n, m) h =
     let (v, e, k) = a_value (number_of pieces.Word sign (number_value t.text)) OutOfRange _ r h in
     let (b, same) = inside _ _ v e in
-    rw (← k, ← same) (rw (size-is bytes 2 l) (fine-2 sign (number_value t.text) b), m)
+    rw (← k, ← same) (rw (eqb-true bytes 2 l) (fine-2 sign (number_value t.text) b), m)
 filled-fine bytes pieces.Long t sign o r l (n, m) h =
     let (v, e, k) = a_value (number_of pieces.Long sign (number_value t.text)) OutOfRange _ r h in
     let (b, same) = inside _ _ v e in
-    rw (← k, ← same) (rw (size-is bytes 4 l) (fine-4 sign (number_value t.text) b), m)
+    rw (← k, ← same) (rw (eqb-true bytes 4 l) (fine-4 sign (number_value t.text) b), m)
 filled-fine bytes pieces.Quad t sign o r l (n, m) h =
     let (v, e, k) = a_value (number_of pieces.Quad sign (number_value t.text)) OutOfRange _ r h in
     let (b, same) = inside _ _ v e in
-    rw (← k, ← same) (rw (size-is bytes 8 l) (fine-8 sign (number_value t.text) b), m)
-filled-fine bytes pieces.Label t sign o r l (n, m) h = let (b, k) = a_label (is_label t.text) _ r h in rw (← k) (n, size-is bytes 8 l)
+    rw (← k, ← same) (rw (eqb-true bytes 8 l) (fine-8 sign (number_value t.text) b), m)
+filled-fine bytes pieces.Label t sign o r l (n, m) h = let (b, k) = a_label (is_label t.text) _ r h in rw (← k) (n, eqb-true bytes 8 l)
 filled-fine bytes pieces.Offset t sign o r l fine h = let (v, e, k) = a_value (offset_of sign (number_value t.text)) OutOfRange _ r h in rw (← k) fine
 filled-fine bytes pieces.Plus t sign o r l fine h = rw (← a_given _ r h) fine
 filled-fine bytes pieces.Less t sign o r l fine h = rw (← a_given _ r h) fine

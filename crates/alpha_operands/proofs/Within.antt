@@ -3,6 +3,7 @@ use Rattle.std.proofs.Common.{◌≡◌, ℕ, ◌%◌, ◌^◌, ◌≤◌, ◌<�
 use Rattle.std.specs.Option.{option_map}
 use Rattle.std.proofs.lemmas.Bool.Decides.{nat_tests}
 use Rattle.std.proofs.lemmas.Int.{ints}
+use Rattle.std.proofs.lemmas.Bool.{and_parts}
 use Rattle.alpha_words.specs.declared.PalCall.{PalCall}
 use Rattle.alpha_table.specs.Row.{IsSigned}
 use Rattle.alpha_table.specs.Decoded.{decoded}
@@ -20,7 +21,6 @@ use Rattle.alpha_operands.specs.Operands.{Slots, filled}
 use Rattle.alpha_operands.specs.Walk.{is_whole, piece_behind, front_after, sign_after, follow}
 use Rattle.alpha_operands.proofs.Changes.{filled-changes}
 use Rattle.alpha_operands.proofs.Grammar.{at_end, took, went}
-use Rattle.alpha_token.proofs.Choices.{both}
 
 pub inside : (b : Bool) (y x : Number) → if_in b y ≡ Some x → (b ≡ true) × (y ≡ x)
 inside true y x h = (refl, cc)
@@ -47,7 +47,7 @@ number_of-within pieces.Displacement sign n x h = let (b, e) = inside _ _ x h in
 number_of-within pieces.Immediate sign n x h = let (b, e) = inside _ _ x h in rw (← e) tt
 number_of-within pieces.Literal sign n x h = let (b, e) = inside _ _ x h in rw (← e) tt
 number_of-within pieces.Hint sign n x h = let (b, e) = inside (nat_le n 16383) _ x h in rw (← e) (let l : n < 2 ^ 14 = grind (arith, nat_tests) in l)
-number_of-within pieces.Distance sign n x h = let (b, e) = inside (eqb (n % 4) 0 && in_range 4194304 4194300 sign n) _ x h in rw (← e) (words_within sign n (both (eqb (n % 4) 0) _ b).1)
+number_of-within pieces.Distance sign n x h = let (b, e) = inside (eqb (n % 4) 0 && in_range 4194304 4194300 sign n) _ x h in rw (← e) (words_within sign n (and_parts (eqb (n % 4) 0) _ b).1)
 number_of-within pieces.Whole sign n x h = let (b, e) = inside _ _ x h in rw (← e) tt
 number_of-within pieces.Zeroed sign n x h = let (b, e) = inside (nat_le n 16777216) _ x h in rw (← e) (let l : n ≤ 2 ^ 24 = grind (arith, nat_tests) in l)
 number_of-within pieces.Align sign n x h = let (b, e) = inside (nat_le n 13) _ x h in rw (← e) (let l : n ≤ 13 = grind (arith, nat_tests) in l)

@@ -8,9 +8,9 @@ use Rattle.std.proofs.lemmas.Bool.Decides.{nat_tests}
 use Rattle.std.proofs.lemmas.List.{reverse-reverse}
 use Rattle.std.proofs.lemmas.List.Folds.{list_all-append}
 use Rattle.std.proofs.lemmas.List.Sums.{fold-append}
+use Rattle.std.proofs.lemmas.Bool.{and_parts}
 use Rattle.alpha_table.specs.Names.{name_of}
 use Rattle.alpha_token.specs.Bytes.{goes_on_name}
-use Rattle.alpha_token.proofs.Choices.{both}
 use Rattle.alpha_quick.specs.declared.rows.KeyedRow.{KeyedRow}
 use Rattle.alpha_quick.specs.Keys.{with_byte, key_of, is_named, are_named, IsKeyed}
 
@@ -33,7 +33,7 @@ byte_bounds b h = (grind (arith, nat_tests), grind (arith, nat_tests))
 fold_plain : (name : List ℕ) (n key : ℕ) → key < limit n → n + length name ≤ 8 → list_all goes_on_name name ≡ true → fold with_byte key name ≡ fold plain key name
 fold_plain [] n key h room all = refl
 fold_plain (b ∷ bs) n key h room all =
-    let (here, more) = both (goes_on_name b) (list_all goes_on_name bs) all in
+    let (here, more) = and_parts (goes_on_name b) (list_all goes_on_name bs) all in
     let (some, byte) = byte_bounds b here in
     let top : limit n * 256 ≤ 2 ^ 64 = limit_bound n (omega arith) in
     let same : (key * 256 % 2 ^ 64 + b) % 2 ^ 64 ≡ key * 256 + b = omega arith in
@@ -54,22 +54,22 @@ fold_number (b ∷ name) bs =
 all_reversed : (name bs : List ℕ) → list_all goes_on_name name ≡ true → list_all goes_on_name bs ≡ true → list_all goes_on_name (reverse_aux name bs) ≡ true
 all_reversed [] bs h all = all
 all_reversed (b ∷ name) bs h all =
-    let (here, more) = both (goes_on_name b) (list_all goes_on_name name) h in
+    let (here, more) = and_parts (goes_on_name b) (list_all goes_on_name name) h in
     all_reversed name (b ∷ bs) more (rw (here, all) refl)
 
 one_number : (a b : List ℕ) → list_all goes_on_name a ≡ true → list_all goes_on_name b ≡ true → number a ≡ number b → a ≡ b
 one_number [] [] f g e = refl
 one_number [] (y ∷ ys) f g e =
-    let some : (0 < y) × (y < 256) = byte_bounds y (both (goes_on_name y) (list_all goes_on_name ys) g).0 in
+    let some : (0 < y) × (y < 256) = byte_bounds y (and_parts (goes_on_name y) (list_all goes_on_name ys) g).0 in
     let sum : 0 ≡ y + number ys * 256 = e in
     absurd (omega (arith, some.0))
 one_number (x ∷ xs) [] f g e =
-    let some : (0 < x) × (x < 256) = byte_bounds x (both (goes_on_name x) (list_all goes_on_name xs) f).0 in
+    let some : (0 < x) × (x < 256) = byte_bounds x (and_parts (goes_on_name x) (list_all goes_on_name xs) f).0 in
     let sum : x + number xs * 256 ≡ 0 = e in
     absurd (omega (arith, some.0))
 one_number (x ∷ xs) (y ∷ ys) f g e =
-    let (p, ps) = both (goes_on_name x) (list_all goes_on_name xs) f in
-    let (q, qs) = both (goes_on_name y) (list_all goes_on_name ys) g in
+    let (p, ps) = and_parts (goes_on_name x) (list_all goes_on_name xs) f in
+    let (q, qs) = and_parts (goes_on_name y) (list_all goes_on_name ys) g in
     let (some, left) = byte_bounds x p in
     let (any, right) = byte_bounds y q in
     let sums : x + number xs * 256 ≡ y + number ys * 256 = e in
@@ -83,8 +83,8 @@ key_number name short all = fold_plain name 0 0 (omega arith) (omega arith) all 
 -- names of one key are one
 pub one_name : (row name : List ℕ) (key : ℕ) → is_named row key ≡ true → IsKeyed name key → length name ≤ 8 → row ≡ name
 one_name row name key has (all, is) short =
-    let (same, others) = both (eqb (key_of row) key) _ has in
-    let (few, each) = both (nat_le (length row) 8) (list_all goes_on_name row) others in
+    let (same, others) = and_parts (eqb (key_of row) key) _ has in
+    let (few, each) = and_parts (nat_le (length row) 8) (list_all goes_on_name row) others in
     let e : key_of row ≡ key = grind (arith, nat_tests) in
     let n : length row ≤ 8 = grind (arith, nat_tests) in
     let r : reverse row ≡ reverse name =
@@ -95,8 +95,8 @@ one_name row name key has (all, is) short =
 -- the row at a place has its name's key
 pub named_at : (rows : List KeyedRow) (place : ℕ) (d : KeyedRow) → are_named rows ≡ true → place < length rows → is_named (name_of (get_or rows place d).row) (get_or rows place d).key.0 ≡ true
 named_at [] place d all within = absurd (omega arith)
-named_at (r ∷ rs) zero d all within = (both (is_named (name_of r.row) r.key.0) (are_named rs) all).0
-named_at (r ∷ rs) (suc place) d all within = named_at rs place d (both (is_named (name_of r.row) r.key.0) (are_named rs) all).1 (omega arith)
+named_at (r ∷ rs) zero d all within = (and_parts (is_named (name_of r.row) r.key.0) (are_named rs) all).0
+named_at (r ∷ rs) (suc place) d all within = named_at rs place d (and_parts (is_named (name_of r.row) r.key.0) (are_named rs) all).1 (omega arith)
 
 take_two : (name r : List ℕ) → take (length name + 2) (name ++ (47 ∷ (118 ∷ r))) ≡ name ++ (47 ∷ (118 ∷ []))
 take_two [] r = refl

@@ -3,10 +3,10 @@ use Rattle.std.proofs.Common.{◌≡◌, ℕ, List, [], ◌∷◌, ◌++◌, tru
 use Rattle.std.specs.List.{list_all}
 use Rattle.std.specs.Option.{option_map}
 use Rattle.std.proofs.lemmas.Bool.Decides.{nat_tests}
+use Rattle.std.proofs.lemmas.Bool.{and_parts}
 use Rattle.alpha_token.specs.declared.token.TokenKind.TheVariants as kinds
 use Rattle.alpha_token.specs.Bytes.{begins_label, goes_on_label, is_label, begins_name, goes_on_name}
 use Rattle.alpha_token.specs.Tokens.{Next, tokens}
-use Rattle.alpha_token.proofs.Choices.{both}
 use Rattle.alpha_text.specs.Heads.{head_name}
 use Rattle.alpha_text.specs.Statements.{Said}
 use Rattle.alpha_text.specs.Behind.{Stops}
@@ -21,7 +21,7 @@ use Rattle.alpha_quick.specs.Rest.{IsBehind}
 pub label_goes_on : (s : List ℕ) → list_all goes_on_label s ≡ true → list_all goes_on_name s ≡ true
 label_goes_on [] h = refl
 label_goes_on (b ∷ s) h =
-    let (here, more) = both (goes_on_label b) (list_all goes_on_label s) h in
+    let (here, more) = and_parts (goes_on_label b) (list_all goes_on_label s) h in
     rw (here, label_goes_on s more) refl
 
 letter_begins : (b : ℕ) → begins_label b ≡ true → (begins_name b ≡ true) × (eqb b 46 ≡ false)
@@ -31,7 +31,7 @@ letter_begins b h = (rw h refl, grind (arith, nat_tests))
 pub label_tokens : (label s : List ℕ) → is_label label ≡ true → Stops goes_on_name s → tokens (label ++ s) ≡ Next (record { kind = kinds.Name; text = label; rest = s }) (tokens s)
 label_tokens [] s h stop = cc
 label_tokens (b ∷ ds) s h stop =
-    let (first, others) = both (begins_label b) (list_all goes_on_label ds) h in
+    let (first, others) = and_parts (begins_label b) (list_all goes_on_label ds) h in
     let (begins, plain) = letter_begins b first in
     token-begun b ds s begins plain (label_goes_on ds others) stop
 

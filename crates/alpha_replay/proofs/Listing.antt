@@ -1,6 +1,6 @@
 -- What the items of a journal lead to.
 use Rattle.std.proofs.Common.{◌≡◌, ◌+◌, ◌&&◌, ◌||◌, not, ℕ, zero, suc, Bool, true, false, cond, eqb, List, [], ◌∷◌, ◌++◌, length, Option, Some, None, is_none, Result, Ok, Err, refl, sym, ap, subst, ◌∙◌, option_and_then, arith, add-one}
-use Rattle.std.proofs.lemmas.Bool.{eqb-true}
+use Rattle.std.proofs.lemmas.Bool.{eqb-true, and_parts}
 use Rattle.alpha_image.specs.Parts.{Parts as Image}
 use Rattle.alpha_image.specs.FirstOf.{unless}
 use Rattle.std.specs.Option.{option_map, option_or}
@@ -152,10 +152,6 @@ map_none : {X Y : Type 0} (f : X → Y) (o : Option X) → option_map f o ≡ No
 map_none f None e = refl
 map_none f (Some x) e = absurd cc
 
-both : (a b : Bool) → (a && b) ≡ true → (a ≡ true) × (b ≡ true)
-both true b e = (refl, e)
-both false b e = absurd cc
-
 no_bytes : (l : List ℕ) → eqb (length l) 0 ≡ true → l ≡ []
 no_bytes [] e = refl
 no_bytes (x ∷ l) e = absurd (let h = eqb-true (length (x ∷ l)) 0 e in omega (arith, h))
@@ -166,8 +162,8 @@ ending_again e = refl
 
 same_is : (a b : Ending) → same_ending a b ≡ true → b ≡ a
 same_is a b e =
-    let one = both (eqb (ending_kind a) (ending_kind b) && eqb (ending_first a) (ending_first b)) (eqb (ending_second a) (ending_second b)) e in
-    let two = both (eqb (ending_kind a) (ending_kind b)) (eqb (ending_first a) (ending_first b)) one.0 in
+    let one = and_parts (eqb (ending_kind a) (ending_kind b) && eqb (ending_first a) (ending_first b)) (eqb (ending_second a) (ending_second b)) e in
+    let two = and_parts (eqb (ending_kind a) (ending_kind b)) (eqb (ending_first a) (ending_first b)) one.0 in
     sym (ending_again b)
     ∙ (ap (λ (k : ℕ). ending_in k (ending_first b) (ending_second b)) (sym (eqb-true (ending_kind a) (ending_kind b) two.0))
     ∙ (ap (λ (k : ℕ). ending_in (ending_kind a) k (ending_second b)) (sym (eqb-true (ending_first a) (ending_first b) two.1))
@@ -186,7 +182,7 @@ faultless p w e =
     let one = or_none (option_map faults.Output (first_difference 0 w.state.outside.output p.output)) _ e in
     let two = or_none (unless (ends_as p.ending w) faults.End) _ one.1 in
     let three = or_none (unless (eqb (length w.state.outside.input) 0) (faults.Input (length w.state.outside.input))) None two.1 in
-    let end = both (same_ending p.ending (ending_of w.last)) (finished w.last || is_none w.pending) (passes (ends_as p.ending w) faults.End two.0) in
+    let end = and_parts (same_ending p.ending (ending_of w.last)) (finished w.last || is_none w.pending) (passes (ends_as p.ending w) faults.End two.0) in
     record {
       output = none_differs 0 w.state.outside.output p.output (map_none faults.Output (first_difference 0 w.state.outside.output p.output) one.0);
       ends = same_is p.ending (ending_of w.last) end.0;

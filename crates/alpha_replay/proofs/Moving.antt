@@ -1,6 +1,7 @@
 -- The move that a step was: by the words that chose it, and by the move that was asked for.
 use Rattle.std.specs.Prelude.{nat_le}
 use Rattle.std.proofs.Common.{◌≡◌, ◌==◌, ◌/◌, ◌%◌, ◌&&◌, ◌||◌, not, ℕ, Bool, true, false, cond, eqb, List, ◌++◌, drop, Option, Some, None, refl, sym, ap, ◌∙◌}
+use Rattle.std.proofs.lemmas.Bool.{and_from}
 use Rattle.alpha_pal.specs.declared.pal_end.Passed.{Passed}
 use Rattle.alpha_table.specs.Class.{Class}
 use Rattle.alpha_seq.specs.declared.end.End.{End}
@@ -188,9 +189,6 @@ never : (a : Bool) → (a && false) ≡ false
 never true = refl
 never false = refl
 
-both : (a b : Bool) → a ≡ true → b ≡ true → (a && b) ≡ true
-both a b e f = rw (e, f) refl
-
 adds_not : (a b : Bool) → a ≡ b → (c : Bool) → (a ≡ true → ⊥) → (a && c) ≡ false
 adds_not a true e c apart = absurd (apart e)
 adds_not a false e c apart = ap (λ (x : Bool). x && c) e
@@ -230,7 +228,7 @@ module _ (g : Program) (o : Option Class) (s : State) where
   picked_fits t n (Trips value) e = record { same = λ is. absurd cc; other = λ no. refl }
   picked_fits t n (Waits false value) e = record { same = λ is. (ap (λ (b : Bool). not b) e, refl); other = λ no. absurd (no refl) }
   picked_fits t n (Waits true value) e = record {
-    same = λ is. (let adds : adds_here o ≡ true = cc in (both (adds_here o) (not (must_report o s n)) adds (ap (λ (b : Bool). not b) e), refl));
+    same = λ is. (let adds : adds_here o ≡ true = cc in (and_from (adds_here o) (not (must_report o s n)) adds (ap (λ (b : Bool). not b) e), refl));
     other = λ no. adds_not (adds_here o) (adds_here o) refl (not (must_report o s n)) (λ adds. no (ap (λ (b : Bool). Waits b value) adds));
   }
   picked_fits t n Reports e = record { same = λ is. (refl, refl); other = λ no. absurd (no refl) }

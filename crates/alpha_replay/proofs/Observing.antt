@@ -2,6 +2,7 @@
 use Rattle.std.proofs.Common.{◌≡◌, ◌<◌, ◌≤◌, ◌+◌, ◌-◌, ◌==◌, ◌&&◌, ◌||◌, not, nat_le, leb, ℕ, zero, suc, Bool, true, false, cond, List, [], ◌∷◌, ◌++◌, length, refl, sym, ap, subst, ◌∙◌, append-nil, arith}
 use Rattle.std.proofs.lemmas.Bool.{le-leb, eq-eqb}
 use Rattle.std.proofs.lemmas.Bool.Decides.{nat_tests}
+use Rattle.std.proofs.Math.Bool.{or-false}
 use Rattle.alpha_seq.specs.declared.event.Event.{Event}
 use Rattle.alpha_seq.specs.declared.event.Event.TheVariants as events
 use Rattle.alpha_seq.specs.declared.machine.Machine.{Machine}
@@ -42,14 +43,10 @@ pub holds : (fits : Bool) → not fits ≡ false → fits ≡ true
 holds true e = refl
 holds false e = absurd cc
 
-or_false : (b : Bool) → (b || false) ≡ b
-or_false true = refl
-or_false false = refl
-
 pub after_fits : (r : Recorder) (p : Print) → tape_fits (taped_on r.tape p) ≡ true → recorded_after r p.event p.core ≡ record { tape = taped_on r.tape p; full = r.full }
 after_fits r p e =
     ap (λ (t : Taped). record { tape = t; full = r.full || is_past r p.event p.core }) (kept_fits r.tape p.event p.core e)
-    ∙ ap (λ (b : Bool). record { tape = taped_on r.tape p; full = b }) (ap (λ (b : Bool). r.full || not b) e ∙ or_false r.full)
+    ∙ ap (λ (b : Bool). record { tape = taped_on r.tape p; full = b }) (ap (λ (b : Bool). r.full || not b) e ∙ or-false r.full)
 
 -- ---- steps in a row
 

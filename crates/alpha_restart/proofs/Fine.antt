@@ -2,7 +2,7 @@
 use Rattle.std.proofs.Common.{◌≡◌, ◌≢◌, ◌<◌, ◌≤◌, ◌+◌, ◌-◌, ◌&&◌, ◌==◌, not, ℕ, Bool, true, false, eqb, ltb, List, length, Option, Some, None, is_some, refl, sym, ap, ◌∙◌, ⊎_elim, arith}
 use Rattle.std.specs.List.{list_all, list_any, range_with_len}
 use Rattle.std.specs.Option.{option_map_or}
-use Rattle.std.proofs.lemmas.Bool.{cases_lt, eq-eqb, lt-ltb, eqb-true}
+use Rattle.std.proofs.lemmas.Bool.{cases_lt, eq-eqb, lt-ltb, eqb-true, and_from}
 use Rattle.alpha_table.specs.declared.columns.InsnKind.{InsnKind}
 use Rattle.alpha_table.specs.declared.columns.InsnKind.TheVariants as kinds
 use Rattle.alpha_table.specs.declared.columns.MemAccess.{MemAccess}
@@ -14,7 +14,7 @@ use Rattle.alpha_shadow.specs.declared.broken.Condition.TheVariants.{ZeroDestina
 use Rattle.alpha_shadow.specs.Broken.{Holds, IsBroken}
 use Rattle.alpha_trap.specs.Scan.{is_straight, spoils}
 use Rattle.alpha_trap.proofs.Columns.{trigger_has_rc, rc_spoils, on_straight}
-use Rattle.alpha_trap.proofs.Ranges.{and_true, within_any, within_all, all_within}
+use Rattle.alpha_trap.proofs.Ranges.{within_any, within_all, all_within}
 use Rattle.alpha_restart.proofs.Words.{class_within, class_past}
 
 -- ---- tests of one word
@@ -74,7 +74,7 @@ may_hold code t i Open = i == length code
 may_hold code t i Long = (i == t + 1025) && ltb i (length code)
 
 holds_may : (code : List ℕ) (t i : ℕ) (c : Condition) → t ≤ i → Holds code t i c → may_hold code t i c ≡ true
-holds_may code t i ZeroDestination order h = and_true (i == t) _ (eq-eqb i t h.0) (rc_spoils (class_at code t) 31 h.1)
+holds_may code t i ZeroDestination order h = and_from (i == t) _ (eq-eqb i t h.0) (rc_spoils (class_at code t) 31 h.1)
 holds_may code t i SourceLost order h =
     let r = h.0 in
     let j = h.2.place in
@@ -82,16 +82,16 @@ holds_may code t i SourceLost order h =
     let high = h.2.below in
     ap (λ o. option_map_or (λ x. list_any (exposes code t x) (range_with_len t (i + 1 - t))) o false) h.1
     ∙ within_any (exposes code t r) t (i + 1 - t) j low (omega arith)
-    (and_true (uses (class_at code j) r) _ h.2.uses
+    (and_from (uses (class_at code j) r) _ h.2.uses
     (within_all (λ k. not (names (sets (class_at code k)) r)) t (j - t)
     (λ k above below. unnamed (sets (class_at code k)) r (λ e. h.2.unset (record { place = k; above = above; below = omega arith; sets = e })))))
-holds_may code t i SameDestination order h = and_true (ltb t i) _ (lt-ltb t i h.0) (trigger_has_rc (class_at code i) h.1)
+holds_may code t i SameDestination order h = and_from (ltb t i) _ (lt-ltb t i h.0) (trigger_has_rc (class_at code i) h.1)
 holds_may code t i WildBase order h =
     let base = h.1.0.base in
     let set = h.1.2 in
     let low = set.above in
     let high = set.below in
-    and_true (ltb t i) _ (lt-ltb t i h.0)
+    and_from (ltb t i) _ (lt-ltb t i h.0)
     (ap (λ o. option_map_or (λ (a : MemAccess). list_any (λ k. names (sets (class_at code k)) a.base) (range_with_len t (i - t))) o false) h.1.1
     ∙ within_any (λ k. names (sets (class_at code k)) base) t (i - t) set.place low (omega arith)
     (named (sets (class_at code set.place)) base set.sets))
@@ -99,13 +99,13 @@ holds_may code t i LoadThenStore order h =
     let low = h.1 in
     let high = h.2 in
     let meets = h.3.1.1 in
-    and_true (of_kind stores (class_at code i)) _ (kind_is stores (class_at code i) kinds.Store meets.2 refl)
+    and_from (of_kind stores (class_at code i)) _ (kind_is stores (class_at code i) kinds.Store meets.2 refl)
     (within_any (λ k. of_kind loads (class_at code k)) (t + 1) (i - (t + 1)) h.0 (omega arith) (omega arith)
     (kind_is loads (class_at code h.0) kinds.Load meets.0 refl))
 holds_may code t i Locked order h = kind_is locks (class_at code i) kinds.Locked h refl
 holds_may code t i Turn order h = kind_is turns (class_at code i) kinds.Turn h refl
 holds_may code t i Open order h = eq-eqb i (length code) h
-holds_may code t i Long order h = and_true (i == t + 1025) _ (eq-eqb i (t + 1025) h.0) (lt-ltb i (length code) h.1)
+holds_may code t i Long order h = and_from (i == t + 1025) _ (eq-eqb i (t + 1025) h.0) (lt-ltb i (length code) h.1)
 
 -- ---- the test of code
 
@@ -148,8 +148,8 @@ unbroken code c e t i h =
     let here = all_within (λ s. list_all (λ k. not (may_break code c s k)) (range_with_len s (length code + 1 - s))) 0 (length code) t e (omega arith) (omega arith) in
     let never = all_within (λ k. not (may_break code c t k)) t (length code + 1 - t) i here order (omega arith) in
     let found : may_break code c t i ≡ true =
-    and_true (is_some (trap_rc (class_at code t))) _ (trigger_has_rc (class_at code t) h.trigger_kind)
-    (and_true (list_all (λ k. is_straight (class_at code k)) (range_with_len t (i - t))) _
+    and_from (is_some (trap_rc (class_at code t))) _ (trigger_has_rc (class_at code t) h.trigger_kind)
+    (and_from (list_all (λ k. is_straight (class_at code k)) (range_with_len t (i - t))) _
     (within_all (λ k. is_straight (class_at code k)) t (i - t)
     (λ k above below. let s = h.straight k above (omega arith) in on_straight (class_at code k) s.0 s.1))
     (holds_may code t i c order h.holds)) in

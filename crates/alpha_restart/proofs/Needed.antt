@@ -3,7 +3,7 @@
 use Rattle.std.specs.Int.{int_wrap}
 use Rattle.std.proofs.Common.{◌≡◌, ◌≢◌, ◌<◌, ◌≤◌, ◌^◌, ℕ, zero, suc, Bool, true, false, List, [], ◌∷◌, length, get_or, ltb, Option, None, Some, refl, sym, ap, ◌∙◌, arith}
 use Rattle.std.specs.List.{list_all, All}
-use Rattle.std.proofs.lemmas.Bool.{ltb-true}
+use Rattle.std.proofs.lemmas.Bool.{ltb-true, and_parts}
 use Rattle.std.proofs.lemmas.List.Elements.{All-nil, All-cons}
 use Rattle.alpha_words.specs.declared.Level.TheVariants as levels
 use Rattle.alpha_words.specs.declared.Completion.{Completion}
@@ -38,7 +38,6 @@ use Rattle.alpha_shadow.specs.declared.broken.Condition.{Condition}
 use Rattle.alpha_shadow.specs.declared.broken.Condition.TheVariants.{ZeroDestination, SourceLost, SameDestination, WildBase, LoadThenStore, Locked, Turn, Open, Long}
 use Rattle.alpha_shadow.specs.Least.{condition_number}
 use Rattle.alpha_trap.specs.Scan.{fits, greatest_below}
-use Rattle.alpha_trap.proofs.Ranges.{and_parts}
 use Rattle.alpha_imprecise.specs.Moment.{Choice}
 use Rattle.alpha_restart.specs.Table.{IsChoice}
 use Rattle.alpha_imprecise.specs.Run.{WildRun, started_wild, run_wild}

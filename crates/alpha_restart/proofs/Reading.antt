@@ -1,7 +1,7 @@
 -- What the words ahead read is the same in both machines.
 use Rattle.std.proofs.Common.{◌≡◌, ◌≢◌, ◌<◌, ◌≤◌, ◌⊎◌, ◌==◌, ℕ, Bool, true, false, cond, List, ◌∷◌, Option, Some, None, eqb, ltb, refl, ap, ◌∙◌, ⊎_elim, inl, inr, arith}
 use Rattle.std.specs.List.{list_any}
-use Rattle.std.proofs.lemmas.Bool.{cases_eq, cases_lt, lt-ltb, eq-eqb}
+use Rattle.std.proofs.lemmas.Bool.{cases_eq, cases_lt, lt-ltb, eq-eqb, and_from, or_left, or_right}
 use Rattle.alpha_words.specs.declared.Level.{Level}
 use Rattle.alpha_words.specs.Regs.{reg}
 use Rattle.alpha_table.specs.declared.op.Op.{Op}
@@ -14,16 +14,15 @@ use Rattle.alpha_table.specs.Uses.{source_registers, is_move, written, but_zero,
 use Rattle.alpha_values.specs.Op.{result_of}
 use Rattle.alpha_values.specs.Source.{source_value}
 use Rattle.alpha_restart.specs.Match.{Dead, Alike}
-use Rattle.alpha_trap.proofs.Ranges.{and_true, or_left, or_right}
 use Rattle.alpha_restart.proofs.Registers.{reg-past, never_zero}
 
 -- ---- registers that count
 
 pub counts_first : (x : ℕ) (rest : List ℕ) → x < 31 → counts (x ∷ rest) x ≡ true
-counts_first x rest small = and_true (ltb x 31) _ (lt-ltb x 31 small) (or_left (eqb x x) _ (eq-eqb x x refl))
+counts_first x rest small = and_from (ltb x 31) _ (lt-ltb x 31 small) (or_left (eqb x x) _ (eq-eqb x x refl))
 
 pub counts_second : (y x : ℕ) (rest : List ℕ) → x < 31 → counts (y ∷ x ∷ rest) x ≡ true
-counts_second y x rest small = and_true (ltb x 31) _ (lt-ltb x 31 small) (or_right (eqb y x) _ (or_left (eqb x x) _ (eq-eqb x x refl)))
+counts_second y x rest small = and_from (ltb x 31) _ (lt-ltb x 31 small) (or_right (eqb y x) _ (or_left (eqb x x) _ (eq-eqb x x refl)))
 
 -- the old value of a conditional move's destination
 pub counts_moved : (move : Bool) (ra rc : ℕ) (others : List ℕ) → move ≡ true → rc < 31 → counts (ra ∷ cond move (rc ∷ others) others) rc ≡ true
@@ -32,7 +31,7 @@ counts_moved move ra rc others e small = ap (λ (b : Bool). counts (ra ∷ cond 
 -- a second source of an operate instruction
 pub counts_source : (move : Bool) (ra rc x : ℕ) (others : List ℕ) → x < 31 → list_any (λ s. s == x) others ≡ true
     → counts (ra ∷ cond move (rc ∷ others) others) x ≡ true
-counts_source move ra rc x others small e = and_true (ltb x 31) _ (lt-ltb x 31 small) (or_right (eqb ra x) _ (by move))
+counts_source move ra rc x others small e = and_from (ltb x 31) _ (lt-ltb x 31 small) (or_right (eqb ra x) _ (by move))
   where
     by : (b : Bool) → list_any (λ s. s == x) (cond b (rc ∷ others) others) ≡ true
     by true = or_right (eqb rc x) _ e

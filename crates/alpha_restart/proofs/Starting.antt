@@ -1,7 +1,7 @@
 -- The state at the start is ready: it has 32 registers, and the blocks of its memory lie as they must.
-use Rattle.std.proofs.Common.{◌≡◌, ◌<◌, ◌≤◌, ◌+◌, ◌-◌, ◌%◌, ◌^◌, ◌||◌, ℕ, zero, suc, Bool, true, false, cond, List, [], ◌∷◌, ◌++◌, length, replicate, get_or, option_map, leb, count_by, refl, sym, ap, subst, ◌∙◌, arith, add-one, zero-add}
+use Rattle.std.proofs.Common.{◌≡◌, ◌<◌, ◌≤◌, ◌+◌, ◌-◌, ◌%◌, ◌^◌, ℕ, zero, suc, Bool, true, false, cond, List, [], ◌∷◌, ◌++◌, length, replicate, get_or, option_map, leb, count_by, refl, sym, ap, subst, ◌∙◌, arith, add-one, zero-add}
 use Rattle.std.specs.List.{list_any, flat_map}
-use Rattle.std.proofs.lemmas.Bool.{leb-true}
+use Rattle.std.proofs.lemmas.Bool.{leb-true, or_parts, and_parts}
 use Rattle.std.proofs.lemmas.List.{map-append, length-append, length-replicate}
 use Rattle.std.proofs.lemmas.List.Elements.{All-push, All-nil}
 use Rattle.std.proofs.lemmas.List.Sums.{sum_by_push, sum_by-cons}
@@ -18,19 +18,14 @@ use Rattle.alpha_seq.specs.State.{Program}
 use Rattle.alpha_seq.specs.Start.{stack_end, start_memory, start_regs, start}
 use Rattle.alpha_seq.specs.StartMemory.{memory_before}
 use Rattle.alpha_seq.proofs.Loading.{code_aligned, code_below, code_first, addable, stack_aligned, stack_below, stack_free, stack_last}
-use Rattle.alpha_trap.proofs.Ranges.{and_parts}
 use Rattle.alpha_restart.specs.Invariant.{IsReady}
 
 -- ---- a block more
 
-neither : (a b : Bool) → (a || b) ≡ false → (a ≡ false) × (b ≡ false)
-neither true b e = cc
-neither false b e = (refl, e)
-
 none_has : (x : ℕ) (ss : List Shape) → list_any (λ s. holds s x 1) ss ≡ false → count_by (λ s. holds s x 1) ss ≡ 0
 none_has x [] e = refl
 none_has x (s ∷ ss) e =
-    let f = neither (holds s x 1) (list_any (λ t. holds t x 1) ss) e in
+    let f = or_parts (holds s x 1) (list_any (λ t. holds t x 1) ss) e in
     sum_by-cons (λ (t : Shape). cond (holds t x 1) 1 0) s ss ∙ (ap (λ b. cond b 1 0 + count_by (λ t. holds t x 1) ss) f.0 ∙ (zero-add (count_by (λ t. holds t x 1) ss) ∙ none_has x ss f.1))
 
 one_more : (ss : List Shape) (s : Shape) (x : ℕ) → count_by (λ t. holds t x 1) ss ≤ 1 → IsFree ss s.first s.size → count_by (λ t. holds t x 1) (ss ++ s ∷ []) ≤ 1

@@ -3,6 +3,7 @@ use Rattle.std.proofs.Common.{◌≡◌, ℕ, pos, negsuc, suc, zero, ◌+◌, �
 use Rattle.std.specs.List.{list_all, filter_map}
 use Rattle.std.specs.Char.{is_ascii_alphabetic}
 use Rattle.std.proofs.lemmas.Bool.Decides.{nat_tests}
+use Rattle.std.proofs.lemmas.Bool.{and_parts}
 use Rattle.alpha_words.specs.declared.Level.{Level}
 use Rattle.alpha_table.specs.declared.op.OperandRule.{OperandRule}
 use Rattle.alpha_table.specs.declared.op.OperandRule.TheVariants.{Any, Unary, UnaryRegister, Version}
@@ -16,7 +17,6 @@ use Rattle.alpha_table.specs.Names.{name_of, mnemonic_of}
 use Rattle.alpha_table.specs.Decoded.{decoded}
 use Rattle.alpha_table.proofs.Decoding.{Row-decoded, IsInsn-Row}
 use Rattle.alpha_token.specs.Bytes.{goes_on_name}
-use Rattle.alpha_token.proofs.Choices.{both}
 use Rattle.alpha_text.specs.Statements as says
 use Rattle.alpha_text.specs.Canon.{Word, reg, num, mark, spelled, spell, source_words, words_of, behind_name, canon}
 use Rattle.alpha_text.proofs.Names.{name_of-short, name_of-word}
@@ -77,7 +77,7 @@ spell_short (w ∷ ws) = omega (arith, word_short w, spell_short ws, length-appe
 
 spell_inside : (ws : List Word) → list_all is_fine ws ≡ true → AreInside (spell ws)
 spell_inside [] h = refl
-spell_inside (w ∷ ws) h = let (a, b) = both (is_fine w) (list_all is_fine ws) h in inside-append (spelled w) (spell ws) (word_inside w a) (spell_inside ws b)
+spell_inside (w ∷ ws) h = let (a, b) = and_parts (is_fine w) (list_all is_fine ws) h in inside-append (spelled w) (spell ws) (word_inside w a) (spell_inside ws b)
 
 behind_short : (ws : List Word) → length (behind_name ws) ≤ 1 + 65 * length ws
 behind_short [] = omega arith
@@ -97,18 +97,18 @@ byte_inside b h = grind (arith, nat_tests)
 
 bytes_inside : (l : List ℕ) → list_all goes_on_name l ≡ true → AreInside l
 bytes_inside [] h = refl
-bytes_inside (b ∷ l) h = let (a, k) = both (goes_on_name b) (list_all goes_on_name l) h in rw (byte_inside b a, bytes_inside l k) refl
+bytes_inside (b ∷ l) h = let (a, k) = and_parts (goes_on_name b) (list_all goes_on_name l) h in rw (byte_inside b a, bytes_inside l k) refl
 
 name_inside : (l : List ℕ) → is_word l ≡ true → AreInside l
 name_inside [] h = refl
-name_inside (b ∷ l) h = let (a, k) = both (is_ascii_alphabetic b) (list_all goes_on_name l) h in rw (letter_inside b a, bytes_inside l k) refl
+name_inside (b ∷ l) h = let (a, k) = and_parts (is_ascii_alphabetic b) (list_all goes_on_name l) h in rw (letter_inside b a, bytes_inside l k) refl
 
 -- ---- the line
 
 canon_line : (i : Form) → IsInsn i → IsLineOf (canon i) (says.code i)
 unfolding canon
 canon_line i h =
-    let (few, fine) = both (nat_le (length (words_of i)) 8) (list_all is_fine (words_of i)) (words_fine i) in
+    let (few, fine) = and_parts (nat_le (length (words_of i)) 8) (list_all is_fine (words_of i)) (words_fine i) in
     let most : length (words_of i) ≤ 8 = grind (arith, nat_tests) in
     record {
       short = omega (arith, name_of-short (mnemonic_of i), behind_short (words_of i), length-append (name_of (mnemonic_of i)) (behind_name (words_of i)));

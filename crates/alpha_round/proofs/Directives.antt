@@ -5,6 +5,7 @@ use Rattle.std.specs.Str.{all_ascii_digits}
 use Rattle.std.specs.Char.{is_ascii_digit}
 use Rattle.std.proofs.lemmas.Bool.Decides.{nat_tests}
 use Rattle.std.proofs.lemmas.Fmt.{decimal_nonempty}
+use Rattle.std.proofs.lemmas.Bool.{and_parts}
 use Rattle.alpha_words.specs.declared.Level.{Level}
 use Rattle.alpha_words.specs.declared.Level.TheVariants as levels
 use Rattle.alpha_words.specs.Levels.{level_number}
@@ -12,7 +13,6 @@ use Rattle.alpha_token.specs.declared.token.TokenKind.TheVariants as kinds
 use Rattle.alpha_token.specs.Bytes.{is_blank, goes_on_name}
 use Rattle.alpha_token.specs.Numeral.{number_value}
 use Rattle.alpha_token.specs.Tokens.{Tokens, End, Next, name_kind, token_at, tokens}
-use Rattle.alpha_token.proofs.Choices.{both}
 use Rattle.alpha_operands.specs.declared.piece.Piece.{Piece}
 use Rattle.alpha_operands.specs.declared.piece.Piece.TheVariants as pieces
 use Rattle.alpha_operands.specs.declared.number.Sign.TheVariants as signs
@@ -222,7 +222,7 @@ row_operands b row h =
 -- a row begins with a digit, which is no blank
 digits_stop : (ds s : List ℕ) → 0 < length ds → all_ascii_digits ds ≡ true → Stops is_blank (ds ++ s)
 digits_stop [] s some h = absurd (omega arith)
-digits_stop (d ∷ ds) s some h = (digit_apart d (both (is_ascii_digit d) (all_ascii_digits ds) h).0).1
+digits_stop (d ∷ ds) s some h = (digit_apart d (and_parts (is_ascii_digit d) (all_ascii_digits ds) h).0).1
 
 row_stops : (b : ℕ) (row : List ℕ) → b < 2 ^ 64 → Stops is_blank (row_text (b ∷ row))
 row_stops b [] h = subst (Stops is_blank) (append-nil (decimal b)) (digits_stop (decimal b) [] (decimal_nonempty b h) (decimal-digits b h))

@@ -7,6 +7,7 @@ use Rattle.std.specs.Str.Lines.{lines}
 use Rattle.std.proofs.lemmas.Bool.Decides.{nat_tests}
 use Rattle.std.proofs.lemmas.List.{length-replicate}
 use Rattle.std.proofs.lemmas.List.Elements.{All-nil, All-cons, All-append, All-replicate}
+use Rattle.std.proofs.lemmas.Bool.{or_parts}
 use Rattle.alpha_words.specs.Digits.{digits, low_bytes}
 use Rattle.alpha_words.specs.declared.Level.{Level}
 use Rattle.alpha_words.specs.Levels.{level_number}
@@ -74,13 +75,9 @@ length-bytes_in k x =
 abbrev IsAllowed : Option ℕ → Form → Type 0
 IsAllowed level i = IsInsn i × (level_number (level_of i) ≤ unwrap_or level 1)
 
-neither : (a b : Bool) → (a || b) ≡ false → (a ≡ false) × (b ≡ false)
-neither true b h = cc
-neither false b h = (refl, h)
-
 low_level : (p : Place) (i : Form) → is_misplaced_insn p i ≡ false → level_number (level_of i) ≤ unwrap_or p.level 1
 low_level p i m =
-    let (a, b) = neither (is_data p.section) (nat_lt (unwrap_or p.level 1) (level_number (level_of i))) m in
+    let (a, b) = or_parts (is_data p.section) (nat_lt (unwrap_or p.level 1) (level_number (level_of i))) m in
     grind (arith, nat_tests)
 
 abbrev insn_or : Form → Option Coded → Form
@@ -140,8 +137,8 @@ code_allowed k p s h m = by (coded s) refl
 
 -- without a statement there is no instruction
 nothing_begun : (k : Known) (p : Place) (s : Said) (code : List Form) → (p.begun ≡ false → code ≡ []) → (behind p s).begun ≡ false → code ++ option_map_or (λ c. insn_in k p c ∷ []) (coded s) [] ≡ []
-nothing_begun k p says.empty code fresh g = append-nil code ∙ fresh (neither p.begun false g).0
-nothing_begun k p s code fresh g = let no : true ≡ false = (neither p.begun true g).1 in cc
+nothing_begun k p says.empty code fresh g = append-nil code ∙ fresh (or_parts p.begun false g).0
+nothing_begun k p s code fresh g = let no : true ≡ false = (or_parts p.begun true g).1 in cc
 
 consistent_more : (k : Known) (is : List LineSaid) (i : LineSaid) → Consistent k is → SaysInsn i.statement → is_misplaced (end is) i.statement ≡ false → Consistent k (is ++ i ∷ [])
 consistent_more k is i consistent h m =

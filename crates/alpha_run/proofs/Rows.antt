@@ -1,9 +1,10 @@
 -- Rows of steps, and one more.
-use Rattle.std.proofs.Common.{◌≡◌, ◌≤◌, ◌+◌, ◌-◌, ℕ, ◌||◌, Bool, true, false, List, [], ◌∷◌, ◌++◌, length, Option, Some, None, Result, IfErr, refl, sym, ap, subst, ◌∙◌, append_assoc, append-nil, arith}
+use Rattle.std.proofs.Common.{◌≡◌, ◌≤◌, ◌+◌, ◌-◌, ℕ, Bool, true, false, List, [], ◌∷◌, ◌++◌, length, Option, Some, None, Result, IfErr, refl, sym, ap, subst, ◌∙◌, append_assoc, append-nil, arith}
 use Rattle.std.specs.Prelude.{IsErr, IsErrAnd}
 use Rattle.std.proofs.lemmas.Result.{err_from_is_err_and}
 use Rattle.std.specs.List.{flat_map}
 use Rattle.std.proofs.lemmas.Grind.{flat_map-append}
+use Rattle.std.proofs.lemmas.Bool.{or_parts}
 use Rattle.alpha_io.specs.Faults.{Rose}
 use Rattle.alpha_io.specs.Sunk.{Sunk, Puts}
 use Rattle.alpha_io.proofs.Sinks.{Puts-none, Puts-then}
@@ -32,10 +33,6 @@ Row-append goes (p ∷ ps) qs old mid new row more = (row.0, row.1, Row-append g
 pub AreGoing-append : (ps qs : List Print) → AreGoing ps → AreGoing qs → AreGoing (ps ++ qs)
 AreGoing-append [] qs going more = more
 AreGoing-append (p ∷ ps) qs going more = (going.0, AreGoing-append ps qs going.1 more)
-
-pub neither : (a b : Bool) → (a || b) ≡ false → (a ≡ false) × (b ≡ false)
-neither true b e = absurd cc
-neither false b e = (refl, e)
 
 pub Unstopped-append : {O : Type 0} (after : O → Event → Machine → O) (stops : O → Event → Machine → Bool) (o : O) (ps qs : List Print)
     → Unstopped after stops o ps → Unstopped after stops (seen_by after o ps) qs → Unstopped after stops o (ps ++ qs)
@@ -142,7 +139,7 @@ pub Goes-turn : {M O : Type 0} (goes : M → Print → M → Type 0) (uses : M �
     → Goes goes w units left old new from to before after input out notes
 Goes-turn goes uses w units left event last old new from to before after input out notes some on one =
     let p = one.print in
-    let both = neither (w.stops from p.event p.core) (is_over p.event) (sym one.last_is ∙ on) in
+    let both = or_parts (w.stops from p.event p.core) (is_over p.event) (sym one.last_is ∙ on) in
     record {
       prints = p ∷ [];
       row = (new, one.is, refl);

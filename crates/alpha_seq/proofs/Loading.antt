@@ -1,12 +1,13 @@
 -- The memory at the start: each region is free when it is added.
-use Rattle.std.proofs.Common.{◌≡◌, ℕ, zero, suc, ◌+◌, ◌-◌, ◌*◌, ◌%◌, ◌^◌, ◌<◌, ◌≤◌, Bool, true, false, ◌&&◌, List, [], ◌∷◌, ◌++◌, length, map, take, drop, replicate, get_or, Some, None, Result, Ok, Err, refl, sym, ap, subst, ◌∙◌, arith, append-nil, length-append, length-take, length-drop}
-use Rattle.std.specs.Prelude.{nat_le, slice_get, OnOk}
+use Rattle.std.proofs.Common.{◌≡◌, ℕ, zero, suc, ◌+◌, ◌-◌, ◌*◌, ◌%◌, ◌^◌, ◌<◌, ◌≤◌, Bool, true, false, ◌&&◌, List, [], ◌∷◌, ◌++◌, length, map, take, drop, replicate, get_or, Some, None, refl, sym, ap, subst, ◌∙◌, arith, append-nil, length-append, length-take, length-drop}
+use Rattle.std.specs.Prelude.{nat_le, slice_get}
 use Rattle.std.specs.List.{list_any, flat_map}
 use Rattle.std.specs.Option.{option_map}
 use Rattle.std.proofs.lemmas.Bool.Decides.{nat_tests}
 use Rattle.std.proofs.lemmas.List.{drop-drop, take_more, take_all, map-append, length-replicate}
 use Rattle.std.proofs.lemmas.List.Sums.{sum_by-cons}
 use Rattle.std.proofs.lemmas.Option.{get_or_from_slice_get}
+use Rattle.std.proofs.lemmas.Bool.{false_from_ne_true}
 use Rattle.alpha_words.specs.declared.Completion.{Completion}
 use Rattle.alpha_words.specs.Regs.{put}
 use Rattle.alpha_mem.specs.Block.{Block, shape_of, shapes, holds, within, block}
@@ -22,11 +23,6 @@ use Rattle.alpha_seq.specs.State.{State}
 use Rattle.alpha_seq.specs.Start.{stack_end, start_memory, start_regs, start}
 use Rattle.alpha_seq.specs.StartMemory.{code_block, segment_block, stack_block, memory_before}
 
--- an answer that promises one thing, and so another
-pub promised : {T E P Q : Type 0} (r : Result T E) → (P → Q) → OnOk r P → OnOk r Q
-promised (Ok x) f p = f p
-promised (Err e) f p = p
-
 some_same : (xs ys : List ℕ) → Some xs ≡ Some ys → xs ≡ ys
 some_same xs ys e = cc
 
@@ -41,12 +37,8 @@ get_or_default (x ∷ xs) (suc k) d e h = get_or_default xs k d e (omega arith)
 held : (first size x : ℕ) → (nat_le first x && nat_le (x + 1) (first + size)) ≡ true → (first ≤ x) × (x < first + size)
 held first size x e = (grind (arith, nat_tests), grind (arith, nat_tests))
 
-not_true : (b : Bool) → (b ≡ true → ⊥) → b ≡ false
-not_true true h = absurd (h refl)
-not_true false h = refl
-
 not_held : (first size x : ℕ) → ((first ≤ x) × (x < first + size) → ⊥) → (nat_le first x && nat_le (x + 1) (first + size)) ≡ false
-not_held first size x out = not_true _ (λ e. out (held first size x e))
+not_held first size x out = false_from_ne_true _ (λ e. out (held first size x e))
 
 code-size : (p : Parts) → length (code_block p).bytes ≡ 4 * length p.words
 code-size p = ap length (append-nil (flat_map longword p.words)) ∙ length-flat_map_longword p.words

@@ -1,7 +1,7 @@
 -- The first trigger for which a place is broken, condition by condition.
-use Rattle.std.proofs.Common.{◌≡◌, ◌≢◌, ◌<◌, ◌≤◌, ◌+◌, ◌⊎◌, ◌↔◌, ℕ, suc, Bool, true, false, Option, Some, None, List, find, slice_get, slice_index, nat_le, nat_lt, ◌==◌, ◌&&◌, ap, sym, subst, ◌∙◌, refl, inl, inr, ⊎_elim, arith, eqb-true, eq-eqb, ◌∷◌, [], cond}
+use Rattle.std.proofs.Common.{◌≡◌, ◌≢◌, ◌<◌, ◌≤◌, ◌+◌, ◌⊎◌, ◌↔◌, ℕ, suc, Bool, true, false, Option, Some, None, List, find, slice_get, slice_index, nat_le, nat_lt, ◌==◌, ap, sym, subst, ◌∙◌, refl, inl, inr, ⊎_elim, arith, eqb-true, eq-eqb, ◌∷◌, [], cond}
 use Rattle.std.specs.Option.{option_map, option_or}
-use Rattle.std.proofs.lemmas.Bool.{cases_eq, cases_lt, leb-true, le-leb}
+use Rattle.std.proofs.lemmas.Bool.{cases_eq, cases_lt, leb-true, le-leb, and_from, and_parts}
 use Rattle.alpha_words.specs.Regs.{Has}
 use Rattle.alpha_table.specs.declared.columns.InsnKind.TheVariants as kinds
 use Rattle.alpha_table.specs.declared.columns.MemAccess.{MemAccess}
@@ -48,21 +48,11 @@ pub window_first : (code : List ℕ) (w : Window) (at : ℕ) → Summarizes code
     → IsFirstThat code at (λ p. Unit {0}) o
 window_first code w at s o e = rw (e, s.triggers) (first_open code at)
 
-and_true : (a b : Bool) → a ≡ true → b ≡ true → (a && b) ≡ true
-and_true true true p q = refl
-and_true true false p q = cc
-and_true false b p q = cc
-
-and_parts : (a b : Bool) → (a && b) ≡ true → (a ≡ true) × (b ≡ true)
-and_parts true true e = (refl, refl)
-and_parts true false e = cc
-and_parts false b e = cc
-
 pub window_within : (code : List ℕ) (w : Window) (at from to : ℕ) → Summarizes code w at → (o : Option ℕ)
     → o ≡ option_map place_of (find (stands_within from to) w.triggers.items) → IsFirstThat code at (λ p. (from ≤ p) × (p < to)) o
 window_within code w at from to s o e = rw (e, s.triggers) (first_that code at (stands_within from to) (λ p. (from ≤ p) × (p < to))
     (λ p t. let q = and_parts (nat_le from p) (nat_lt p to) t in (leb-true from p q.0, leb-true (suc p) to q.1))
-    (λ p q. and_true (nat_le from p) (nat_lt p to) (le-leb from p q.0) (le-leb (suc p) to q.1))
+    (λ p q. and_from (nat_le from p) (nat_lt p to) (le-leb from p q.0) (le-leb (suc p) to q.1))
     (find (stands_within from to) (open_triggers code at)) (find_open code (stands_within from to) at))
 
 -- no place is in an empty range

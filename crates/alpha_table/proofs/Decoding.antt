@@ -2,7 +2,7 @@
 use Rattle.std.proofs.Common.{◌≡◌, ◌≤◌, ◌≢◌, ◌<◌, ◌^◌, ℕ, pos, ◌+◌, ◌+ℤ◌, ◌-ℤ◌, ◌≤ℤ◌, ◌<ℤ◌, ltb, Bool, true, false, Option, Some, None, List, [], ◌∷◌, ◌==◌, ◌&&◌, cond, eqb, find, ◌⊎◌, inl, inr, ⊎_elim, refl, sym, ap, ◌∙◌, subst, arith}
 use Rattle.std.specs.Prelude.{is_none, not, IfSome}
 use Rattle.std.specs.Option.{option_map, option_or, unwrap_or, IfNone}
-use Rattle.std.proofs.lemmas.Bool.{eq-eqb, eqb-true, eqb-false, ltb-true, ltb-false}
+use Rattle.std.proofs.lemmas.Bool.{eq-eqb, eqb-true, eqb-false, ltb-true, ltb-false, and_parts}
 use Rattle.std.proofs.lemmas.Int.{ints}
 use Rattle.std.proofs.lemmas.Option.{option_and_then_some, cond_some}
 use Rattle.alpha_words.specs.Field.{field}
@@ -163,10 +163,6 @@ cond_none : {A : Type 0} (b : Bool) (o : Option A) (x : A) → cond b o None ≡
 cond_none true o x h = (refl, h)
 cond_none false o x h = cc
 
-both : (a b : Bool) → (a && b) ≡ true → (a ≡ true) × (b ≡ true)
-both true b h = (refl, h)
-both false b h = cc
-
 memory_form-is : (w : ℕ) (i : Form) → memory_form w ≡ Some i → Row w i
 unfolding memory_form
 memory_form-is w i h =
@@ -195,8 +191,8 @@ misc_form-is w i h =
     let c = cond_none _ _ i h in
     let m = option_map_some _ _ i c.1 in
     let e = found_by (λ op. (misc_row op).function) every_misc (field 15 0 w) m.0 m.1 in
-    let b = both (field 31 26 w == 0x18) (field 25 21 w == 31 && field 20 16 w == 31) c.0 in
-    let r = both (field 25 21 w == 31) (field 20 16 w == 31) b.1 in
+    let b = and_parts (field 31 26 w == 0x18) (field 25 21 w == 31 && field 20 16 w == 31) c.0 in
+    let r = and_parts (field 25 21 w == 31) (field 20 16 w == 31) b.1 in
     subst (Row w) m.2 (eqb-true (field 31 26 w) 0x18 b.0, eqb-true (field 25 21 w) 31 r.0, eqb-true (field 20 16 w) 31 r.1, sym e)
 
 fetch_form-is : (w : ℕ) (i : Form) → fetch_form w ≡ Some i → Row w i
@@ -205,7 +201,7 @@ fetch_form-is w i h =
     let c = cond_none _ _ i h in
     let m = option_map_some (λ modify. Fetch modify (field 20 16 w)) (fetch_at (field 15 0 w)) i c.1 in
     let e = found_by fetch_function (false ∷ true ∷ []) (field 15 0 w) m.0 m.1 in
-    let b = both (field 31 26 w == 0x18) (field 25 21 w == 31) c.0 in
+    let b = and_parts (field 31 26 w == 0x18) (field 25 21 w == 31) c.0 in
     subst (Row w) m.2 (eqb-true (field 31 26 w) 0x18 b.0, eqb-true (field 25 21 w) 31 b.1, refl, sym e)
 
 pal_form-is : (w : ℕ) (i : Form) → pal_form w ≡ Some i → Row w i
@@ -236,13 +232,13 @@ is_register-is (Lit n) h = cc
 operands_fit-is : (rule : OperandRule) (ra : ℕ) (src : Src) → operands_fit rule ra src ≡ true → OperandsFit rule ra src
 operands_fit-is Any ra src h = tt
 operands_fit-is Unary ra src h = eqb-true ra 31 h
-operands_fit-is UnaryRegister ra src h = let b = both (ra == 31) (is_register src) h in (eqb-true ra 31 b.0, is_register-is src b.1)
-operands_fit-is Version ra src h = let b = both (ra == 31) (source_is src 1) h in (eqb-true ra 31 b.0, source_is-same src 1 b.1)
+operands_fit-is UnaryRegister ra src h = let b = and_parts (ra == 31) (is_register src) h in (eqb-true ra 31 b.0, is_register-is src b.1)
+operands_fit-is Version ra src h = let b = and_parts (ra == 31) (source_is src 1) h in (eqb-true ra 31 b.0, source_is-same src 1 b.1)
 
 found_operate : (opcode function : ℕ) (op : Op) → operate_at opcode function ≡ Some op → ((op_row op).opcode ≡ opcode) × ((op_row op).function ≡ function)
 found_operate opcode function op h =
     let passes = find_passes (λ row. (op_row row).opcode == opcode && (op_row row).function == function) every_op op h in
-    let b = both ((op_row op).opcode == opcode) ((op_row op).function == function) passes in
+    let b = and_parts ((op_row op).opcode == opcode) ((op_row op).function == function) passes in
     (eqb-true (op_row op).opcode opcode b.0, eqb-true (op_row op).function function b.1)
 
 operate_form-is : (w : ℕ) (i : Form) → operate_form w ≡ Some i → Row w i
@@ -351,7 +347,7 @@ operate_of o f op a b = rw (a, b) ((operate_known op).0)
 pub refused_operate : (w : ℕ) (op : Op) → is_at (field 31 26 w) (field 11 5 w) op ≡ true
     → (SourceField w (source_in w) × OperandsFit (op_row op).operands (field 25 21 w) (source_in w) → ⊥) → (i : Form) → Row w i → ⊥
 refused_operate w op row refused =
-    let e = both ((op_row op).opcode == field 31 26 w) ((op_row op).function == field 11 5 w) row in
+    let e = and_parts ((op_row op).opcode == field 31 26 w) ((op_row op).function == field 11 5 w) row in
     let opcode : (op_row op).opcode ≡ field 31 26 w = eqb-true _ _ e.0 in
     let function : (op_row op).function ≡ field 11 5 w = eqb-true _ _ e.1 in
     let range = opcode-operate op in
@@ -378,7 +374,7 @@ same_fit a b r n x y e f g h = subst (λ k. OperandsFit k n y) e (subst (λ m. O
 pub operate_stands : (w : ℕ) (op : Op) → is_at (field 31 26 w) (field 11 5 w) op ≡ true → SourceField w (source_in w)
     → OperandsFit (op_row op).operands (field 25 21 w) (source_in w) → Stands (rows.Operate op) w
 operate_stands w op h src fit =
-    let e = both ((op_row op).opcode == field 31 26 w) ((op_row op).function == field 11 5 w) h in
+    let e = and_parts ((op_row op).opcode == field 31 26 w) ((op_row op).function == field 11 5 w) h in
     (refl, (sym (eqb-true _ _ e.0), sym (eqb-true _ _ e.1), refl, src, refl, fit))
 
 -- whether an operate word has a second source
@@ -438,13 +434,13 @@ no_row w h pal misc i row = cases a.0 b.0 c.0 c.1 i row
     free = is_free (is_operate o) o (field 11 5 w)
 
     a : (is_none (memory_at o) ≡ true) × ((is_none (branch_at o) && (not (o == 0x1a) && free)) ≡ true)
-    a = both (is_none (memory_at o)) (is_none (branch_at o) && (not (o == 0x1a) && free)) h
+    a = and_parts (is_none (memory_at o)) (is_none (branch_at o) && (not (o == 0x1a) && free)) h
 
     b : (is_none (branch_at o) ≡ true) × ((not (o == 0x1a) && free) ≡ true)
-    b = both (is_none (branch_at o)) (not (o == 0x1a) && free) a.1
+    b = and_parts (is_none (branch_at o)) (not (o == 0x1a) && free) a.1
 
     c : (not (o == 0x1a) ≡ true) × (free ≡ true)
-    c = both (not (o == 0x1a)) free b.1
+    c = and_parts (not (o == 0x1a)) free b.1
 
     cases : is_none (memory_at o) ≡ true → is_none (branch_at o) ≡ true → not (o == 0x1a) ≡ true → free ≡ true → (i : Form) → Row w i → ⊥
     cases memory branch jump operate (Mem op ra rb disp) g =

@@ -1,7 +1,7 @@
 -- Each row is found by its numbers and by its name, and nothing by the numbers of another format.
 use Rattle.std.proofs.Common.{◌≡◌, ℕ, ◌<◌, ◌≤◌, ◌^◌, nat_lt, Bool, true, false, ◌==◌, ◌||◌, ◌&&◌, eqb, Option, Some, None, List, ◌++◌, find, refl, subst, sym, arith}
 use Rattle.std.specs.Str.{bytes_eq}
-use Rattle.std.proofs.lemmas.Bool.{eqb-true, ltb-true}
+use Rattle.std.proofs.lemmas.Bool.{eqb-true, ltb-true, and_parts}
 use Rattle.alpha_words.specs.declared.PalCall.{PalCall}
 use Rattle.alpha_words.specs.declared.PalCall.TheVariants as calls
 use Rattle.alpha_table.specs.declared.op.Op.{Op}
@@ -68,15 +68,11 @@ pal_known row = (refl, refl, refl)
 
 -- the numbers are within their fields
 
-both : (a b : Bool) → (a && b) ≡ true → (a ≡ true) × (b ≡ true)
-both true b h = (refl, h)
-both false b h = cc
-
 pub is_operate-row : (row : Op) → is_operate (op_row row).opcode ≡ true
-is_operate-row row = (both (is_operate (op_row row).opcode) (nat_lt (op_row row).function 128) (operate_known row).1).0
+is_operate-row row = (and_parts (is_operate (op_row row).opcode) (nat_lt (op_row row).function 128) (operate_known row).1).0
 
 pub function-operate : (row : Op) → (op_row row).function < 128
-function-operate row = ltb-true (op_row row).function 128 (both (is_operate (op_row row).opcode) (nat_lt (op_row row).function 128) (operate_known row).1).1
+function-operate row = ltb-true (op_row row).function 128 (and_parts (is_operate (op_row row).opcode) (nat_lt (op_row row).function 128) (operate_known row).1).1
 
 pub kind-jump : (row : JumpKind) → jump_kind row < 4
 kind-jump row = ltb-true (jump_kind row) 4 (jump_known row).1
@@ -126,7 +122,7 @@ opcode-operate row =
     by_opcode IsOperateOpcode (op_row row).opcode (omega arith, omega arith, λ h. omega arith) (omega arith, omega arith, λ h. omega arith) (omega arith, omega arith, λ h. omega arith) (omega arith, omega arith, λ h. omega arith) (omega arith, omega arith, λ h. omega arith) (is_operate-row row)
 
 within : (low high o : ℕ) → (nat_lt low o && nat_lt o high) ≡ true → (low < o) × (o < high)
-within low high o h = let parts = both (nat_lt low o) (nat_lt o high) h in (ltb-true low o parts.0, ltb-true o high parts.1)
+within low high o h = let parts = and_parts (nat_lt low o) (nat_lt o high) h in (ltb-true low o parts.0, ltb-true o high parts.1)
 
 pub opcode-memory : (row : MemOp) → IsMemoryOpcode (mem_row row).opcode
 opcode-memory row = either (nat_lt 0x07 o && nat_lt o 0x10) refl (memory_known row).1

@@ -1,12 +1,12 @@
 -- The names: a search in rows that are in the order of their names, and which row a name is of.
-use Rattle.std.proofs.Common.{◌≡◌, ◌≢◌, ℕ, zero, suc, ◌<◌, ◌≤◌, Bool, true, false, ◌&&◌, Some, List, [], ◌∷◌, ◌++◌, length, get_or, find, cond, ⊎_elim, refl, ap, subst, arith}
+use Rattle.std.proofs.Common.{◌≡◌, ◌≢◌, ℕ, zero, suc, ◌<◌, ◌≤◌, Bool, true, false, Some, List, [], ◌∷◌, ◌++◌, length, get_or, find, cond, ⊎_elim, refl, ap, subst, arith}
 use Rattle.std.specs.List.{All}
 use Rattle.std.specs.List.Sorted.{IsNonDecreasingBy, IsPartitionPoint}
 use Rattle.std.specs.Cmp.Lexicographic.{slice_cmp}
 use Rattle.std.specs.Ordering.{nat_cmp, ordering_index, is_lt, is_gt}
 use Rattle.std.specs.declared.cmp.Ordering.{Ordering}
 use Rattle.std.specs.declared.cmp.Ordering.TheVariants.{Less, Equal, Greater}
-use Rattle.std.proofs.lemmas.Bool.{cases_lt}
+use Rattle.std.proofs.lemmas.Bool.{cases_lt, and_parts}
 use Rattle.std.proofs.lemmas.Cmp.{nat_list_cmp_total, tied_itself, upto}
 use Rattle.alpha_table.specs.declared.names.Mnemonic.{Mnemonic}
 use Rattle.std.proofs.lemmas.List.Elements.{All-append}
@@ -20,10 +20,6 @@ use Rattle.alpha_table.proofs.Lookups.{with_name, operate_known, memory_known, b
 abbrev order : List ℕ → List ℕ → Ordering
 order = slice_cmp nat_cmp
 
-both : (a b : Bool) → (a && b) ≡ true → (a ≡ true) × (b ≡ true)
-both true b h = (refl, h)
-both false b h = cc
-
 less : (o : Ordering) → is_lt o ≡ true → o ≡ Less
 less Less h = refl
 less Equal h = cc
@@ -32,14 +28,14 @@ less Greater h = cc
 -- a row comes before each later one
 below_all : (m : Mnemonic) (rows : List Mnemonic) → ascends (m ∷ rows) ≡ true → (k : ℕ) (d : Mnemonic) → k < length rows → order (name_of m) (name_of (get_or rows k d)) ≡ Less
 below_all m [] h k d inside = absurd (omega arith)
-below_all m (n ∷ rest) h zero d inside = less _ (both (is_lt (order (name_of m) (name_of n))) (ascends (n ∷ rest)) h).0
+below_all m (n ∷ rest) h zero d inside = less _ (and_parts (is_lt (order (name_of m) (name_of n))) (ascends (n ∷ rest)) h).0
 below_all m (n ∷ rest) h (suc k) d inside =
-    let parts = both (is_lt (order (name_of m) (name_of n))) (ascends (n ∷ rest)) h in
+    let parts = and_parts (is_lt (order (name_of m) (name_of n))) (ascends (n ∷ rest)) h in
     nat_list_cmp_total.trans (name_of m) (name_of n) (name_of (get_or rest k d)) (less _ parts.0) (below_all n rest parts.1 k d (omega arith))
 
 tail_ascends : (m : Mnemonic) (rows : List Mnemonic) → ascends (m ∷ rows) ≡ true → ascends rows ≡ true
 tail_ascends m [] h = refl
-tail_ascends m (n ∷ rest) h = (both (is_lt (order (name_of m) (name_of n))) (ascends (n ∷ rest)) h).1
+tail_ascends m (n ∷ rest) h = (and_parts (is_lt (order (name_of m) (name_of n))) (ascends (n ∷ rest)) h).1
 
 -- of two names in order, the first compares no higher
 no_higher : (x y z : List ℕ) → order x y ≡ Less → ordering_index (order x z) ≤ ordering_index (order y z)

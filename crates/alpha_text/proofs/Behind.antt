@@ -4,6 +4,7 @@ use Prim.Native.Nat.{zero, suc}
 use Rattle.std.specs.List.{list_all}
 use Rattle.std.specs.Char.{is_ascii_alphabetic}
 use Rattle.std.proofs.lemmas.Int.{ints}
+use Rattle.std.proofs.lemmas.Bool.{and_parts}
 use Rattle.alpha_table.specs.Names.{name_of, mnemonic_of}
 use Rattle.alpha_table.specs.declared.form.Form.{Form}
 use Rattle.alpha_table.specs.declared.form.Form.TheVariants.{Mem, Branch, Jump, Operate, Misc, Fetch, Pal}
@@ -22,7 +23,6 @@ use Rattle.alpha_table.specs.declared.rows.JumpKind.TheVariants as jumps
 use Rattle.alpha_token.specs.declared.token.TokenKind.TheVariants as kinds
 use Rattle.alpha_token.specs.Bytes.{begins_name, goes_on_name}
 use Rattle.alpha_token.specs.Tokens.{Next, tokens}
-use Rattle.alpha_token.proofs.Choices.{both}
 use Rattle.alpha_operands.specs.Shapes.{patterns}
 use Rattle.alpha_operands.specs.Operands.{Slots, nothing}
 use Rattle.alpha_operands.specs.Walk.{operands}
@@ -47,7 +47,7 @@ is_named (b ∷ ds) = (begins_name b && list_all goes_on_name ds) && not (eqb b 
 word_named : (name : List ℕ) → is_word name ≡ true → is_named name ≡ true
 word_named [] h = cc
 word_named (b ∷ ds) h =
-    let (a, rest) = both (is_ascii_alphabetic b) (list_all goes_on_name ds) h in
+    let (a, rest) = and_parts (is_ascii_alphabetic b) (list_all goes_on_name ds) h in
     let (begins, dot) = letter_apart b a in
     rw (begins, rest, dot) refl
 
@@ -70,8 +70,8 @@ stops (b ∷ s) (a, c) = a
 named_tokens : (name s : List ℕ) → is_named name ≡ true → Stops goes_on_name s → tokens (name ++ s) ≡ Next (record { kind = kinds.Name; text = name; rest = s }) (tokens s)
 named_tokens [] s h stop = cc
 named_tokens (b ∷ ds) s h stop =
-    let (a, more) = both (begins_name b && list_all goes_on_name ds) (not (eqb b 46 && eqb (length ds) 0)) h in
-    let (begins, rest) = both (begins_name b) (list_all goes_on_name ds) a in
+    let (a, more) = and_parts (begins_name b && list_all goes_on_name ds) (not (eqb b 46 && eqb (length ds) 0)) h in
+    let (begins, rest) = and_parts (begins_name b) (list_all goes_on_name ds) a in
     token-named b ds s begins more rest stop
 
 -- a line that begins with a name of the tables

@@ -1,6 +1,7 @@
 -- What is read of a line is its grammar, and the fault that is read is the first.
 use Rattle.std.proofs.Common.{◌≡◌, ℕ, List, [], Bool, true, false, cond, eqb, Option, Some, None, Result, Ok, Err, length, drop, get_or, refl, sym, ◌∙◌, ap, inl, inr, arith}
 use Rattle.std.proofs.lemmas.Bool.Decides.{nat_tests}
+use Rattle.std.proofs.lemmas.Bool.{and_parts}
 use Rattle.alpha_token.specs.Bytes.{is_label}
 use Rattle.alpha_token.specs.declared.token.TokenKind.TheVariants as kinds
 use Rattle.alpha_token.specs.Tokens.{Lexeme, Tokens, End, Bad, Next, tokens}
@@ -18,7 +19,6 @@ use Rattle.alpha_text.specs.Heads.{head_of, shape_of}
 use Rattle.alpha_text.specs.Statements.{Said, said_by}
 use Rattle.alpha_text.specs.Reading.{LineSaid, list_in, with_operands, with_head, statement_of, is_labelled, labelled, behind_label, line_of, located, read}
 use Rattle.alpha_text.specs.Grammar.{IsStatement, IsLabelled, IsLine}
-use Rattle.alpha_token.proofs.Choices.{both}
 
 -- the operands that are read are those of the grammar
 operands-are : (head : Head) (ts : Tokens) (o : Slots) → operands (patterns (shape_of head)) ts ≡ Ok o → AreOperands (patterns (shape_of head)) ts o
@@ -56,7 +56,7 @@ is-statement (Bad left) s h = absurd h
 is-statement (Next t ts) s (k, head, e, o, are, says) = rw (same_kind-same t.kind kinds.Name k, e, are-operands head ts o are, says) refl
 
 pub is_labelled-is : (t : Lexeme) (ts : Tokens) → is_labelled t ≡ true → IsLabelled (Next t ts)
-is_labelled-is t ts h = let (a, b) = both (same_kind t.kind kinds.Name) (eqb (get_or t.rest 0 0) 58) h in (same_kind-is t.kind kinds.Name a, (let e : get_or t.rest 0 0 ≡ 58 = grind (arith, nat_tests) in e))
+is_labelled-is t ts h = let (a, b) = and_parts (same_kind t.kind kinds.Name) (eqb (get_or t.rest 0 0) 58) h in (same_kind-is t.kind kinds.Name a, (let e : get_or t.rest 0 0 ≡ 58 = grind (arith, nat_tests) in e))
 
 pub is_labelled-of : (t : Lexeme) (ts : Tokens) → IsLabelled (Next t ts) → is_labelled t ≡ true
 is_labelled-of t ts (a, b) = rw (same_kind-same t.kind kinds.Name a, b) refl

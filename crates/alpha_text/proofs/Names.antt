@@ -1,5 +1,6 @@
 -- The look-ups of names find each row by its name.
 use Rattle.std.proofs.Common.{◌≡◌, ◌≢◌, ℕ, List, [], ◌∷◌, Bool, true, false, cond, ◌≤◌, length, nat_le, arith, Option, Some, None, find, refl, sym, ◌∙◌, ap}
+use Rattle.std.proofs.lemmas.Bool.{and_parts}
 use Rattle.std.specs.List.{list_all}
 use Rattle.std.proofs.lemmas.Bool.Decides.{nat_tests}
 use Rattle.std.specs.Str.{bytes_eq}
@@ -17,7 +18,6 @@ use Rattle.alpha_table.specs.Names.{name_of}
 use Rattle.alpha_text.specs.declared.head.Own.{Own}
 use Rattle.alpha_text.specs.declared.head.Own.TheVariants as owns
 use Rattle.alpha_text.specs.declared.head.Head.TheVariants as heads
-use Rattle.alpha_token.proofs.Choices.{both}
 use Rattle.alpha_text.proofs.Spelling.{is_word}
 use Rattle.alpha_text.specs.Heads.{own_name, every_own, every_mnemonic, mnemonic_at, own_at, head_of}
 
@@ -64,7 +64,7 @@ each_short = refl
 pub found-all : {A : Type 0} (test each : A → Bool) (xs : List A) (x : A) → list_all each xs ≡ true → find test xs ≡ Some x → each x ≡ true
 found-all test each [] x h e = cc
 found-all test each (y ∷ xs) x h e =
-    let (a, b) = both (each y) (list_all each xs) h in
+    let (a, b) = and_parts (each y) (list_all each xs) h in
     let either : (v : Bool) → cond v (Some y) (find test xs) ≡ Some x → each x ≡ true =
     λ v. elim v as (λ w. cond w (Some y) (find test xs) ≡ Some x → each x ≡ true) [
       | true ↦ λ k. let same : y ≡ x = cc in ap each (sym same) ∙ a

@@ -3,7 +3,7 @@ use Rattle.std.proofs.Common.{◌≡◌, ◌⊎◌, ℕ, List, [], ◌∷◌, �
 use Prim.Native.Nat.{zero, suc}
 use Rattle.std.proofs.lemmas.Fmt.{decimal_digit, decimal_step}
 use Rattle.std.proofs.lemmas.Bool.Decides.{nat_tests}
-use Rattle.alpha_token.proofs.Choices.{both}
+use Rattle.std.proofs.lemmas.Bool.{and_parts}
 use Rattle.alpha_operands.specs.Names.{register_of, registers}
 
 -- the digits of a number below 100
@@ -43,7 +43,7 @@ each_below-is : (p : ℕ → Bool) (n k : ℕ) → each_below p n ≡ true → k
 unfolding each_below
 each_below-is p zero k h l = absurd (omega arith)
 each_below-is p (suc n) k h l =
-    let (a, b) = both (p n) (each_below p n) h in
+    let (a, b) = and_parts (p n) (each_below p n) h in
     elim (first_or n k l) [ inl e ↦ ap p e ∙ a | inr m ↦ each_below-is p n k b m ]
 
 each_named : each_below named_so 32 ≡ true

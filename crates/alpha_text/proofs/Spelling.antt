@@ -9,12 +9,12 @@ use Rattle.std.proofs.lemmas.List.{take_at, drop_at}
 use Rattle.std.proofs.lemmas.Str.Parse.{numerals_by_value, tells_all_ascii_digits}
 use Rattle.std.proofs.lemmas.Fmt.{digits_decimal, digits_value-decimal, decimal_nonempty}
 use Rattle.std.proofs.lemmas.Bool.Decides.{nat_tests}
+use Rattle.std.proofs.lemmas.Bool.{and_parts}
 use Rattle.alpha_token.specs.declared.token.TokenKind.{TokenKind}
 use Rattle.alpha_token.specs.declared.token.TokenKind.TheVariants as kinds
 use Rattle.alpha_token.specs.Bytes.{is_blank, begins_name, goes_on_name}
 use Rattle.alpha_token.specs.Numeral.{hex_len, number_more, number_value}
 use Rattle.alpha_token.specs.Tokens.{Lexeme, Tokens, End, Next, token_at, tokens, if_any, name_kind}
-use Rattle.alpha_token.proofs.Choices.{both}
 use Rattle.alpha_token.proofs.Reading.{tokens-next}
 use Rattle.alpha_text.specs.Behind.{Stops}
 use Rattle.alpha_text.specs.Canon.{Word, reg, num, mark, spell, behind_name}
@@ -23,19 +23,19 @@ pub prefix_len-run : (p : ℕ → Bool) (ds s : List ℕ) → list_all p ds ≡ 
 prefix_len-run p [] [] h stop = refl
 prefix_len-run p [] (b ∷ s) h stop = rw stop refl
 prefix_len-run p (d ∷ ds) s h stop =
-    let (a, b) = both (p d) (list_all p ds) h in
+    let (a, b) = and_parts (p d) (list_all p ds) h in
     rw (a, prefix_len-run p ds s b stop, add_comm 1 (length ds), add-one) refl
 
 digits_numbers : (ds : List ℕ) → all_ascii_digits ds ≡ true → list_all is_ascii_digit ds ≡ true
 digits_numbers [] h = refl
-digits_numbers (d ∷ ds) h = let (a, b) = both (is_ascii_digit d) (all_ascii_digits ds) h in rw (a, digits_numbers ds b) refl
+digits_numbers (d ∷ ds) h = let (a, b) = and_parts (is_ascii_digit d) (all_ascii_digits ds) h in rw (a, digits_numbers ds b) refl
 
 alphanumeric_digit : (d : ℕ) → is_ascii_digit d ≡ true → is_ascii_alphanumeric d ≡ true
 alphanumeric_digit d h = rw h refl
 
 pub digits_alphanumeric : (ds : List ℕ) → all_ascii_digits ds ≡ true → list_all is_ascii_alphanumeric ds ≡ true
 digits_alphanumeric [] h = refl
-digits_alphanumeric (d ∷ ds) h = let (a, b) = both (is_ascii_digit d) (all_ascii_digits ds) h in rw (alphanumeric_digit d a, digits_alphanumeric ds b) refl
+digits_alphanumeric (d ∷ ds) h = let (a, b) = and_parts (is_ascii_digit d) (all_ascii_digits ds) h in rw (alphanumeric_digit d a, digits_alphanumeric ds b) refl
 
 pub decimal-digits : (n : ℕ) → n < 2 ^ 64 → all_ascii_digits (decimal n) ≡ true
 decimal-digits n h = digits_decimal (numerals_by_value _ tells_all_ascii_digits) n h
@@ -89,7 +89,7 @@ no_digits (b ∷ s) stop = (alphanumeric_apart b stop).0
 no_x : (ds s : List ℕ) → all_ascii_digits ds ≡ true → Stops is_ascii_alphanumeric s → Stops (λ c. eqb c 120) (ds ++ s)
 no_x [] [] h stop = tt
 no_x [] (b ∷ s) h stop = (alphanumeric_apart b stop).1
-no_x (d ∷ ds) s h stop = (digit_apart d (both (is_ascii_digit d) (all_ascii_digits ds) h).0).3
+no_x (d ∷ ds) s h stop = (digit_apart d (and_parts (is_ascii_digit d) (all_ascii_digits ds) h).0).3
 
 more_digits : (b : ℕ) (ds s : List ℕ) → all_ascii_digits ds ≡ true → Stops is_ascii_alphanumeric s → number_more b (ds ++ s) ≡ length ds
 more_digits b ds s h stop = rw (no_hex b (ds ++ s) (no_x ds s h stop)) (prefix_len-run is_ascii_digit ds s (digits_numbers ds h) (no_digits s stop))
@@ -97,7 +97,7 @@ more_digits b ds s h stop = rw (no_hex b (ds ++ s) (no_x ds s h stop)) (prefix_l
 token-digits : (ds s : List ℕ) → all_ascii_digits ds ≡ true → 0 < length ds → Stops is_ascii_alphanumeric s → tokens (ds ++ s) ≡ Next (record { kind = kinds.Number; text = ds; rest = s }) (tokens s)
 token-digits [] s h inside stop = absurd (omega arith)
 token-digits (b ∷ ds) s h inside stop =
-    let (a, rest) = both (is_ascii_digit b) (all_ascii_digits ds) h in
+    let (a, rest) = and_parts (is_ascii_digit b) (all_ascii_digits ds) h in
     let (no_name, plain, apart, other) = digit_apart b a in
     token-next b ds s kinds.Number plain apart (number_at b (ds ++ s) no_name a ∙ ap (λ n. Some (kinds.Number, n)) (more_digits b ds s rest stop))
 
@@ -111,7 +111,7 @@ append_none (d ∷ ds) = ap (λ t. d ∷ t) (append_none ds)
 value_digits : (ds : List ℕ) → all_ascii_digits ds ≡ true → 0 < length ds → number_value ds ≡ digits_value 10 ds
 value_digits [] h inside = absurd (omega arith)
 value_digits (b ∷ ds) h inside =
-    let (a, rest) = both (is_ascii_digit b) (all_ascii_digits ds) h in
+    let (a, rest) = and_parts (is_ascii_digit b) (all_ascii_digits ds) h in
     let none : hex_len b ds ≡ 0 = no_hex b ds (rw (append_none ds) at (no_x ds [] rest tt)) in
     rw none refl
 

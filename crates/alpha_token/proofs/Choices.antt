@@ -1,5 +1,5 @@
 -- Choices by a test.
-use Rattle.std.proofs.Common.{◌≡◌, Bool, true, false, cond, ◌&&◌, refl}
+use Rattle.std.proofs.Common.{◌≡◌, Bool, true, false, cond, refl}
 
 -- what holds of each of two choices holds of the one that is taken
 pub choose : {A : Type 0} (P : A → Type 0) (x : Bool) (a b : A) → (x ≡ true → P a) → (x ≡ false → P b) → P (cond x a b)
@@ -10,7 +10,3 @@ choose P false a b one other = other refl
 pub choose_both : {A : Type 0} (P : A → A → Type 0) (x : Bool) (a b c d : A) → P a c → P b d → P (cond x a b) (cond x c d)
 choose_both P true a b c d one other = one
 choose_both P false a b c d one other = other
-
-pub both : (a b : Bool) → (a && b) ≡ true → (a ≡ true) × (b ≡ true)
-both true b h = (refl, h)
-both false b h = cc

@@ -1,32 +1,8 @@
 -- Tests of the numbers in a range, and the greatest number that passes one.
-use Rattle.std.proofs.Common.{◌≡◌, ◌<◌, ◌≤◌, ◌+◌, ◌⊎◌, ℕ, zero, suc, Bool, true, false, cond, ◌&&◌, ◌||◌, Some, None, refl, sym, ap, subst, inl, inr, ⊎_elim, arith}
+use Rattle.std.proofs.Common.{◌≡◌, ◌<◌, ◌≤◌, ◌+◌, ◌⊎◌, ℕ, zero, suc, Bool, true, false, cond, Some, None, refl, sym, ap, subst, ⊎_elim, arith}
 use Rattle.std.specs.List.{list_all, list_any, range_with_len}
-use Rattle.std.proofs.lemmas.Bool.{cases_eq}
+use Rattle.std.proofs.lemmas.Bool.{cases_eq, and_parts, and_from, or_cases, or_left, or_right}
 use Rattle.alpha_trap.specs.Scan.{greatest_below}
-
-pub and_parts : (a b : Bool) → (a && b) ≡ true → (a ≡ true) × (b ≡ true)
-and_parts true b e = (refl, e)
-and_parts false b e = cc
-
-pub and_true : (a b : Bool) → a ≡ true → b ≡ true → (a && b) ≡ true
-and_true true b p q = q
-and_true false b p q = cc
-
-pub or_parts : (a b : Bool) → (a || b) ≡ true → (a ≡ true) ⊎ (b ≡ true)
-or_parts true b e = inl refl
-or_parts false b e = inr e
-
-pub or_left : (a b : Bool) → a ≡ true → (a || b) ≡ true
-or_left true b p = refl
-or_left false b p = cc
-
-pub or_right : (a b : Bool) → b ≡ true → (a || b) ≡ true
-or_right true b p = refl
-or_right false b p = p
-
-pub not_true : (b : Bool) → (b ≡ true → ⊥) → b ≡ false
-not_true true n = absurd (n refl)
-not_true false n = refl
 
 -- every number of a range passes a test
 
@@ -42,7 +18,7 @@ all_within p from (suc n) k e low high =
 pub within_all : (p : ℕ → Bool) (from n : ℕ) → ((k : ℕ) → from ≤ k → k < from + n → p k ≡ true) → list_all p (range_with_len from n) ≡ true
 within_all p from zero h = refl
 within_all p from (suc n) h =
-    and_true (p from) (list_all p (range_with_len (from + 1) n)) (h from (omega arith) (omega arith))
+    and_from (p from) (list_all p (range_with_len (from + 1) n)) (h from (omega arith) (omega arith))
     (within_all p (from + 1) n (λ k low high. h k (omega arith) (omega arith)))
 
 -- some number of a range passes a test
@@ -56,7 +32,7 @@ any_within p from (suc n) e =
     let low : from + 1 ≤ w.0 = w.1 in
     let high : w.0 < from + 1 + n = w.2 in
     (w.0, omega arith, omega arith, w.3))
-    (or_parts (p from) (list_any p (range_with_len (from + 1) n)) e)
+    (or_cases (p from) (list_any p (range_with_len (from + 1) n)) e)
 
 pub within_any : (p : ℕ → Bool) (from n k : ℕ) → from ≤ k → k < from + n → p k ≡ true → list_any p (range_with_len from n) ≡ true
 within_any p from zero k low high e = absurd (omega arith)

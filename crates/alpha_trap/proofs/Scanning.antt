@@ -2,14 +2,14 @@
 use Rattle.std.proofs.Common.{◌≡◌, ◌≢◌, ◌<◌, ◌≤◌, ◌+◌, ◌-◌, ℕ, Bool, true, false, cond, ◌&&◌, ◌||◌, ◌==◌, Option, Some, None, IfSome, IfNone, is_some, List, refl, sym, ap, ◌∙◌, ⊎_elim, arith, eqb-true, eq-eqb}
 use Rattle.std.specs.Int.{bit_at}
 use Rattle.std.specs.List.{list_all, list_any, range_with_len}
-use Rattle.std.proofs.lemmas.Bool.{cases_eq, cases_lt}
+use Rattle.std.proofs.lemmas.Bool.{cases_eq, cases_lt, and_parts, and_from, or_cases, or_left, or_right, false_from_ne_true}
 use Rattle.std.proofs.lemmas.Nat.Bits.{bit_at-lt, bit_at-zero}
 use Rattle.alpha_words.specs.Regs.{Has}
 use Rattle.alpha_table.specs.Code.{class_at, trap_rc, Straight}
 use Rattle.alpha_image.specs.Parts.{Parts}
 use Rattle.alpha_trap.specs.Scan.{is_straight, spoils, fits, greatest_below, place_or_end, scan_at, scan}
 use Rattle.alpha_trap.specs.Finds.{Covers, Fits, Finds}
-use Rattle.alpha_trap.proofs.Ranges.{and_parts, and_true, or_parts, or_left, or_right, not_true, all_within, within_all, any_within, within_any, greatest_below-some, greatest_below-is}
+use Rattle.alpha_trap.proofs.Ranges.{all_within, within_all, any_within, within_any, greatest_below-some, greatest_below-is}
 use Rattle.alpha_trap.proofs.Columns.{trigger_has_rc, has_rc_trigger, straight_on, on_straight, spoils_rc, rc_spoils}
 
 -- ---- the parts of the test
@@ -40,7 +40,7 @@ covers_is code mask at to n e t = λ r small has. ⊎_elim
     let w = any_within (λ k. spoils (class_at code k) r) at n some in
     let high : w.0 < at + n = w.2 in
     (w.0, w.1, omega arith, spoils_rc (class_at code w.0) r w.3))
-    (or_parts (bit_at mask r == 0) (list_any (λ k. spoils (class_at code k) r) (range_with_len at n))
+    (or_cases (bit_at mask r == 0) (list_any (λ k. spoils (class_at code k) r) (range_with_len at n))
     (all_within (λ j. bit_at mask j == 0 || list_any (λ k. spoils (class_at code k) j) (range_with_len at n)) 0 31 r t (omega arith) (omega arith)))
 
 is_covers_between : (code : List ℕ) (mask at to n : ℕ) → at + n ≡ to → Covers code mask at to → covers_between code mask at n ≡ true
@@ -76,14 +76,14 @@ unfolding fits straight_between spoilt_between covers_between
 Fits_fits code mask at to f =
     let below : at < to = f.before in
     let e : at + (to - at) ≡ to = omega arith in
-    and_true (is_some (trap_rc (class_at code at))) (straight_between code at (to - at) && covers_between code mask at (to - at))
+    and_from (is_some (trap_rc (class_at code at))) (straight_between code at (to - at) && covers_between code mask at (to - at))
     (trigger_has_rc (class_at code at) f.trigger)
-    (and_true (straight_between code at (to - at)) (covers_between code mask at (to - at))
+    (and_from (straight_between code at (to - at)) (covers_between code mask at (to - at))
     (is_straight_between code at to (to - at) e f.straight)
     (is_covers_between code mask at to (to - at) e f.covers))
 
 pub unfit : (code : List ℕ) (mask at to : ℕ) → (Fits code mask at to → ⊥) → at < to → fits code mask at to ≡ false
-unfit code mask at to n below = not_true (fits code mask at to) (λ t. n (fits_Fits code mask at to below t))
+unfit code mask at to n below = false_from_ne_true (fits code mask at to) (λ t. n (fits_Fits code mask at to below t))
 
 -- ---- the scan
 

@@ -1,8 +1,9 @@
 -- The eight bytes of a trial's data: they may be written and read, and a write of eight bytes leaves eight.
-use Rattle.std.proofs.Common.{◌≡◌, ◌≤◌, ◌+◌, ◌*◌, ◌||◌, ℕ, Bool, true, false, cond, List, [], ◌∷◌, length, None, refl, sym, ap, subst, ◌∙◌, arith, append-nil}
+use Rattle.std.proofs.Common.{◌≡◌, ◌≤◌, ◌+◌, ◌*◌, ℕ, Bool, true, false, cond, List, [], ◌∷◌, length, None, refl, sym, ap, subst, ◌∙◌, arith, append-nil}
 use Rattle.std.specs.Prelude.{nat_le}
 use Rattle.std.specs.List.{flat_map}
 use Rattle.std.proofs.lemmas.Bool.Decides.{nat_tests}
+use Rattle.std.proofs.lemmas.Bool.{or_right}
 use Rattle.alpha_words.specs.declared.Level.TheVariants as levels
 use Rattle.alpha_words.specs.Digits.{digits, low_bytes}
 use Rattle.alpha_mem.specs.Intent.{Load, Store}
@@ -60,10 +61,6 @@ code_away words stack few =
     ap length (append-nil (flat_map longword words)) ∙ length-flat_map_longword words in
     below (length (code_block (image_with words stack)).bytes) (omega arith)
 
-or_true : (a b : Bool) → b ≡ true → (a || b) ≡ true
-or_true true b e = refl
-or_true false b e = e
-
 -- the data with other bytes
 abbrev stored : ℕ → Block
 stored v = overwritten variables data_base (low_bytes 8 v)
@@ -82,7 +79,7 @@ unfolding bytes_at digits
 eight_stored words stack v few =
     let p = image_with words stack in
     record {
-      readable = or_true (holds (shape_of (code_block p)) data_base 8) true refl;
+      readable = or_right (holds (shape_of (code_block p)) data_base 8) true refl;
       eight = ap (λ (b : Bool). length (cond b (part (code_block p) data_base 8) (part (stored v) data_base 8))) (code_away words stack few);
     }
 

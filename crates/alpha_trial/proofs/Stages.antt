@@ -1,6 +1,6 @@
 -- Where the sequential run of a trial stands after so many steps, over no input.
 use Rattle.std.proofs.Common.{◌≡◌, ◌≢◌, ◌<◌, ◌≤◌, ◌+◌, ◌%◌, ◌^◌, ◌&&◌, not, ℕ, ℤ, Bool, true, false, eqb, List, [], ◌∷◌, length, Option, Some, refl, sym, ap, subst, ◌∙◌, add-one}
-use Rattle.std.proofs.lemmas.Bool.{eq-eqb}
+use Rattle.std.proofs.lemmas.Bool.{eq-eqb, and_parts}
 use Rattle.alpha_words.specs.Regs.{reg, put}
 use Rattle.alpha_words.proofs.RegLemmas.{length-put}
 use Rattle.alpha_table.specs.declared.rows.MemOp.{MemOp}
@@ -13,7 +13,6 @@ use Rattle.alpha_seq.specs.Start.{start}
 use Rattle.alpha_seq.specs.Step.{next_pc, setting, went, computed, step}
 use Rattle.alpha_seq.specs.Run.{Run, is_over, extended_by, advance, after}
 use Rattle.alpha_seq.proofs.RunSteps.{advance-extended}
-use Rattle.alpha_trap.proofs.Ranges.{and_parts}
 use Rattle.alpha_imprecise.specs.Step.{address_at}
 use Rattle.alpha_restart.proofs.Registers.{reg-put_other, reg-put_same}
 use Rattle.alpha_restart.proofs.Words.{class_within}

@@ -1,19 +1,19 @@
 use Rattle.std.proofs.Common.{◌≡◌, ◌∙◌, ℕ, List, [], ◌∷◌, ◌+◌, ◌<◌, true, eqb, length, get_or, ap, arith}
 use Prim.Native.Nat.{zero, suc}
 use Rattle.std.proofs.lemmas.Bool.Decides.{nat_tests}
-use Rattle.alpha_token.proofs.Choices.{both}
+use Rattle.std.proofs.lemmas.Bool.{and_parts}
 use Rattle.alpha_quick.specs.Parts.{class_of, are_classes}
 use Rattle.alpha_quick.proofs.front.class_in.Goals as goal
 
 class-at : (n : ℕ) (cs : List ℕ) (i m : ℕ) → are_classes n cs ≡ true → i < length cs → m ≡ n + i → get_or cs i 0 ≡ class_of m
 class-at n [] i m h l e = absurd (omega arith)
 class-at n (c ∷ cs) zero m h l e =
-    let (a, b) = both (eqb c (class_of n)) (are_classes (n + 1) cs) h in
+    let (a, b) = and_parts (eqb c (class_of n)) (are_classes (n + 1) cs) h in
     let same : c ≡ class_of n = grind (arith, nat_tests) in
     let here : n ≡ m = omega arith in
     same ∙ ap class_of here
 class-at n (c ∷ cs) (suc i) m h l e =
-    let (a, b) = both (eqb c (class_of n)) (are_classes (n + 1) cs) h in
+    let (a, b) = and_parts (eqb c (class_of n)) (are_classes (n + 1) cs) h in
     class-at (n + 1) cs i m b (omega arith) (omega arith)
 
 pub returns : goal.returns

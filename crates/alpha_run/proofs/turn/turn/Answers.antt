@@ -1,9 +1,10 @@
 use Rattle.std.proofs.Common.{sym, ◌∙◌}
+use Rattle.std.proofs.lemmas.Bool.{or_parts}
 use Rattle.alpha_io.specs.Sunk.{sunk}
 use Rattle.alpha_seq.specs.Devices.{drawn}
 use Rattle.alpha_seq.specs.Print.{is_over}
 use Rattle.alpha_imprecise.specs.Telling.{telling}
-use Rattle.alpha_run.proofs.Rows.{neither, if_err}
+use Rattle.alpha_run.proofs.Rows.{if_err}
 use Rattle.alpha_run.proofs.Turning.{turned, unnoted, broken}
 use Rattle.alpha_run.proofs.turn.turn.Goals as goal
 
@@ -31,4 +32,4 @@ returns-in-Err-clause-broken g c =
 
 pub returns-in-Ok-clause-nearer : goal.returns-in-Ok-clause-nearer
 returns-in-Ok-clause-nearer g c = λ on.
-    c.in_ok-event.ensures.nearer (neither c.in-Ok.stop (is_over c.in_ok-event.event) (sym c.is_last-last.ensures ∙ on)).1
+    c.in_ok-event.ensures.nearer (or_parts c.in-Ok.stop (is_over c.in_ok-event.event) (sym c.is_last-last.ensures ∙ on)).1

@@ -1,9 +1,10 @@
 use Rattle.std.proofs.Common.{◌+◌, true, length, refl, ap, subst, sym, ◌∙◌}
 use Rattle.std.specs.Option.{option_map}
+use Rattle.std.proofs.lemmas.Result.{on_ok_weaker}
 use Rattle.alpha_mem.specs.Block.{shapes}
 use Rattle.alpha_mem.specs.Memory.{IsFree}
 use Rattle.alpha_seq.specs.StartMemory.{memory_before}
-use Rattle.alpha_seq.proofs.Loading.{addable, promised, added}
+use Rattle.alpha_seq.proofs.Loading.{addable, added}
 use Rattle.alpha_seq.proofs.start.add_segment.Goals as goal
 
 pub add-requires-clause-below : goal.add-requires-clause-below
@@ -28,4 +29,4 @@ returns c =
     let segment = sym c.segment.ensures.value ∙ c.unwrap-segment.ensures in
     let bytes = sym c.segment_bytes.ensures.value ∙ ap (option_map (λ b. b.now)) c.unwrap-bytes.ensures in
     let can = addable p c.args.n s held c.segment.ensures.good segment bytes c.requires.there in
-    promised c.add.result (λ is. added c.args.memory.now c.add.new.self (memory_before p c.args.n) s.base s.base s.zeroed s.zeroed held held true c.requires.before refl refl refl is ∙ can.more) c.add.ensures.ok
+    on_ok_weaker c.add.result (λ is. added c.args.memory.now c.add.new.self (memory_before p c.args.n) s.base s.base s.zeroed s.zeroed held held true c.requires.before refl refl refl is ∙ can.more) c.add.ensures.ok

@@ -1,8 +1,9 @@
 use Rattle.std.proofs.Common.{◌≡◌, ◌-◌, ◌^◌, ◌+◌, [], true, length, refl, ap, subst, sym, ◌∙◌}
+use Rattle.std.proofs.lemmas.Result.{on_ok_weaker}
 use Rattle.alpha_mem.specs.Block.{shapes}
 use Rattle.alpha_mem.specs.Memory.{IsFree}
 use Rattle.alpha_seq.specs.StartMemory.{memory_before}
-use Rattle.alpha_seq.proofs.Loading.{promised, added, stack_free, stack_last}
+use Rattle.alpha_seq.proofs.Loading.{added, stack_free, stack_last}
 use Rattle.alpha_seq.proofs.start.add_stack.Goals as goal
 
 pub add-requires-clause-free : goal.add-requires-clause-free
@@ -17,4 +18,4 @@ returns c =
     let p = c.args.image.now in
     let n = c.from-size.result in
     let size : n ≡ p.stack = c.from-size.ensures ∙ c.stack.ensures.value in
-    promised c.add.result (λ is. added c.args.memory.now c.add.new.self (memory_before p (length p.segments)) (2 ^ 30 - n) (2 ^ 30 - p.stack) n p.stack [] [] true c.requires (ap (λ k. 2 ^ 30 - k) size) refl size is ∙ stack_last p) c.add.ensures.ok
+    on_ok_weaker c.add.result (λ is. added c.args.memory.now c.add.new.self (memory_before p (length p.segments)) (2 ^ 30 - n) (2 ^ 30 - p.stack) n p.stack [] [] true c.requires (ap (λ k. 2 ^ 30 - k) size) refl size is ∙ stack_last p) c.add.ensures.ok
