@@ -11,7 +11,7 @@ use Rattle.alpha_table.specs.declared.rows.MiscOp.TheVariants as miscs
 use Rattle.alpha_table.specs.declared.rows.Extension.{Extension}
 use Rattle.alpha_table.specs.declared.columns.MemAccess.{MemAccess}
 use Rattle.alpha_table.specs.declared.form.Form.{Form}
-use Rattle.alpha_table.specs.declared.form.Form.TheVariants.{Mem}
+use Rattle.alpha_table.specs.declared.form.Form.TheVariants.{Mem, Branch, Jump, Operate, Misc, Fetch, Pal}
 use Rattle.alpha_table.specs.Class.{load, idle}
 use Rattle.alpha_table.specs.ClassOf.{class_of}
 use Rattle.alpha_table.specs.Words.{class_in, level_in}
@@ -30,7 +30,14 @@ level_in-class_of (Mem memories.Ldwu ra rb disp) = level_load (ra == 31) _ _ ra
 level_in-class_of (Mem memories.Ldl ra rb disp) = level_load (ra == 31) _ _ ra
 level_in-class_of (Mem memories.Ldq ra rb disp) = level_load (ra == 31) _ _ ra
 level_in-class_of (Mem _ ra rb disp) = refl
-level_in-class_of i = refl
+level_in-class_of (Branch op ra disp) = refl
+level_in-class_of (Jump kind ra rb hint) = refl
+level_in-class_of (Misc miscs.Trapb) = refl
+level_in-class_of (Misc _) = refl
+level_in-class_of (Fetch modify rb) = refl
+level_in-class_of (Pal call) = refl
+level_in-class_of (Operate ops.Ctpop ra src rc) = refl
+level_in-class_of (Operate _ ra src rc) = refl
 
 IsLow : Level → Level → Type 0
 IsLow level own = level_number own ≤ level_number level
