@@ -21,7 +21,6 @@ use Rattle.alpha_asm.specs.Patches.{Fix, fix, raw_insns, raw_cells, raw_bytes, c
 use Rattle.alpha_asm.specs.Unlinked.{IsAddress, takes, IsReached, IsCell, IsUnlinked}
 use Rattle.alpha_asm.proofs.Growing.{length-raw_bytes}
 use Rattle.alpha_asm.proofs.Pushing.{length-low_bytes}
-use Rattle.alpha_asm.specs.declared.patch.RelocationKind.TheVariants.{Insn}
 use Rattle.alpha_link.specs.Relocations.{Body, is_taken_at, is_quad_at, body}
 use Rattle.alpha_link.proofs.MadeSizes.{insns_of, words_behind}
 use Rattle.alpha_link.proofs.MadeRelocations.{Chain}
