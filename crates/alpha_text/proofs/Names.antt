@@ -25,7 +25,19 @@ use Rattle.alpha_text.specs.Heads.{own_name, every_own, every_mnemonic, mnemonic
 pub mnemonic_at-name : (m : Mnemonic) → mnemonic_at (name_of m) ≡ Some m
 unfolding every_mnemonic
 mnemonic_at-name (mnemonics.Operate ops.Addl) = refl
-mnemonic_at-name m = refl
+mnemonic_at-name (mnemonics.Operate op) = refl
+mnemonic_at-name (mnemonics.Mem memories.Lda) = refl
+mnemonic_at-name (mnemonics.Mem op) = refl
+mnemonic_at-name (mnemonics.Branch branches.Br) = refl
+mnemonic_at-name (mnemonics.Branch op) = refl
+mnemonic_at-name (mnemonics.Jump jumps.Jmp) = refl
+mnemonic_at-name (mnemonics.Jump kind) = refl
+mnemonic_at-name (mnemonics.Misc miscs.Trapb) = refl
+mnemonic_at-name (mnemonics.Misc op) = refl
+mnemonic_at-name (mnemonics.Fetch false) = refl
+mnemonic_at-name (mnemonics.Fetch modify) = refl
+mnemonic_at-name (mnemonics.Pal calls.Bpt) = refl
+mnemonic_at-name (mnemonics.Pal call) = refl
 
 find-is : {A : Type 0} (test : A → Bool) (xs : List A) (x : A) → find test xs ≡ Some x → test x ≡ true
 find-is test [] x h = cc
