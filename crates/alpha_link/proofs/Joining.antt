@@ -3,7 +3,8 @@ use Rattle.std.proofs.Common.{◌≡◌, ℕ, ◌+◌, ◌-◌, ◌<◌, ◌≤�
 use Rattle.std.specs.Prelude.{position}
 use Rattle.std.specs.List.{flat_map, filter_map}
 use Rattle.std.specs.Option.{option_map, option_map_or}
-use Rattle.std.proofs.lemmas.List.{length-append, length-replicate}
+use Rattle.std.proofs.lemmas.List.{length-append, length-replicate, append-nil}
+use Rattle.std.proofs.Math.Seq.{take-length}
 use Rattle.alpha_words.specs.declared.Level.TheVariants.{One}
 use Rattle.alpha_table.specs.declared.form.Form.{Form}
 use Rattle.alpha_table.specs.Decoded.{decoded}
@@ -11,8 +12,8 @@ use Rattle.alpha_asm.specs.Layout.{first, padding}
 use Rattle.alpha_link.specs.Parts.{ModuleParts, IsModule, sizes_of}
 use Rattle.alpha_link.specs.Linked.{Located, located, size, room, symbol_in, address_of, addresses_of, code_after, code_of, bytes_after, bytes_of, data_in, words_in, filled_in, is_met, unmet_in, unmet, addresses_by}
 use Rattle.alpha_link.specs.declared.output.Output.{Output}
-use Rattle.alpha_link.specs.Output.{code_with_all, bytes_with_all, StandBehind, JoinsOne}
-use Rattle.alpha_link.proofs.Lists.{next, first_goes}
+use Rattle.alpha_link.specs.Output.{code_with_all, bytes_with_all, StandBehind, JoinsOne, JoinsAll}
+use Rattle.alpha_link.proofs.Lists.{next, none_left, first_goes}
 use Rattle.alpha_link.proofs.Naming.{behind}
 use Rattle.alpha_link.proofs.Linked.{known_insns, image_known}
 use Rattle.alpha_link.proofs.Shifting.{bytes_shift, length-bytes_after}
@@ -46,6 +47,17 @@ pub record Joined (all : List Located) (n : ℕ) (code : List Form) (bytes : Lis
   pub code_size : length code ≡ words_in (take n all)
   pub bytes_size : length bytes ≡ filled_in (take n all)
 
+pub joins_none : (all : List Located) → StandBehind 0 0 all → Joined all 0 [] []
+joins_none all stand = record {
+  filled = 0;
+  stand = stand;
+  below = omega arith;
+  code_so = refl;
+  bytes_so = begins all stand;
+  met = refl;
+  code_size = refl;
+  bytes_size = refl;
+}
   where
     begins : (ls : List Located) → StandBehind 0 0 ls → data_behind all [] ls ≡ data_in all ls
     begins [] s = refl
@@ -101,6 +113,26 @@ joins all n l old new within here met one so_far =
         ∙ (ap (λ (b : List ℕ). b ++ later) one.bytes
         ∙ (append_assoc old.bytes.items (replicate (l.filled - length old.bytes.items) 0 ++ bytes_of all l) later
         ∙ (ap (λ (b : List ℕ). old.bytes.items ++ b) (append_assoc (replicate (l.filled - length old.bytes.items) 0) (bytes_of all l) later) ∙ e)))
+
+-- the next module stands behind what is joined
+pub stands_next : (all : List Located) (n : ℕ) (l : Located) (code : List Form) (bytes : List ℕ) → n < length all → l ≡ get_or all n l → Joined all n code bytes → (l.words ≡ length code) × (length bytes ≤ l.filled)
+stands_next all n l code bytes within here so_far =
+    let cut : drop n all ≡ l ∷ drop (n + 1) all = next all n l within ∙ ap (λ (x : Located). x ∷ drop (n + 1) all) (sym here) in
+    let stand : StandBehind (length code) so_far.filled (l ∷ drop (n + 1) all) = subst (StandBehind (length code) so_far.filled) cut so_far.stand in
+    (stand.0, subst (λ (k : ℕ). length bytes ≤ k) (sym stand.1.0) so_far.below)
+
+-- behind the last module
+pub joins_all : (all : List Located) (n : ℕ) (output : Output) → length all ≤ n → n ≤ length all → Joined all n output.code.items output.bytes.items → JoinsAll all output
+joins_all all n output past within so_far =
+    let none : drop n all ≡ [] = none_left all n past in
+    let whole : take n all ≡ all = ap (λ (k : ℕ). take k all) (omega arith) ∙ take-length all in
+    record {
+      met = sym so_far.met ∙ ap (first (λ l. unmet_in (addresses_of all l) l)) none;
+      code = sym (append-nil output.code.items) ∙ (sym (ap (λ (ls : List Located). output.code.items ++ flat_map (code_of all) ls) none) ∙ so_far.code_so);
+      bytes = sym (ap (data_behind all output.bytes.items) none) ∙ so_far.bytes_so;
+      words = so_far.code_size ∙ ap words_in whole;
+      filled = so_far.bytes_size ∙ ap filled_in whole;
+    }
 
 -- what a module is joined by
 pub joins_one : (addresses wanted : List (Option ℕ)) (l : Located) (old appended new : Output) → IsModule l.parts → addresses ≡ wanted → l.words ≡ length old.code.items → length old.bytes.items ≤ l.filled
