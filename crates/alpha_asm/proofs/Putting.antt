@@ -1,8 +1,9 @@
 -- Addresses are put in one after the other.
-use Rattle.std.proofs.Common.{◌≡◌, ℕ, ◌+◌, ◌<◌, ◌≤◌, List, ◌∷◌, ◌++◌, length, map, take, drop, get_or, Bool, true, cond, nat_le, Option, None, Some, is_some, refl, sym, ◌∙◌, ap, drop-cons, add-one, arith}
+use Rattle.std.proofs.Common.{◌≡◌, ℕ, ◌+◌, ◌<◌, ◌≤◌, List, [], ◌∷◌, ◌++◌, length, map, take, drop, get_or, Bool, true, false, cond, nat_le, Option, None, Some, is_some, refl, sym, ◌∙◌, ap, drop-cons, add-one, arith}
 use Rattle.std.specs.Option.{option_or}
 use Rattle.std.proofs.lemmas.Bool.Decides.{nat_tests}
 use Rattle.std.proofs.lemmas.List.{drop-drop}
+use Rattle.std.proofs.Math.ListN.{drop_of_length-le}
 use Rattle.std.specs.Int.{w64, to_le_bytes}
 use Rattle.alpha_words.specs.Digits.{low_bytes}
 use Rattle.alpha_words.proofs.DigitLemmas.{bytes_low_first-digits}
@@ -11,6 +12,7 @@ use Rattle.alpha_asm.specs.declared.patch.Patch.{Patch}
 use Rattle.alpha_asm.specs.Layout.{first}
 use Rattle.alpha_asm.specs.Program.{Known, undefined_line, unmet_line, is_met, address_of}
 use Rattle.alpha_asm.specs.Patches.{fix_of, reference_of, need_of, offset_of, names_of, overlaid, code_with, bytes_with, code_after, bytes_after}
+use Rattle.alpha_asm.proofs.Growing.{option_or-none}
 
 -- the bytes of a number in place of others
 pub written : (at n : ℕ) (old part : List ℕ) → at + 8 ≤ length old → part ≡ to_le_bytes w64 n → take at old ++ (part ++ drop 8 (drop at old)) ≡ overlaid at n old
@@ -19,12 +21,18 @@ written at n old part room e =
     rw t
     (ap (λ l. take at old ++ (l ++ drop 8 (drop at old))) (e ∙ bytes_low_first-digits 8 n) ∙ ap (λ l. take at old ++ (low_bytes 8 n ++ l)) (drop-drop 8 at old))
 
+pub unwritten : (at n : ℕ) (old : List ℕ) → length old < at + 8 → old ≡ overlaid at n old
+unwritten at n old h = let t : nat_le (at + 8) (length old) ≡ false = grind (arith, nat_tests) in rw t refl
+
 -- so many addresses are put in, and the rest makes up for all
 pub record Put (k : Known) (patches : List Patch) (i : ℕ) (code0 code : List Form) (bytes0 bytes : List ℕ) (unmet : Option ℕ) : Type 0 where
   pub undefined : first (undefined_line k) (names_of (drop i patches)) ≡ first (undefined_line k) (names_of patches)
   pub unmet_so : option_or unmet (first (unmet_line k) (names_of (drop i patches))) ≡ first (unmet_line k) (names_of patches)
   pub code_so : code_after k (map fix_of (drop i patches)) code ≡ code_after k (map fix_of patches) code0
   pub bytes_so : bytes_after k (map fix_of (drop i patches)) bytes ≡ bytes_after k (map fix_of patches) bytes0
+
+pub starts : (k : Known) (patches : List Patch) (code : List Form) (bytes : List ℕ) → Put k patches 0 code code bytes bytes None
+starts k patches code bytes = record { undefined = refl; unmet_so = refl; code_so = refl; bytes_so = refl }
 
 option_or-assoc : {A : Type 0} (o p q : Option A) → option_or (option_or o p) q ≡ option_or o (option_or p q)
 option_or-assoc None p q = refl
@@ -46,6 +54,26 @@ puts k patches i p code0 code code1 bytes0 bytes bytes1 unmet fits e defined f c
       code_so = ap (code_after k (map fix_of (drop (i + 1) patches))) c ∙ (sym (ap (λ ps. code_after k (map fix_of ps) code) e) ∙ u.code_so);
       bytes_so = ap (bytes_after k (map fix_of (drop (i + 1) patches))) b ∙ (sym (ap (λ ps. bytes_after k (map fix_of ps) bytes) e) ∙ u.bytes_so);
     }
+
+-- a label without a definition
+pub misses : (k : Known) (patches : List Patch) (i : ℕ) (p : Patch) (code0 code : List Form) (bytes0 bytes : List ℕ) (unmet : Option ℕ)
+    → drop i patches ≡ p ∷ drop (i + 1) patches → is_some (k.spots p.to.label.now) ≡ false → Put k patches i code0 code bytes0 bytes unmet → first (undefined_line k) (names_of patches) ≡ Some p.line
+misses k patches i p code0 code bytes0 bytes unmet e missing u =
+    let some : undefined_line k (fix_of p).name ≡ Some p.line = rw missing refl in
+    sym u.undefined ∙ (ap (λ ps. first (undefined_line k) (names_of ps)) e ∙ ap (λ o. option_or o (first (undefined_line k) (names_of (drop (i + 1) patches)))) some)
+
+empty_behind : {A : Type 0} (xs : List A) (i : ℕ) → length xs ≤ i → drop i xs ≡ []
+empty_behind xs i h = drop_of_length-le xs h
+
+pub ends : (k : Known) (patches : List Patch) (i : ℕ) (code0 code : List Form) (bytes0 bytes : List ℕ) (unmet : Option ℕ) → length patches ≤ i → Put k patches i code0 code bytes0 bytes unmet
+    → (None ≡ first (undefined_line k) (names_of patches)) × (unmet ≡ first (unmet_line k) (names_of patches)) × (code ≡ code_after k (map fix_of patches) code0) × (bytes ≡ bytes_after k (map fix_of patches) bytes0)
+ends k patches i code0 code bytes0 bytes unmet h u =
+    let e : drop i patches ≡ [] = empty_behind patches i h in (
+      sym (ap (λ ps. first (undefined_line k) (names_of ps)) e) ∙ u.undefined,
+      sym (ap (λ ps. option_or unmet (first (unmet_line k) (names_of ps))) e ∙ option_or-none unmet) ∙ u.unmet_so,
+      sym (ap (λ ps. code_after k (map fix_of ps) code) e) ∙ u.code_so,
+      sym (ap (λ ps. bytes_after k (map fix_of ps) bytes) e) ∙ u.bytes_so,
+    )
 
 pub next_patch : (patches : List Patch) (i : ℕ) (d : Patch) → i < length patches → drop i patches ≡ get_or patches i d ∷ drop (i + 1) patches
 next_patch patches i d h = rw add-one (drop-cons patches i d h)

@@ -1,5 +1,5 @@
 -- Why a line is refused, by the state of the pass.
-use Rattle.std.proofs.Common.{◌≡◌, ℕ, ◌+◌, ◌<◌, ◌≤◌, List, [], ◌∷◌, ◌++◌, length, Bool, true, false, cond, ◌||◌, Option, None, Some, is_some, Ok, Err, nat_lt, refl, sym, ◌∙◌, ap, arith}
+use Rattle.std.proofs.Common.{◌≡◌, ℕ, ◌+◌, ◌<◌, ◌≤◌, List, [], ◌∷◌, ◌++◌, length, Bool, true, false, cond, ◌||◌, Option, None, Some, is_some, Result, Ok, Err, OnOk, IfErr, nat_lt, refl, sym, ◌∙◌, ap, arith}
 use Rattle.std.proofs.lemmas.Bool.Decides.{nat_tests}
 use Rattle.alpha_text.specs.declared.reader.LineFault.{LineFault}
 use Rattle.alpha_token.specs.Tokens.{tokens}
@@ -75,3 +75,11 @@ placed_item kind p i h = either (is_barred kind i.statement) (is_misplaced (plac
 
 pub next_line : (kind : SourceKind) (is : List LineSaid) (line : List ℕ) (i : LineSaid) (old new : Pass) → Stands is old → read line ≡ Ok i → refused_here kind old i ≡ None → AddsItem i old new → Stands (is ++ item_at line ∷ []) new
 next_line kind is line i old new s e taken a = let at : item_at line ≡ i = rw e refl in rw at (grow is i old new s (placed_item kind old i taken) (new_label kind old i taken) a)
+
+pub on_ok : {A E : Type 0} {P Q R : Type 0} (r : Result A E) → OnOk r P → OnOk r Q → (P → Q → R) → OnOk r R
+on_ok (Ok x) p q f = f p q
+on_ok (Err e) p q f = tt
+
+pub on_err : {A E : Type 0} {P Q : E → Type 0} (r : Result A E) → IfErr r P → ((e : E) → P e → Q e) → IfErr r Q
+on_err (Ok x) p f = tt
+on_err (Err e) p f = f e p

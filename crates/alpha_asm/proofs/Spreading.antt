@@ -1,7 +1,7 @@
 -- Data bytes and the gaps in them.
-use Rattle.std.proofs.Common.{◌≡◌, ◌≤◌, ◌+◌, ℕ, List, [], ◌∷◌, ◌++◌, take, drop, replicate, length, refl, sym, ap, ◌∙◌, append_assoc, append-nil, length-append, length-drop, arith}
+use Rattle.std.proofs.Common.{◌≡◌, ◌≤◌, ◌+◌, ℕ, List, [], ◌∷◌, ◌++◌, take, drop, replicate, length, refl, sym, ap, subst, ◌∙◌, append_assoc, append-nil, length-append, length-drop, arith}
 use Rattle.std.proofs.Math.Seq.{take-length, drop-length}
-use Rattle.std.proofs.lemmas.List.{take-append-le, drop-append-le, length-take-le, length-replicate}
+use Rattle.std.proofs.lemmas.List.{take-append-le, drop-append-le, length-take-le, length-replicate, drop_all}
 use Rattle.alpha_asm.specs.declared.data.Gap.{Gap}
 use Rattle.alpha_asm.specs.Data.{before_gaps, zeros_of_gaps, spread}
 
@@ -65,3 +65,27 @@ length-spread (g ∷ gs) bytes h =
 pub record Spreads (gaps : List Gap) (bytes : List ℕ) (i : ℕ) (all rest : List ℕ) : Type 0 where
   pub whole : all ++ spread (drop i gaps) rest ≡ spread gaps bytes
   pub room : before_gaps (drop i gaps) ≤ length rest
+
+pub spreads : (gaps : List Gap) (bytes : List ℕ) (i : ℕ) (gap : Gap) (all all' rest rest' : List ℕ) → drop i gaps ≡ gap ∷ drop (i + 1) gaps
+    → Spreads gaps bytes i all rest → all' ≡ (all ++ take gap.before rest) ++ replicate gap.zeros 0 → rest' ≡ drop gap.before rest
+    → Spreads gaps bytes (i + 1) all' rest'
+spreads gaps bytes i gap all all' rest rest' e s more left =
+    let room : before_gaps (gap ∷ drop (i + 1) gaps) ≤ length rest = subst (λ l. before_gaps l ≤ length rest) e s.room in
+    record {
+      whole =
+          ap (λ l. l ++ spread (drop (i + 1) gaps) rest') more
+          ∙ (ap (λ l. ((all ++ take gap.before rest) ++ replicate gap.zeros 0) ++ spread (drop (i + 1) gaps) l) left
+          ∙ (append_assoc (all ++ take gap.before rest) (replicate gap.zeros 0) (spread (drop (i + 1) gaps) (drop gap.before rest))
+          ∙ (append_assoc all (take gap.before rest) (replicate gap.zeros 0 ++ spread (drop (i + 1) gaps) (drop gap.before rest))
+          ∙ (ap (λ l. all ++ spread l rest) (sym e) ∙ s.whole))));
+      room = omega (arith, room, ap length left, length-drop gap.before rest);
+    }
+
+-- the gap in hand lies within the rest
+pub within : (gaps : List Gap) (bytes : List ℕ) (i : ℕ) (gap : Gap) (all rest : List ℕ) → drop i gaps ≡ gap ∷ drop (i + 1) gaps → Spreads gaps bytes i all rest → gap.before ≤ length rest
+within gaps bytes i gap all rest e s =
+    let room : before_gaps (gap ∷ drop (i + 1) gaps) ≤ length rest = subst (λ l. before_gaps l ≤ length rest) e s.room in
+    omega (arith, room)
+
+pub spread_all : (gaps : List Gap) (bytes : List ℕ) (i : ℕ) (all rest : List ℕ) → length gaps ≤ i → Spreads gaps bytes i all rest → all ++ rest ≡ spread gaps bytes
+spread_all gaps bytes i all rest h s = ap (λ l. all ++ spread l rest) (sym (drop_all i gaps h)) ∙ s.whole

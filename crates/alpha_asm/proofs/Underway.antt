@@ -1,9 +1,10 @@
 -- The pass underway: the lines behind it and those before it are those of the source.
-use Rattle.std.proofs.Common.{◌≡◌, ℕ, ◌+◌, ◌<◌, ◌≤◌, List, [], ◌∷◌, ◌++◌, length, map, None, refl, sym, ◌∙◌, ap, append_assoc, arith}
+use Rattle.std.proofs.Common.{◌≡◌, ℕ, ◌+◌, ◌<◌, ◌≤◌, List, [], ◌∷◌, ◌++◌, length, map, None, Some, refl, sym, ◌∙◌, ap, append_assoc, arith}
 use Rattle.std.specs.Option.{option_or}
 use Rattle.std.specs.Str.Lines.{lines}
 use Rattle.std.proofs.lemmas.List.{append-nil}
 use Rattle.alpha_text.specs.Reading.{LineSaid}
+use Rattle.alpha_asm.specs.declared.fault.AsmFault.{AsmFault}
 use Rattle.alpha_asm.specs.declared.kind.SourceKind.{SourceKind}
 use Rattle.alpha_asm.specs.declared.pass.Pass.{Pass}
 use Rattle.alpha_asm.specs.declared.line_kind.LineKind.{LineKind}
@@ -36,6 +37,11 @@ goes_on kind source rest line more old new u e l taken stands bounded count =
       bounded = bounded;
       count = omega arith;
     }
+
+pub stops : (kind : SourceKind) (source rest line more : List ℕ) (old : Pass) (fault : AsmFault) → Underway kind source rest old → lines rest ≡ line ∷ lines more
+    → ((is : List LineSaid) → Stands is old → refused kind is line ≡ Some fault) → first_refused kind [] (lines source) ≡ Some fault
+stops kind source rest line more old fault u e why =
+    sym u.refusals ∙ (ap (first_refused kind u.items) e ∙ ap (λ o. option_or o (first_refused kind (u.items ++ item_at line ∷ []) (lines more))) (why u.items u.stands))
 
 empty_list : {A : Type 0} (xs : List A) → length xs ≡ 0 → xs ≡ []
 empty_list [] h = refl

@@ -1,6 +1,6 @@
 -- What commands do to a session, one after another.
 use Rattle.std.specs.Prelude.{◌==◌}
-use Rattle.std.proofs.Common.{◌≡◌, ◌∙◌, ℕ, codes, length, Bool, true, false, cond, List, [], ◌∷◌, ◌++◌, Option, Some, None, ap, append_assoc}
+use Rattle.std.proofs.Common.{◌≡◌, ◌∙◌, ℕ, codes, length, Bool, true, false, cond, List, [], ◌∷◌, ◌++◌, Option, Some, None, refl, ap, append_assoc}
 use Rattle.alpha_seq.specs.declared.end.End.{End}
 use Rattle.alpha_seq.specs.declared.machine.Machine.{Machine}
 use Rattle.alpha_seq.specs.State.{State}
@@ -18,7 +18,7 @@ use Rattle.alpha_debug.specs.declared.watcher.Until.TheVariants as until
 use Rattle.alpha_debug.specs.declared.debugger.Debugger.{Debugger}
 use Rattle.alpha_debug.specs.Command.{most_steps}
 use Rattle.alpha_debug.specs.Lines.{ended, where_line}
-use Rattle.alpha_debug.specs.Session.{Setting, Session, IsVerdict, text_of, saying, walk, if_going, going, saying_where, travel, has_point, most_points, ok, answer}
+use Rattle.alpha_debug.specs.Session.{Setting, Session, IsVerdict, text_of, saying, walk, if_going, going, saying_where, travel, has_point, most_points, ok, is_shown, shown, answer}
 use Rattle.alpha_debug.specs.Gathered.{gathered_by, Gathers, Stops}
 use Rattle.alpha_debug.specs.Effects.{Grows, session_of, with_block, IsOpened, Makes, Fails}
 use Rattle.alpha_debug.proofs.Sinks.{Grows-same, Grows-by, Grows-trans, Breaks-after, Gathers-both}
@@ -78,6 +78,37 @@ module _ {K : Type 0} (written : K → Option (List ℕ)) (faults : K → ℕ) (
       (record { bytes = where_line new.end new.machine.pc; is = ap (λ (s : Session). text_of (saying_where s)) (makes.is text); stops = stops })
 
 -- ---- commands
+
+-- what a command says doesn't depend on what was written
+shown-same : (g : Setting) (command : Command) (m : Machine) (text : List ℕ) → shown g command (state_of m [] text) ≡ shown g command (state_of m [] [])
+shown-same g Nothing m text = refl
+shown-same g (Step n) m text = refl
+shown-same g Go m text = refl
+shown-same g Barrier m text = refl
+shown-same g (Break at) m text = refl
+shown-same g (Clear at) m text = refl
+shown-same g Quit m text = refl
+shown-same g Registers m text = refl
+shown-same g (Memory at count) m text = refl
+shown-same g (Listing at count) m text = refl
+shown-same g Shadow m text = refl
+shown-same g Log m text = refl
+shown-same g Unknown m text = refl
+
+answer-shown : (g : Setting) (command : Command) (s : Session) → is_shown command ≡ true → answer g command s ≡ saying s (shown g command s.state)
+answer-shown g Nothing s e = absurd cc
+answer-shown g (Step n) s e = absurd cc
+answer-shown g Go s e = absurd cc
+answer-shown g Barrier s e = absurd cc
+answer-shown g (Break at) s e = absurd cc
+answer-shown g (Clear at) s e = absurd cc
+answer-shown g Quit s e = absurd cc
+answer-shown g Registers s e = refl
+answer-shown g (Memory at count) s e = refl
+answer-shown g (Listing at count) s e = refl
+answer-shown g Shadow s e = refl
+answer-shown g Log s e = refl
+answer-shown g Unknown s e = refl
 
 -- ---- the start
 

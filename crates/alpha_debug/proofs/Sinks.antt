@@ -17,9 +17,18 @@ pub OnErr-any : {T E P : Type 0} (result : Result T E) → P → OnErr result P
 OnErr-any (Ok x) p = tt
 OnErr-any (Err e) p = p
 
+-- a fact that follows, where a call succeeded and where it failed
+pub OnOk-map : {T E P Q : Type 0} (result : Result T E) → (P → Q) → OnOk result P → OnOk result Q
+OnOk-map (Ok x) f p = f p
+OnOk-map (Err e) f p = tt
+
 pub OnOk-both : {T E P Q R : Type 0} (result : Result T E) → (P → Q → R) → OnOk result P → OnOk result Q → OnOk result R
 OnOk-both (Ok x) f p q = f p q
 OnOk-both (Err e) f p q = tt
+
+pub OnErr-map : {T E P Q : Type 0} (result : Result T E) → (P → Q) → OnErr result P → OnErr result Q
+OnErr-map (Ok x) f p = tt
+OnErr-map (Err e) f p = f p
 
 pub Grows-same : (text : List ℕ) → Grows text text
 Grows-same text = record { bytes = []; is = sym (append-nil text) }

@@ -2,6 +2,7 @@
 use Rattle.std.proofs.Common.{◌≡◌, ℕ, suc, ◌+◌, ◌<◌, ◌≤◌, List, [], ◌∷◌, ◌++◌, length, filter, map, get_or, Bool, true, false, cond, ◌&&◌, ◌||◌, eqb, nat_eq, None, Some, refl, sym, ◌∙◌, ap, subst, append_assoc, arith}
 use Rattle.std.specs.List.{flat_map}
 use Rattle.std.specs.Str.Lines.{lines}
+use Rattle.std.proofs.lemmas.List.{append-nil}
 use Rattle.std.proofs.lemmas.Grind.{flat_map-append}
 use Rattle.std.proofs.lemmas.Bool.Decides.{nat_tests}
 use Rattle.alpha_text.specs.Statements.{Said}
@@ -55,6 +56,14 @@ begins source cuts words base b w r t = record {
   read = subst AllRead (texts_of source) (all_read [] (lines source) t);
   size = omega arith;
 }
+
+-- the line in hand is short
+pub short : (source cuts : List ℕ) (words base : ℕ) (rest text left : List ℕ) (number place : ℕ) (l : Line) → Underway source cuts words base rest text left number place → IsFirst rest l
+    → length l.text.now ≤ 1024
+short source cuts words base rest text left number place l u f =
+    let r : AllRead (line_text f.line ∷ map line_text (source_lines l.rest.now)) = subst (λ (ls : List SourceLine). AllRead (map line_text ls)) f.lines u.read in
+    let s = r.0 in
+    omega (arith, ap length f.is.text)
 
 role_fixed : (a b : Bool) → FixedLine ≡ role a b → a ≡ true
 role_fixed true b e = refl
@@ -178,3 +187,15 @@ module _ (source cuts : List ℕ) (words base : ℕ) (rest text left : List ℕ)
         read = read_on;
         size = omega arith;
       }
+
+empty_list : (xs : List ℕ) → length xs ≡ 0 → xs ≡ []
+empty_list [] h = refl
+empty_list (x ∷ xs) h = absurd (omega arith)
+
+pub ends_whole : (source cuts : List ℕ) (words base : ℕ) (rest text left : List ℕ) (number place : ℕ) → Underway source cuts words base rest text left number place → length rest ≡ 0 → text ≡ fixed_source source cuts
+ends_whole source cuts words base rest text left number place u h =
+    sym (append-nil text) ∙ (ap (λ (r : List ℕ). text ++ flat_map line_bytes (fixed_lines (is_cut cuts) words place (source_lines r))) (sym (empty_list rest h)) ∙ u.whole)
+
+pub ends_free : (source cuts : List ℕ) (words base : ℕ) (rest text left : List ℕ) (number place : ℕ) → Underway source cuts words base rest text left number place → length rest ≡ 0 → fixed_line source ≡ None
+ends_free source cuts words base rest text left number place u h =
+    sym (ap (λ (r : List ℕ). least_line (test source base) number (map line_item (source_lines r))) (sym (empty_list rest h)) ∙ u.free)

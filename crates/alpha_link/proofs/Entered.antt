@@ -1,5 +1,5 @@
 -- The symbols that are found by their numbers in a row, as the row grows.
-use Rattle.std.proofs.Common.{◌≡◌, ℕ, zero, suc, ◌+◌, ◌-◌, ◌<◌, ◌≤◌, Bool, true, false, ◌⊎◌, inl, inr, List, [], ◌∷◌, ◌++◌, length, take, drop, get_or, Option, None, Some, is_some, if◌then◌else◌, refl, sym, subst, ap, ◌∙◌, append_assoc, arith}
+use Rattle.std.proofs.Common.{◌≡◌, ℕ, zero, suc, ◌+◌, ◌-◌, ◌<◌, ◌≤◌, Bool, true, false, ◌⊎◌, inl, inr, List, [], ◌∷◌, ◌++◌, length, map, take, drop, get_or, Option, None, Some, is_some, if◌then◌else◌, refl, sym, subst, ap, ◌∙◌, append_assoc, arith}
 use Rattle.std.specs.Prelude.{◌&&◌, not, is_none, slice_get}
 use Rattle.std.specs.Option.{option_map, option_map_or, option_and_then, option_or}
 use Rattle.std.specs.Str.{bytes_eq}
@@ -13,7 +13,7 @@ use Rattle.alpha_names.proofs.Searching.{not_both}
 use Rattle.alpha_names.proofs.Naming.{sound, by_option}
 use Rattle.alpha_asm.specs.Layout.{first}
 use Rattle.alpha_link.specs.Symbols.{Named}
-use Rattle.alpha_link.specs.Linked.{Located}
+use Rattle.alpha_link.specs.Linked.{Located, named_address}
 use Rattle.alpha_link.specs.Standings.{Standing, standing_of, standings_in, standings, defines, is_of, address_at, AreEntered}
 use Rattle.alpha_link.proofs.Naming.{first_append}
 use Rattle.alpha_link.proofs.Lists.{next, none_left}
@@ -228,6 +228,12 @@ enters_still row old new keeps entered = record {
   found = λ k s here defined is_right only. keeps is_right s.name k (entered.found k s here defined is_right only);
 }
 
+pub enters_none : (find : Finder) → AreEntered [] find
+enters_none find = record {
+  single = λ j k s t here. absurd (none-some s here);
+  found = λ k s here. absurd (none-some s here);
+}
+
 pub nothing_found : (o : Option ℕ) → address_at [] o ≡ None
 nothing_found None = refl
 nothing_found (Some k) = refl
@@ -269,6 +275,11 @@ count_next ls n l e = ap (λ (x : List Located). length (standings x)) e ∙ by 
     by : (xs : List Located) → length (standings (xs ++ l ∷ [])) ≡ length (standings xs) + length l.parts.symbols
     by [] = omega (arith, length-append (standings_in l) [], length-map l.parts.symbols (standing_of l))
     by (x ∷ xs) = omega (arith, by xs, length-append (standings_in x) (standings (xs ++ l ∷ [])), length-append (standings_in x) (standings xs))
+
+-- the first symbol of a module that gives a name an address
+pub first_in : (l : Located) (name : List ℕ) (ss : List Named) → first (address_by name) (map (standing_of l) ss) ≡ first (named_address l name) ss
+first_in l name [] = refl
+first_in l name (s ∷ ss) = ap (option_or (named_address l name s)) (first_in l name ss)
 
 -- the next symbol of a row has been entered
 pub entered_named : (es : List Standing) (n count : ℕ) (e : Standing) (old new : Numbers) → count ≡ n + 1 → slice_get es n ≡ Some e →

@@ -49,6 +49,9 @@ pub position_goes : {A : Type 0} (p : A → Bool) (xs : List A) (i : ℕ) (x : A
 position_goes p xs i x whole here fails e =
     sym (ap (λ (b : Bool). cond b (Some i) (position_from p (i + 1) (drop (i + 1) xs))) fails) ∙ (ap (position_from p i) (sym (next_get xs i x here)) ∙ e)
 
+pub position_ends : {A : Type 0} (p : A → Bool) (xs : List A) (i : ℕ) (whole : Option ℕ) → length xs ≤ i → position_from p i (drop i xs) ≡ whole → None ≡ whole
+position_ends p xs i whole past e = sym (ap (position_from p i) (none_left xs i past)) ∙ e
+
 -- whether all elements pass a test, as a loop goes along their numbers
 whole_at : {A : Type 0} (p : A → Bool) (xs : List A) (i : ℕ) (x : A) (whole : Bool) → slice_get xs i ≡ Some x → list_all p (drop i xs) ≡ whole → (p x && list_all p (drop (i + 1) xs)) ≡ whole
 whole_at p xs i x whole here e = ap (list_all p) (sym (next_get xs i x here)) ∙ e

@@ -1,6 +1,6 @@
 -- The module that is made of what was read.
 use Rattle.std.proofs.Common.{◌≡◌, ℕ, zero, suc, ◌+◌, ◌/◌, ◌%◌, ◌^◌, ◌<◌, ◌≤◌, List, [], ◌∷◌, ◌++◌, length, map, replicate, Option, None, Some, Bor, All, refl, sym, ap, subst, ◌∙◌, arith}
-use Rattle.std.specs.Prelude.{Err, IfSome}
+use Rattle.std.specs.Prelude.{Ok, Err, IfSome}
 use Rattle.std.specs.List.{AllByRecursion, filter_map, flat_map, list_any}
 use Rattle.std.specs.Str.{bytes_eq}
 use Rattle.std.proofs.lemmas.List.{length-map}
@@ -153,3 +153,6 @@ same_field is u m =
 
 pub sized_refused : (is : List LineSaid) (u : Unlinked) (field : ℕ) → Makes is u → bad_field (length u.code.items) u.filled u.zeroed ≡ Some field → sized (module_of is) ≡ Err (ImageField field)
 sized_refused is u field m e = let same = same_field is u m ∙ e in rw same refl
+
+pub sized_ok : (is : List LineSaid) (u : Unlinked) (made : ModuleParts) → Makes is u → bad_field (length u.code.items) u.filled u.zeroed ≡ None → module_of is ≡ made → sized (module_of is) ≡ Ok made
+sized_ok is u made m e same = let none = same_field is u m ∙ e in rw none (ap Ok same)

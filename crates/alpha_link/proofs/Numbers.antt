@@ -2,9 +2,17 @@
 use Rattle.std.proofs.Common.{◌≡◌, ℕ, ◌+◌, ◌^◌, ◌<◌, ◌≤◌, List, [], ◌∷◌, ◌++◌, length, take, drop, slice_index, refl, sym, ap, ◌∙◌, arith}
 use Rattle.std.proofs.lemmas.List.{drop-drop, take-append-drop, length-drop}
 use Rattle.byteorder.specs.Endian.{little_from}
-use Rattle.byteorder.specs.Numbers.{little_number-reads_back}
+use Rattle.byteorder.specs.Numbers.{little_from-lt, little_number-reads_back}
 use Rattle.alpha_image.proofs.Numbers.{IsBytes, IsBytes-drop, bytes_of_number}
 use Rattle.alpha_link.specs.Bytes.{halfword, halfword_at}
+
+pub length-halfword : (n : ℕ) → length (halfword n) ≡ 2
+unfolding halfword
+length-halfword n = refl
+
+pub halfword_at-lt : (offset : ℕ) (bytes : List ℕ) → IsBytes bytes → halfword_at offset bytes < 2 ^ 16
+unfolding halfword_at
+halfword_at-lt offset bytes fits = little_from-lt 0 2 (drop offset bytes) (IsBytes-drop offset bytes fits)
 
 pub halfword_at-front : (bytes : List ℕ) (offset n : ℕ) (rest : List ℕ) → drop offset bytes ≡ halfword n ++ rest → n < 2 ^ 16 → halfword_at offset bytes ≡ n
 unfolding halfword halfword_at

@@ -61,6 +61,23 @@ Feeds-append (Some left) mid last (p ∷ ps) qs fed found = (fed.0, Feeds-append
 
 -- ---- no step yet
 
+pub Goes-none : {M O : Type 0} (goes : M → Print → M → Type 0) (w : Watching O) (units : ℕ) (m : M) (o : O) (told : Telling) (left out notes : Option (List ℕ)) (a b c : ℕ)
+    → Goes goes w units units m m o o told told (resting left a) (idle_sink out b) (idle_sink notes c)
+Goes-none goes w units m o told left out notes a b c = record {
+  prints = [];
+  row = refl;
+  going = tt;
+  unstopped = tt;
+  used = omega arith;
+  did = record {
+    seen = refl;
+    drew = Moves-none told;
+    fed = feeds left;
+    same = refl;
+    wrote = Puts-none out b;
+    lines = Puts-none notes c;
+  };
+}
   where
     feeds : (left : Option (List ℕ)) → Feeds left [] left
     feeds None = tt

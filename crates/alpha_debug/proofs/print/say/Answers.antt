@@ -1,5 +1,4 @@
-use Rattle.std.proofs.lemmas.Result.{on_err_weaker}
-use Rattle.alpha_debug.proofs.Sinks.{OnOk-both}
+use Rattle.alpha_debug.proofs.Sinks.{OnOk-both, OnErr-map}
 use Rattle.alpha_debug.proofs.Waiting.{Gathers-for, Stops-for}
 use Rattle.alpha_debug.proofs.print.say.Goals as goal
 
@@ -10,5 +9,5 @@ returns-clause-ok g c =
 
 pub returns-clause-refused : goal.returns-clause-refused
 returns-clause-refused g c =
-    on_err_weaker c.gather.result (Stops-for g.K.Sink c.args.out.now c.gather.new.out c.args.block.now c.args.bytes.now c.gather.new.self)
+    OnErr-map c.gather.result (Stops-for g.K.Sink c.args.out.now c.gather.new.out c.args.block.now c.args.bytes.now c.gather.new.self)
     c.gather.ensures.refused
