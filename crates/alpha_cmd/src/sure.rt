@@ -5,7 +5,9 @@ ghost use Rattle.alpha_request.specs.Command.{Command};
 ghost use Rattle.alpha_cmd.specs.Answer.{Answer};
 ghost use Rattle.alpha_cmd.specs.Asks.{Asks};
 ghost use Rattle.alpha_cmd.specs.Commands.{there_of, MayTake, Spares};
-ghost use Rattle.alpha_cmd.specs.Sure.{sure_world};
+ghost use Rattle.alpha_cmd.specs.Gave.{Gave};
+ghost use Rattle.alpha_cmd.specs.Promises.{EndsWhole, LeavesScript};
+ghost use Rattle.alpha_cmd.specs.Sure.{sure_world, sure_call};
 ghost use Rattle.alpha_cmd.specs.Tried.{IsAnswer};
 
 use crate::devices::Devices;
@@ -15,14 +17,18 @@ use alpha_request::Words;
 use std::alloc::Global;
 
 /// Does what the words ask over devices that never fail, whose output and notes drop what is written:
-/// the status is that of the words' answer, or memory ran out.
+/// the status, the file that is kept and the input left are those of the words' answer, or memory ran out.
 pub fn alpha_sure(
     alloc: Global,
     words: &Words,
     devices: &mut Devices<SureShelf, SureSource, NullSink, NullSink>,
 ) -> Status
     ensures answer { (a : Answer) → IsAnswer words.now (sure_world devices.old.shelf devices.old.input) a
-        → (result ≡ a.status) ⊎ (result ≡ Status.NoMemory) }
+        → Gave a result (sure_call devices.old devices.new) }
+
+    // Where memory runs out, files and input are what `alpha_top` leaves of them, and so is a script.
+    ensures whole { EndsWhole words.now result (sure_call devices.old devices.new) }
+    ensures script { LeavesScript words.now (sure_call devices.old devices.new).input }
 
     // No stream fails, and the shelf answers only for a file that it doesn't have or doesn't take.
     ensures streams { (result ≢ Status.InputFault) × (result ≢ Status.SinkFault) }

@@ -1,11 +1,17 @@
-use Rattle.std.proofs.Common.{◌≡◌, ◌≢◌, ◌∙◌, sym, inl, inr, ⊎_elim}
-use Rattle.alpha_cmd.specs.declared.status.Status.TheVariants.{SinkFault, NoMemory}
+use Rattle.std.proofs.Common.{◌≢◌, ◌∙◌, sym, ⊎_elim}
+use Rattle.alpha_cmd.specs.declared.status.Status.TheVariants.{SinkFault}
 use Rattle.alpha_cmd.proofs.Tried.{told_sure, tried_not_input, tried_there, Rose-none, Calm-none}
 use Rattle.alpha_cmd.proofs.sure.alpha_sure.Goals as goal
 
 pub returns-clause-answer : goal.returns-clause-answer
 returns-clause-answer c = λ a is.
-    ⊎_elim (λ h. inl h.status_is) (λ (h : c.alpha_top.result ≡ NoMemory). inr h) (c.alpha_top.ensures.exact a (told_sure c.args.words.now _ _ _) (record { shelf = Calm-none; input = Calm-none; out = Calm-none; notes = Calm-none }) is)
+    c.alpha_top.ensures.exact a (told_sure c.args.words.now _ _ _) (record { shelf = Calm-none; input = Calm-none; out = Calm-none; notes = Calm-none }) is
+
+pub returns-clause-whole : goal.returns-clause-whole
+returns-clause-whole c = c.alpha_top.ensures.whole
+
+pub returns-clause-script : goal.returns-clause-script
+returns-clause-script c = c.alpha_top.ensures.script
 
 pub returns-clause-streams : goal.returns-clause-streams
 returns-clause-streams c =
