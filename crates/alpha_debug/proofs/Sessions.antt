@@ -12,7 +12,7 @@ use Rattle.alpha_image.specs.Parts.{Parts}
 use Rattle.alpha_shadow.specs.declared.broken.Broken.{Broken}
 use Rattle.alpha_seq.specs.Start.{start}
 use Rattle.alpha_debug.specs.declared.command.Command.{Command}
-use Rattle.alpha_debug.specs.declared.command.Command.TheVariants.{Nothing, Step, Go, Barrier, Break, Clear, Memory, Quit}
+use Rattle.alpha_debug.specs.declared.command.Command.TheVariants.{Nothing, Step, Go, Barrier, Break, Clear, Registers, Memory, Listing, Shadow, Log, Quit, Unknown}
 use Rattle.alpha_debug.specs.declared.watcher.Until.{Until}
 use Rattle.alpha_debug.specs.declared.watcher.Until.TheVariants as until
 use Rattle.alpha_debug.specs.declared.debugger.Debugger.{Debugger}
