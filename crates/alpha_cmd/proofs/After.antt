@@ -139,4 +139,5 @@ module _ {H S K N : Type 0} (h : shelves.Ghosts H) (s : sources.Ghosts S) (k : s
     files = SparesBy-after kind _ (h.files old.shelf) (h.files middle) (h.files new.shelf) reads.files did.files;
     input = did.input;
     source = did.source;
+    rest = did.rest;
   }

@@ -65,6 +65,7 @@ module _ {H S K N : Type 0} (h : shelves.Ghosts H) (s : sources.Ghosts S) (k : s
     files = spares;
     input = inl refl;
     source = record { later = omega arith; calm = λ stays. refl };
+    rest = λ bytes tells. ([], bytes, refl, tells);
   }
 
   -- it has this answer
@@ -151,6 +152,7 @@ module _ {H S K N : Type 0} (h : shelves.Ghosts H) (s : sources.Ghosts S) (k : s
           files = inl (KeepsFiles-refl (h.files old.shelf));
           input = inl refl;
           source = record { later = omega arith; calm = λ stays. refl };
+          rest = λ bytes tells. ([], bytes, refl, tells);
         }
 
     -- done with this text was tried, and the output failed
@@ -169,4 +171,5 @@ module _ {H S K N : Type 0} (h : shelves.Ghosts H) (s : sources.Ghosts S) (k : s
       files = inl (KeepsFiles-refl (h.files old.shelf));
       input = inl refl;
       source = record { later = omega arith; calm = λ stays. refl };
+      rest = λ bytes tells. ([], bytes, refl, tells);
     }

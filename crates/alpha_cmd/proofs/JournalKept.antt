@@ -6,6 +6,7 @@ use Rattle.alpha_io.specs.declared.sink.Sink as sinks
 use Rattle.alpha_io.specs.Faults.{Rose}
 use Rattle.alpha_io.specs.Shelved.{Shelved, shelved}
 use Rattle.alpha_io.specs.Sunk.{Sunk, sunk}
+use Rattle.alpha_seq.specs.Devices.{LeavesEnd, drawn}
 use Rattle.alpha_request.specs.declared.options.RunOptions.{RunOptions}
 use Rattle.alpha_replay.specs.Journal.{Parts, spelling}
 use Rattle.alpha_cmd.specs.declared.decision.Decision.{Decision}
@@ -96,10 +97,10 @@ module _ {H S K N : Type 0} (h : shelves.Ghosts H) (s : sources.Ghosts S) (k : s
       KeptBehind (Untaken (world h s shelf middle.input) out (spelling p)) (Rose (h.faults shelf) (h.faults new)) out (spelling p) (shelved h shelf new) d r
       × (d.status ≢ ShelfFault → Serves (shelved h shelf new) (r.status ≢ ShelfFault))
 
-  pub kept_does : middle.shelf ≡ old.shelf → s.faults middle.input ≡ s.faults old.input
+  pub kept_does : middle.shelf ≡ old.shelf → s.faults middle.input ≡ s.faults old.input → LeavesEnd (drawn s old.input middle.input)
       → RunsOn options force (s.left old.input) plan p d (s.left middle.input) (sunk k old.out middle.out) (sunk n old.notes middle.notes) → KeptOn middle.shelf
       → Does h s k n (on options force out plan) (Ok r) old (record middle { shelf = new })
-  kept_does same calm run kept =
+  kept_does same calm rest run kept =
       let is = subst KeptOn same kept in
       let refuses = Untaken (world h s old.shelf middle.input) out (spelling p) in
       let cause = Rose (h.faults old.shelf) (h.faults new) in
@@ -111,4 +112,5 @@ module _ {H S K N : Type 0} (h : shelves.Ghosts H) (s : sources.Ghosts S) (k : s
         files = kept_spares options force out (s.left old.input) plan p d r (s.left middle.input) put noted run refuses cause (shelved h old.shelf new) is.0;
         input = inr (kept_takes options force out (s.left old.input) plan p d r (s.left middle.input) put noted run refuses cause (shelved h old.shelf new) is.0);
         source = record { later = omega (arith, calm); calm = λ stays. calm };
+        rest = rest;
       }

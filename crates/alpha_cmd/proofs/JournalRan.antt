@@ -16,7 +16,7 @@ use Rattle.alpha_seq.specs.State.{Program}
 use Rattle.alpha_seq.specs.Start.{start}
 use Rattle.alpha_seq.specs.Run.{notes_of}
 use Rattle.alpha_seq.specs.Machine.{program_of}
-use Rattle.alpha_seq.specs.Devices.{Drawn, drawn, Rests, Idles}
+use Rattle.alpha_seq.specs.Devices.{Drawn, LeavesEnd, drawn, Rests, Idles}
 use Rattle.alpha_seq.proofs.Growing.{Grows}
 use Rattle.alpha_seq.proofs.Filling.{front, notes-grow}
 use Rattle.alpha_pal.specs.declared.fault.Fault.{Fault}
@@ -303,12 +303,12 @@ module _ (options : RunOptions) (m : WildState) (ahead : ℕ → ℕ) (how : m.m
     -- a run that was stopped, with its line still to be written
     pub stopped_does : SaysAlone JournalFull d
         → Stopped (s.left old.input) (s.left input) (sunk k old.out out) (sunk n old.notes notes) → s.faults input ≡ s.faults old.input
-        → Does h s k n (on options force name (plan_by m.machine.image ahead)) (Ok d) old (streamed h s k n old input out notes)
-    stopped_does says did same =
+        → LeavesEnd (drawn s old.input input) → Does h s k n (on options force name (plan_by m.machine.image ahead)) (Ok d) old (streamed h s k n old input out notes)
+    stopped_does says did same rest =
         let a = full_answer (s.left old.input) did.making in
         does_whole h s k n old input out notes (on options force name (plan_by m.machine.image ahead)) d a JournalFull (status_line JournalFull)
         (goes a, inr (record { making = did.making; stopped = did.stopped; is = refl }), refl) says refl refl did.put did.noted did.left refl
-        (over_takes force name JournalFull (inl refl)) same
+        (over_takes force name JournalFull (inl refl)) same rest
 
     -- one without memory, which touched no device
     pub unbegun_does : SaysAlone NoMemory d
@@ -321,3 +321,4 @@ module _ (options : RunOptions) (m : WildState) (ahead : ℕ → ℕ) (how : m.m
         (starts_not _ _ (on options force name (plan_by m.machine.image ahead)) w _ refl) (KeepsFiles-refl (h.files old.shelf)) refl rests put noted (says (s.left input)))
         (over_takes force name d.status (inr (inr (inr (ap (λ (a : Answer). a.status) (says None))))))
         (record { later = omega (arith, rests.same); calm = λ stays. rests.same })
+        (λ bytes tells. ([], bytes, refl, rests.left ∙ tells))

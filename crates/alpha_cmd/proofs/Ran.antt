@@ -14,7 +14,7 @@ use Rattle.alpha_seq.specs.State.{Program, State}
 use Rattle.alpha_seq.specs.Start.{start}
 use Rattle.alpha_seq.specs.Run.{started, Shown, after, shown, sequential}
 use Rattle.alpha_seq.specs.Machine.{program_of, state_of}
-use Rattle.alpha_seq.specs.Devices.{Drawn, drawn}
+use Rattle.alpha_seq.specs.Devices.{Drawn, LeavesEnd, drawn}
 use Rattle.alpha_seq.specs.Inputs.{run_over, HasMade}
 use Rattle.alpha_seq.specs.Notes.{end_line}
 use Rattle.alpha_run.specs.SeqRun.{end_by, HasEnded, run_from, SeqRan, SeqCut}
@@ -137,11 +137,11 @@ says_end left (Some event) ended =
 pub ran_whole : {H S K N : Type 0} (h : shelves.Ghosts H) (s : sources.Ghosts S) (k : sinks.Ghosts K) (n : sinks.Ghosts N) (old : Devices H S K N) (input : S) (out : K) (notes : N)
     (options : RunOptions) (m : Machine) (end : Option End) (d : Decision) → ((left : Option (List ℕ)) → answer_in left d ≡ said left (run_status end) (run_line end))
     → Shows options m end (drawn s old.input input) (sunk k old.out out) (sunk n old.notes notes) → s.faults input ≡ s.faults old.input
-    → Does h s k n (on options m.image) (Ok d) old (streamed h s k n old input out notes)
-ran_whole h s k n old input out notes options m end d says did same =
+    → LeavesEnd (drawn s old.input input) → Does h s k n (on options m.image) (Ok d) old (streamed h s k n old input out notes)
+ran_whole h s k n old input out notes options m end d says did same rest =
     let a = answer_shown (s.left old.input) did.what in
     does_whole h s k n old input out notes (on options m.image) d a (run_status end) (run_line end) (goes a, (did.what, did.may, refl), refl) says
-    (ap run_status (sym did.end_is)) (ap run_line (sym did.end_is)) did.bytes did.lines did.left refl (takes_end end) same
+    (ap run_status (sym did.end_is)) (ap run_line (sym did.end_is)) did.bytes did.lines did.left refl (takes_end end) same rest
 
 -- one that was cut short
 pub cut_fronts : (options : RunOptions) (m : Machine) (w : World) (fault : Fault) {new : Machine} (d : Drawn) (out notes : Sunk) → IsStarted options m

@@ -7,6 +7,7 @@ use Rattle.alpha_io.specs.declared.sink.Sink as sinks
 use Rattle.alpha_io.specs.Sunk.{Puts}
 use Rattle.alpha_io.proofs.Shelved.{KeepsFiles-refl}
 use Rattle.alpha_pal.specs.declared.fault.Fault.{Fault}
+use Rattle.alpha_seq.specs.Devices.{LeavesEnd}
 use Rattle.alpha_seq.specs.StepEffect.{Causes}
 use Rattle.alpha_cmd.specs.declared.decision.Decision.{Decision}
 use Rattle.alpha_cmd.specs.declared.devices.Devices.{Devices}
@@ -31,21 +32,23 @@ module _ {H S K N : Type 0} (h : shelves.Ghosts H) (s : sources.Ghosts S) (k : s
   stream_call = called h s k n old streamed
 
   pub does_stream : (f : Form) (r : Result Decision Failed) → Decides (TriesIn f stream_call) r (s.left input) stream_call.shelf stream_call.out stream_call.notes
-      → MayTakeBy f.kind (status_in r) → CountStays stream_call.input (IfOk r (λ d. d.status ≢ InputFault)) → Does h s k n f r old streamed
-  does_stream f r tried takes source = record {
+      → MayTakeBy f.kind (status_in r) → CountStays stream_call.input (IfOk r (λ d. d.status ≢ InputFault)) → LeavesEnd stream_call.input
+      → Does h s k n f r old streamed
+  does_stream f r tried takes source rest = record {
     tried = tried;
     shelf = record { takes = refl; later = omega arith; calm = λ stays. refl };
     files = inl (KeepsFiles-refl (h.files old.shelf));
     input = inr takes;
     source = source;
+    rest = rest;
   }
 
   -- all of an answer was written but for its last line, which is still to be written
   pub does_whole : (f : Form) (d : Decision) (a : Answer) (status : Status) (line : List ℕ) → AnswerBy f.steps (told stream_call) a
       → ((left : Option (List ℕ)) → answer_in left d ≡ said left status line) → status ≡ a.status → line ≡ a.line
       → Puts stream_call.out a.output → Puts stream_call.notes a.trace → IsLeft a (s.left input) → nothing ≡ a.kept → MayTakeBy f.kind status
-      → s.faults input ≡ s.faults old.input → Does h s k n f (Ok d) old streamed
-  does_whole f d a status line is says status_is line_is put noted left none takes same =
+      → s.faults input ≡ s.faults old.input → LeavesEnd stream_call.input → Does h s k n f (Ok d) old streamed
+  does_whole f d a status line is says status_is line_is put noted left none takes same rest =
       let e = says (s.left input) in
       does_stream f (Ok d)
       (subst (λ (rest : Answer). Leaves (TriesIn f stream_call) rest stream_call.shelf stream_call.out stream_call.notes) (sym e)
@@ -63,12 +66,12 @@ module _ {H S K N : Type 0} (h : shelves.Ghosts H) (s : sources.Ghosts S) (k : s
         notes_are = ap (λ l. a.trace ++ l) line_is;
       }))
       (subst (MayTakeBy f.kind) (sym (ap (λ (x : Answer). x.status) e)) takes)
-      (record { later = omega (arith, same); calm = λ stays. same })
+      (record { later = omega (arith, same); calm = λ stays. same }) rest
 
   -- a device failed on the way, and fronts of an answer's bytes were written
   pub does_cut : (f : Form) (fault : Fault) (r : Result Decision Failed) → IsTrue f.kind.takes → Fronts f (told stream_call) stream_call.out stream_call.notes → IsCutShort fault r
-      → Causes fault stream_call.input stream_call.out stream_call.notes → Does h s k n f r old streamed
-  does_cut f fault r takes fronts says cause =
+      → Causes fault stream_call.input stream_call.out stream_call.notes → LeavesEnd stream_call.input → Does h s k n f r old streamed
+  does_cut f fault r takes fronts says cause rest =
       does_stream f r
       (cut_tried _ f (told stream_call) takes stream_call.shelf (KeepsFiles-refl (h.files old.shelf)) stream_call.input stream_call.out stream_call.notes fronts fault r says cause)
-      (cut_takes f.kind takes fault r says) (cut_counts fault r _ _ _ says cause)
+      (cut_takes f.kind takes fault r says) (cut_counts fault r _ _ _ says cause) rest

@@ -10,7 +10,7 @@ use Rattle.alpha_pal.specs.declared.fault.Fault.TheVariants as faults
 use Rattle.alpha_pal.specs.CallEffect.{Takes}
 use Rattle.alpha_image.specs.Parts.{Parts}
 use Rattle.alpha_request.specs.declared.request.ImageCommand.TheVariants.{Debug}
-use Rattle.alpha_seq.specs.Devices.{Drawn, drawn}
+use Rattle.alpha_seq.specs.Devices.{Drawn, LeavesEnd, drawn}
 use Rattle.alpha_debug.specs.declared.end.DebugEnd.{DebugEnd}
 use Rattle.alpha_debug.specs.Script.{Transcript, IsTranscript}
 use Rattle.alpha_debug.specs.DebugEffect.{Follows, IsWhole, IsUnread, IsUnwritten}
@@ -40,6 +40,12 @@ may_tell image d t follows = told_by image d.old d.new follows.taken follows.res
 pub tail : (image : Parts) (d : Drawn) (t : Transcript) → Follows image d t → LeavesTail script_most d.old d.new
 tail image d t follows = record { taken = follows.taken; rest = follows.rest; took = follows.took; bound = follows.most }
 
+-- so an end of the script is left
+tail_end : (d : Drawn) → LeavesTail script_most d.old d.new → LeavesEnd d
+tail_end d tail = λ bytes tells.
+    let took = subst (λ (old : Option (List ℕ)). Takes old d.new tail.taken tail.rest) tells tail.took in
+    (tail.taken, tail.rest, took.0, took.1)
+
 took_none : (left : Option (List ℕ)) → LeavesTail script_most left left
 took_none None = record { taken = []; rest = []; took = tt; bound = omega arith }
 took_none (Some bytes) = record { taken = []; rest = bytes; took = (refl, refl); bound = omega arith }
@@ -53,6 +59,9 @@ tail_same old new same = subst (λ (left : Option (List ℕ)). LeavesTail script
 module _ {H S K N : Type 0} (h : shelves.Ghosts H) (s : sources.Ghosts S) (k : sinks.Ghosts K) (n : sinks.Ghosts N) (old : Devices H S K N) (input : S) (out : K) (image : Parts) where
   abbrev new : Devices H S K N
   new = streamed h s k n old input out old.notes
+
+  rest : (t : Transcript) → Follows image (drawn s old.input input) t → LeavesEnd (drawn s old.input input)
+  rest t follows = tail_end (drawn s old.input input) (tail image (drawn s old.input input) t follows)
 
   -- its transcript is an answer
   answers : (t : Transcript) → Follows image (drawn s old.input input) t → AnswerBy (on Debug image).steps (told (called h s k n old new)) (answer_told t)
@@ -75,15 +84,15 @@ module _ {H S K N : Type 0} (h : shelves.Ghosts H) (s : sources.Ghosts S) (k : s
   session_whole end d ends says did =
       does_whole h s k n old input out old.notes (on Debug image) d (answer_told did.told) (session_status end) (status_line (session_status end))
       (answers did.told did.follows) says (ap session_status (sym did.end_is)) (ap (λ e. status_line (session_status e)) (sym did.end_is))
-      did.wrote (Puts-none (n.written old.notes) (n.faults old.notes)) tt refl (refl, inl ends) did.same
+      did.wrote (Puts-none (n.written old.notes) (n.faults old.notes)) tt refl (refl, inl ends) did.same (rest did.told did.follows)
 
   pub session_unread : (d : Decision) → IsCutShort faults.Input (Ok d) → IsUnread image (drawn s old.input input) (sunk k old.out out)
       → Does h s k n (on Debug image) (Ok d) old new
   session_unread d says did =
       does_cut h s k n old input out old.notes (on Debug image) faults.Input (Ok d) refl (fronts did.told did.follows did.part) says
-      (record { later = did.later; source = did.cause; sink = did.same; lines = refl })
+      (record { later = did.later; source = did.cause; sink = did.same; lines = refl }) (rest did.told did.follows)
 
   pub session_unwritten : (e : Failed) → IsUnwritten image (drawn s old.input input) (sunk k old.out out) → Does h s k n (on Debug image) (Err e) old new
   session_unwritten e did =
       does_cut h s k n old input out old.notes (on Debug image) faults.Output (Err e) refl (fronts did.told did.follows did.part) tt
-      (record { source = did.same; later = did.part.later; sink = did.cause; lines = refl })
+      (record { source = did.same; later = did.part.later; sink = did.cause; lines = refl }) (rest did.told did.follows)

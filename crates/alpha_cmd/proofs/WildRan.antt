@@ -13,7 +13,7 @@ use Rattle.alpha_seq.specs.State.{Program, Went}
 use Rattle.alpha_seq.specs.Start.{start}
 use Rattle.alpha_seq.specs.Run.{notes_of, sequential}
 use Rattle.alpha_seq.specs.Machine.{program_of}
-use Rattle.alpha_seq.specs.Devices.{Drawn}
+use Rattle.alpha_seq.specs.Devices.{Drawn, LeavesEnd, drawn as drawn_in}
 use Rattle.alpha_imprecise.specs.Moment.{Happening, Precisely}
 use Rattle.alpha_imprecise.specs.Used.{HasUsed}
 use Rattle.alpha_imprecise.specs.Made.{Making, begun, made, wild_end, lost_trap, ShownWild, shown_making, first_words, most_words, imprecise_by}
@@ -285,12 +285,12 @@ module _ (options : RunOptions) (m : WildState) (ahead : ℕ → ℕ) (how : m.m
   pub ran_whole : {H S K N : Type 0} (h : shelves.Ghosts H) (s : sources.Ghosts S) (k : sinks.Ghosts K) (n : sinks.Ghosts N) (old : Devices H S K N) (input : S) (out : K) (notes : N)
       (force : Bool) (last : Option Seen) (drawn : ℕ) (d : Decision) → ((left : Option (List ℕ)) → answer_in left d ≡ said left (answer_status last drawn) (answer_line last))
       → Shows force last drawn (s.left old.input) (s.left input) (sunk k old.out out) (sunk n old.notes notes) → s.faults input ≡ s.faults old.input
-      → Does h s k n (on options force (plan_by m.machine.image ahead)) (Ok d) old (streamed h s k n old input out notes)
-  ran_whole h s k n old input out notes force last drawn d says did same =
+      → LeavesEnd (drawn_in s old.input input) → Does h s k n (on options force (plan_by m.machine.image ahead)) (Ok d) old (streamed h s k n old input out notes)
+  ran_whole h s k n old input out notes force last drawn d says did same rest =
       let a = answer_wild (s.left old.input) did.what in
       does_whole h s k n old input out notes (on options force (plan_by m.machine.image ahead)) d a (answer_status last drawn) (answer_line last)
       (goes a, (did.what, did.may, refl), refl) says did.status_is did.line_is did.bytes did.lines did.left refl
-      (shows_takes force last drawn (s.left old.input) (s.left input) (sunk k old.out out) (sunk n old.notes notes) did) same
+      (shows_takes force last drawn (s.left old.input) (s.left input) (sunk k old.out out) (sunk n old.notes notes) did) same rest
 
   -- one that was cut short
   pub cut_fronts : (force : Bool) (w : World) (out notes : Sunk) → Begins force w.input out notes → Fronts (on options force (plan_by m.machine.image ahead)) w out notes

@@ -7,7 +7,7 @@ use Rattle.alpha_io.specs.declared.sink.Sink as sinks
 use Rattle.alpha_io.specs.Faults.{Rose}
 use Rattle.alpha_io.specs.Shelved.{shelved}
 use Rattle.alpha_io.specs.Sunk.{sunk}
-use Rattle.alpha_seq.specs.Devices.{drawn}
+use Rattle.alpha_seq.specs.Devices.{LeavesEnd, drawn}
 use Rattle.alpha_cmd.specs.declared.decision.Decision.{Decision}
 use Rattle.alpha_cmd.specs.declared.devices.Devices.{Devices}
 use Rattle.alpha_cmd.specs.declared.status.Status.TheVariants.{ShelfFault, InputFault}
@@ -24,7 +24,7 @@ abbrev pub TriesIn : Form → Call → Answer → Type 0
 TriesIn f c = TriesBy (Rose c.shelf.before c.shelf.now) (Rose c.input.before c.input.now) f (told c)
 
 -- It decided, and wrote the front of what it tries. The shelf failed only under its status, and told files stay, but for the one
--- that it keeps. Input was taken only where its kind says so, and failed only under its status.
+-- that it keeps. Input was taken only where its kind says so, from its front on, and failed only under its status.
 pub record Does {H S K N : Type 0} (h : shelves.Ghosts H) (s : sources.Ghosts S) (k : sinks.Ghosts K) (n : sinks.Ghosts N)
     (f : Form) (r : Result Decision Failed) (old new : Devices H S K N) : Type 0 where
   pub tried : Decides (TriesIn f (called h s k n old new)) r (s.left new.input) (shelved h old.shelf new.shelf) (sunk k old.out new.out)
@@ -33,3 +33,4 @@ pub record Does {H S K N : Type 0} (h : shelves.Ghosts H) (s : sources.Ghosts S)
   pub files : SparesBy f.kind (status_in r) (h.files old.shelf) (h.files new.shelf)
   pub input : (new.input ≡ old.input) ⊎ MayTakeBy f.kind (status_in r)
   pub source : CountStays (drawn s old.input new.input) (IfOk r (λ d. d.status ≢ InputFault))
+  pub rest : LeavesEnd (drawn s old.input new.input)

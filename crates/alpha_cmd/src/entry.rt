@@ -2,7 +2,7 @@
 
 ghost use Rattle.std.specs.Prelude.{◌≡◌, ◌⊎◌, [], IfOk, OnOk, map, string_bytes};
 ghost use Rattle.alpha_io.specs.Shelved.{shelved};
-ghost use Rattle.alpha_seq.specs.Devices.{drawn};
+ghost use Rattle.alpha_seq.specs.Devices.{LeavesEnd, drawn};
 ghost use Rattle.alpha_cmd.specs.Alike.{Alike};
 ghost use Rattle.alpha_cmd.specs.AnswerBy.{world};
 ghost use Rattle.alpha_cmd.specs.Asks.{Asks};
@@ -51,6 +51,7 @@ pub fn alpha_main<H: Shelf, S: Source, K: Sink, N: Sink>(
         (H.files devices.old.shelf) (H.files devices.new.shelf) }
     ensures input { (devices.new.input ≡ devices.old.input) ⊎ TakesInput (words_in arguments.now) result }
     ensures source { DrawsUnder result (drawn S.Source devices.old.input devices.new.input) }
+    ensures rest { LeavesEnd (drawn S.Source devices.old.input devices.new.input) }
     ensures ended { EndsAsked (words_in arguments.now) result }
     ensures found { LosesNone (words_in arguments.now) result }
     ensures script { LeavesScript (words_in arguments.now) (drawn S.Source devices.old.input devices.new.input) }

@@ -7,6 +7,7 @@ ghost use Rattle.alpha_io.specs.Files.{HasFile, Refuses};
 ghost use Rattle.alpha_io.specs.Shelved.{shelved};
 ghost use Rattle.alpha_io.specs.Sunk.{sunk};
 ghost use Rattle.alpha_request.specs.Options.{origin_of};
+ghost use Rattle.alpha_seq.specs.Devices.{LeavesEnd, drawn};
 ghost use Rattle.alpha_seq.specs.declared.end.End.{End};
 ghost use Rattle.alpha_imprecise.specs.Made.{LostTrap};
 ghost use Rattle.alpha_replay.specs.Journal.{IsJournal, Parts, spelling};
@@ -127,6 +128,8 @@ fn run_begun<H: Shelf, S: Source, K: Sink, N: Sink>(
         (sunk N.Sink devices.old.notes devices.new.notes)) }
     ensures calm { WhenMade result (λ decision journal.
         S.faults devices.new.input ≡ S.faults devices.old.input) }
+    ensures rest { WhenMade result (λ decision journal.
+        LeavesEnd (drawn S.Source devices.old.input devices.new.input)) }
     ensures over { WhenOver result (λ r. (force : Bool) (name : List ℕ)
         → MayRun force (plan_in begun.old)
         → Does H.Shelf S.Source K.Sink N.Sink (recordings.on options force name (plan_in begun.old)) r

@@ -2,6 +2,7 @@ ghost use Rattle.std.specs.Prelude.{◌≡◌, ◌≢◌, ◌⊎◌, Some};
 ghost use Rattle.alpha_io.specs.Files.{KeepsFiles};
 ghost use Rattle.alpha_io.specs.SureShelfState.{sure_file};
 ghost use Rattle.alpha_request.specs.Command.{Command};
+ghost use Rattle.alpha_seq.specs.Devices.{LeavesEnd};
 ghost use Rattle.alpha_cmd.specs.Answer.{Answer};
 ghost use Rattle.alpha_cmd.specs.Asks.{Asks};
 ghost use Rattle.alpha_cmd.specs.Commands.{there_of, MayTake, Spares};
@@ -28,6 +29,7 @@ pub fn alpha_sure(
 
     // Where memory runs out, files and input are what `alpha_top` leaves of them, and so is a script.
     ensures whole { EndsWhole words.now result (sure_call devices.old devices.new) }
+    ensures rest { LeavesEnd (sure_call devices.old devices.new).input }
     ensures script { LeavesScript words.now (sure_call devices.old devices.new).input }
 
     // No stream fails, and the shelf answers only for a file that it doesn't have or doesn't take.

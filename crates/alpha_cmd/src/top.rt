@@ -6,7 +6,7 @@ ghost use Rattle.alpha_io.specs.Sunk.{sunk};
 ghost use Rattle.alpha_request.specs.Command as commands;
 ghost use Rattle.alpha_request.specs.Command.{Command};
 ghost use Rattle.alpha_request.specs.CommandOf.{command_of};
-ghost use Rattle.alpha_seq.specs.Devices.{drawn};
+ghost use Rattle.alpha_seq.specs.Devices.{LeavesEnd, drawn};
 ghost use Rattle.alpha_cmd.specs.Alike.{Alike};
 ghost use Rattle.alpha_cmd.specs.AnswerBy.{world};
 ghost use Rattle.alpha_cmd.specs.Asks.{Asks};
@@ -86,6 +86,9 @@ pub fn alpha_top<H: Shelf, S: Source, K: Sink, N: Sink>(
     // status, or under that of a sink.
     ensures input { (devices.new.input ≡ devices.old.input) ⊎ TakesInput words.now result }
     ensures source { DrawsUnder result (drawn S.Source devices.old.input devices.new.input) }
+
+    // Whatever fails, what is left of an input that told its bytes is an end of them.
+    ensures rest { LeavesEnd (drawn S.Source devices.old.input devices.new.input) }
 
     // The status of a program that didn't end by exit, or that wasn't run to its end, is one of the
     // end of the words' command. So a run of the imprecise machine never loses a trap, whatever the
@@ -175,6 +178,7 @@ fn decide<H: Shelf, S: Source, K: Sink, N: Sink>(
         ⊎ ((command : Command) × Asks words.now command × MayTake command (status_in result)) }
     ensures source { CountStays (drawn S.Source devices.old.input devices.new.input)
         (IfOk result (λ decision. decision.status ≢ Status.InputFault)) }
+    ensures rest { LeavesEnd (drawn S.Source devices.old.input devices.new.input) }
     ensures script { (file : List ℕ) → Asks words.now (commands.debug file)
         → LeavesTail script_most (S.left devices.old.input) (S.left devices.new.input) }
     ensures recorded { KeepsUnder (Asks words.now) (status_in result)

@@ -2,6 +2,7 @@ pub mod Rows
 pub mod Noting
 pub mod Rushing
 pub mod Turning
+pub mod Leaving
 pub mod SeqRuns
 pub mod SeqShown
 pub mod WildRuns

@@ -27,6 +27,7 @@ use Rattle.alpha_run.specs.Noted.{noted, lines_of, stays, never}
 use Rattle.alpha_run.specs.Ran.{watching, Goes, Stops, RunsTo, IsCut}
 use Rattle.alpha_seq.specs.Sequential.{seen_as, SeqGoes, SeqLeaves, one_unit}
 use Rattle.alpha_run.specs.SeqRun.{Stands, end_by, run_from, SeqRan, SeqCut}
+use Rattle.alpha_run.proofs.Leaving.{steps_rest, cut_rest}
 use Rattle.alpha_run.proofs.Rows.{lines-append}
 use Rattle.alpha_run.proofs.Noting.{seen-stays}
 
@@ -222,6 +223,7 @@ spent units left watch old new from to before behind input out notes is least on
       noted = subst (λ (o : Notes). Puts notes (lines_by stays lines_of o ps)) is one.did.lines;
       told = λ bytes tells.
           told_first old new watch ps bytes input.new one.row one.going (subst (λ (l : Option (List ℕ)). Feeds l ps input.new) tells one.did.fed);
+      rest = steps_rest ps input one.did.fed;
     }
 
 -- what is left behind steps that an input feeds
@@ -313,6 +315,7 @@ stopped units left event watch old new from to before behind input out notes is 
                 ∙ ap (after g s) (suc_is fs (found_by p)))),
             fed.then ∙ ap Some (sym (ap (λ (run : Run). run.state.outside.input) (run_over-last g fs (found_by p) r ∙ more))),
           );
+      rest = steps_rest (ps ++ p ∷ []) input one.did.fed;
     }
 
 pub cut_ran : (fault : Fault) (units left : ℕ) (watch : Bool) (old new : Machine) (from : Notes) (before behind : Telling) (input : Drawn) (out notes : Sunk)
@@ -360,6 +363,7 @@ cut_ran fault units left watch old new from before behind input out notes is one
           let here : left.0 ≡ (run_from old bytes fs).state.outside.input = (let e = told.1 in cc) in
           let found = one.did.found left.0 left.1 in
           (told.0, sym found.0 ∙ here, left.1 ∙ ap Some found.0, (found.1.0, found.1.1, sym found.0 ∙ found.1.2, found.1.3));
+      rest = cut_rest ps p one.did.left input one.did.fed one.did.found;
       cause = one.cause;
     }
 

@@ -36,6 +36,7 @@ use Rattle.alpha_imprecise.specs.WildEffect.{shown_as, WildGoes, WildLeaves}
 use Rattle.alpha_imprecise.specs.WildEffect.{wild_uses}
 use Rattle.alpha_run.specs.WildRan.{WildStands, making_from, WildRan, ended_as, WildRanAs, WildCut}
 use Rattle.alpha_run.proofs.WildUsed.{own-input}
+use Rattle.alpha_run.proofs.Leaving.{steps_rest, cut_rest}
 use Rattle.alpha_run.proofs.SeqRuns.{all_lines, length-found, lines-last, fed_last, fed_some, suc_is}
 
 -- ---- one step
@@ -279,6 +280,7 @@ goes_ran w n units left watch old new from to before after input out notes write
           let told = told_row g ps (begun_at old bytes [] words) watch (Precisely Went) old new 0 [] [] coming bytes 0 input.new old.machine.kernel refl
           (starts old watch bytes words) one.row one.going refl (subst (λ (l : Option (List ℕ)). Feeds l ps input.new) tells one.did.fed) in
           (told.0 ∙ (steps-more g (begun_at old bytes [] words) (length ps) ∙ ap (steps_making g (begun_at old bytes [] words)) (sym (length-found ps))), told.1);
+      rest = steps_rest ps input one.did.fed;
     }
 
 unfoldable pub stopped_ran : {O : Type 0} (w : Watching O) (units left : ℕ) (event : Seen) (watch : Bool) (old new : WildState) (from to : O) (before after : Telling) (input : Drawn) (out notes : Sunk)
@@ -329,6 +331,7 @@ stopped_ran w units left event watch old new from to before after input out note
             fed.then ∙ ap Some (sym (ap (λ (l : List ℕ). (making_from old bytes l all).run.state.outside.input) (split coming)
                 ∙ ap (λ (j : Making). j.run.state.outside.input) (run_making-last g fs (found_by p) k ∙ stands.is))),
           );
+      rest = steps_rest (ps ++ p ∷ []) input one.did.fed;
     }
 
 -- ---- the run, by its last step
@@ -421,5 +424,6 @@ wild_cut w fault n left watch old new from before after input out notes writes o
             left.1 ∙ ap Some found.0,
             (found.1.0, found.1.1, sym found.0 ∙ found.1.2, found.1.3),
           );
+      rest = cut_rest ps p one.did.left input one.did.fed one.did.found;
       cause = one.cause;
     }

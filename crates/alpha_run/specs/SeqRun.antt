@@ -8,7 +8,7 @@ use Rattle.alpha_seq.specs.declared.end.End.{End}
 use Rattle.alpha_seq.specs.State.{Program}
 use Rattle.alpha_seq.specs.Run.{Run, started, end_of, after, notes_of}
 use Rattle.alpha_seq.specs.Machine.{program_of, state_of}
-use Rattle.alpha_seq.specs.Devices.{Drawn, drawn_from, sunk_from}
+use Rattle.alpha_seq.specs.Devices.{Drawn, LeavesEnd, drawn_from, sunk_from}
 use Rattle.alpha_seq.specs.Inputs.{run_over, kernel_over, WritesBetween}
 use Rattle.alpha_seq.specs.declared.event.Event.{Event}
 use Rattle.alpha_seq.specs.declared.event.Event.TheVariants as events
@@ -44,7 +44,7 @@ abbrev pub run_from : Machine → List ℕ → List (List ℕ) → Run
 run_from m from inputs = run_over (program_of m) inputs (started (state_of m from []))
 
 -- The run of so many steps, or to the program's end, over some inputs, one a step; it leaves the steps that it didn't make.
--- Where the input is told, it is the run over that one.
+-- Where the input is told, it is the run over that one, and an end of it is left.
 pub record SeqRan (last : Option Event) (units left : ℕ) (watch : Bool) (old new : Machine) (input : Drawn) (out notes : Sunk) : Type 0 where
   pub inputs : List (List ℕ)
   pub steps : ℕ
@@ -62,6 +62,7 @@ pub record SeqRan (last : Option Event) (units left : ℕ) (watch : Bool) (old n
   pub told : (bytes : List ℕ) → input.old ≡ Some bytes
       → (run_from old bytes inputs ≡ after (program_of old) (state_of old bytes []) (length inputs))
       × (input.new ≡ Some (run_from old bytes inputs).state.outside.input)
+  pub rest : LeavesEnd input
 
 -- A run that a device's fault cut short within a step: fewer steps were made over some inputs, and the output and the notes
 -- have all that these show, and of the next step a front. What is there of the machine behind that step is said from where it
@@ -101,4 +102,5 @@ pub record SeqCut (fault : Fault) (units : ℕ) (watch : Bool) (old new : Machin
       × (next ≡ (run_from old bytes inputs).state.outside.input)
       × (left ≡ Some next)
       × ((taken : List ℕ) × (rest : List ℕ) × (next ≡ taken ++ rest) × (input.new ≡ Some rest))
+  pub rest : LeavesEnd input
   pub cause : Causes fault input out notes

@@ -6,7 +6,7 @@ use Rattle.alpha_io.specs.Sunk.{Sunk, Puts}
 use Rattle.alpha_seq.specs.State.{Program, Ends}
 use Rattle.alpha_seq.specs.Run.{notes_of}
 use Rattle.alpha_seq.specs.Machine.{program_of}
-use Rattle.alpha_seq.specs.Devices.{Drawn, drawn_from, sunk_from}
+use Rattle.alpha_seq.specs.Devices.{Drawn, LeavesEnd, drawn_from, sunk_from}
 use Rattle.alpha_seq.specs.Inputs.{WritesBetween}
 use Rattle.alpha_imprecise.specs.Moment.{Happening, Precisely, Lost}
 use Rattle.alpha_imprecise.specs.Run.{WildRun, finished, unit_of}
@@ -38,7 +38,7 @@ abbrev pub making_from : WildState → List ℕ → List ℕ → List (List ℕ)
 making_from w from words inputs = run_making_over (program_of w.machine) inputs (begun_at w from [] words)
 
 -- The run of so many units over some inputs, one a step, by the words that the chooser went on by, whatever comes behind
--- them. Where the input is told, it is the run over that one.
+-- them. Where the input is told, it is the run over that one, and an end of it is left.
 pub record WildRan (last : Happening) (n : ℕ) (watch : Bool) (old new : WildState) (before after : Telling) (input : Drawn) (out notes : Sunk) : Type 0 where
   pub inputs : List (List ℕ)
   pub words : List ℕ
@@ -53,6 +53,7 @@ pub record WildRan (last : Happening) (n : ℕ) (watch : Bool) (old new : WildSt
   pub told : (bytes coming : List ℕ) → input.old ≡ Some bytes
       → (making_from old bytes (words ++ coming) inputs ≡ steps_making (program_of old.machine) (begun_at old bytes [] (words ++ coming)) (length inputs))
       × (input.new ≡ Some (making_from old bytes (words ++ coming) inputs).run.state.outside.input)
+  pub rest : LeavesEnd input
 
 -- the step behind which a run is over, none where it goes on
 abbrev pub ended_as : Happening → Option Event
@@ -112,4 +113,5 @@ pub record WildCut (fault : Fault) (n : ℕ) (watch : Bool) (old new : WildState
       × (next ≡ (making_from old bytes (words ++ coming) inputs).run.state.outside.input)
       × (left ≡ Some next)
       × ((taken : List ℕ) × (rest : List ℕ) × (next ≡ taken ++ rest) × (input.new ≡ Some rest))
+  pub rest : LeavesEnd input
   pub cause : Causes fault input out notes

@@ -1,5 +1,5 @@
 -- What a step or a run did to its devices, which may tell nothing.
-use Rattle.std.specs.Prelude.{◌≡◌, ◌≤◌, ℕ, List, Option}
+use Rattle.std.specs.Prelude.{◌≡◌, ◌≤◌, ℕ, List, ◌++◌, Option, Some}
 use Rattle.alpha_io.specs.declared.source.Source.{Ghosts}
 use Rattle.alpha_io.specs.Faults.{Rose}
 use Rattle.alpha_io.specs.Sunk.{Sunk, HasFailed}
@@ -23,6 +23,10 @@ drawn g = drawn_by g.left g.faults
 pub record Rests (d : Drawn) : Type 0 where
   pub left : d.new ≡ d.old
   pub same : d.now ≡ d.before
+
+-- Where the source told its bytes, what is left of them is an end of them.
+abbrev pub LeavesEnd : Drawn → Type 0
+LeavesEnd d = (bytes : List ℕ) → d.old ≡ Some bytes → (taken : List ℕ) × (rest : List ℕ) × (bytes ≡ taken ++ rest) × (d.new ≡ Some rest)
 
 -- nothing was put and no fault came
 pub record Idles (s : Sunk) : Type 0 where

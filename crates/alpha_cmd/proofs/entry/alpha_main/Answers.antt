@@ -1,4 +1,4 @@
-use Rattle.std.proofs.Common.{◌≡◌, ◌⊎◌, ℕ, List, refl, subst, inl, inr, arith}
+use Rattle.std.proofs.Common.{◌≡◌, ◌⊎◌, ℕ, List, [], refl, subst, inl, inr, arith}
 use Rattle.alpha_io.proofs.Shelved.{KeepsFiles-refl}
 use Rattle.alpha_cmd.specs.declared.status.Status.TheVariants.{Done, SinkFault, NoMemory}
 use Rattle.alpha_cmd.specs.Accepts.{Accepts}
@@ -33,6 +33,7 @@ returns-in-Ok g c =
       files = subst (λ (words : List (List ℕ)). SparesFiles words status did.shelf.old did.shelf.new) is done.files;
       input = subst (λ (words : List (List ℕ)). (c.alpha_top.new.devices.input ≡ c.args.devices.now.input) ⊎ TakesInput words status) is done.input;
       source = done.source;
+      rest = done.rest;
       ended = subst (λ (words : List (List ℕ)). EndsAsked words status) is done.ended;
       found = subst (λ (words : List (List ℕ)). LosesNone words status) is done.found;
       script = subst (λ (words : List (List ℕ)). LeavesScript words did.input) is done.script;
@@ -64,6 +65,7 @@ returns-in-Err g c =
       files = inl (KeepsFiles-refl (g.H.Shelf.files c.args.devices.now.shelf));
       input = inl refl;
       source = record { later = omega arith; calm = λ stays. refl };
+      rest = λ bytes tells. ([], bytes, refl, tells);
       ended = λ is. absurd cc;
       found = λ options choices file lost asks e. cc;
       script = λ file asks. tail_same left left refl;

@@ -20,7 +20,7 @@ returns-in-Ok g c = λ force may.
     (ran_shows c.args.options begun.wild ahead c.requires.how c.requires.fresh force c.in-Ok.last new.left c.drawn.result new.wild _ _ (drawn g.S.Source old.input new.input) (sunk g.K.Sink old.out new.out)
     (sunk g.N.Sink old.notes new.notes) (whole _ _ _ _ _ _ _ _ _ _ _ c.in-Ok.ensures.made)
     refl (ap (λ (n : ℕ). Some n) c.requires.none) (ap (λ (n : ℕ). Some n) (sym c.drawn.ensures)) c.drawn.type_inv (may_alone force (plan_in begun) may))
-    (whole _ _ _ _ _ _ _ _ _ _ _ c.in-Ok.ensures.made).ran.same
+    (whole _ _ _ _ _ _ _ _ _ _ _ c.in-Ok.ensures.made).ran.same (whole _ _ _ _ _ _ _ _ _ _ _ c.in-Ok.ensures.made).ran.rest
 
 pub returns-in-Err : goal.returns-in-Err
 returns-in-Err g c = λ force may.
@@ -35,4 +35,4 @@ returns-in-Err g c = λ force may.
     does_cut g.H.Shelf g.S.Source g.K.Sink g.N.Sink old new.input new.out new.notes (on c.args.options force (plan_in begun)) c.in-Err.fault c.cut_short.result refl
     (cut_fronts c.args.options begun.wild ahead c.requires.how c.requires.fresh force (world g.H.Shelf g.S.Source old.shelf old.input) out notes
     (cut_begins c.args.options begun.wild ahead c.requires.how c.requires.fresh force c.in-Err.fault _ _ input out notes cut refl (may_alone force (plan_in begun) may) input.old refl))
-    c.cut_short.ensures cut.cause
+    c.cut_short.ensures cut.cause cut.rest

@@ -14,7 +14,7 @@ use Rattle.alpha_cmd.proofs.record.record_begun.Goals as goal
 pub returns-in-Made-clause-does : goal.returns-in-Made-clause-does
 returns-in-Made-clause-does g c = λ force may.
     kept_does g.H.Shelf g.S.Source g.K.Sink g.N.Sink c.args.devices.now c.run_begun.new.devices c.keep_journal.new.shelf c.args.options force c.args.name.now
-    (plan_in c.args.begun.now) c.in-Made.journal c.in-Made.decision c.keep_journal.result c.run_begun.ensures.shelf c.in-Made.ensures.calm
+    (plan_in c.args.begun.now) c.in-Made.journal c.in-Made.decision c.keep_journal.result c.run_begun.ensures.shelf c.in-Made.ensures.calm c.in-Made.ensures.rest
     (c.in-Made.ensures.made force may) (c.keep_journal.ensures.kept, c.keep_journal.ensures.shelf)
 
 pub returns-in-Made-clause-keeps : goal.returns-in-Made-clause-keeps

@@ -30,6 +30,9 @@ returns-in-Made-clause-made g c = λ force may.
 pub returns-in-Made-clause-calm : goal.returns-in-Made-clause-calm
 returns-in-Made-clause-calm g c = c.in-Made.ensures.made.stops.ran.same
 
+pub returns-in-Made-clause-rest : goal.returns-in-Made-clause-rest
+returns-in-Made-clause-rest g c = c.in-Made.ensures.made.stops.ran.rest
+
 pub returns-in-Failed-clause-over : goal.returns-in-Failed-clause-over
 returns-in-Failed-clause-over g c = λ force name may.
     let old = c.args.devices.now in
@@ -48,7 +51,7 @@ returns-in-Failed-clause-over g c = λ force name may.
     (λ judges. (may_alone force (plan_in begun) may judges).free) refl did.made (λ bytes told. did.told bytes ahead told refl c.requires.fresh)
     (cut_begins (unwatched c.args.options) from ahead c.requires.how c.requires.fresh force c.in-Failed.fault _ _ input out notes cut refl
     (may_alone force (plan_in begun) may) w.input refl))
-    c.cut_short.ensures cut.cause
+    c.cut_short.ensures cut.cause cut.rest
 
 pub returns-in-Failed-clause-status : goal.returns-in-Failed-clause-status
 returns-in-Failed-clause-status g c =
@@ -72,7 +75,7 @@ returns-in-Full-clause-over g c = λ force name may.
     (stopped_by c.args.options from ahead c.requires.how c.requires.fresh input.old input.new input.before input.now out notes
     (λ bytes told. did.told bytes ahead told refl c.requires.fresh)
     (moment c.args.options from ahead c.requires.how c.requires.fresh new.wild _ _ input out notes refl did.made))
-    did.made.stops.ran.same
+    did.made.stops.ran.same did.made.stops.ran.rest
 
 pub returns-in-NoMemory-clause-over : goal.returns-in-NoMemory-clause-over
 returns-in-NoMemory-clause-over g c = λ force name may.

@@ -16,7 +16,7 @@ returns-in-Ok g c =
     (λ left. c.behind.ensures left ∙ says_end left c.in-Ok.last ran.ended)
     (ran_shows c.args.options c.in-Ok.last new.left c.args.machine.now new.machine (drawn g.S.Source old.input new.input) (sunk g.K.Sink old.out new.out)
     (sunk g.N.Sink old.notes new.notes) (record { how = c.requires.how; state = c.requires.start }) ran)
-    ran.same
+    ran.same ran.rest
 
 pub returns-in-Err : goal.returns-in-Err
 returns-in-Err g c =
@@ -26,4 +26,4 @@ returns-in-Err g c =
     does_cut g.H.Shelf g.S.Source g.K.Sink g.N.Sink old new.input new.out new.notes (on c.args.options c.args.machine.now.image) c.in-Err.fault c.cut_short.result refl
     (cut_fronts c.args.options c.args.machine.now _ c.in-Err.fault (drawn g.S.Source old.input new.input) (sunk g.K.Sink old.out new.out) (sunk g.N.Sink old.notes new.notes)
     (record { how = c.requires.how; state = c.requires.start }) cut refl)
-    c.cut_short.ensures cut.cause
+    c.cut_short.ensures cut.cause cut.rest

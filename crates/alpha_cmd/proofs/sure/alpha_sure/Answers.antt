@@ -13,6 +13,9 @@ returns-clause-whole c = c.alpha_top.ensures.whole
 pub returns-clause-script : goal.returns-clause-script
 returns-clause-script c = c.alpha_top.ensures.script
 
+pub returns-clause-rest : goal.returns-clause-rest
+returns-clause-rest c = c.alpha_top.ensures.rest
+
 pub returns-clause-streams : goal.returns-clause-streams
 returns-clause-streams c =
     let calm : c.alpha_top.result ≢ SinkFault = λ e. ⊎_elim Rose-none Rose-none (c.alpha_top.ensures.part e).failed in

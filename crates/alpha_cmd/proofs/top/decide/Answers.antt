@@ -1,4 +1,4 @@
-use Rattle.std.proofs.Common.{◌≡◌, ◌∙◌, Some, refl, sym, ap, subst, inl, inr, ⊎_elim}
+use Rattle.std.proofs.Common.{◌≡◌, ◌∙◌, [], Some, refl, sym, ap, subst, inl, inr, ⊎_elim}
 use Rattle.alpha_io.specs.Faults.{Rose}
 use Rattle.alpha_io.proofs.Shelved.{KeepsFiles-refl}
 use Rattle.alpha_request.specs.Command.{record_run}
@@ -35,17 +35,24 @@ returns-in-Ok g c =
           (λ (h : MayTakeBy (form_of command).kind (status_in c.perform.result)). inr (command, asks, subst (λ (k : Kind). MayTakeBy k (status_in c.perform.result)) (kind_is command) h))
           does.input;
       source = does.source;
+      rest = does.rest;
       script = λ file also. c.perform.ensures.script file (let e = sym asks ∙ also in cc);
       recorded = λ options choices force file out end lost n also is.
           let same : command ≡ record_run options choices force file out = (let e = sym asks ∙ also in cc) in
           c.perform.ensures.recorded options choices force file out end lost n same is;
     }
 
+pub returns-in-Err-BadWords-clause-rest : goal.returns-in-Err-BadWords-clause-rest
+returns-in-Err-BadWords-clause-rest g c = λ bytes tells. ([], bytes, refl, tells)
+
 pub returns-in-Err-BadWords-clause-tried : goal.returns-in-Err-BadWords-clause-tried
 returns-in-Err-BadWords-clause-tried g c =
     let did = called g.H.Shelf g.S.Source g.K.Sink g.N.Sink c.args.devices.now c.args.devices.now in
     Leaves-all (tried_in c.args.words.now did) (answer_in did.input.new c.said.result) did.shelf did.out.old did.notes.old did.out.now did.notes.now
     (inl (inl (rw c.in-Err-BadWords.field-0-is at c.in-Err-BadWords.ensures, c.said.ensures.answer did.input.new))) (KeepsFiles-refl did.shelf.old)
+
+pub returns-in-Err-NoMemory-clause-rest : goal.returns-in-Err-NoMemory-clause-rest
+returns-in-Err-NoMemory-clause-rest g c = λ bytes tells. ([], bytes, refl, tells)
 
 pub returns-in-Err-NoMemory-clause-tried : goal.returns-in-Err-NoMemory-clause-tried
 returns-in-Err-NoMemory-clause-tried g c =
