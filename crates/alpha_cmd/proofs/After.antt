@@ -11,6 +11,7 @@ use Rattle.alpha_io.proofs.Counts.{Rose-earlier}
 use Rattle.alpha_io.proofs.Shelved.{KeepsFiles-trans}
 use Rattle.alpha_cmd.specs.declared.decision.Decision.{Decision}
 use Rattle.alpha_cmd.specs.declared.devices.Devices.{Devices}
+use Rattle.alpha_cmd.specs.declared.status.Status.{Status}
 use Rattle.alpha_cmd.specs.declared.status.Status.TheVariants.{ShelfFault}
 use Rattle.alpha_cmd.specs.declared.stop.Stop.{Stop}
 use Rattle.alpha_cmd.specs.declared.stop.Stop.TheVariants.{Said}
@@ -20,9 +21,10 @@ use Rattle.alpha_cmd.specs.Call.{Call, called}
 use Rattle.alpha_cmd.specs.Decision.{SaysStop}
 use Rattle.alpha_cmd.specs.Does.{Does, TriesIn}
 use Rattle.alpha_cmd.specs.Form.{Form, Kind, Needs}
+use Rattle.alpha_cmd.specs.Kept.{Kept}
 use Rattle.alpha_cmd.specs.Outcome.{Outcome, goes, stops, Then}
 use Rattle.alpha_cmd.specs.Stage.{Stage, StopsBy, stop_status, stop_line}
-use Rattle.alpha_cmd.specs.Tries.{TriesBy}
+use Rattle.alpha_cmd.specs.Tries.{MaySpoilBy, TriesBy}
 use Rattle.alpha_cmd.proofs.Doing.{Serves-after, does_stopped}
 use Rattle.alpha_cmd.proofs.Endings.{Decides-map}
 use Rattle.alpha_cmd.proofs.Keeping.{HasKept-after, SparesBy-after}
@@ -51,9 +53,22 @@ module _ {X : Type 0} (R : Files → Outcome X → Type 0) (T : World → X → 
       answers_after t (goes y, h, is) = (goes y, (x, found, move (goes y) h), is)
       answers_after t (stops s line, h, is) = (stops s line, inr (x, found, move (stops s line) h), is)
 
+      spoilt_after : (status : Status) (kept : Kept) → MaySpoilBy (rest x) later status kept → MaySpoilBy row before status kept
+      spoilt_after status kept (inl h) = inl h
+      spoilt_after status kept (inr h) = inr (record {
+        status_is = h.status_is;
+        name = h.name;
+        bytes = h.bytes;
+        keeps = h.keeps;
+        answer = h.answer;
+        is = answers_after h.answer h.is;
+        kept_is = h.kept_is;
+        spoilt_is = h.spoilt_is;
+      })
+
       pub tries_after : (shelf sooner fed : Type 0) → (shelf → sooner) → (t : Answer) → TriesBy shelf fed (rest x) later t → TriesBy sooner fed row before t
       tries_after shelf sooner fed f t (inl h) = inl (answers_after t h)
-      tries_after shelf sooner fed f t (inr (inl h)) = inr (inl (record { cause = CutBy-map shelf sooner f t.status h.cause; kept = h.kept; is = h.is }))
+      tries_after shelf sooner fed f t (inr (inl h)) = inr (inl (record { cause = CutBy-map shelf sooner f t.status h.cause; kept = spoilt_after t.status t.kept h.kept; is = h.is }))
       tries_after shelf sooner fed f t (inr (inr (inl h))) = inr (inr (inl (record {
         cause = h.cause;
         takes = h.takes;
@@ -69,7 +84,7 @@ module _ {X : Type 0} (R : Files → Outcome X → Type 0) (T : World → X → 
       tries_after shelf sooner fed f t (inr (inr (inr h))) = inr (inr (inr (record {
         cause = CutBy-map shelf sooner f t.status h.cause;
         streams = h.streams;
-        kept = h.kept;
+        kept = spoilt_after t.status t.kept h.kept;
         answer = h.answer;
         is = answers_after h.answer h.is;
         same = h.same;

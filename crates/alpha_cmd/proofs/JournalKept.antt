@@ -25,7 +25,7 @@ use Rattle.alpha_cmd.specs.Outcome.{goes}
 use Rattle.alpha_cmd.specs.Status.{status_line}
 use Rattle.alpha_cmd.specs.Tries.{TriesBy, CutBy, MaySpoilBy}
 use Rattle.alpha_cmd.specs.Commands.Imprecise.{Plan, answer_wild}
-use Rattle.alpha_cmd.specs.Commands.Record.{KeepsBehind, on, kind, RunsOn, KeptBehind, stands, untaken, lost, spent}
+use Rattle.alpha_cmd.specs.Commands.Record.{KeepsBehind, on, RunsOn, KeptBehind, stands, untaken, lost, spent}
 use Rattle.alpha_cmd.proofs.Commands.Record.{keeps_some}
 use Rattle.alpha_cmd.proofs.JournalStatus.{kept_takes, kept_spares, decision_not_shelf}
 
@@ -63,7 +63,7 @@ module _ (options : RunOptions) (force : Bool) (out : List ℕ) (w : World) (s :
         notes_are = ap (λ (l : List ℕ). l ++ t.line) (sym trace);
       })
 
-  unkept : (status : Status) (kept : Kept) → CutBy shelf status → MaySpoilBy (kind force out) status kept → HasKept kept s → SaysAlone status r
+  unkept : (status : Status) (kept : Kept) → CutBy shelf status → MaySpoilBy (on options force out plan) w status kept → HasKept kept s → SaysAlone status r
       → Leaves Tries (answer_in left r) s o n
   unkept status kept cut may files says =
       let a = keeps_some w out (spelling p) (answer_wild w.input run.shown) in
@@ -85,7 +85,19 @@ module _ (options : RunOptions) (force : Bool) (out : List ℕ) (w : World) (s :
   kept_tried (untaken u says files) =
       let t : Answer = record (answer_wild w.input run.shown) { status = ShelfFault; line = status_line ShelfFault } in
       leaves t (answer_in left r) (inl (answers t (inr (u, refl)))) (says left) refl refl refl files
-  kept_tried (lost c says files) = unkept ShelfFault (spoilt out) (inr (refl, c)) (inr (refl, (out, refl, refl))) files says
+  kept_tried (lost fits c says files) =
+      let t : Answer = record (answer_wild w.input run.shown) { kept = kinds.file out (spelling p) } in
+      unkept ShelfFault (spoilt out) (inr (refl, c))
+      (inr (record {
+        status_is = refl;
+        name = out;
+        bytes = spelling p;
+        keeps = refl;
+        answer = t;
+        is = answers t (inl (fits, refl));
+        kept_is = refl;
+        spoilt_is = refl;
+      })) files says
   kept_tried (spent says files) = unkept NoMemory nothing (inl refl) (inl refl) files says
 
 -- the run has called no shelf, and the keep only that

@@ -98,19 +98,19 @@ module _ (options : RunOptions) (force : Bool) (out : List ℕ) (input : Option 
   pub kept_takes : KeptBehind refuses shelf out (spelling p) s d r → MayTakeBy (kind force out) r.status
   kept_takes (stands fits e files) = (refl, inl (run_ends e))
   kept_takes (untaken u says files) = (refl, inr (inr (inr (refl, inl (alone ShelfFault says)))))
-  kept_takes (lost c says files) = (refl, inr (inr (inr (refl, inl (alone ShelfFault says)))))
+  kept_takes (lost fits c says files) = (refl, inr (inr (inr (refl, inl (alone ShelfFault says)))))
   kept_takes (spent says files) = (refl, inr (inr (inr (refl, inr (alone NoMemory says)))))
 
   pub kept_spares : KeptBehind refuses shelf out (spelling p) s d r → SparesBy (kind force out) r.status s.old s.new
   kept_spares (stands fits e files) = inr (out, (refl, inl (run_ends e)), files.1)
   kept_spares (untaken u says files) = inl files
-  kept_spares (lost c says files) = inr (out, (refl, inr (inl (alone ShelfFault says))), files)
+  kept_spares (lost fits c says files) = inr (out, (refl, inr (inl (alone ShelfFault says))), files)
   kept_spares (spent says files) = inl files
 
   pub kept_keeps : (end : Option End) (trap : Option LostTrap) (k : ℕ) → r.status ≡ wild_status end trap k → KeptBehind refuses shelf out (spelling p) s d r → HasFile s.new out (spelling p)
   kept_keeps end trap k is (stands fits e files) = files.0
   kept_keeps end trap k is (untaken u says files) = absurd (no_end end trap k r.status is (inr (ap is_fault (alone ShelfFault says))))
-  kept_keeps end trap k is (lost c says files) = absurd (no_end end trap k r.status is (inr (ap is_fault (alone ShelfFault says))))
+  kept_keeps end trap k is (lost fits c says files) = absurd (no_end end trap k r.status is (inr (ap is_fault (alone ShelfFault says))))
   kept_keeps end trap k is (spent says files) = absurd (no_end end trap k r.status is (inr (ap is_fault (alone NoMemory says))))
 
   -- the decision of a run is no shelf's fault

@@ -13,7 +13,7 @@ use Rattle.alpha_cmd.specs.Status.{status_line}
 use Rattle.alpha_cmd.specs.Outcome.{Outcome, goes, stops}
 use Rattle.alpha_cmd.specs.Kept.{Kept, nothing, file, spoilt, HasKept}
 use Rattle.alpha_cmd.specs.Answer.{Answer}
-use Rattle.alpha_cmd.specs.AnswerBy.{World, answer_of, said}
+use Rattle.alpha_cmd.specs.AnswerBy.{World, AnswerBy, answer_of, kept_as, said}
 use Rattle.alpha_cmd.specs.Ends.{Settles}
 use Rattle.alpha_cmd.specs.Form.{Kind, SparesBy, making}
 use Rattle.alpha_cmd.specs.Keeping.{KeepsAs, TriesKeep, Untaken}
@@ -65,9 +65,14 @@ module _ (Makes : World → Outcome (List ℕ) → Type 0) (out bytes : List ℕ
   tried : (shelf sooner : Type 0) (t : Answer) → (shelf → sooner) → TriesKeep shelf later out bytes t → TriesBy sooner fed (making Makes out) w t
   unfolding later
   tried shelf sooner t f (inl (o, h, is)) = answered sooner o t h is
-  tried shelf sooner t f (inr (cause, is)) =
+  tried shelf sooner t f (inr (cause, fits, is)) =
+      let answer : AnswerBy (making Makes out).steps w (kept_as w.input out bytes) = (goes (kept_as w.input out bytes), (bytes, found, ((λ u. fits (by_then u)), refl)), refl) in
       let whole : IsCutBy sooner (making Makes out) w (record (said w.input ShelfFault (status_line ShelfFault)) { kept = spoilt out }) =
-      record { cause = inr (refl, f cause); kept = inr (refl, (out, refl, refl)); is = refl } in
+      record {
+        cause = inr (refl, f cause);
+        kept = inr (record { status_is = refl; name = out; bytes = bytes; keeps = refl; answer = kept_as w.input out bytes; is = answer; kept_is = refl; spoilt_is = refl });
+        is = refl;
+      } in
       inr (inl (subst (IsCutBy sooner (making Makes out) w) (sym is) whole))
 
 -- what a command settles by its keep

@@ -17,9 +17,9 @@ abbrev pub KeepsAs : World → List ℕ → List ℕ → Outcome Answer → Type
 KeepsAs w out bytes =
     Either (λ a. ¬ Untaken w out bytes × (a ≡ kept_as w.input out bytes)) (Says (λ status. (status ≡ ShelfFault) × Untaken w out bytes))
 
--- What a keep as the last stage tries: what comes of it, or the shelf failed, and nothing is known of the file. The first fact is
--- that the shelf failed.
+-- What a keep as the last stage tries: what comes of it, or the shelf failed that takes the bytes, and nothing is known of the
+-- file. The first fact is that the shelf failed.
 abbrev pub TriesKeep : Type 0 → World → List ℕ → List ℕ → Answer → Type 0
 TriesKeep shelf w out bytes t =
     ((o : Outcome Answer) × KeepsAs w out bytes o × (t ≡ answer_of w.input o))
-    ⊎ (shelf × (t ≡ record (said w.input ShelfFault (status_line ShelfFault)) { kept = spoilt out }))
+    ⊎ (shelf × ¬ Untaken w out bytes × (t ≡ record (said w.input ShelfFault (status_line ShelfFault)) { kept = spoilt out }))

@@ -4,23 +4,34 @@ use Rattle.alpha_seq.specs.Devices.{Drawn}
 use Rattle.alpha_cmd.specs.declared.status.Status.{Status}
 use Rattle.alpha_cmd.specs.declared.status.Status.TheVariants.{ShelfFault, InputFault, NoMemory}
 use Rattle.alpha_cmd.specs.Status.{status_line}
-use Rattle.alpha_cmd.specs.Kept.{Kept, nothing, spoilt}
+use Rattle.alpha_cmd.specs.Kept.{Kept, nothing, file, spoilt}
 use Rattle.alpha_cmd.specs.Answer.{Answer}
 use Rattle.alpha_cmd.specs.AnswerBy.{World, AnswerBy, said}
-use Rattle.alpha_cmd.specs.Form.{Form, Kind}
+use Rattle.alpha_cmd.specs.Form.{Form}
 
 -- the statuses that cut a command short, each with its cause; the first fact is that the shelf failed
 abbrev pub CutBy : Type 0 → Status → Type 0
 CutBy shelf status = (status ≡ NoMemory) ⊎ ((status ≡ ShelfFault) × shelf)
 
--- what a command that was cut short leaves of the files: they stay, but for the one whose keep failed with the shelf
-abbrev pub MaySpoilBy : Kind → Status → Kept → Type 0
-MaySpoilBy k status kept = (kept ≡ nothing) ⊎ ((status ≡ ShelfFault) × ((name : List ℕ) × (k.keeps ≡ Some name) × (kept ≡ spoilt name)))
+-- A file was to be kept, which an answer of the command keeps, and that failed with the shelf.
+pub record IsSpoiltBy (f : Form) (w : World) (status : Status) (kept : Kept) : Type 0 where
+  pub status_is : status ≡ ShelfFault
+  pub name : List ℕ
+  pub bytes : List ℕ
+  pub keeps : f.kind.keeps ≡ Some name
+  pub answer : Answer
+  pub is : AnswerBy f.steps w answer
+  pub kept_is : answer.kept ≡ file name bytes
+  pub spoilt_is : kept ≡ spoilt name
+
+-- what a command that was cut short leaves of the files: they stay, but for such a one
+abbrev pub MaySpoilBy : Form → World → Status → Kept → Type 0
+MaySpoilBy f w status kept = (kept ≡ nothing) ⊎ IsSpoiltBy f w status kept
 
 -- what a command that was cut short has for the sinks: the line of its status, and nothing before it
 pub record IsCutBy (shelf : Type 0) (f : Form) (w : World) (t : Answer) : Type 0 where
   pub cause : CutBy shelf t.status
-  pub kept : MaySpoilBy f.kind t.status t.kept
+  pub kept : MaySpoilBy f w t.status t.kept
   pub is : t ≡ record (said w.input t.status (status_line t.status)) { kept = t.kept }
 
 -- bytes begin with these
@@ -46,7 +57,7 @@ pub record IsStarvedBy (input : Type 0) (f : Form) (w : World) (t : Answer) : Ty
 pub record IsUnkeptBy (shelf : Type 0) (f : Form) (w : World) (t : Answer) : Type 0 where
   pub cause : CutBy shelf t.status
   pub streams : IsTrue f.kind.takes × IsSome f.kind.keeps
-  pub kept : MaySpoilBy f.kind t.status t.kept
+  pub kept : MaySpoilBy f w t.status t.kept
   pub answer : Answer
   pub is : AnswerBy f.steps w answer
   pub same : t ≡ record answer { status = t.status; line = status_line t.status; kept = t.kept }

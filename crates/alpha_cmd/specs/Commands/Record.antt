@@ -193,10 +193,10 @@ WhenOver (ends.Over r) P = P r
 abbrev pub IsOver : Status → Type 0
 IsOver status = (status ≡ JournalFull) ⊎ ((status ≡ InputFault) ⊎ ((status ≡ SinkFault) ⊎ (status ≡ NoMemory)))
 
--- What becomes of a decision by the keep of these bytes behind it: it stands; the shelf refuses them; the shelf failed; or
+-- What becomes of a decision by the keep of these bytes behind it: it stands; the shelf refuses them; it doesn't, and failed; or
 -- memory ran out before. The first two facts are that told files refuse them, and that the shelf failed.
 pub data KeptBehind (refuses shelf : Type 0) (out bytes : List ℕ) (s : Shelved) (d r : Decision) : Type 0 where
   stands : (refuses → ⊥) → r ≡ d → HasKept (kinds.file out bytes) s → KeptBehind refuses shelf out bytes s d r
   untaken : refuses → SaysAlone ShelfFault r → HasKept nothing s → KeptBehind refuses shelf out bytes s d r
-  lost : shelf → SaysAlone ShelfFault r → HasKept (spoilt out) s → KeptBehind refuses shelf out bytes s d r
+  lost : (refuses → ⊥) → shelf → SaysAlone ShelfFault r → HasKept (spoilt out) s → KeptBehind refuses shelf out bytes s d r
   spent : SaysAlone NoMemory r → HasKept nothing s → KeptBehind refuses shelf out bytes s d r

@@ -12,6 +12,7 @@ use Rattle.alpha_cmd.specs.Keeping.{TriesKeep}
 use Rattle.alpha_cmd.specs.Kept.{nothing, file, spoilt}
 use Rattle.alpha_cmd.specs.Outcome.{goes, stops}
 use Rattle.alpha_cmd.specs.Status.{status_line}
+use Rattle.alpha_cmd.proofs.Stages.{taken_or_not}
 use Rattle.alpha_cmd.proofs.keep.keep_as.Goals as goal
 
 pub returns-in-Ok-clause-tried : goal.returns-in-Ok-clause-tried
@@ -41,15 +42,15 @@ returns-in-Err-clause-tried g c = λ input.
     let all = shelved g.H.Shelf c.args.shelf.now c.keep.new.self in
     let rest = answer_in input c.said-in-Err.result in
     let is = c.said-in-Err.ensures.answer input in
-    let failed : rose → Settles (TriesKeep rose w out bytes) rest all =
-    λ cause. (spoilt out, inr (cause, ap (λ (a : Answer). record a { kept = spoilt out }) is), c.in-Err.ensures.others) in
+    let failed : (refusal → ⊥) → rose → Settles (TriesKeep rose w out bytes) rest all =
+    λ fits cause. (spoilt out, inr (cause, fits, ap (λ (a : Answer). record a { kept = spoilt out }) is), c.in-Err.ensures.others) in
     let untaken : refusal → Settles (TriesKeep rose w out bytes) rest all =
     λ h. (
       nothing,
       inl (stops ShelfFault (status_line ShelfFault), ((refl, h), refl), ap (λ (a : Answer). record a { kept = nothing }) is),
       c.in-Err.ensures.refused h,
     ) in
-    ⊎_elim failed untaken c.in-Err.ensures.cause.err
+    ⊎_elim untaken (λ (fits : refusal → ⊥). ⊎_elim (failed fits) untaken c.in-Err.ensures.cause.err) (taken_or_not w.files (w.takes out (length bytes)))
 
 pub returns-in-Err-clause-files : goal.returns-in-Err-clause-files
 returns-in-Err-clause-files g c =
