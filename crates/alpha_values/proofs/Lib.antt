@@ -7,5 +7,6 @@ pub mod Ranges
 pub mod CountLemmas
 pub mod Bounds
 pub mod LawLemmas
+pub mod ListLemmas
 pub mod AddressLemmas
 pub mod OutcomeLemmas

@@ -10,7 +10,7 @@ ghost use Rattle.alpha_values.specs.Address.{address_of, high_address_of, access
 ghost use Rattle.alpha_words.specs.Digits.{digits};
 ghost use Rattle.alpha_values.specs.Bits.{bits_of};
 ghost use Rattle.alpha_values.specs.Op.{complement, extracted_low, extracted_high, inserted, marked, zapped, result_of};
-ghost use Rattle.alpha_values.specs.Lists.{inverted, and_of, or_of, xor_of, bytes_from, bytes_above, low_placed, high_placed, cleared, low_cleared, high_cleared};
+ghost use Rattle.alpha_values.specs.Lists.{inverted, and_of, or_of, xor_of, bytes_from, bytes_above, low_placed, high_placed, cleared, low_cleared, high_cleared, on_lists};
 
 /// The laws of results: each fits a register. Quadword sums, differences and products are those of
 /// the unsigned operands modulo 2^64.
@@ -38,7 +38,8 @@ pub fn laws_of_completion()
 {}
 
 /// The laws of lists: of registers, logic is what it does to each bit, and the byte forms, which shift
-/// and clear by a number of marks, are what they do to a list of bytes.
+/// and clear by a number of marks, are what they do to a list of bytes; so the result of each operate
+/// instruction may be read either way.
 pub fn laws_of_lists()
     ensures conjunction { (a b : ℕ) → a < 2 ^ 64 → b < 2 ^ 64
         → bit_and a b ≡ and_of (bits_of a) (bits_of b) }
@@ -63,6 +64,8 @@ pub fn laws_of_lists()
     ensures zaps { (a b : ℕ) → zapped a b ≡ cleared (digits 2 8 b) a }
     ensures zaps_not { (a b : ℕ) → b < 2 ^ 64
         → zapped a (complement b) ≡ cleared (inverted (digits 2 8 b)) a }
+    ensures results { (level : _) (op : _) (a b old : ℕ) → a < 2 ^ 64 → b < 2 ^ 64
+        → result_of level op a b old ≡ on_lists level op a b old }
 {}
 
 /// The laws of addresses: each fits a register. Of two accesses by one base that both lie in memory,
