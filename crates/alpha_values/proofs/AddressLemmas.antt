@@ -1,11 +1,11 @@
 -- Where two accesses by one base touch a common byte.
-use Rattle.std.proofs.Common.{◌≡◌, ℕ, ◌+◌, ◌-◌, ◌*◌, ◌/◌, ◌%◌, ◌^◌, ◌<◌, ◌≤◌, Bool, true, false, cond, ℤ, pos, negsuc, ◌+ℤ◌, ◌-ℤ◌, ◌<ℤ◌, FitsSigned, sym, ap, arith, max}
+use Rattle.std.proofs.Common.{◌≡◌, ℕ, ◌+◌, ◌-◌, ◌*◌, ◌/◌, ◌%◌, ◌^◌, ◌<◌, ◌≤◌, Bool, true, false, cond, ℤ, pos, negsuc, ◌+ℤ◌, ◌-ℤ◌, ◌≤ℤ◌, ◌<ℤ◌, ◌↔◌, FitsSigned, sym, ap, arith, max}
 use Rattle.std.specs.Int.{w16}
-use Rattle.std.proofs.lemmas.Int.{ints}
+use Rattle.std.proofs.lemmas.Int.{ints, by_lt_z}
 use Rattle.std.proofs.lemmas.Bool.{cond_both}
 use Rattle.alpha_table.specs.declared.columns.MemAccess.{MemAccess}
 use Rattle.alpha_table.specs.Spans.{bytes_spanned}
-use Rattle.alpha_values.specs.Address.{address_of, access_address, Covers, AccessesMeet}
+use Rattle.alpha_values.specs.Address.{address_of, access_address, Covers, IsInSpan, first_byte, AccessesMeet}
 use Rattle.alpha_values.proofs.Words.{register_is, register_bound}
 
 -- a displacement, counted from the lowest one
@@ -112,3 +112,27 @@ meeting-touches a b base small fits also some some_too there there_too plain pla
     let low = below_end-back a.clears a.disp b.disp b.bytes fits also plain meet.0 in
     let high = below_end-back b.clears b.disp a.disp a.bytes also fits plain_too meet.1 in
     (max (access_address a base) (access_address b base), record { from = omega arith; below = omega arith }, record { from = omega arith; below = omega arith })
+
+first_below : (clears : Bool) (d : ℤ) (n : ℕ) → 0 < n → cond clears (d -ℤ pos 7) d <ℤ (d +ℤ pos n)
+first_below true d n some = omega (arith, ints)
+first_below false d n some = omega (arith, ints)
+
+-- a span has its first byte
+first_in_span : (c : MemAccess) → 0 < c.bytes → first_byte c <ℤ (c.disp +ℤ pos c.bytes)
+first_in_span c some = first_below c.clears c.disp c.bytes some
+
+-- spans that meet have a byte in common, the later one of their first bytes
+common : (a b : MemAccess) → 0 < a.bytes → 0 < b.bytes → AccessesMeet a b → (distance : ℤ) × IsInSpan a distance × IsInSpan b distance
+common a b some some_too h =
+    let first = first_in_span a some in
+    let first_too = first_in_span b some_too in
+    by_lt_z (first_byte a) (first_byte b)
+    (λ l. (first_byte b, record { from = omega (arith, ints, l); below = h.1 }, record { from = omega (arith, ints); below = first_too }))
+    (λ l. (first_byte a, record { from = omega (arith, ints); below = first }, record { from = l; below = h.0 }))
+
+meet : (a b : MemAccess) → ((distance : ℤ) × IsInSpan a distance × IsInSpan b distance) → AccessesMeet a b
+meet a b (x, one, other) = (omega (arith, ints, one.from, other.below), omega (arith, ints, other.from, one.below))
+
+pub meeting-common : (a b : MemAccess) → 0 < a.bytes → 0 < b.bytes
+    → (AccessesMeet a b ↔ ((distance : ℤ) × IsInSpan a distance × IsInSpan b distance))
+meeting-common a b some some_too = (common a b some some_too, meet a b)

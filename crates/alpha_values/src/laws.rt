@@ -6,7 +6,7 @@ ghost use Rattle.alpha_table.specs.declared.columns.MemAccess.{MemAccess};
 ghost use Rattle.alpha_table.specs.Op.{trap_of};
 ghost use Rattle.alpha_values.specs.Numbers.{register_of};
 ghost use Rattle.alpha_values.specs.TrapOp.{size_of, exact, Overflows, completed_of};
-ghost use Rattle.alpha_values.specs.Address.{address_of, high_address_of, access_address, Covers, AccessesMeet};
+ghost use Rattle.alpha_values.specs.Address.{address_of, high_address_of, access_address, Covers, IsInSpan, AccessesMeet};
 ghost use Rattle.alpha_words.specs.Digits.{digits};
 ghost use Rattle.alpha_values.specs.Bits.{bits_of};
 ghost use Rattle.alpha_values.specs.Op.{complement, extracted_low, extracted_high, inserted, marked, zapped, result_of};
@@ -70,7 +70,7 @@ pub fn laws_of_lists()
 
 /// The laws of addresses: each fits a register. Of two accesses by one base that both lie in memory,
 /// below 2 ^ 30, the spans meet where both touch a byte; and where their spans meet they touch one,
-/// if neither clears bits of its address.
+/// if neither clears bits of its address. Spans meet where they have a byte in common.
 pub fn laws_of_addresses()
     ensures bound { (base : ℕ) (disp : ℤ) → address_of base disp < 2 ^ 64 }
     ensures high_bound { (base : ℕ) (disp : ℤ) → high_address_of base disp < 2 ^ 64 }
@@ -84,4 +84,6 @@ pub fn laws_of_addresses()
         → access_address a base + a.bytes ≤ 2 ^ 30 → access_address b base + b.bytes ≤ 2 ^ 30
         → a.clears ≡ false → b.clears ≡ false → AccessesMeet a b
         → (y : ℕ) × Covers a base y × Covers b base y }
+    ensures common { (a b : MemAccess) → 0 < a.bytes → 0 < b.bytes
+        → (AccessesMeet a b ↔ ((distance : ℤ) × IsInSpan a distance × IsInSpan b distance)) }
 {}

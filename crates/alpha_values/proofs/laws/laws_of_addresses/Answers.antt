@@ -1,6 +1,6 @@
 use Rattle.alpha_values.specs.Address.{address_of, high_address_of}
 use Rattle.alpha_values.proofs.Words.{register_bound}
-use Rattle.alpha_values.proofs.AddressLemmas.{access_address-lt, common-meets, meeting-touches}
+use Rattle.alpha_values.proofs.AddressLemmas.{access_address-lt, common-meets, meeting-touches, meeting-common}
 use Rattle.alpha_values.proofs.laws.laws_of_addresses.Goals as goal
 
 pub returns : goal.returns
@@ -11,4 +11,5 @@ returns c = record {
   access_bound = access_address-lt;
   meets = common-meets;
   touches = meeting-touches;
+  common = meeting-common;
 }
