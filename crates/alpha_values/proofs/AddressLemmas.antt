@@ -5,7 +5,9 @@ use Rattle.std.proofs.lemmas.Int.{ints, by_lt_z}
 use Rattle.std.proofs.lemmas.Bool.{cond_both}
 use Rattle.alpha_table.specs.declared.columns.MemAccess.{MemAccess}
 use Rattle.alpha_table.specs.Spans.{bytes_spanned}
-use Rattle.alpha_values.specs.Address.{address_of, access_address, Covers, IsInSpan, first_byte, AccessesMeet}
+use Rattle.alpha_table.specs.Uses.{first_byte}
+use Rattle.alpha_values.specs.Address.{address_of, access_address, Covers, AccessesMeet}
+use Rattle.alpha_values.specs.InSpan.{IsInSpan}
 use Rattle.alpha_values.proofs.Words.{register_is, register_bound}
 
 -- a displacement, counted from the lowest one

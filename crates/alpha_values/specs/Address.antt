@@ -1,7 +1,7 @@
 -- The addresses that LDA, LDAH and the accesses to memory compute, and the bytes that an access touches.
-use Rattle.std.specs.Prelude.{ℕ, ℤ, ◌+◌, ◌*◌, ◌/◌, ◌<◌, ◌≤◌, ◌+ℤ◌, ◌*ℤ◌, ◌≤ℤ◌, ◌<ℤ◌, pos, if◌then◌else◌}
+use Rattle.std.specs.Prelude.{ℕ, ℤ, ◌+◌, ◌*◌, ◌/◌, ◌<◌, ◌≤◌, ◌+ℤ◌, ◌*ℤ◌, pos, if◌then◌else◌}
 use Rattle.alpha_table.specs.declared.columns.MemAccess.{MemAccess}
-pub use Rattle.alpha_table.specs.Uses.{first_byte, AccessesMeet}
+pub use Rattle.alpha_table.specs.Uses.{AccessesMeet}
 use Rattle.alpha_values.specs.Numbers.{register_of}
 
 -- a base register and a displacement of 16 bits, in bytes or, for the high half of an address, in units of 65,536
@@ -19,9 +19,3 @@ access_address c base = if c.clears then address_of base c.disp / 8 * 8 else add
 pub record Covers (c : MemAccess) (base y : ℕ) : Type 0 where
   pub from : access_address c base ≤ y
   pub below : y < access_address c base + c.bytes
-
--- the byte at a distance from the base register lies in the span of an access: [d, d + n), or [d - 7, d + n) where bits of
--- the address are cleared
-pub record IsInSpan (c : MemAccess) (distance : ℤ) : Type 0 where
-  pub from : first_byte c ≤ℤ distance
-  pub below : distance <ℤ (c.disp +ℤ pos c.bytes)

@@ -3,6 +3,7 @@ pub mod TrapOp
 pub mod Cond
 pub mod Bits
 pub mod Address
+pub mod InSpan
 pub mod Op
 pub mod Source
 pub mod Lists
