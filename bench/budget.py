@@ -30,7 +30,7 @@ PAGE = os.path.join(kit.TOP, "docs/budget.md")
 LOG = os.path.join(kit.TOP, ".budget.jsonl")
 KINDS = ("proof", "tests", "edits", "programs")
 COLUMNS = (("proof",), ("edits",), ("tests", "programs"))
-SHOWN = 10
+SHOWN = 5
 # Stands in the place of the prover: runs it, and writes down what it took.
 TIMED = """#!{python} -IS
 import json, os, resource, subprocess, sys
@@ -147,14 +147,14 @@ class Gate:
 
     def tables(self):
         whole = sum(self.seconds.values()) + self.beside
-        rows = [(it.name, kit.lines_of(it), *self.columns(it.name), self.all_of(it.name)) for it in self.crates]
+        rows = [(it.name, *self.columns(it.name), self.all_of(it.name)) for it in self.crates]
         lines = [f"{whole / 60:.0f} processor minutes in all; the most memory of one check {self.memory / 1e6:.1f} GB.", "",
-                 "| Crate | Lines | Proof | Edits | Tests and programs | All |",
-                 "|---|---|---|---|---|---|"]
-        lines += [f"| `{name}` | {count} | {' | '.join(f'{it / 60:.1f}' for it in parts)} |" for name, count, *parts in rows]
+                 "| Crate | Proof | Edits | Tests and programs | All |",
+                 "|---|---|---|---|---|"]
+        lines += [f"| `{name}` | {' | '.join(f'{it / 60:.1f}' for it in parts)} |" for name, *parts in rows]
         sums = [sum(parts) / 60 for parts in zip(*(self.columns(it.name) for it in self.crates))]
-        lines += [f"| beside the prover | | | | | {self.beside / 60:.1f} |",
-                  f"| all | {sum(row[1] for row in rows)} | {' | '.join(f'{it:.1f}' for it in sums)} | {whole / 60:.1f} |", ""]
+        lines += [f"| beside the prover | | | | {self.beside / 60:.1f} |",
+                  f"| all | {' | '.join(f'{it:.1f}' for it in sums)} | {whole / 60:.1f} |", ""]
         tool = next(it for it in self.crates if it.name == "alpha_tool")
         chain = kit.longest_chain([*tool.below(), tool], lambda it: self.seconds[it.name, "proof"])
         minutes = [self.seconds[it.name, "proof"] / 60 for it in chain]

@@ -2,27 +2,16 @@
 //! call succeeds where memory is there. They use the crates as whoever stands on them does, and are proved without proving
 //! these again.
 //!
-//! Tests of commands are cases in `alpha_vectors/data`, those of images lines of its `images.tsv`.
+//! Tests of commands, and of what commands show of a crate, are cases in `alpha_vectors/data`, those of images lines of its
+//! `images.tsv`; what no case can be of the crates at the top is in `alpha_top_tests`.
 #![tactic(auto)]
 
 #[cfg(test)]
-mod asm;
-#[cfg(test)]
-mod cmd;
-#[cfg(test)]
 mod common;
-#[cfg(test)]
-mod debug;
-#[cfg(test)]
-mod dis;
-#[cfg(test)]
-mod fix;
 #[cfg(test)]
 mod io;
 #[cfg(test)]
 mod keep;
-#[cfg(test)]
-mod link;
 #[cfg(test)]
 mod mem;
 #[cfg(test)]
@@ -31,8 +20,6 @@ mod names;
 mod operands;
 #[cfg(test)]
 mod pal;
-#[cfg(test)]
-mod replay;
 #[cfg(test)]
 mod request;
 #[cfg(test)]

@@ -1,14 +1,22 @@
 mod links;
 mod records;
 
-use crate::common::words_of;
 use Completion::{Saturate, Stop, Wrap};
 use alpha_request::{
-    Choices, ImageCommand, Refusal, Request, RunOptions, SourceCommand, request_of,
+    Choices, ImageCommand, Refusal, Request, RunOptions, SourceCommand, Words, request_of,
 };
-use alpha_words::Completion;
+use alpha_words::{Completion, NoMemory};
 use std::alloc::Global;
 use std::test::Fail;
+
+// The words of a call.
+fn words_of(alloc: Global, texts: &[&str]) -> Result<Words, NoMemory> {
+    let mut words = Words::new(alloc);
+    for text in texts {
+        words.push(text)?;
+    }
+    Ok(words)
+}
 
 // The word that asks it of an image.
 fn image_word(what: ImageCommand) -> &'static str {

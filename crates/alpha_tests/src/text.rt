@@ -1,7 +1,6 @@
 mod bytes;
 mod near;
 
-use LineFaultKind::{BadOperands, BadToken, OutOfRange, UnknownName};
 use alpha_quick::{read_insn, read_line};
 use alpha_text::{Item, LineBuf, LineFault, LineFaultKind, Statement, write_line};
 
@@ -112,62 +111,6 @@ static PLAIN: [&[u8]; 24] = [
 fn plain_lines_are_read_in_one_pass(rt: HostRuntime) {
     for line in &PLAIN {
         assert!(rt; read_insn(line).is_ok(), "{line:?}");
-    }
-}
-
-// Lines, each with the kind and the column of its first fault.
-static FAULTS: [(&[u8], LineFaultKind, u32); 44] = [
-    (b"addq $1,256,$2", OutOfRange, 9),
-    (b"addq $1,$2  # x", BadOperands, 13),
-    (b"addq $1 ? $99", BadToken, 9),
-    (b"fetch 8($1)", OutOfRange, 7),
-    (b"fetch 0", BadOperands, 8),
-    (b"fetch -0($1)", BadOperands, 7),
-    (b"x : nop", UnknownName, 1),
-    (b".8", UnknownName, 1),
-    (b".x: nop", BadOperands, 1),
-    (b"a/b: nop", BadOperands, 1),
-    (b"nop $99", UnknownName, 5),
-    (b"nop $1", BadOperands, 5),
-    (b"nop\r", BadToken, 4),
-    (b"Nop", UnknownName, 1),
-    (b".byte 0xg", BadOperands, 8),
-    (b".byte 1,", BadOperands, 9),
-    (b".byte 256", OutOfRange, 7),
-    (b".byte 1,-129", OutOfRange, 10),
-    (b".word a", BadOperands, 7),
-    (b".quad -9223372036854775809", OutOfRange, 8),
-    (b".quad a/b", BadOperands, 7),
-    (b".ascii \"a", BadToken, 8),
-    (b".ascii \"\\q\"", BadToken, 8),
-    (b"lda $01,0($2)", UnknownName, 5),
-    (b"lda $1,%mid(a)($2)", UnknownName, 8),
-    (b"lda $1,%hi(a/b)", BadOperands, 12),
-    (b"lda $1,32768($2)", OutOfRange, 8),
-    (b"lda $1,-32769($2)", OutOfRange, 9),
-    (b"lda $1,a", BadOperands, 8),
-    (b"beq $1,.+6", OutOfRange, 10),
-    (b"beq $1,.+4194308", OutOfRange, 10),
-    (b"br", BadOperands, 3),
-    (b"jmp $31,($27),16384", OutOfRange, 15),
-    (b"call_pal 0x84", OutOfRange, 10),
-    (b"mov 32768,$1", OutOfRange, 5),
-    (b"mov -32769,$1", OutOfRange, 6),
-    (b"ctpop 1,$2", BadOperands, 7),
-    (b".align 14", OutOfRange, 8),
-    (b".zero 16777217", OutOfRange, 7),
-    (b".level 3", OutOfRange, 8),
-    (b".entry a+2147483648", OutOfRange, 10),
-    (b".codebase 18446744073709551616", OutOfRange, 11),
-    (b"$1", BadOperands, 1),
-    (b"$99", UnknownName, 1),
-];
-
-/// Lines with a fault, each with its kind and its column.
-#[test]
-fn first_faults(rt: HostRuntime) {
-    for &(line, kind, column) in &FAULTS {
-        assert!(rt; has_fault(line, Some((kind, column))), "{line:?}");
     }
 }
 

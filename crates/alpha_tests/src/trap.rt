@@ -1,12 +1,26 @@
 ghost use Rattle.std.specs.Prelude.{◌≡◌, false, IfOk};
 
-use crate::common::{OVERFLOWS, reg};
+use crate::common::reg;
 use alpha_pal::Kernel;
 use alpha_samples::sample;
 use alpha_trap::{Lost, handle, scan_back};
 use alpha_words::{Completion, NoMemory, RegFile, RegSet};
 use std::alloc::Global;
 use std::test::Fail;
+
+// `lda $1,-1($31); srl $1,1,$1; bis $31,1,$2; addq/v $1,$2,$3; addq/v $1,$1,$4; trapb; xor $3,$4,$16;
+// lda $0,1($31); callsys`: two overflows before a barrier, and an exit with what they leave.
+const OVERFLOWS: [u32; 9] = [
+    0x203f_ffff,
+    0x4820_3681,
+    0x47e0_3402,
+    0x4022_0c03,
+    0x4021_0c04,
+    0x63ff_0000,
+    0x4464_0810,
+    0x201f_0001,
+    0x0000_0083,
+];
 
 // addq/v $1,$2,$3; br $31,.+4; addq/v $1,$2,$4; addq/v $1,$2,$3; nop; addq/v $1,$2,$3
 const TURN: [u32; 6] = [

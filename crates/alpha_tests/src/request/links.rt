@@ -1,5 +1,4 @@
-use super::asks;
-use crate::common::words_of;
+use super::{asks, words_of};
 use alpha_request::{Refusal, Request, request_of};
 use std::alloc::Global;
 use std::test::Fail;

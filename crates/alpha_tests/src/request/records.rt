@@ -1,5 +1,4 @@
-use super::asks;
-use crate::common::words_of;
+use super::{asks, words_of};
 use alpha_request::{Choices, Request, request_of};
 use alpha_words::Completion;
 use std::test::Fail;

@@ -1,7 +1,7 @@
 //! One call of the program over devices in memory.
 
 use crate::cases::case::File;
-use crate::cases::lines::{Entry, bytes_of, number_of, numbers_of};
+use crate::cases::lines::{Entry, bytes_of, number_of, numbers_of, spelled};
 use alpha_cmd::{Devices, Status, alpha_main};
 use alpha_io::{MemoryShelf, MemorySink, MemorySource, read_whole};
 use alpha_words::NoMemory;
@@ -146,7 +146,7 @@ impl<'a> Call<'a> {
         let mut call = self;
         let rest = entry.rest;
         match entry.name {
-            "input" => call.input = rest.as_bytes().to_vec(alloc)?,
+            "input" => call.input.extend_from_slice(&spelled(alloc, rest)?)?,
             "inputhex" => call.input = bytes_of(alloc, rest)?,
             "script" => call.input.extend_from_slice(entry.block.as_bytes())?,
             "feeds" => {

@@ -1,7 +1,7 @@
 //! The cases of a file, and what differs.
 
 use crate::cases::call::{Answer, Call, Device, device_of, there};
-use crate::cases::lines::{Entry, bytes_of, entries_of, number_of, numbers_of};
+use crate::cases::lines::{Entry, bytes_of, entries_of, number_of, numbers_of, spelled};
 use alpha_asm::assemble;
 use alpha_cmd::Status;
 use alpha_image::image_bytes;
@@ -49,7 +49,7 @@ pub fn run(rt: &HostRuntime, alloc: Global, text: &str) -> anyhow::Result<u64> {
     let mut right = 0u64;
     let mut scene = Scene::of(alloc, "");
     for entry in entries_of(alloc, text)? {
-        if entry.name == "case" || entry.name == "call" {
+        if ends_call(entry.name) {
             right = right.saturating_add(scene.judge(rt, alloc)?);
         }
         if entry.name == "case" {
@@ -59,6 +59,24 @@ pub fn run(rt: &HostRuntime, alloc: Global, text: &str) -> anyhow::Result<u64> {
         }
     }
     Ok(right.saturating_add(scene.judge(rt, alloc)?))
+}
+
+// Whether an entry says nothing of the call before it: it begins a case or a call, or it is a file of the next one.
+fn ends_call(name: &str) -> bool {
+    matches!(
+        name,
+        "case"
+            | "call"
+            | "source"
+            | "module"
+            | "text"
+            | "spelled"
+            | "bytes"
+            | "changed"
+            | "front"
+            | "zeros"
+            | "choices"
+    )
 }
 
 impl<'a> Wanted<'a> {
@@ -85,6 +103,13 @@ impl<'a> Wanted<'a> {
                 }
             }
             "out" => self.output = entry.block.as_bytes().to_vec(alloc)?,
+            "says" => {
+                let (number, line) = rest.split_once(" ").unwrap_or((rest, ""));
+                self.status = number_of(number)?;
+                self.notes = line.as_bytes().to_vec(alloc)?;
+                self.notes.push(b'\n')?;
+            }
+            "writes" => self.output = spelled(alloc, rest)?,
             "outhex" => self.output = bytes_of(alloc, rest)?,
             "notes" => self.notes = entry.block.as_bytes().to_vec(alloc)?,
             "keeps" => match rest.split_once(" ") {
@@ -116,9 +141,24 @@ impl<'a> Scene<'a> {
             "source" => self.file(rest, image_of(alloc, entry.block.as_bytes())?),
             "module" => self.file(rest, module_of(alloc, entry.block.as_bytes())?),
             "text" => self.file(rest, entry.block.as_bytes().to_vec(alloc)?),
+            "spelled" => {
+                let (name, text) = rest.split_once(" ").unwrap_or((rest, ""));
+                self.file(name, spelled(alloc, text)?)
+            }
             "bytes" => {
                 let (name, digits) = rest.split_once(" ").unwrap_or((rest, ""));
                 self.file(name, bytes_of(alloc, digits)?)
+            }
+            "changed" => {
+                let (name, change) = rest.split_once(" ").unwrap_or((rest, ""));
+                self.file(name, self.changed(alloc, change)?)
+            }
+            "front" => {
+                let (name, front) = rest.split_once(" ").unwrap_or((rest, ""));
+                let (of, count) = front.split_once(" ").unwrap_or((front, ""));
+                let bytes = self.bytes_named(of)?;
+                let end = (number_of(count)? as usize).min(bytes.len());
+                self.file(name, bytes[..end].to_vec(alloc)?)
             }
             "zeros" => {
                 let (name, count) = rest.split_once(" ").unwrap_or((rest, ""));
@@ -161,6 +201,30 @@ impl<'a> Scene<'a> {
             },
             _ => self.wanted.take(alloc, &entry),
         }
+    }
+
+    // The bytes of the last file of that name so far.
+    fn bytes_named(&self, name: &str) -> anyhow::Result<&[u8]> {
+        match self.files.iter().rev().find(|file| file.name == name) {
+            Some(file) => Ok(&file.bytes),
+            None => bail!("{}: no file {name}", self.name),
+        }
+    }
+
+    // The bytes of a file with others from a place on: `FILE PLACE HEX`.
+    fn changed(&self, alloc: Global, change: &str) -> anyhow::Result<Vec<u8>> {
+        let (of, change) = change.split_once(" ").unwrap_or((change, ""));
+        let (place, digits) = change.split_once(" ").unwrap_or((change, ""));
+        let mut bytes = self.bytes_named(of)?.to_vec(alloc)?;
+        let mut at = number_of(place)? as usize;
+        for byte in bytes_of(alloc, digits)? {
+            match bytes.get_mut(at) {
+                Some(changed) => *changed = byte,
+                None => bail!("{}: {of} has no byte {at}", self.name),
+            }
+            at = at.saturating_add(1);
+        }
+        Ok(bytes)
     }
 
     fn file(&mut self, name: &'a str, bytes: Vec<u8>) -> anyhow::Result<()> {

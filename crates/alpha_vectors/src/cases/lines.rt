@@ -56,6 +56,25 @@ pub fn bytes_of(alloc: Global, digits: &str) -> anyhow::Result<Vec<u8>> {
     }
 }
 
+/// The bytes that a text spells, in which `\n`, `\r`, `\t` and `\\` stand for a line feed, a carriage return, a tab and `\`.
+pub fn spelled(alloc: Global, text: &str) -> anyhow::Result<Vec<u8>> {
+    let mut bytes = Vec::new(alloc);
+    let mut escaped = false;
+    for byte in text.as_bytes() {
+        match (escaped, *byte) {
+            (false, b'\\') => {}
+            (false, plain) => bytes.push(plain)?,
+            (true, b'n') => bytes.push(b'\n')?,
+            (true, b'r') => bytes.push(b'\r')?,
+            (true, b't') => bytes.push(b'\t')?,
+            (true, b'\\') => bytes.push(b'\\')?,
+            (true, _) => bail!("what is escaped? {text}"),
+        }
+        escaped = !escaped && *byte == b'\\';
+    }
+    Ok(bytes)
+}
+
 /// The number that a word spells.
 pub fn number_of(word: &str) -> anyhow::Result<u64> {
     match word.parse::<u64>() {

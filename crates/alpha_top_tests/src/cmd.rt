@@ -1,16 +1,26 @@
 //! Calls that files of cases can't make: over devices that never fail or take so much and no more, and of the
 //! functions beside the top call.
 
-use crate::common::words_of;
 use alpha_cmd::{Devices, Status, alpha_sure, alpha_top, image_of};
 use alpha_image::ImageFault;
 use alpha_io::{MemorySink, NullSink, SureShelf, SureSource};
+use alpha_request::Words;
+use alpha_words::NoMemory;
 use std::alloc::Global;
 use std::test::Fail;
 
 /// `lda $1,2($31); lda $2,3($31); addq/v $1,$2,$3; trapb; callsys`.
 const ACCEPTED: [u8; 68] =
     *b"ALPHAIM1\x00\x00\x01\x00\x00\x00\x00\x00\x00\x00\x00\x10\x00\x00\x00\x00\x00\x00\x01\x00\x00\x00\x00\x00\x05\x00\x00\x00\x00\x00\x00\x00\x00\x00\x00\x00\x00\x00\x01\x00\x02\x00\x3f\x20\x03\x00\x5f\x20\x03\x0c\x22\x40\x00\x00\xff\x63\x83\x00\x00\x00";
+
+// The words of a call.
+fn words_of(alloc: Global, texts: &[&str]) -> Result<Words, NoMemory> {
+    let mut words = Words::new(alloc);
+    for text in texts {
+        words.push(text)?;
+    }
+    Ok(words)
+}
 
 /// A shelf with the file `a`, which takes a file `b` of so many bytes at most.
 fn shelf(alloc: Global, bytes: &[u8], room: usize) -> Result<SureShelf, Fail> {

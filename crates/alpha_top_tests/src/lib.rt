@@ -1,0 +1,10 @@
+//! Tests of the crates at the top that no case of `alpha_vectors/data` can be: of devices and lists that no call has, and
+//! of what a module and a journal give whoever stands on them. Those of the crates below are `alpha_tests`.
+#![tactic(auto)]
+
+#[cfg(test)]
+mod cmd;
+#[cfg(test)]
+mod link;
+#[cfg(test)]
+mod replay;

@@ -1,0 +1,37 @@
+use alpha_replay::{Ending, Item, journal_bytes, read_journal};
+use std::test::Fail;
+
+// Two bytes of input, three of output, and five items: three steps, a trigger, a word that is executed
+// while its trap is pending, a report, four steps. The program exits with 7.
+const JOURNAL: [u8; 73] = [
+    0x41, 0x4c, 0x50, 0x48, 0x41, 0x4a, 0x52, 0x31, 0x00, 0x01, 0x07, 0x00, 0x00, 0x00, 0x00, 0x00,
+    0x00, 0x00, 0x00, 0x00, 0x00, 0x00, 0x00, 0x00, 0x00, 0x00, 0x02, 0x00, 0x00, 0x00, 0x03, 0x00,
+    0x00, 0x00, 0x05, 0x00, 0x00, 0x00, 0x61, 0x62, 0x63, 0x64, 0x65, 0x00, 0x03, 0x00, 0x00, 0x00,
+    0x01, 0x09, 0x00, 0x00, 0x00, 0x00, 0x00, 0x00, 0x00, 0x02, 0x01, 0x09, 0x00, 0x00, 0x00, 0x00,
+    0x00, 0x00, 0x00, 0x03, 0x00, 0x04, 0x00, 0x00, 0x00,
+];
+
+#[test]
+fn a_journal_is_read_and_written(rt: HostRuntime) -> Result<(), Fail> {
+    let journal = read_journal(rt.alloc(), &JOURNAL)?;
+    assert_eq!(rt; journal.ending(), Ending::Exit(7));
+    assert_eq!(rt;
+        (journal.input(), journal.output()),
+        (&b"ab"[..], &b"cde"[..])
+    );
+    let wait = Item::Wait {
+        adds: true,
+        value: 9,
+    };
+    let items = [
+        Item::Units(3),
+        Item::Trigger(9),
+        wait,
+        Item::Report,
+        Item::Units(4),
+    ];
+    assert_eq!(rt; journal.items(), &items[..]);
+    let bytes = journal_bytes(rt.alloc(), &journal).ok().ok_or("memory")?;
+    assert_eq!(rt; bytes.as_slice(), JOURNAL.as_slice());
+    Ok(())
+}
