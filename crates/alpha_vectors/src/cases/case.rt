@@ -49,7 +49,8 @@ pub fn run(rt: &HostRuntime, alloc: Global, text: &str) -> anyhow::Result<u64> {
     let mut right = 0u64;
     let mut scene = Scene::of(alloc, "");
     for entry in entries_of(alloc, text)? {
-        if ends_call(entry.name) {
+        // What stands behind a call and doesn't speak of it ends it.
+        if entry.name == "case" || entry.name == "call" || is_file(entry.name) {
             right = right.saturating_add(scene.judge(rt, alloc)?);
         }
         if entry.name == "case" {
@@ -61,13 +62,11 @@ pub fn run(rt: &HostRuntime, alloc: Global, text: &str) -> anyhow::Result<u64> {
     Ok(right.saturating_add(scene.judge(rt, alloc)?))
 }
 
-// Whether an entry says nothing of the call before it: it begins a case or a call, or it is a file of the next one.
-fn ends_call(name: &str) -> bool {
+// Whether an entry says what stands in a file.
+fn is_file(name: &str) -> bool {
     matches!(
         name,
-        "case"
-            | "call"
-            | "source"
+        "source"
             | "module"
             | "text"
             | "spelled"
@@ -136,45 +135,36 @@ impl<'a> Scene<'a> {
 
     // Takes an entry of the case.
     fn take(&mut self, alloc: Global, entry: Entry<'a>) -> anyhow::Result<()> {
-        let rest = entry.rest;
+        if is_file(entry.name) {
+            let (name, said) = entry.rest.split_once(" ").unwrap_or((entry.rest, ""));
+            let bytes = self.bytes_said(alloc, &entry, said)?;
+            self.files.push(File { name, bytes })?;
+            return Ok(());
+        }
+        if entry.name == "call" {
+            self.call = Some(Call::of(alloc, entry.rest));
+            self.each = "";
+            self.until = None;
+            self.wanted = Wanted::nothing(alloc);
+            return Ok(());
+        }
+        self.take_of_call(alloc, entry)
+    }
+
+    // The bytes of a file, by an entry and what stands behind the file's name.
+    fn bytes_said(&self, alloc: Global, entry: &Entry<'_>, said: &str) -> anyhow::Result<Vec<u8>> {
+        let block = entry.block.as_bytes();
         match entry.name {
-            "source" => self.file(rest, image_of(alloc, entry.block.as_bytes())?),
-            "module" => self.file(rest, module_of(alloc, entry.block.as_bytes())?),
-            "text" => self.file(rest, entry.block.as_bytes().to_vec(alloc)?),
-            "spelled" => {
-                let (name, text) = rest.split_once(" ").unwrap_or((rest, ""));
-                self.file(name, spelled(alloc, text)?)
-            }
-            "bytes" => {
-                let (name, digits) = rest.split_once(" ").unwrap_or((rest, ""));
-                self.file(name, bytes_of(alloc, digits)?)
-            }
-            "changed" => {
-                let (name, change) = rest.split_once(" ").unwrap_or((rest, ""));
-                self.file(name, self.changed(alloc, change)?)
-            }
-            "front" => {
-                let (name, front) = rest.split_once(" ").unwrap_or((rest, ""));
-                let (of, count) = front.split_once(" ").unwrap_or((front, ""));
-                let bytes = self.bytes_named(of)?;
-                let end = (number_of(count)? as usize).min(bytes.len());
-                self.file(name, bytes[..end].to_vec(alloc)?)
-            }
-            "zeros" => {
-                let (name, count) = rest.split_once(" ").unwrap_or((rest, ""));
-                let mut bytes = Vec::new(alloc);
-                bytes.resize(number_of(count)? as usize, 0)?;
-                self.file(name, bytes)
-            }
-            "choices" => self.file(rest, choices_of(alloc, &entry.block)?),
-            "call" => {
-                self.call = Some(Call::of(alloc, rest));
-                self.each = "";
-                self.until = None;
-                self.wanted = Wanted::nothing(alloc);
-                Ok(())
-            }
-            _ => self.take_of_call(alloc, entry),
+            "source" => image_of(alloc, block),
+            "module" => module_of(alloc, block),
+            "text" => Ok(block.to_vec(alloc)?),
+            "spelled" => spelled(alloc, said),
+            "bytes" => bytes_of(alloc, said),
+            "changed" => self.changed(alloc, said),
+            "front" => self.front(alloc, said),
+            "zeros" => Ok(vec![in alloc; 0; number_of(said)? as usize]?),
+            "choices" => choices_of(alloc, &entry.block),
+            _ => bail!("what is {}?", entry.name),
         }
     }
 
@@ -227,9 +217,12 @@ impl<'a> Scene<'a> {
         Ok(bytes)
     }
 
-    fn file(&mut self, name: &'a str, bytes: Vec<u8>) -> anyhow::Result<()> {
-        self.files.push(File { name, bytes })?;
-        Ok(())
+    // The first bytes of a file: `FILE COUNT`.
+    fn front(&self, alloc: Global, front: &str) -> anyhow::Result<Vec<u8>> {
+        let (of, count) = front.split_once(" ").unwrap_or((front, ""));
+        let bytes = self.bytes_named(of)?;
+        let end = (number_of(count)? as usize).min(bytes.len());
+        Ok(bytes[..end].to_vec(alloc)?)
     }
 
     // Makes the call in hand, for each of its words, and answers how often it was right.
