@@ -84,17 +84,24 @@ def misses(edit, crate):
 
 
 def read_without():
-    """The rows of clauses without an edit: the crate, the function and the clause, and the reason."""
+    """The rows of clauses without an edit: the crate, the function, the names of its clauses, and the reason."""
     lines = WITHOUT.read_text(encoding="utf-8").splitlines()
     return [tuple(line.split("\t")) for line in lines if line and not line.startswith("#")]
 
 
 def reason(rows, clause):
-    """The first row that has a clause: its place, and why the clause has no edit."""
-    for at, (*patterns, why) in enumerate(rows):
-        if all(map(fnmatch.fnmatchcase, clause, patterns)):
-            return at, why
+    """The first row that has a clause, with the clause's name in it, and why the clause has no edit."""
+    crate, function, name = clause
+    for row, (crates, owners, names, why) in enumerate(rows):
+        if fnmatch.fnmatchcase(crate, crates) and fnmatch.fnmatchcase(function, owners) and (names == "*" or name in names.split(", ")):
+            return (row, "*" if names == "*" else name), why
     return None, None
+
+
+def unused(rows, used):
+    """The names of clauses in the rows that no clause needs."""
+    for row, (crate, function, names, _) in enumerate(rows):
+        yield from (told((crate, function, name)) for name in names.split(", ") if (row, name) not in used)
 
 
 def told(clause):
@@ -143,7 +150,7 @@ def main():
             wrong.append(f"{told(clause)}: no must-fail edit is for it, and bench/edits/without.tsv doesn't say why")
         if words:
             print(f"{told(clause)}: {why}")
-    wrong.extend(f"bench/edits/without.tsv: no clause needs the row {' '.join(row[:3])}" for at, row in enumerate(rows) if at not in used)
+    wrong.extend(f"bench/edits/without.tsv: no clause needs {it}" for it in unused(rows, used))
     count, with_edits = check_edits(wrong), sum(map(bool, clauses.values()))
     print("\n".join(wrong) or f"{len(clauses)} public clauses: {with_edits} have one of {count} edits, the others a reason for none")
     sys.exit(1 if wrong else 0)
