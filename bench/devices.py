@@ -7,7 +7,6 @@ takes a C compiler; some cases take root. What can't be tried here is told by a 
 """
 import contextlib
 import errno
-import glob
 import os
 import random
 import resource
@@ -19,135 +18,18 @@ import sys
 import tempfile
 import time
 
+import neighbours
+from keeping import OLD, SOURCE, Trial, build
 from measure import NOP, TOP, TRAPB, image, repeated, the_program
 
-# The CALL of each name fails with NUMBER at its turn COUNT, or at every second turn where COUNT is 0. COUNTED is the
-# file that gets, at the end, how often it was called.
-FAILING = r"""
-#define _GNU_SOURCE
-#include <dlfcn.h>
-#include <errno.h>
-#include <fcntl.h>
-#include <stdarg.h>
-#include <stdio.h>
-#include <stdlib.h>
-#include <string.h>
-#include <sys/stat.h>
-#include <unistd.h>
-static long turns;
-static int fails(const char *name) {
-    const char *call = getenv("CALL");
-    if (!call || strcmp(call, name)) return 0;
-    long count = atol(getenv("COUNT"));
-    turns += 1;
-    if (count ? turns != count : turns % 2 == 0) return 0;
-    errno = atoi(getenv("NUMBER"));
-    return 1;
-}
-__attribute__((destructor)) static void told(void) {
-    const char *counted = getenv("COUNTED");
-    FILE *file = counted ? fopen(counted, "w") : NULL;
-    if (file) { fprintf(file, "%ld", turns); fclose(file); }
-}
-#define REAL(type, name) static type (*real)(); if (!real) real = dlsym(RTLD_NEXT, name)
-ssize_t read(int fd, void *to, size_t n) { REAL(ssize_t, "read"); return fails("read") ? -1 : real(fd, to, n); }
-ssize_t write(int fd, const void *from, size_t n) { REAL(ssize_t, "write"); return fails("write") ? -1 : real(fd, from, n); }
-int fsync(int fd) { REAL(int, "fsync"); return fails("fsync") ? -1 : real(fd); }
-int fchmod(int fd, mode_t mode) { REAL(int, "fchmod"); return fails("fchmod") ? -1 : real(fd, mode); }
-int rename(const char *from, const char *to) { REAL(int, "rename"); return fails("rename") ? -1 : real(from, to); }
-int statx(int fd, const char *path, int flags, unsigned mask, struct statx *to) {
-    REAL(int, "statx");
-    return fails("statx") ? -1 : real(fd, path, flags, mask, to);
-}
-int close(int fd) { REAL(int, "close"); int done = real(fd); return fails("close") ? -1 : done; }
-int open(const char *path, int flags, ...) {
-    REAL(int, "open");
-    va_list rest;
-    va_start(rest, flags);
-    mode_t mode = flags & O_CREAT ? va_arg(rest, mode_t) : 0;
-    va_end(rest);
-    return fails("open") ? -1 : real(path, flags, mode);
-}
-"""
-SOURCE = b"start: lda $0,1($31)\n callsys\n .entry start\n"
-OLD = b"the old file\n"
 MOST_TURNS = 40
 BLOCK = 16_384
-
-
-class Trial:
-    """A folder with a source, what its image is, and what went wrong so far."""
-
-    def __init__(self, program, folder):
-        self.program, self.folder, self.wrong, self.library = program, folder, 0, None
-        self.source, self.out = os.path.join(folder, "a.s"), os.path.join(folder, "out")
-        with open(self.source, "wb") as file:
-            file.write(SOURCE)
-        if self.asm().returncode:
-            sys.exit(f"{program} doesn't assemble")
-        self.new = self.read(self.out)
-
-    def path(self, name):
-        return os.path.join(self.folder, name)
-
-    def read(self, path):
-        try:
-            with open(path, "rb") as file:
-                return file.read()
-        except FileNotFoundError:
-            return None
-
-    def old_out(self):
-        self.clear()
-        with open(self.out, "wb") as file:
-            file.write(OLD)
-
-    def clear(self):
-        for file in [self.out, *self.left()]:
-            with contextlib.suppress(FileNotFoundError):
-                os.remove(file)
-
-    def left(self):
-        return glob.glob(os.path.join(glob.escape(self.folder), ".alpha-keep-*"))
-
-    def run(self, *words, **how):
-        return subprocess.run([self.program, *words], stdout=subprocess.PIPE, stderr=subprocess.PIPE, **how)
-
-    def asm(self, out=None, **how):
-        return self.run("asm", self.source, out or self.out, **how)
-
-    def failing(self, call, count, number, counted=None):
-        names = {"LD_PRELOAD": self.library, "CALL": call, "COUNT": str(count), "NUMBER": str(number)}
-        return {**os.environ, **names, **({"COUNTED": counted} if counted else {})}
-
-    def check(self, what, good):
-        if not good:
-            self.wrong += 1
-            print(f"WRONG: {what}")
-
-    def check_out(self, what, status, old):
-        """OUT is new exactly under status 0, and else what it was; no new file is left."""
-        wanted = self.new if status == 0 else old
-        self.check(f"{what}: status {status}, OUT isn't what it says", self.read(self.out) == wanted)
-        self.check(f"{what}: {self.left()} left", not self.left())
-
-
-def build(trial):
-    compiler = shutil.which("cc") or shutil.which("gcc")
-    if not compiler:
-        print("left out: failing calls, interrupted calls and counted calls: there is no C compiler")
-        return False
-    source, trial.library = trial.path("failing.c"), trial.path("failing.so")
-    with open(source, "w") as file:
-        file.write(FAILING)
-    subprocess.run([compiler, "-w", "-shared", "-fPIC", "-o", trial.library, source, "-ldl"], check=True)
-    return True
 
 
 def failing_calls(trial):
     """Each turn of each call fails once, over an old OUT and over none."""
     counted = trial.path("counted")
-    for call in ("open", "statx", "write", "fsync", "fchmod", "rename", "close"):
+    for call in ("open", "statx", "write", "fsync", "fchmod", "getentropy", "futimens", "rename", "close"):
         for number in (errno.EIO, errno.ENOSPC, errno.EDQUOT):
             for old in (OLD, None):
                 refused = 0
@@ -155,10 +37,12 @@ def failing_calls(trial):
                     trial.old_out() if old else trial.clear()
                     done = trial.asm(env=trial.failing(call, count, number, counted))
                     refused += done.returncode != 0
-                    trial.check_out(f"{call} {count} fails with {errno.errorcode[number]}", done.returncode, old)
+                    # The second sync is that of the folder, behind the rename: OUT is new whatever it answers.
+                    left = trial.new if (call, count) == ("fsync", 2) else old
+                    trial.check_out(f"{call} {count} fails with {errno.errorcode[number]}", done.returncode, left)
                     if int(trial.read(counted) or 0) < count:
                         break
-                if call in ("open", "write", "fsync", "rename"):
+                if call in ("open", "write", "fsync", "getentropy", "rename"):
                     trial.check(f"no failure of {call} was told", refused)
     print("failing calls: OUT was old or new as the status said")
 
@@ -380,6 +264,7 @@ def main():
         links(trial)
         no_files(trial)
         same_names(trial)
+        neighbours.all_cases(trial)
         kills(trial, int(words[1]) if len(words) == 2 else 300)
         dear_script(trial)
     sys.exit(f"{trial.wrong} cases went wrong" if trial.wrong else 0)

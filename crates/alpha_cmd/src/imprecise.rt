@@ -54,6 +54,7 @@ pub(crate) struct Begun {
 
 /// Reads the image of a file and the choices, judges the image unless the verdict is passed over, and
 /// runs it over the input.
+#[inline(never)]
 pub(crate) fn imprecise<H: Shelf, S: Source, K: Sink, N: Sink>(
     alloc: Global,
     asked: ImpreciseCall<'_>,
@@ -71,6 +72,7 @@ pub(crate) fn imprecise<H: Shelf, S: Source, K: Sink, N: Sink>(
 
 /// Reads the image of a file and then the choices, judges the image unless the verdict is passed over, and
 /// makes the machine. So nothing is put and nothing taken before it has all of its memory.
+#[inline(never)]
 pub(crate) fn prepared<H: Shelf>(
     alloc: Global,
     asked: &ImpreciseCall<'_>,

@@ -25,6 +25,7 @@ pub const MODULE_LIMIT: u64 = 20_971_520;
 
 /// Links the modules of files, and keeps the spelling of their image under another name or one of
 /// theirs. The keep comes last: before it no file is changed.
+#[inline(never)]
 pub(crate) fn link<H: Shelf, S: Source, K: Sink, N: Sink>(
     alloc: Global,
     entry: &str,
@@ -44,6 +45,7 @@ pub(crate) fn link<H: Shelf, S: Source, K: Sink, N: Sink>(
 }
 
 // The spelling of the image that the modules of files link to.
+#[inline(never)]
 fn made<H: Shelf>(
     alloc: Global,
     entry: &str,

@@ -25,6 +25,7 @@ pub const SOURCE_LIMIT: u64 = 16_777_216;
 
 /// Makes what is asked of the source of a file, and keeps it under another name or the same. The keep
 /// comes last: before it no file is changed.
+#[inline(never)]
 pub(crate) fn make<H: Shelf, S: Source, K: Sink, N: Sink>(
     alloc: Global,
     what: SourceCommand,
@@ -42,6 +43,7 @@ pub(crate) fn make<H: Shelf, S: Source, K: Sink, N: Sink>(
 }
 
 // What the source of a file makes.
+#[inline(never)]
 fn made<H: Shelf>(
     alloc: Global,
     what: SourceCommand,

@@ -19,6 +19,7 @@ mod debug;
 mod dis;
 
 /// Reads the image of a file, and does what is asked of it.
+#[inline(never)]
 pub(crate) fn of_image<H: Shelf, S: Source, K: Sink, N: Sink>(
     alloc: Global,
     what: ImageCommand,

@@ -39,6 +39,7 @@ enum Recorded {
 
 /// Reads the image of a file and the choices, judges the image unless the verdict is passed over, runs
 /// it over the input, and keeps the journal of the run under another name.
+#[inline(never)]
 pub(crate) fn record<H: Shelf, S: Source, K: Sink, N: Sink>(
     alloc: Global,
     asked: ImpreciseCall<'_>,
@@ -114,6 +115,7 @@ fn keep_journal<H: Shelf>(
 }
 
 // Runs a machine from the start, with its journal.
+#[inline(never)]
 fn run_begun<H: Shelf, S: Source, K: Sink, N: Sink>(
     alloc: Global,
     begun: &mut Begun,

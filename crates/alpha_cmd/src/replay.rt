@@ -23,6 +23,7 @@ use std::alloc::Global;
 const JOURNAL_LIMIT: u64 = 33_554_432;
 
 /// Reads the image of a file and the journal of another, and replays the journal on the image.
+#[inline(never)]
 pub(crate) fn replay<H: Shelf, S: Source, K: Sink, N: Sink>(
     alloc: Global,
     file: &str,

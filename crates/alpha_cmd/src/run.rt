@@ -18,6 +18,7 @@ use alpha_seq::Machine;
 use std::alloc::Global;
 
 /// Reads the image of a file and runs it over the input.
+#[inline(never)]
 pub(crate) fn run<H: Shelf, S: Source, K: Sink, N: Sink>(
     alloc: Global,
     options: RunOptions,

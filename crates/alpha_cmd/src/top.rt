@@ -191,7 +191,8 @@ fn decide<H: Shelf, S: Source, K: Sink, N: Sink>(
     }
 }
 
-// What a request asks for is decided.
+// What a request asks for is decided. Each command is a function that isn't put into this one: what it takes of the
+// stack no other one has to have.
 fn perform<H: Shelf, S: Source, K: Sink, N: Sink>(
     alloc: Global,
     request: Request<'_>,

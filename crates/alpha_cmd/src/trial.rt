@@ -12,6 +12,7 @@ use alpha_trial::TrialFault;
 use std::alloc::Global;
 
 /// Makes the trial of so many blocks, and writes a line for each of its two runs.
+#[inline(never)]
 pub(crate) fn trial<H: Shelf, S: Source, K: Sink, N: Sink>(
     alloc: Global,
     blocks: u32,

@@ -7,6 +7,7 @@ pub data Call : Type 0 where
   Synced : Call
   Renamed : Call
   Removed : Call
+  Settled : Call
   Failed : Call
 
 -- where calls are told, these came next
@@ -23,7 +24,11 @@ Makes old new call result = MatchResult result (λ _. Adds old new (call ∷ [])
 abbrev pub replacing : List ℕ → List Call
 replacing bytes = Wrote bytes ∷ Synced ∷ Renamed ∷ []
 
--- A front of these calls succeeded, and the next one failed; so the new file never had the name.
+-- the same, and behind that the folder is stored, with the name
+abbrev pub settling : List ℕ → List Call
+settling bytes = Wrote bytes ∷ Synced ∷ Renamed ∷ Settled ∷ []
+
+-- A front of the calls of `replacing` succeeded, and the next one failed; so the new file never had the name.
 pub record BreaksOff (old new : Option (List Call)) (bytes : List ℕ) : Type 0 where
   pub done : List Call
   pub next : Call
@@ -38,3 +43,7 @@ pub record GivesUp (old new : Option (List Call)) (bytes : List ℕ) : Type 0 wh
   pub rest : List Call
   pub front : done ++ next ∷ rest ≡ replacing bytes
   pub calls : Adds old new (done ++ Failed ∷ Removed ∷ [])
+
+-- All of them succeeded but the last one of `settling`: the new file has the name.
+abbrev pub StaysUnsettled : Option (List Call) → Option (List Call) → List ℕ → Type 0
+StaysUnsettled old new bytes = Adds old new (Wrote bytes ∷ Synced ∷ Renamed ∷ Failed ∷ [])

@@ -3,10 +3,11 @@ ghost use Rattle.std.specs.Io.{ReadsAtMost};
 
 use crate::again::read_again;
 use crate::fault::counted;
-use crate::keep::keep_file;
+use crate::keep::Keep;
 use crate::{Failed, Shelf};
 use std::io::{Seek, SeekFrom};
 use std::marker::Model;
+use std::random::RandomSource;
 use std::rt::Files;
 use std::{fs, io};
 
@@ -18,11 +19,12 @@ use std::{fs, io};
 /// to its end, and once.
 ///
 /// A file that is kept is replaced whole by a new one beside it, whose bytes the system has stored, or stays as it
-/// was. What is no regular file is written in place, and so is a file whose folder takes no new one, or whose owner
-/// or mode a new one can't have.
+/// was. What is no regular file is written in place, and so is a file whose folder takes no new one, or whose owner,
+/// group or access a new one might not have.
 #[derive(Drop)]
-pub struct DiskShelf<R: Files + AllocGlobal> {
+pub struct DiskShelf<R: Files + RandomSource + AllocGlobal> {
     files: R,
+    spares_streams: bool,
     begun: Option<Begun<R::File>>,
     faults: u64,
 }
@@ -35,7 +37,7 @@ struct Begun<F> {
     name: Option<String>,
 }
 
-impl<R: Files + AllocGlobal> Model for DiskShelf<R> {
+impl<R: Files + RandomSource + AllocGlobal> Model for DiskShelf<R> {
     ghost use Rattle.std.specs.Prelude.{ℕ};
 
     ghost Value = { ℕ };
@@ -43,7 +45,7 @@ impl<R: Files + AllocGlobal> Model for DiskShelf<R> {
     ghost view = { λ s. s.faults };
 }
 
-impl<R: Files + AllocGlobal> DiskShelf<R> {
+impl<R: Files + RandomSource + AllocGlobal> DiskShelf<R> {
     /// The shelf of the runtime's file system, without a fault so far. A program's `main`, which is
     /// given `rt: HostRuntime`, makes it by `DiskShelf::new(&rt)`.
     pub fn new(files: R) -> DiskShelf<R>
@@ -51,6 +53,20 @@ impl<R: Files + AllocGlobal> DiskShelf<R> {
     {
         DiskShelf {
             files,
+            spares_streams: false,
+            begun: None,
+            faults: 0,
+        }
+    }
+
+    /// The same for a program that writes to its streams around a keep. It refuses to write a file or a pipe in place
+    /// that standard output or standard error goes to, since neither would have its bytes whole.
+    pub fn sparing_streams(files: R) -> DiskShelf<R>
+        ensures { result ≡ 0 }
+    {
+        DiskShelf {
+            files,
+            spares_streams: true,
             begun: None,
             faults: 0,
         }
@@ -89,7 +105,7 @@ impl<R: Files + AllocGlobal> DiskShelf<R> {
     }
 }
 
-impl<R: Files + AllocGlobal> Shelf for DiskShelf<R> {
+impl<R: Files + RandomSource + AllocGlobal> Shelf for DiskShelf<R> {
     ghost use Rattle.std.specs.Prelude.{None, true};
 
     ghost files = { λ _. None };
@@ -105,7 +121,12 @@ impl<R: Files + AllocGlobal> Shelf for DiskShelf<R> {
 
     fn keep(&mut self, name: &str, bytes: &[u8]) -> Result<(), Failed> {
         self.begun = None;
-        let answer = keep_file(&self.files, name, bytes);
-        counted(answer, &mut self.faults)
+        let keep = Keep {
+            files: &self.files,
+            name,
+            bytes,
+            spares_streams: self.spares_streams,
+        };
+        counted(keep.run(), &mut self.faults)
     }
 }

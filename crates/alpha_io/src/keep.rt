@@ -1,271 +1,156 @@
+// How a file is kept on a file system. A keep makes these calls, in this order. Those by a name may meet another file than
+// the call before, which somebody has put there; those by a descriptor can't.
+//
+// 1. OUT is opened for writing. The system follows its links, and knows whose it follows in a shared folder. What is asked
+//    of the file, and what is written in place, goes by this descriptor.
+// 2. `place_of` follows the links again, to the name that is to be replaced, and sees that it is a name of that very file;
+//    else the keep begins anew. Whoever changes it later may write its folder, and so could replace OUT himself.
+// 3. The folder is opened. What is asked of it, and its storing, goes by this descriptor.
+// 4. The new file is made under a name that was drawn, and that nothing has: so nothing that is there is opened, and no link
+//    followed. Its owner, group, mode, bytes and storing go by its descriptor: whatever takes its name gets none of them.
+// 5. It is renamed, and replaces what has the name of OUT by then. A rename follows no link. Whoever has put another file
+//    under the new name may write the folder, and so could put that file under the name of OUT himself.
+// 6. Where a call fails the name of the new file is removed, which follows no link either.
+//
+// So nobody gets access by a swap: none is given by a name, and a new file is given no more than its old one had. One who may
+// write a folder above can move all of this to another one, and make OUT there a file of his. docs/commands.md says so.
+
 use crate::Failed;
-use crate::replace::{NewFile, replace};
-use arrayvec::ArrayString;
-use itoa::Buffer;
+use crate::beside::{Beside, folder_of, keeps_names, new_file};
+use crate::place::{Name, Place, is_stream, place_of};
+use crate::replace::{NewFile, replace_for_good};
 use std::fs::{Metadata, OpenFile, OpenOptions};
 use std::io;
 use std::io::{Error, ErrorKind, Write};
-use std::os::unix::fs::{MetadataExt, OpenOptionsExt};
+use std::os::unix::fs::MetadataExt;
+use std::random::RandomSource;
 use std::rt::Files;
 
-// How many names are tried for a new file.
-const MOST_NAMES: u32 = 100;
+// How often a keep begins anew where another one replaces the file meanwhile.
+const MOST_TURNS: u32 = 1_000;
 
-// How many symbolic links are followed one behind the other, as Linux does.
-const MOST_LINKS: u32 = 40;
-
-// The longest name that Linux takes, which needs no memory here: so a keep doesn't fail for want of it, but
-// where the name is a symbolic link.
-const NAME_ROOM: usize = 4_096;
-
-type Name = ArrayString<NAME_ROOM>;
-
-// A name that no symbolic link stands for, and the regular file that has it, if there is one.
+/// What is to be kept under which name, and whether no stream of the program may get it.
 #[derive(Drop)]
-struct Place {
-    path: Name,
-    old: Option<Metadata>,
+pub(crate) struct Keep<'a, R> {
+    pub(crate) files: &'a R,
+    pub(crate) name: &'a str,
+    pub(crate) bytes: &'a [u8],
+    pub(crate) spares_streams: bool,
 }
 
-// A new file beside the one whose place it is to take.
+// The file that the name leads to, open for writing.
 #[derive(Drop)]
-struct Beside<R: Files> {
-    files: R,
-    file: R::File,
-    path: Name,
-    place: Place,
+struct Old<F> {
+    file: F,
+    found: Metadata,
 }
 
-/// Makes the file of a name these bytes. The file that has the name is replaced whole or stays as it was,
-/// unless it is one that is written in place: no regular file, one in whose folder no new file can be made,
-/// or one whose owner or mode a new file can't have.
-pub(crate) fn keep_file<R: Files + AllocGlobal>(
-    files: &R,
-    name: &str,
-    bytes: &[u8],
-) -> io::Result<()> {
-    match new_beside(files, name)? {
-        Some(mut new) => match replace(&mut new, bytes) {
-            Ok(()) => Ok(()),
-            Err(Failed) => Err(Error::from(ErrorKind::Other)),
-        },
-        None => write_in_place(files, name, bytes),
-    }
-}
-
-// A new file beside the one of that name, or `None` where that is to be written in place.
-fn new_beside<'a, R: Files + AllocGlobal>(
-    files: &'a R,
-    name: &str,
-) -> io::Result<Option<Beside<&'a R>>> {
-    let Some(place) = place_of(files, name)? else {
-        return Ok(None);
-    };
-    if place.old.is_some() {
-        // A file that may not be written stays, though the folder would let it be replaced.
-        let _file = OpenOptions::new().write(true).open(files, name)?;
-    }
-    let Some(new) = made_at(files, place)? else {
-        return Ok(None);
-    };
-    match takes_after_old(&new) {
-        Ok(true) => Ok(Some(new)),
-        Ok(false) => {
-            files.remove_file(new.path.as_str())?;
-            Ok(None)
-        }
-        Err(error) => {
-            let _ = files.remove_file(new.path.as_str());
-            Err(error)
-        }
-    }
-}
-
-// The place that a name leads to, or `None` where no file can be made beside it or take its name.
-fn place_of<R: Files + AllocGlobal>(files: &R, name: &str) -> io::Result<Option<Place>> {
-    let old = match files.metadata(name) {
-        Ok(found) if found.is_file() => Some(found),
-        Ok(_) => return Ok(None),
-        Err(error) if error.kind() == ErrorKind::NotFound => None,
-        Err(error) => return Err(error),
-    };
-    let mut path = copied(name)?;
-    for _ in 0..MOST_LINKS {
-        match files.symlink_metadata(path.as_str()) {
-            Ok(found) if found.is_symlink() => {
-                if is_of_proc(files, &found) {
-                    return Ok(None);
-                }
-                path = behind_link(files, path.as_str())?;
+impl<R: Files + RandomSource + AllocGlobal> Keep<'_, R> {
+    /// Makes the file of the name these bytes. The file that has the name is replaced whole or stays as it was, unless
+    /// it is one that is written in place: no regular file, one in whose folder no new file can be made or renamed, or
+    /// one whose owner, group or access a new one wouldn't have.
+    #[inline(never)]
+    pub(crate) fn run(&self) -> io::Result<()> {
+        for _ in 0..MOST_TURNS {
+            if self.is_kept()? {
+                return Ok(());
             }
-            Ok(_) => return Ok(Some(Place { path, old })),
-            Err(error) if error.kind() == ErrorKind::NotFound => {
-                return Ok(Some(Place { path, old }));
+        }
+        Err(Error::from(ErrorKind::ResourceBusy))
+    }
+
+    // Whether the file was kept. It wasn't where another one took the name meanwhile.
+    fn is_kept(&self) -> io::Result<bool> {
+        let old = self.old()?;
+        let found = match &old {
+            Some(old) => Some(&old.found),
+            None => None,
+        };
+        let mut path = Name::new();
+        match place_of(self.files, self.name, found, &mut path)? {
+            Place::Changed => Ok(false),
+            Place::Beside if self.is_replaced(path.as_str(), found)? => Ok(true),
+            _ => {
+                self.write_in_place(old)?;
+                Ok(true)
             }
-            Err(error) => return Err(error),
         }
     }
-    Err(Error::from(ErrorKind::FilesystemLoop))
-}
 
-// The name that a symbolic link says.
-fn behind_link<R: Files + AllocGlobal>(files: &R, link: &str) -> io::Result<Name> {
-    let next = files.read_link(files.alloc(), link)?;
-    if next.is_absolute() {
-        copied(next.as_str())
-    } else {
-        in_folder_of(link, next.as_str())
-    }
-}
-
-// Whether a link stands for an open file, as those that /dev/stdout leads to: such a file is written in
-// place, since whoever holds it open would not see the one that replaced it.
-fn is_of_proc<R: Files>(files: &R, link: &Metadata) -> bool {
-    match files.symlink_metadata("/proc/self") {
-        Ok(proc) => proc.dev() == link.dev(),
-        Err(_) => false,
-    }
-}
-
-// A new file at a place, or `None` where the folder takes none.
-fn made_at<'a, R: Files + AllocGlobal>(
-    files: &'a R,
-    place: Place,
-) -> io::Result<Option<Beside<&'a R>>> {
-    let mut how = OpenOptions::new();
-    how.write(true).create_new(true);
-    if place.old.is_some() {
-        // Until it has the mode of the old file nobody else may open it.
-        how.mode(0o600);
-    }
-    for number in 0..MOST_NAMES {
-        let path = numbered(place.path.as_str(), number)?;
-        match how.open(files, path.as_str()) {
+    // The file that is there. One that may not be written is refused, though its folder would let it be replaced.
+    #[inline(never)]
+    fn old(&self) -> io::Result<Option<Old<R::File>>> {
+        match OpenOptions::new().write(true).open(self.files, self.name) {
             Ok(file) => {
-                return Ok(Some(Beside {
-                    files,
-                    file,
-                    path,
-                    place,
-                }));
+                let found = OpenFile::metadata(&file)?;
+                Ok(Some(Old { file, found }))
             }
-            Err(error) => match error.kind() {
-                ErrorKind::AlreadyExists => {}
-                ErrorKind::PermissionDenied | ErrorKind::ReadOnlyFilesystem => return Ok(None),
-                _ => return Err(error),
-            },
+            Err(error) if error.kind() == ErrorKind::NotFound => Ok(None),
+            Err(error) => Err(error),
         }
     }
-    Err(Error::from(ErrorKind::AlreadyExists))
-}
 
-// The name of a new file: `.alpha-keep-` and a number, in the folder of the path.
-fn numbered(path: &str, number: u32) -> io::Result<Name> {
-    let mut name = in_folder_of(path, ".alpha-keep-")?;
-    push(&mut name, Buffer::new().format(number))?;
-    Ok(name)
-}
-
-// A name in the folder of a path.
-fn in_folder_of(path: &str, name: &str) -> io::Result<Name> {
-    let mut all = Name::new();
-    if let Some((folder, _)) = path.rsplit_once('/') {
-        push(&mut all, folder)?;
-        push(&mut all, "/")?;
-    }
-    push(&mut all, name)?;
-    Ok(all)
-}
-
-fn copied(text: &str) -> io::Result<Name> {
-    let mut all = Name::new();
-    push(&mut all, text)?;
-    Ok(all)
-}
-
-fn push(all: &mut Name, text: &str) -> io::Result<()> {
-    match all.try_push_str(text) {
-        Ok(()) => Ok(()),
-        Err(_) => Err(Error::from(ErrorKind::InvalidFilename)),
-    }
-}
-
-// Gives a new file the owner and the mode of the old one, if there is one, and answers whether it has them.
-fn takes_after_old<R: Files>(new: &Beside<R>) -> io::Result<bool> {
-    let Some(old) = &new.place.old else {
-        return Ok(true);
-    };
-    let made = OpenFile::metadata(&new.file)?;
-    if made.dev() != old.dev() {
-        // The old file is mounted by itself, and no other one can take its name.
-        return Ok(false);
-    }
-    match take_after(new, &made, old) {
-        Ok(()) => Ok(true),
-        Err(error) => match error.kind() {
-            ErrorKind::PermissionDenied | ErrorKind::InvalidInput | ErrorKind::Unsupported => Ok(
-                false,
-            ),
-            _ => Err(error),
-        },
-    }
-}
-
-// The owner comes first, since the system may change the mode with it.
-fn take_after<R: Files>(new: &Beside<R>, made: &Metadata, old: &Metadata) -> io::Result<()> {
-    if made.uid() != old.uid() || made.gid() != old.gid() {
-        let path = new.path.as_str();
-        new.files.chown(path, Some(old.uid()), Some(old.gid()))?;
-    }
-    if made.mode() == old.mode() {
-        return Ok(());
-    }
-    OpenFile::set_permissions(&new.file, old.permissions())
-}
-
-// Writes over the file of that name, where it stands. A regular file is stored as well.
-fn write_in_place<R: Files>(files: &R, name: &str, bytes: &[u8]) -> io::Result<()> {
-    let mut how = OpenOptions::new();
-    let mut file = how
-        .write(true)
-        .create(true)
-        .truncate(true)
-        .open(files, name)?;
-    file.write_all(bytes)?;
-    if OpenFile::metadata(&file)?.is_file() {
-        file.sync_all()?;
-    }
-    Ok(())
-}
-
-impl<R: Files> NewFile for Beside<R> {
-    ghost use Rattle.std.specs.Prelude.{None};
-
-    ghost calls = { λ _. None };
-
-    fn write(&mut self, bytes: &[u8]) -> Result<(), Failed> {
-        done(self.file.write_all(bytes))
+    // Whether a new file has taken the name. It hasn't where it may not, and then nothing has changed.
+    #[inline(never)]
+    fn is_replaced(&self, out: &str, old: Option<&Metadata>) -> io::Result<bool> {
+        if old.is_some_and(|old| may_give_more(old.mode())) {
+            return Ok(false);
+        }
+        let folder = folder_of(self.files, out)?;
+        if let Some(folder) = &folder
+            && keeps_names(self.files, folder)?
+        {
+            return Ok(false);
+        }
+        let mut path = Name::new();
+        let Some(file) = new_file(self.files, out, old.is_some(), &mut path)? else {
+            return Ok(false);
+        };
+        let mut new = Beside::new(self.files, file, folder, path.as_str(), out);
+        match new.takes_after(old) {
+            Ok(true) => {}
+            answer => {
+                new.remove();
+                return answer;
+            }
+        }
+        match replace_for_good(&mut new, self.bytes) {
+            Ok(()) => Ok(true),
+            Err(Failed) if new.is_refused() => Ok(false),
+            Err(Failed) => Err(Error::from(ErrorKind::Other)),
+        }
     }
 
-    fn sync(&mut self) -> Result<(), Failed> {
-        done(self.file.sync_all())
+    // Writes over the file where it stands, or makes it. A regular file is stored as well.
+    #[inline(never)]
+    fn write_in_place(&self, old: Option<Old<R::File>>) -> io::Result<()> {
+        let Old { mut file, found } = match old {
+            Some(old) => old,
+            None => self.made()?,
+        };
+        if self.spares_streams && is_stream(self.files, &found) {
+            return Err(Error::from(ErrorKind::ResourceBusy));
+        }
+        if !found.is_file() {
+            return file.write_all(self.bytes);
+        }
+        OpenFile::set_len(&file, 0)?;
+        file.write_all(self.bytes)?;
+        OpenFile::sync_all(&file)
     }
 
-    fn rename(&mut self) -> Result<(), Failed> {
-        done(
-            self.files
-                .rename(self.path.as_str(), self.place.path.as_str()),
-        )
-    }
-
-    fn remove(&mut self) {
-        let _ = self.files.remove_file(self.path.as_str());
+    // The file of the name, made by the system where it isn't there, as behind a link that leads to no file.
+    fn made(&self) -> io::Result<Old<R::File>> {
+        let mut how = OpenOptions::new();
+        let file = how.write(true).create(true).open(self.files, self.name)?;
+        let found = OpenFile::metadata(&file)?;
+        Ok(Old { file, found })
     }
 }
 
-fn done(answer: io::Result<()>) -> Result<(), Failed> {
-    match answer {
-        Ok(()) => Ok(()),
-        Err(_) => Err(Failed),
-    }
+// Whether a new file of that mode may give somebody more than the old one did. Access lists can't be seen here: with one
+// the bits of the group are only the most that it gives to some, and with a default list of the folder the new file gives
+// as much to others. Where all may do whatever those bits let, neither gives anyone more.
+fn may_give_more(mode: u32) -> bool {
+    (mode >> 3) & 7 & !mode != 0
 }

@@ -30,12 +30,14 @@
 #![tactic(auto)]
 
 mod again;
+mod beside;
 mod disk;
 mod fault;
 mod keep;
 mod laws;
 mod line;
 mod memory;
+mod place;
 mod read;
 mod replace;
 mod shelf;

@@ -1,5 +1,5 @@
-ghost use Rattle.std.specs.Prelude.{[], ◌∷◌, Option, List, OnOk, OnErr};
-ghost use Rattle.alpha_io.specs.Keeping.{Call, Wrote, Synced, Renamed, Removed, Adds, Makes, replacing, BreaksOff, GivesUp};
+ghost use Rattle.std.specs.Prelude.{[], ◌∷◌, ◌⊎◌, Option, List, OnOk, OnErr};
+ghost use Rattle.alpha_io.specs.Keeping.{Call, Wrote, Synced, Renamed, Removed, Settled, Adds, Makes, replacing, settling, BreaksOff, GivesUp, StaysUnsettled};
 
 use crate::Failed;
 
@@ -23,6 +23,23 @@ pub(crate) trait NewFile {
     /// Removes the file, which hasn't taken its name. Nothing more can be done where that fails.
     fn remove(&mut self)
         ensures { Adds (calls self.old) (calls self.new) (Removed ∷ []) };
+
+    /// Has the system store the names of the folder, and waits until it has. Nothing is asked of a folder that may not be
+    /// read.
+    fn settle(&mut self) -> Result<(), Failed>
+        ensures { Makes (calls self.old) (calls self.new) Settled result };
+}
+
+/// Gives a new file its name, as `replace`, and has the folder stored behind that. Where a call fails the file that has
+/// the name stays as it was; where only the last one does, the new one has it, and may lose it where power is lost.
+#[inline(never)]
+pub(crate) fn replace_for_good<N: NewFile>(new: &mut N, bytes: &[u8]) -> Result<(), Failed>
+    ensures ok { OnOk result (Adds (N.calls new.old) (N.calls new.new) (settling bytes.now)) }
+    ensures refused { OnErr result (GivesUp (N.calls new.old) (N.calls new.new) bytes.now
+        ⊎ StaysUnsettled (N.calls new.old) (N.calls new.new) bytes.now) }
+{
+    replace(new, bytes)?;
+    new.settle()
 }
 
 /// Gives a new file its name once all of the bytes are written and stored. Where a call fails the file

@@ -15,7 +15,7 @@ fn main(rt: HostRuntime) -> ExitCode {
             rt.alloc(),
             arguments.as_slice(),
             &mut Devices {
-                shelf: DiskShelf::new(&rt),
+                shelf: shelf_for(&rt, arguments.as_slice()),
                 input: ReadSource::new(rt.stdin()),
                 out: WriteSink::new(rt.stdout()),
                 notes: WriteSink::new(rt.stderr()),
@@ -24,6 +24,14 @@ fn main(rt: HostRuntime) -> ExitCode {
         Err(status) => status,
     };
     ExitCode::from(status.number())
+}
+
+// The files. A `record` writes to its streams before it keeps its journal, and behind that.
+fn shelf_for<'a>(rt: &'a HostRuntime, arguments: &[String]) -> DiskShelf<&'a HostRuntime> {
+    match arguments.get(1) {
+        Some(command) if command.as_str() == "record" => DiskShelf::sparing_streams(rt),
+        _ => DiskShelf::new(rt),
+    }
 }
 
 // All that stands on the command line. Where a part of it isn't text the words are bad; then, and where

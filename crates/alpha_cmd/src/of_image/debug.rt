@@ -15,6 +15,7 @@ use std::alloc::Global;
 
 /// Answers the commands of the input on an image's program. Nothing is put and nothing taken before the
 /// session has all of its memory.
+#[inline(never)]
 pub(crate) fn session<H: Shelf, S: Source, K: Sink, N: Sink>(
     alloc: Global,
     image: Image,

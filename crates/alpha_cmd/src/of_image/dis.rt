@@ -12,6 +12,7 @@ use alpha_image::Image;
 use alpha_io::{Failed, Shelf, Sink, Source};
 
 /// Writes the listing of an image.
+#[inline(never)]
 pub(crate) fn listed<H: Shelf, S: Source, K: Sink, N: Sink>(
     image: &Image,
     devices: &mut Devices<H, S, K, N>,
