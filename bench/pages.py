@@ -46,6 +46,9 @@ TOLD = [
     (19, r"norun kind "),
     (20, r"journal full$"),
 ]
+# The companions that judge, with status 3 where a place is broken, and how they count such places.
+JUDGES = re.compile(r"companions/(allbroken|elf2image --functions)\b[^|]*")
+COUNTED = re.compile(r"[1-9]\d* of \d+ /V words are broken|, [1-9]\d* broken,")
 ENDS = re.compile(r"\x1e(\d+)\n")
 LAW = re.compile(r"(?:laws|limits)_of_\w+")
 PARTS = ("src", "specs", "proofs", "must-fail", "data")
@@ -117,6 +120,8 @@ def is_shown(wrote, shown):
 
 
 def status_told(command, shown):
+    if JUDGES.fullmatch(command) and any(map(COUNTED.search, shown)):
+        return 3
     call = re.search(r".*\./(?:alpha|look)\b(.*)", command, re.S)
     if not call or "|" in call[1] or not shown:
         return 0

@@ -1,8 +1,8 @@
 """Linked ECOFF files for alpha, as OSF/1 has them: their sections and symbols."""
 import struct
 
-from . import files
-from .linked import EXEC, NOBITS, PROGBITS, Linked, Section, Symbol
+from . import files, shown
+from .linked import EXEC, NOBITS, PROGBITS, Linked, Section, Symbol, finder
 
 MAGIC, COMPRESSED, SYMBOLIC = 0x183, 0x188, 0x1992
 # Bits of the file header, and of those that say how libraries come to it.
@@ -14,65 +14,76 @@ PROCEDURES = {6, 14}
 NAMED = PROCEDURES | {1, 2, 5}
 # The classes of symbols whose value is the address of a text, of data, of zeroed bytes or of tables; of a number, it may be.
 PLACED, NUMBER = {1, 2, 3, 13, 14, 15, 22, 24, 25, 26, 27}, 5
-# The bytes of the headers and of each record.
-HEADER, OPTIONAL, SECTION, FILE, LOCAL, EXTERNAL = 24, 80, 64, 96, 16, 24
+# The bytes of the headers, of a section and of a symbol of a file; and what is read of each record.
+HEADER, OPTIONAL, SECTION, BYTES = 24, 80, 64, 16
+FILE, LOCAL, EXTERNAL = "<36x3I48x", "<QII", "<QII8x"
 
 
 class Ecoff(Linked):
     """A linked file: one that is static, or for its code alone any."""
 
-    def __init__(self, path, content, code_alone=False):
-        super().__init__(path, content)
+    def __init__(self, path, file, code_alone=False):
+        super().__init__(path, file)
+        self.counted = 0
         try:
             self.read(code_alone)
-        except (struct.error, IndexError, ValueError) as error:
+        except (struct.error, IndexError, ValueError, OverflowError) as error:
             raise files.Refused(f"{path}: damaged: it ends within a table") from error
 
     def read(self, code_alone):
-        _, count, _, symbols, has_symbols, optional, flags = struct.unpack_from("<HHIQIHH", self.content, 0)
+        _, count, _, symbols, has_symbols, optional, flags = self.fields("<HHIQIHH", 0)
         if not flags & EXECUTABLE or optional < OPTIONAL:
             self.refuse("not linked: it is an object file")
         if not code_alone and flags & SHARING in (CALLS_SHARED, IS_SHARED):
             self.refuse("linked for a loader of shared libraries: link it with -non_shared")
-        self.entry, = struct.unpack_from("<Q", self.content, HEADER + 32)
+        self.entry, = self.fields("<Q", HEADER + 32)
         for n in range(count):
             self.read_section(HEADER + optional + n * SECTION)
+        self.order()
         if has_symbols:
             self.read_symbols(symbols)
         self.order()
 
     def read_section(self, at):
-        name, _, address, length, offset, _, _, _, _, flags = struct.unpack_from("<8sQQQQQQHHI", self.content, at)
+        name, _, address, length, offset, _, _, _, _, flags = self.fields("<8sQQQQQQHHI", at)
         if length == 0 or flags & REMARKS == REMARKS:
             return
         is_zeroed = flags & ZEROED and not flags & CODE
-        content = b"" if is_zeroed else self.part(offset, length)
-        self.sections.append(Section(name.rstrip(b"\0").decode("utf-8", "replace"), NOBITS if is_zeroed else PROGBITS,
-                                     EXEC if flags & CODE else 0, address, content, length))
+        content = b"" if is_zeroed else self.content(offset, length)
+        told = shown.name(name.rstrip(b"\0").decode("utf-8", "surrogateescape"))
+        self.sections.append(Section(told, NOBITS if is_zeroed else PROGBITS, EXEC if flags & CODE else 0, address, content, length))
 
     def read_symbols(self, at):
         """The symbols of each compiled file, and those that all files know; a name at an address once."""
-        header = struct.unpack_from("<HH11I12Q", self.content, at)
+        header = self.fields("<HH11I12Q", at)
         if header[0] != SYMBOLIC:
             self.refuse("damaged: no table of symbols stands where its header says")
         count_of_files, count_of_externals = header[10], header[12]
         locals_at, texts, external_texts, files_at, externals_at = header[17], header[20], header[21], header[22], header[24]
         found = set()
-        for n in range(count_of_files):
-            base, first, count = struct.unpack_from("<3I", self.content, files_at + n * FILE + 36)
-            for number in range(first, first + count):
-                found.add(self.symbol(locals_at + number * LOCAL, texts + base))
-        for n in range(count_of_externals):
-            found.add(self.symbol(externals_at + n * EXTERNAL, external_texts))
+        section_at = finder(self.sections)
+        for base, first, count in self.records(FILE, files_at, count_of_files):
+            self.take(found, section_at, self.records(LOCAL, locals_at + first * BYTES, count), texts + base)
+        self.take(found, section_at, self.records(EXTERNAL, externals_at, count_of_externals), external_texts)
         self.symbols = list(found - {None})
 
-    def symbol(self, at, texts):
-        """The symbol whose record stands there, None where it names no place in memory."""
-        value, name, bits = struct.unpack_from("<QII", self.content, at)
+    def records(self, layout, at, count):
+        """So many records. All together there are no more than the file has bytes for."""
+        self.counted += count
+        if self.counted * BYTES > self.file.size:
+            raise ValueError("more records than the file has bytes for")
+        return self.rows(layout, at, count) if count else ()
+
+    def take(self, found, section_at, records, texts):
+        """Adds the symbols of records whose names stand from `texts` on."""
+        for value, name, bits in records:
+            found.add(self.symbol(section_at(value), value, name, bits, texts))
+
+    def symbol(self, section, value, name, bits, texts):
+        """The symbol of a record, None where it names no place in memory."""
         kind, where = bits & 63, bits >> 6 & 31
         if kind not in NAMED or where not in PLACED and where != NUMBER:
             return None
-        section = next((it for it in self.sections if it.address <= value < it.address + it.size), None)
         if section is None and where == NUMBER:
             return None
         in_code = section is not None and section.flags & EXEC

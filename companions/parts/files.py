@@ -1,31 +1,74 @@
-"""What all companions do alike: errors, files kept whole, and the arguments that they share."""
+"""What all companions do alike: errors, files that are read and kept whole, and the arguments that they share."""
 import argparse
 import os
+import stat
 import sys
 import tempfile
+
+from . import shown
 
 TOP = os.path.dirname(os.path.dirname(os.path.dirname(os.path.abspath(__file__))))
 
 # What files are, by their first bytes, that are often given where a text is wanted.
 NO_TEXT = {b"\x7fELF": "no text: an ELF file, which companions/elf2image reads where it is linked", b"ALPHAIM": "no text: an image",
            b"ALPHAOB": "no text: a module", b"ALPHAJR": "no text: a journal"}
-
+# The most bytes that the program takes of each kind of file (docs/commands.md), and what is read of a compiler's text.
+MOST_IMAGE, MOST_SOURCE, MOST_MODULE, MOST_JOURNAL, MOST_TEXT = 18_874_368, 16_777_216, 20_971_520, 33_554_432, 33_554_432
 
 class Refused(Exception):
     """Input that a companion can't take. It has one line or several."""
 
 
-def read_bytes(path):
+def open_file(path):
+    """The file of a path, open for reading by bytes."""
     try:
-        with open(path, "rb") as file:
-            return file.read()
-    except OSError as error:
-        raise Refused(f"{path}: {error.strerror}") from error
+        if os.path.isdir(path):
+            raise Refused(f"{path}: Is a directory")
+        return open(path, "rb")
+    except (OSError, ValueError) as error:
+        raise Refused(f"{path}: {getattr(error, 'strerror', None) or error}") from error
 
 
-def read_text(path):
+def read_bytes(path, most=MOST_TEXT):
+    """All bytes of a file. One of more than `most` is refused, and no more than that is read of it: it may have holes, or no end."""
+    with open_file(path) as file:
+        try:
+            size = os.fstat(file.fileno()).st_size
+            content = file.read(most + 1) if size <= most else b""
+        except OSError as error:
+            raise Refused(f"{path}: {error.strerror}") from error
+    if max(size, len(content)) > most:
+        raise Refused(f"{path}: more than {most} bytes, the most that are read")
+    return content
+
+
+class Parts:
+    """A regular file, or a window of one, of which parts are read. Each part is held against the size before memory is taken."""
+
+    def __init__(self, path, file=None, start=0, size=None):
+        self.path, self.file, self.start = path, file or open_file(path), start
+        kind = os.fstat(self.file.fileno())
+        if not stat.S_ISREG(kind.st_mode):
+            raise Refused(f"{path}: no regular file, of which parts can be read")
+        self.size = kind.st_size - start if size is None else size
+
+    def part(self, offset, length):
+        """Bytes of the file, all of them; ValueError where it hasn't so many."""
+        if not 0 <= offset <= offset + length <= self.size:
+            raise ValueError(f"{length} bytes at {offset}, of {self.size}")
+        content = os.pread(self.file.fileno(), length, self.start + offset)
+        if len(content) != length:
+            raise ValueError("the file is shorter now")
+        return content
+
+    def window(self, path, offset, size):
+        """A part as a file of its own, by another path."""
+        return Parts(path, self.file, self.start + offset, size)
+
+
+def read_text(path, most=MOST_TEXT):
     """The text of a file. Bytes that are no UTF-8 stay as they are when it is written again; one with a byte of 0 is no text."""
-    content = read_bytes(path)
+    content = read_bytes(path, most)
     if b"\0" in content:
         raise Refused(f"{path}: {next((kind for front, kind in NO_TEXT.items() if content.startswith(front)), 'no text')}")
     return content.decode("utf-8", "surrogateescape")
@@ -76,14 +119,14 @@ def arguments(name, text, epilog=None):
 
 
 def with_program(parser):
-    here = "alpha" if os.path.isfile("alpha") else os.path.join(TOP, "alpha")
-    parser.add_argument("--alpha", metavar="PROGRAM", default=os.environ.get("ALPHA", here),
-                        help="the program to ask; else the variable ALPHA says which, else it is ./alpha, or that of the repository")
+    parser.add_argument("--alpha", metavar="PROGRAM", default=os.environ.get("ALPHA") or None,
+                        help="the program to ask; else the variable ALPHA says which, else it is the one beside the companions")
     return parser
 
 
 def ends(main):
     """Runs a companion. The status is what it answers, 1 where it refuses its input, and 2 of bad arguments."""
+    sys.stdout, sys.stderr = shown.Stream(sys.stdout), shown.Stream(sys.stderr)
     try:
         sys.exit(main())
     except Refused as error:

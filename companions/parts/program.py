@@ -7,28 +7,85 @@ import tempfile
 
 from . import files
 
-BUILT = "crates/alpha_tool/out/alpha_tool"
+BUILT, LOOK = "crates/alpha_tool/out/alpha_tool", ".look/alpha_tool"
 NO_IMAGE, CANT_READ = 4, 8
 BROKEN = re.compile(r"broken trigger ([0-9a-f]{16}) at ([0-9a-f]{16}) condition C([1-9])\n\Z")
+NONE = """no program is there, and a companion makes none. Take bin/alpha of an archive of a release; or where the companions
+stand among the sources, `./look trial 1` compiles one in a minute, and `./alpha trial 1` proves and builds it, which takes
+half an hour. --alpha PROGRAM and the variable ALPHA say another one"""
+
+
+def found(path=None):
+    """The path of the program: of that which the user names, else of the one beside the companions. Nothing is built."""
+    if path is None:
+        # The folder as it is named comes first, and then the one that a link to it leads to.
+        tops = dict.fromkeys([files.TOP, os.path.dirname(os.path.dirname(os.path.dirname(os.path.realpath(__file__))))])
+        path = next(filter(None, map(beside, tops)), None)
+        if path is None:
+            raise files.Refused(NONE)
+        return path
+    if not os.access(path, os.X_OK) or os.path.isdir(path):
+        raise files.Refused(f"{path}: no program is there; say --alpha PROGRAM, or set the variable ALPHA to its path")
+    return of_script(path) if is_script(path) else os.path.abspath(path)
+
+
+def beside(top):
+    """That of an archive, of an installation in PREFIX/lib/bantamtinsel, or of a checkout, by the folder above the companions'."""
+    places = [os.path.join(top, "bin", "alpha")]
+    if os.path.basename(os.path.dirname(top)) in ("lib", "share"):
+        places.append(os.path.join(os.path.dirname(os.path.dirname(top)), "bin", "alpha"))
+    places.append(os.path.join(top, "alpha"))
+    for path in places:
+        if is_program(path) and not is_script(path):
+            return path
+    for script, program in (("alpha", BUILT), ("look", LOOK)):
+        if is_program(os.path.join(top, program)):
+            return told(os.path.join(top, program), os.path.join(top, script))
+    return None
+
+
+def is_program(path):
+    return os.path.isfile(path) and os.access(path, os.X_OK)
+
+
+def is_script(path):
+    """Whether it is ./alpha or ./look of a checkout, which make their program where it is missing or old."""
+    with files.open_file(path) as file:
+        return file.read(2) == b"#!" and os.path.exists(os.path.join(os.path.dirname(os.path.realpath(path)), "tools", "start.sh"))
+
+
+def of_script(path):
+    """The program that such a script runs, without the script, which compares the sources at each call."""
+    top, name = os.path.split(os.path.realpath(path))
+    program = os.path.join(top, LOOK if name == "look" else BUILT)
+    if not is_program(program):
+        raise files.Refused(f"{path}: {NONE}")
+    return told(program, os.path.join(top, name))
+
+
+def told(program, script):
+    """A program of a checkout. A line says where it isn't proved, or was made of other sources than are there now."""
+    kinds = ["is compiled and not proved"] if program.endswith(LOOK) else []
+    if os.access(script, os.X_OK):
+        said = subprocess.run([script, "--version"], stdin=subprocess.DEVNULL, capture_output=True, check=False).stdout
+        kinds += ["was made of other sources than are here now"] if b"the sources are others" in said else []
+    if kinds:
+        print(f"{os.path.basename(sys.argv[0])}: asks {os.path.relpath(program)}, which {' and '.join(kinds)}", file=sys.stderr)
+    return program
 
 
 class Program:
-    """The program at a path."""
+    """The program at a path, or the one beside the companions."""
 
-    def __init__(self, path):
-        if not os.access(path, os.X_OK) or os.path.isdir(path):
-            raise files.Refused(f"{path}: no program is there; say --alpha PROGRAM, or set the variable ALPHA to its path")
-        self.path = os.path.abspath(path)
-        is_script = os.path.basename(path) != "look" and files.read_bytes(path)[:2] == b"#!"
-        if is_script and not os.path.exists(os.path.join(os.path.dirname(self.path), BUILT)):
-            print(f"{self.path} builds the program first, which proves all of it and takes minutes", file=sys.stderr)
+    def __init__(self, path=None):
+        self.path = found(path)
 
     def call(self, *words, given=b""):
         """The status, the output and the notes of a call."""
         try:
             done = subprocess.run([self.path, *words], input=given, capture_output=True, check=False)
         except OSError as error:
-            raise files.Refused(f"{self.path}: {error.strerror}") from error
+            raise files.Refused(f"{self.path}: it doesn't run here: {error.strerror}") from error
         return done.returncode, done.stdout, done.stderr.decode("utf-8", "replace")
 
     def verdict(self, path):

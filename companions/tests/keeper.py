@@ -7,7 +7,7 @@ import struct
 import subprocess
 import sys
 
-from parts import elf, functions, image, linked, program, table
+from parts import elf, functions, image, judged, linked, program, table
 from .helpers import ASKED, HERE, TOP, Failed, Lacking, blocks, companion, data, needs_program, read, rows, runs_as_shown, want, write
 
 RAW = os.path.join(TOP, "examples", "raw_image.py")
@@ -32,17 +32,20 @@ def by_hand(asked, folder, path):
     return told
 
 
-def judged(path):
+def verdicts_of(path):
     """What --functions says, by the front of each line, and its last line."""
-    out, _ = companion("elf2image", "--functions", path)
+    out, _ = companion("elf2image", "--functions", path, status=3)
     lines = out.splitlines()
     return dict(line.split(": ", 1) for line in lines[:-1]), lines[-1]
 
 
 def moved_elf(path, distance):
-    """A linked ELF file with all addresses of its sections and symbols a distance higher. Its words are as they were."""
+    """A linked ELF file with all addresses of its parts, sections and symbols a distance higher. Its words are as they were."""
     content = bytearray(read(path, "rb"))
-    table, = struct.unpack_from("<Q", content, 40)
+    programs, table = struct.unpack_from("<QQ", content, 32)
+    for at in range(programs, programs + 56 * content[56], 56):
+        address, = struct.unpack_from("<Q", content, at + 16)
+        struct.pack_into("<Q", content, at + 16, address + distance)
     size, count = struct.unpack_from("<HH", content, 58)
     for n in range(count):
         at = table + n * size
@@ -59,7 +62,7 @@ def moved_elf(path, distance):
 def test_functions_are_judged_as_a_loop_by_hand_judges_them(folder):
     asked = program.Program(ASKED)
     wanted = by_hand(asked, folder, data("sort.elf"))
-    told, last = judged(data("sort.elf"))
+    told, last = verdicts_of(data("sort.elf"))
     want(sorted(name.split()[2] for name, verdict in wanted.items() if verdict != "accepted"), ["main", "print", "sift"], "broken")
     want({name: told[name].split(";")[0] for name in wanted}, wanted, "verdicts")
     want(told["0000000000012424 0000000c by_zero"], "accepted; no /V word", "a label without a size")
@@ -69,7 +72,7 @@ def test_functions_are_judged_as_a_loop_by_hand_judges_them(folder):
     write(away, moved_elf(data("sort.elf"), AWAY))
     higher = {re.sub(r"^[0-9a-f]{16}", lambda hit: f"{int(hit[0], 16) + AWAY:016x}", name):
               re.sub(r"[0-9a-f]{16}", lambda hit: f"{int(hit[0], 16) + AWAY:016x}", verdict) for name, verdict in told.items()}
-    want(judged(away), (higher, last), "the same at another address")
+    want(verdicts_of(away), (higher, last), "the same at another address")
     companion("elf2image", away, os.path.join(folder, "a.img"), status=1)
 
 
@@ -82,7 +85,7 @@ def test_a_function_without_a_verdict_says_why(folder):
     struct.pack_into("<II", content, at + 8, 0x5FFF041F, 0x63E0C000)
     struct.pack_into("<I", content, at + 0x150, 0x9D)
     write(path, content)
-    told, _ = judged(path)
+    told, _ = verdicts_of(path)
     want(told["0000000000012000 00000144 main"],
          "broken trigger 000000000001205c at 0000000000012060 condition C7; 2 words outside the table", "main")
     want(told["0000000000012150 00000020 _start"],
@@ -94,7 +97,7 @@ def test_a_function_without_a_verdict_says_why(folder):
     struct.pack_into("<II", content, at + 8, 0x47FF041F, 0x47FF041F)
     struct.pack_into("<I", content, at + 0x150, 0x47FF041F)
     write(path, content)
-    told, last = judged(path)
+    told, last = verdicts_of(path)
     want(told["0000000000012000 00000144 .text"], "broken trigger 000000000001205c at 0000000000012060 condition C7", "a stripped file")
     want(last.startswith(f"{len(told)} rows of words in no symbol: "), True, last)
     companion("elf2image", "--function", ".text", path, os.path.join(folder, "a.img"))
@@ -119,7 +122,7 @@ def test_code_in_no_symbol_and_words_of_floating_point_have_verdicts(_):
     for symbols, names in [(whole.symbols, list(wanted)), ([], [".text", ".text+0x10", ".text+0x1c", ".text+0x2c"])]:
         whole.symbols = symbols
         found = functions.functions_of(whole)
-        told = functions.verdicts(program.Program(ASKED), found, 2)
+        told = [lines[0] for lines in judged.verdicts(program.Program(ASKED), found, 2)]
         want([(one.symbol.name, said) for one, said in zip(found, told)], list(zip(names, wanted.values())), names)
     want([one.size for one in found], [16, 8, 16, 4], "sizes")
 
@@ -190,7 +193,7 @@ def written_ecoff(flags=0x1007, code=CODE):
 def test_static_procedures_of_ecoff_files_are_seen(folder):
     path, out = os.path.join(folder, "a.ecoff"), os.path.join(folder, "a.img")
     write(path, written_ecoff())
-    told, _ = judged(path)
+    told, _ = verdicts_of(path)
     want(told, {f"{AWAY:016x} 00000008 first": f"broken trigger {AWAY:016x} at {AWAY:016x} condition C2",
                 f"{AWAY + 8:016x} 00000004 hidden": "accepted; no /V word"}, "functions")
     if shutil.which("alpha-linux-gnu-nm"):
@@ -200,7 +203,7 @@ def test_static_procedures_of_ecoff_files_are_seen(folder):
         write(path, content)
         want(said in companion("elf2image", path, out, status=1)[1], True, said)
     write(path, written_ecoff(0x3007))
-    want(judged(path)[0], told, "a file for a loader")
+    want(verdicts_of(path)[0], told, "a file for a loader")
     want(os.path.exists(out), False, "OUT")
 
 
@@ -242,7 +245,7 @@ def ends_well(name, *words):
     done = subprocess.run([sys.executable, os.path.join(HERE, name), *words], capture_output=True, check=False,
                           env=os.environ | {"ALPHA": ASKED})
     notes = done.stderr.decode("utf-8", "replace")
-    if done.returncode not in (0, 1) or "Traceback" in notes or (done.returncode == 1) != bool(notes.strip()) and name != "shadowfix":
+    if done.returncode not in (0, 1, 3) or "Traceback" in notes or (done.returncode == 1) != bool(notes.strip()) and name != "shadowfix":
         raise Failed(f"{name} {' '.join(words)}: status {done.returncode}: {notes}")
 
 

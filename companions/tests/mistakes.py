@@ -63,9 +63,12 @@ def test_a_file_that_is_no_image_is_called_so(folder):
     path = os.path.join(folder, "none.img")
     for words in (("allbroken", path), ("shadowmap", path), ("where", "--listing", path, "10000")):
         want(refused(*words), f"{words[0]}: {path}: No such file or directory\n", words[0])
-    for words in (("allbroken", data("sum.s")), ("shadowmap", data("sum.s")), ("journal", "first", data("sum.s"), data("sum.s"))):
-        want(refused(*words), f"{words[0]}: {data('sum.s')}: no image: the program answers status 4: image kind 2 first 0 second "
-             "0\n", words[0])
+    want(refused("journal", "first", data("sum.s"), data("sum.s")), f"journal: {data('sum.s')}: no image: the program answers status 4: "
+         "image kind 2 first 0 second 0\n", "journal")
+    for name in ("allbroken", "shadowmap"):
+        want(refused(name, data("sum.s")), f"{name}: {data('sum.s')}:1: `.set` isn't of the source language: is it a source that `asm` "
+             "takes, as gas2source makes one?\n", name)
+        want("an ELF file, which companions/elf2image reads" in refused(name, data("sum.elf")), True, name)
 
 
 def test_gas2source_never_writes_over_what_it_reads(folder):

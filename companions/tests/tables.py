@@ -49,7 +49,7 @@ def test_the_program_and_the_model_find_the_same_broken_triggers(folder):
         code = shadows.Code(words)
         wanted = [(shadow.trigger, *shadow.broken[0]) for trigger in code.triggers()
                   if (shadow := shadows.Shadow(code, trigger)).broken]
-        out, _ = companion("allbroken", path)
+        out, _ = companion("allbroken", path, status=3)
         found = re.findall(r"^broken trigger (\S+) at (\S+) condition C(\d)", out, re.M)
         want([((int(a, 16) - 0x10000) // 4, (int(b, 16) - 0x10000) // 4, int(c)) for a, b, c in found], wanted, "broken")
         companion("shadowmap", path)
