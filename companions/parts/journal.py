@@ -58,7 +58,7 @@ def item_bytes(item):
 
 
 def read_journal(path):
-    return journal_of(files.read_bytes(path))
+    return journal_of(files.read_bytes(path, files.MOST_JOURNAL))
 
 
 def journal_of(content):

@@ -16,7 +16,7 @@ Module = namedtuple("Module", "words data zeroed symbols relocations")
 
 def read_module(path):
     """The module of a file. Only its layout is looked at here; the program judges whether it keeps the rules."""
-    return module_of(files.read_bytes(path), path)
+    return module_of(files.read_bytes(path, files.MOST_MODULE), path)
 
 
 def module_of(content, path):
