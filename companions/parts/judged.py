@@ -44,7 +44,8 @@ def has_shaded(row):
 def said(address, verdict, row):
     """A verdict with the addresses of the file."""
     if verdict is not None:
-        beside = f"; {len(row.foreign)} words outside the table" if row.foreign else ""
+        count = len(row.foreign)
+        beside = f"; {count} word{'s' if count > 1 else ''} outside the table" if count else ""
         return f"{broken_text(address, verdict)}{beside}"
     if has_shaded(row):
         return f"no verdict: {functions.foreign_text(address, row)}"

@@ -10,9 +10,8 @@ from . import files
 BUILT, LOOK = "crates/alpha_tool/out/alpha_tool", ".look/alpha_tool"
 NO_IMAGE, CANT_READ = 4, 8
 BROKEN = re.compile(r"broken trigger ([0-9a-f]{16}) at ([0-9a-f]{16}) condition C([1-9])\n\Z")
-NONE = """no program is there, and a companion makes none. Take bin/alpha of an archive of a release; or where the companions
-stand among the sources, `./look trial 1` compiles one in a minute, and `./alpha trial 1` proves and builds it, which takes
-half an hour. --alpha PROGRAM and the variable ALPHA say another one"""
+NONE = "no program is there, and a companion builds none: take bin/alpha of an archive, or among the sources make one, by " \
+    "`./look trial 1` in a minute, or with all proofs by `./alpha trial 1` in half an hour; --alpha PROGRAM and ALPHA say another one"
 
 
 def found(path=None):
@@ -70,7 +69,7 @@ def told(program, script):
         said = subprocess.run([script, "--version"], stdin=subprocess.DEVNULL, capture_output=True, check=False).stdout
         kinds += ["was made of other sources than are here now"] if b"the sources are others" in said else []
     if kinds:
-        print(f"{os.path.basename(sys.argv[0])}: asks {os.path.relpath(program)}, which {' and '.join(kinds)}", file=sys.stderr)
+        print(f"{os.path.basename(sys.argv[0])}: asks {os.path.relpath(program)}, which {' and '.join(kinds)}", file=sys.stderr, flush=True)
     return program
 
 
