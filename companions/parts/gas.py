@@ -163,24 +163,28 @@ def string_bytes(text):
 
 
 class Faults:
-    """The lines that can't be taken, all of them."""
+    """The lines that can't be taken: one for each cause, with how many there are of it. A cause is what is said of a line, or the
+    option of the compiler that it names."""
 
     MOST = 50
+    OPTION = re.compile(r": compile with (-\S+)\Z")
 
     def __init__(self):
-        self.lines, self.count = [], 0
+        # By path and cause: the first line, and the numbers of all.
+        self.causes = {}
 
     def add(self, path, line, why):
-        said = f"{path}:{line}: {why}"
-        if self.lines[-1:] == [said]:
-            return
-        self.count += 1
-        if self.count <= self.MOST:
-            self.lines.append(said)
+        option = self.OPTION.search(why)
+        first, lines = self.causes.setdefault((path, option[1] if option else why), (f"{path}:{line}: {why}", set()))
+        lines.add(line)
 
     def stop(self):
         """Refuses where there was any."""
-        if self.count > self.MOST:
-            self.lines.append(f"and {self.count - self.MOST} more")
-        if self.count:
-            raise files.Refused("\n".join(self.lines))
+        said = []
+        for (_, cause), (first, lines) in list(self.causes.items())[:self.MOST]:
+            alike = "which that option leaves out" if cause.startswith("-") else "alike"
+            said.append(first + (f" ({len(lines)} lines {alike})" if len(lines) > 1 else ""))
+        if len(self.causes) > self.MOST:
+            said.append(f"and {len(self.causes) - self.MOST} causes more")
+        if said:
+            raise files.Refused("\n".join(said))
