@@ -57,6 +57,8 @@ def of_script(path):
     """The program that such a script runs, without the script, which compares the sources at each call."""
     top, name = os.path.split(os.path.realpath(path))
     program = os.path.join(top, LOOK if name == "look" else BUILT)
+    if name == "alpha" and is_program(os.path.join(top, "bin", "alpha")):
+        return os.path.join(top, "bin", "alpha")
     if not is_program(program):
         raise files.Refused(f"{path}: {NONE}")
     return told(program, os.path.join(top, name))

@@ -51,7 +51,13 @@ def test_the_program_of_an_archive_and_of_an_installation_is_found(folder):
     other = os.path.join(folder, "nothing")
     want(called(folder, path, ALPHA=other)[0], 1, "ALPHA")
     want(called(folder, path, "--alpha", ASKED, ALPHA=other), (3, REFUSED, ""), "--alpha")
-    want(os.path.exists(os.path.join(folder, "mark")), False, "the program of the folder in which it was called")
+    # So does the script of an archive, by the program that it stands for.
+    top = os.path.join(folder, "unpacked")
+    os.mkdir(os.path.join(top, "tools"))
+    write(os.path.join(top, "tools", "start.sh"), b"")
+    put_script(os.path.join(top, "alpha"), os.path.join(folder, "mark"))
+    want(called(folder, path, ALPHA=os.path.join(top, "alpha")), (3, REFUSED, ""), "the script")
+    want(os.path.exists(os.path.join(folder, "mark")), False, "what was called beside the program")
 
 
 @needs_program
