@@ -131,15 +131,16 @@ def main():
     statuses, worst, wrong = collections.defaultdict(collections.Counter), [0.0, 0.0], 0
     with tempfile.TemporaryDirectory() as folder, ThreadPoolExecutor(jobs) as pool:
         whole, named = wholes(program, folder)
-        for kind, call, outcome, kept in pool.map(lambda n: trial(n, seed, whole, named, program), range(count)):
+        for number, (kind, call, outcome, kept) in enumerate(pool.map(lambda n: trial(n, seed, whole, named, program), range(count)), 1):
             statuses[kind][outcome.status] += 1
             worst = [max(worst[0], outcome.seconds), max(worst[1], outcome.megabytes)]
             if outcome.wrong:
                 wrong += 1
                 print(f"{kept}: {call}: {outcome.wrong}: {outcome.seconds:.1f} s, {outcome.megabytes:.0f} MB", flush=True)
+            if number % 250 == 0 or number == count:
+                print(f"{number} files: at most {worst[0]:.1f} s and {worst[1]:.0f} MB; {wrong} wrong", flush=True)
     for kind, counts in sorted(statuses.items()):
         print(f"{kind}: " + ", ".join(f"{times} of status {status}" for status, times in sorted(counts.items())))
-    print(f"{count} files: at most {worst[0]:.1f} s and {worst[1]:.0f} MB; {wrong} wrong")
     sys.exit(bool(wrong))
 
 

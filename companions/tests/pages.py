@@ -1,10 +1,12 @@
 """The blocks of commands of the pages, and the usage of each companion."""
+import json
 import os
 import re
 import shutil
 import subprocess
+import textwrap
 
-from .helpers import DATA, HERE, Lacking, blocks, companion, data, needs_program, runs_as_shown, want
+from .helpers import ASKED, DATA, HERE, TOP, Lacking, blocks, companion, data, needs_program, read, runs_as_shown, want
 
 
 def companions():
@@ -65,14 +67,32 @@ esac
 """
 
 
-@needs_program
-def test_what_the_compiler_made_goes_the_way_of_the_page(folder):
-    """The same without a compiler, but for the blocks that need its other tools, and the last, in which programs are refused."""
-    os.mkdir(os.path.join(folder, "bin"))
+def with_stand_in(folder):
+    """The path of programs with one more in front, which stands for the compiler."""
     compiler = os.path.join(folder, "bin", "alpha-linux-gnu-gcc")
+    os.mkdir(os.path.dirname(compiler))
     with open(compiler, "w", encoding="utf-8") as file:
         file.write(STAND_IN.format(data=DATA))
     os.chmod(compiler, 0o755)
-    path = os.path.dirname(compiler) + os.pathsep + os.environ["PATH"]
+    return os.path.dirname(compiler) + os.pathsep + os.environ["PATH"]
+
+
+@needs_program
+def test_the_run_in_a_build_fails_where_a_place_is_broken(folder):
+    """The commands of the page's file for GitHub's runs, one after another until one fails, as there."""
+    page = read(os.path.join(TOP, "docs", "from-a-compiler.md"))
+    script = textwrap.dedent(re.search(r"^  - run: \|\n(.*?)^  - if: always", page, re.S | re.M)[1])
+    env = os.environ | {"PATH": with_stand_in(folder), "ALPHA": os.path.abspath(ASKED)}
+    os.symlink(HERE, os.path.join(folder, "companions"))
+    done = subprocess.run(["bash", "-e", "-c", script], cwd=folder, env=env, capture_output=True, check=False)
+    log = json.loads(read(os.path.join(folder, "sum.sarif")))
+    uris = {one["locations"][0]["physicalLocation"]["artifactLocation"]["uri"] for one in log["runs"][0]["results"]}
+    want((done.returncode, done.stderr, uris), (3, b"", {"sum.s"}), "the run")
+
+
+@needs_program
+def test_what_the_compiler_made_goes_the_way_of_the_page(folder):
+    """The same without a compiler, but for the blocks that need its other tools, and the last, in which programs are refused."""
+    path = with_stand_in(folder)
     runnable = [block for block in blocks("docs/from-a-compiler.md") if not re.search(r"addr2line|half\.c", block)]
     runs_as_shown(folder, "docs/from-a-compiler.md", runnable, PATH=path)

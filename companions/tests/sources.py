@@ -73,3 +73,15 @@ def test_numbers_are_those_of_gnu_as(_):
     for text, value in [("x+8", ("x", 8)), ("x-0x10+4", ("x", -12)), ("$L3", ("$L3", 0)), ("x*2", None), ("a-b", None)]:
         found = gas.expression_of(text)
         want(found and tuple(found), value, text)
+
+
+def test_a_jump_table_is_refused_by_one_line(folder):
+    """Whatever it is made of: a line for the cause, with the option that leaves it out and how many lines that are; and other causes,
+    each once."""
+    path = os.path.join(folder, "a.s")
+    with open(path, "w", encoding="ascii") as file:
+        file.write("\t.globl f\nf:\tldgp $29,0($27)\n\tldah $1,$L4($29)\t\t!gprelhigh\n\taddq $29,$1,$1\n\tjmp $31,($1),$L4\n\tldt $f1,0($2)\n\tldt $f1,0($2)\n" +
+                   "\t.section .rodata\n$L4:\n" + "\t.gprel32 f\n" * 120)
+    _, notes = companion("gas2source", "--entry", "f", path, status=1)
+    want(notes, f"gas2source: {path}:4: $29 is used as a value, and has none here: compile with -fno-jump-tables (121 lines which that option "
+         f"leaves out)\ngas2source: {path}:6: `ldt` is of floating point, which the product doesn't have (2 lines alike)\n", "lines")
