@@ -2,6 +2,9 @@
 # They set: name, how they are called; is, what their program is; top, this repository; program, its
 # path from there; and maker, the script that makes it.
 #
+# An unpacked archive has the proved program in bin, and PROVED beside it says what it was made of. There
+# ./alpha runs that one, and never builds any.
+#
 # Beside the program stand what it was made of, by contents (.contents) and by dates (.dates), and
 # where (.made). Dates are compared first, since that is quick. Where they differ, as in a copy, the
 # contents decide.
@@ -10,10 +13,13 @@ say() {
     echo "$name: $*" >&2
 }
 
-needs_python() {
-    command -v python3 >/dev/null && return
-    say "python3 is missing, which $1 needs"
+give_up() {
+    say "$*"
     exit 70
+}
+
+needs_python() {
+    command -v python3 >/dev/null || give_up "python3 is missing, which $1 needs"
 }
 
 # The sources of all crates, by find with what is given; paths are those from the top.
@@ -57,14 +63,15 @@ note() {
 
 # The commit of the sources, and the kit.
 made() {
-    echo "commit $(commit)"
+    echo "commit $(commit crates crates.txt)"
     echo "kit $(rt version)"
 }
 
+# The commit, and whether these files are as it has them.
 commit() {
     if ! [ -e "$top/.git" ] || ! commit=$(git -C "$top" rev-parse HEAD 2>/dev/null); then
         echo unknown
-    elif [ -n "$(git -C "$top" status --porcelain -- crates crates.txt 2>/dev/null)" ]; then
+    elif [ -n "$(git -C "$top" status --porcelain -- "$@" 2>/dev/null)" ]; then
         echo "$commit, and changes that aren't committed"
     else
         echo "$commit"
@@ -72,6 +79,12 @@ commit() {
 }
 
 version() {
+    echo "version $(cat "$top/VERSION")"
+    if is_packed; then
+        sed -n '/^commit /p; /^kit /p' "$top/PROVED"
+        echo "program $is"
+        return
+    fi
     if ! [ -x "$top/$program" ] || ! [ -f "$top/$program.made" ]; then
         echo "no program yet: the first call makes it"
         return
@@ -88,6 +101,29 @@ make() {
     note "$sum"
 }
 
+is_packed() {
+    [ "$name" != look ] && [ -f "$top/PROVED" ]
+}
+
+# What PROVED says of a word.
+proved() {
+    sed -n "s/^$1 //p" "$top/PROVED"
+}
+
+# Ends where the program of the archive can't run here, or isn't the one that was proved.
+hold_packed() {
+    system=$(uname -sm)
+    [ "$system" = "Linux x86_64" ] || give_up "the program is one for Linux on x86-64, and this is $system"
+    [ "$(sha256sum <"$top/bin/alpha")" = "$(proved program)  -" ] ||
+        give_up "$top/bin/alpha isn't the program that PROVED names: unpack the archive anew"
+    needed=$(proved needs)
+    has=$(getconf GNU_LIBC_VERSION 2>/dev/null)
+    case $has in "glibc "*) ;; *) has="another C library" ;; esac
+    # What is older stands before, and so does another library.
+    [ "$(printf '%s\n' "$needed" "$has" | LC_ALL=C sort -V | head -n 1)" = "$needed" ] ||
+        give_up "the program needs $needed or later, and here is $has"
+}
+
 start() {
     case ${1-help} in
     help | --help | -h)
@@ -101,6 +137,10 @@ start() {
         ;;
     --) shift ;;
     esac
+    if is_packed; then
+        hold_packed
+        exec "$top/bin/alpha" "$@"
+    fi
     is_fresh || make
     exec "$top/$program" "$@"
 }

@@ -20,7 +20,7 @@ HEAD = [
     ("./alpha COMMAND ..", "the proved program; where there is none the call proves and builds it"),
     ("./look COMMAND ..", "the same program, compiled and not proved"),
     ("./{name} help [COMMAND]", "this, or all words of a command"),
-    ("./{name} --version", "the commit and the kit that the program was made of"),
+    ("./{name} --version", "the version, and the commit and the kit that the program was made of"),
     ("./{name} -- WORDS", "hands the program these words, whatever they are"),
 ]
 TAIL = f"""\
