@@ -24,7 +24,7 @@ import pages
 TOP = os.path.dirname(os.path.dirname(os.path.abspath(__file__)))
 FAILED = 70
 COMMANDS = "check dis asm fix module link run record replay debug trial".split()
-CALLED = "sh dirname readlink find sort xargs sha256sum cmp cat python3".split()
+CALLED = "sh dirname readlink find sort xargs sha256sum cmp cat sed python3".split()
 NUMBER = """//! One function.
 #![tactic(auto)]
 
@@ -82,6 +82,7 @@ def small_repository(folder):
     os.makedirs(f"{folder}/crates/alpha_tool/src")
     write(f"{folder}/crates/alpha_tool/src/main.rt", MAIN)
     write(f"{folder}/crates.txt", CRATES)
+    write(f"{folder}/VERSION", "1.2.3\n")
 
 
 def write(path, text):
@@ -99,11 +100,11 @@ def call(command, stdin=subprocess.DEVNULL, **how):
     return ran.returncode, ran.stdout, ran.stderr
 
 
-def without_kit(room):
-    """A folder for the path that has what the two scripts call, and no kit."""
+def without_kit(room, called=CALLED):
+    """An environment whose path has what the two scripts call, or other commands, and no kit."""
     folder = f"{room}/bin"
     os.mkdir(folder)
-    for name in CALLED:
+    for name in called:
         os.symlink(os.path.realpath(shutil.which(name)), f"{folder}/{name}")
     return {**os.environ, "PATH": folder}
 
@@ -132,8 +133,8 @@ def try_usage(top, bare):
                                           for it, (status, text, said) in zip(COMMANDS, helps)))
     status, text, said = call([f"{top}/alpha", "help", "judge"], env=bare)
     show("another hasn't", status == 2, text == "", said == "alpha: there is no command judge: ./alpha help names all\n")
-    show("without a program there is no version", call([f"{top}/alpha", "--version"], env=bare) ==
-         (0, "no program yet: the first call makes it\n", ""))
+    show("without a program there is none but that of the sources", call([f"{top}/alpha", "--version"], env=bare) ==
+         (0, "version 1.2.3\nno program yet: the first call makes it\n", ""))
 
 
 def try_alpha(room, top, bare):
@@ -169,7 +170,8 @@ def try_builds(room, top, bare):
     show("a program that is built runs at once, without the kit too", call([alpha, "go"], env=bare) == ANSWER)
     show("words behind -- are the program's", call([alpha, "--", "--help"], env=bare) == ANSWER)
     kit = subprocess.run(["rt", "version"], capture_output=True, text=True, check=True).stdout
-    show("the version is the commit and the kit", call([alpha, "--version"], env=bare) == (0, f"commit unknown\nkit {kit}program proved\n", ""))
+    show("the version is the commit and the kit", call([alpha, "--version"], env=bare) ==
+         (0, f"version 1.2.3\ncommit unknown\nkit {kit}program proved\n", ""))
 
 
 def try_edits(top, bare):
@@ -271,8 +273,9 @@ def try_first(room, real):
               for words in ("debug lost.img <&-", "check repaired.img >&-", "dis lost.img >/dev/full")]
     show("closed and full streams have their statuses", closed == [9, 10, 10])
     blocks = [pages.commands_in(it) for it in pages.Page("README.md").blocks if it[1][:1] == ["console"]]
+    blocks = [[(at, command.replace("./alpha", "./look"), shown) for at, command, shown in it] for it in blocks]
     blocks = [it for it in blocks if any("./look" in command for _, command, _ in it)]
-    show("it answers as README.md shows", len(blocks) > 2,
+    show("it answers as README.md shows of ./alpha", len(blocks) > 2,
          *(pages.is_shown(wrote, shown) for it in blocks for (_, _, shown), (wrote, _) in zip(it, pages.run_block(it, real))))
     shadows = call([f"{real}/companions/shadowmap", "examples/refused.img"], cwd=real, env={**os.environ, "ALPHA": "./look"})
     show("a companion calls it", shadows[0] == 0, shadows[2] == "", "C2: a source is lost" in shadows[1])
