@@ -79,8 +79,8 @@ def try_python(root, name):
         show(f"{where}, the companions' tests pass: {last(output)}", status == 0, f" {output}{said}")
         status, output, said = root.call(f"cd {folder} && python3 conformance/run {SUITE.format(program)}")
         show(f"{where}, the suite passes: {last(output)}", status == 0, f" {output}{said}")
-    status, output, _ = root.call(f"alpha-allbroken {HOME}/examples/refused.img")
-    show("installed, a companion finds the program", status == 0, "1 of 1 /V words are broken" in output)
+    _, output, said = root.call(f"alpha-shadowmap {HOME}/examples/refused.img")
+    show("installed, a companion finds the program", "C2: a source is lost" in output, f" {said}")
 
 
 def try_old(root, name):
