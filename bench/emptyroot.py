@@ -65,7 +65,8 @@ def try_bare(root, name, package):
     if not root.has("python3"):
         for companion in ("alpha-where", f"{name}/bin/alpha-where"):
             status, output, said = root.call(f"{companion} 10000")
-            show(f"{companion} says that it needs Python", status == FAILED, output == "", said.startswith("alpha-where: python3 is missing"))
+            show(f"{companion} says that it needs Python", status == FAILED, output == "",
+                 said.startswith("alpha-where: python3 is missing"))
 
 
 def try_python(root, name):

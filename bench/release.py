@@ -24,7 +24,7 @@ import time
 sys.dont_write_bytecode = True
 import pages  # noqa: E402  (the line above must come first)
 from measure import TOP, the_program  # noqa: E402
-from wrapper import FAILED, call, read, show, without_kit, write, wrong  # noqa: E402
+from wrapper import COMMANDS, FAILED, call, read, show, without_kit, write, wrong  # noqa: E402
 
 sys.path.insert(0, f"{TOP}/tools")
 import archive  # noqa: E402
@@ -89,7 +89,8 @@ def try_minute(top):
 def try_alpha(room, top, bare):
     """./alpha of the archive, which never builds, as the path has neither kit nor Python."""
     alpha = f"{top}/alpha"
-    show("without Python and kit the archive's program judges", call([alpha, "check", f"{top}/examples/lost.img"], env=bare) == (1, "", LOST))
+    check = [alpha, "check", f"{top}/examples/lost.img"]
+    show("without Python and kit the archive's program judges", call(check, env=bare) == (1, "", LOST))
     proved = read(f"{top}/PROVED").decode()
     said = verified.spelled(proved)
     show("the version is that of PROVED", call([alpha, "--version"], env=bare) ==
@@ -103,8 +104,7 @@ def try_alpha(room, top, bare):
                                   ("getconf", "glibc 2.4", f"the program needs {said['needs']} or later, and here is glibc 2.4"),
                                   ("getconf", "undefined", f"the program needs {said['needs']} or later, and here is another C library")):
         other = with_command(room, bare, command, answer)
-        show(f"where {command} says {answer} the program isn't tried",
-             call([alpha, "check", f"{top}/examples/lost.img"], env=other) == (FAILED, "", f"alpha: {line}\n"))
+        show(f"where {command} says {answer} the program isn't tried", call(check, env=other) == (FAILED, "", f"alpha: {line}\n"))
     try_damages(room, top, bare)
 
 
@@ -117,7 +117,8 @@ def try_damages(room, top, bare):
         status, output, told = call([f"{top}/alpha", "check", f"{top}/examples/lost.img"], env=bare)
         show(f"the program isn't run where {what}", status == FAILED, output == "",
              told == f"alpha: {top}/bin/alpha isn't the program that PROVED names: unpack the archive anew\n")
-        show(f"nor is it installed where {what}", call([f"{top}/install", f"{room}/damaged"])[0] == FAILED, not os.path.exists(f"{room}/damaged"))
+        status, _, _ = call([f"{top}/install", f"{room}/damaged"])
+        show(f"nor is it installed where {what}", status == FAILED, not os.path.exists(f"{room}/damaged"))
     with open(f"{top}/bin/alpha", "wb") as file:
         file.write(whole)
 
@@ -209,8 +210,8 @@ def try_manuals(top):
     for name in sorted(os.listdir(folder)):
         status, text, told = call(["groff", "-man", "-Tascii", "-P-cbou", "-ww", f"{folder}/{name}"])
         if name == "alpha.1":
-            show("alpha.1 has each command, option and status", status == 0, told == "", all(f"\n       {it} " in text for it in ("check", "trial")),
-                 all(re.search(rf"\n       {it} ", text) for it in range(21)), "--complete" in text)
+            show("alpha.1 has each command, option and status", status == 0, told == "", "--complete" in text,
+                 all(re.search(rf"\n       {it} ", text) for it in [*COMMANDS, *range(21)]))
         elif status or told or "NAME" not in text:
             show(f"{name} is a manual page", False, told)
 
@@ -219,7 +220,8 @@ def try_package(top, path):
     if not debian.is_here():
         skip("the package", "dpkg-deb is missing")
         return
-    there = {name.removeprefix("./usr/"): content for name, told, content in verified.members(path, debian.unpacked(path)) if told[0] == tarfile.REGTYPE}
+    members = verified.members(path, debian.unpacked(path))
+    there = {name.removeprefix("./usr/"): content for name, told, content in members if told[0] == tarfile.REGTYPE}
     inside = {it.removeprefix("lib/bantamtinsel/"): content for it, content in there.items() if it.startswith("lib/bantamtinsel/")}
     show("the package has the archive's files", there["bin/alpha"] == read(f"{top}/bin/alpha"), len(inside) > 600, "PROVED" in inside,
          all(content == read(f"{top}/{it}") for it, content in inside.items()))
@@ -247,17 +249,25 @@ def try_refusals(room, program):
     write(f"{room}/text", "no program")
     refused("of what is no program of the kit", "names no glibc", "--trial", "--program", f"{room}/text")
     refused("without a record", ".ci/run leaves it", "--program", program, "--gate", f"{room}/none")
-    said = archive.of_shell("commit", ".")
-    if not verified.COMMIT.fullmatch(said):
+    if not is_clean():
         skip("records of another gate", "there are changes since the commit")
         return
-    record = {"commit": said, "sources": archive.of_shell("sum_of_sources").split()[0], "program": archive.sum_of(read(program)),
-              "gate": "rt ci: 5 passed, 0 failed"}
+    record = record_of(program)
     for word in record:
-        text = "".join(f"{it} {'0' * 40 if it == word else value}\n" for it, value in record.items() if it != "gate" or it != word)
+        line = "how the gate ended" if word == "gate" else f"with {word} "
+        text = "".join(f"{it} {'0' * 40 if it == word else value}\n" for it, value in record.items() if (it, word) != ("gate", "gate"))
         write(f"{room}/record", text)
-        refused(f"by a record with another {word}", "how the gate ended" if word == "gate" else f"with {word} ", "--program", program,
-                "--gate", f"{room}/record")
+        refused(f"by a record with another {word}", line, "--program", program, "--gate", f"{room}/record")
+
+
+def is_clean():
+    return bool(verified.COMMIT.fullmatch(archive.of_shell("commit", ".")))
+
+
+def record_of(program):
+    """What a record of this tree and this program says."""
+    return {"commit": archive.of_shell("commit", "."), "sources": archive.of_shell("sum_of_sources").split()[0], "kit": "some kit",
+            "program": archive.sum_of(read(program)), "gate": "rt ci: 5 passed, 0 failed"}
 
 
 def rewritten(content, change):
@@ -327,16 +337,21 @@ def try_no_archives(room, program):
         show(f"{name}.tar.gz isn't verified", status == 1, output == "", told.startswith("release: "), told.count("\n") == 1, f" {told}")
 
 
-def try_verify(paths, program):
-    if not verified.COMMIT.fullmatch(archive.of_shell("commit", ".")):
+def try_verify(room, program):
+    """Archive and package by a record, held against those that a clone in another folder makes."""
+    if not is_clean():
         skip("an archive of a clone in another folder", "there are changes since the commit")
         return
-    for path in paths:
+    write(f"{room}/record", "".join(f"{word} {value}\n" for word, value in record_of(program).items()))
+    status, _, told = call([*RELEASE, "--program", program, "--gate", f"{room}/record", "-o", f"{room}/released"])
+    names = sorted(os.listdir(f"{room}/released"))
+    show("by a record of its own a tree is released", status == 0, not any("trial" in it for it in names), f" {told}")
+    for name in names:
         start = time.time()
-        status, output, told = call([*RELEASE, "--verify", path, "--program", program])
-        show(f"a clone in another folder makes the same {os.path.basename(path)}; it took {time.time() - start:.0f} seconds", status == 0,
-             told == "", archive.sum_of(read(path)) in output, f" {output}")
-    status, output, told = call([*RELEASE, "--verify", paths[0], "--program", "/bin/true"])
+        status, output, told = call([*RELEASE, "--verify", f"{room}/released/{name}", "--program", program])
+        show(f"a clone in another folder makes the same {name}; it took {time.time() - start:.0f} seconds", status == 0, told == "",
+             archive.sum_of(read(f"{room}/released/{name}")) in output, f" {output}{told}")
+    status, output, told = call([*RELEASE, "--verify", f"{room}/released/{names[0]}", "--program", "/bin/true"])
     show("but not by another program", status == 1, "another program" in output, told == "")
 
 
@@ -363,12 +378,15 @@ def main():
         try_completions(top)
         try_manuals(top)
         try_package(top, package)
+        after = versions.least_after
+        show("a version rises by what breaks", after((1, 2, 3), True) == (2, 0, 0), after((0, 2, 3), True) == (0, 3, 0),
+             after((1, 2, 3), False) == (1, 2, 4))
         try_refusals(room, program)
         try_comparison(room)
         try_no_archives(room, program)
         if is_all:
             try_lintian(room, package)
-            try_verify([path, package] if debian.is_here() else [path], program)
+            try_verify(room, program)
     print(f"an archive and what is refused: {len(wrong)} wrong")
     return bool(wrong)
 

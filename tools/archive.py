@@ -99,7 +99,10 @@ def packed(name, files, when):
             info = tarfile.TarInfo(path)
             info.type = tarfile.DIRTYPE if is_script is None else tarfile.REGTYPE
             info.mode, info.size, info.mtime = MODES[is_script is not False], len(content), when
-            tar.addfile(info, io.BytesIO(content))
+            try:
+                tar.addfile(info, io.BytesIO(content))
+            except ValueError as error:
+                raise Refused(f"{path}: {error}, as a tar file has it") from error
     return kept.getvalue()
 
 
@@ -110,19 +113,20 @@ def compressed(content):
     return GZIP + packer.compress(content) + packer.flush() + ending
 
 
-def names_of_machine():
-    """(paths, names) that nothing in an archive may have: those of this repository, of the kit and of home; of user and host."""
+def names_of_machine(built):
+    """(paths, names) that nothing in an archive may have: those of this repository, of the one in which the program was built,
+    of the kit and of home; of user and host."""
     kit = os.path.dirname(os.path.dirname(os.path.realpath(shutil.which("rt") or "/")))
-    paths = {TOP, os.path.abspath(TOP), kit, os.path.expanduser("~"), os.environ.get("HOME", "")}
+    paths = {TOP, built, kit, os.path.expanduser("~")}
     # The user 0 has the same name everywhere.
     names = {pwd.getpwuid(os.getuid()).pw_name if os.getuid() else "", socket.gethostname()}
     return [it.encode() for it in paths if len(it) > 1], [it.encode() for it in names if it]
 
 
-def hold_names(files, made):
+def hold_names(files, made, built):
     """Refuses files that tell something of the machine. What git keeps is the same everywhere, so names, which may be words
     of the pages too, are looked for in what was made here."""
-    paths, names = names_of_machine()
+    paths, names = names_of_machine(built)
     for path, (_, content) in {**files, **made}.items():
         told = [it for it in paths if re.search(re.escape(it) + rb"(?![\w-])", content)]
         if path in made:
