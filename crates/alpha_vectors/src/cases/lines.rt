@@ -56,23 +56,30 @@ pub fn bytes_of(alloc: Global, digits: &str) -> anyhow::Result<Vec<u8>> {
     }
 }
 
-/// The bytes that a text spells, in which `\n`, `\r`, `\t` and `\\` stand for a line feed, a carriage return, a tab and `\`.
+/// The bytes that a text spells, in which `\n`, `\r` and `\t` stand for a line feed, a carriage return and a tab, and any
+/// other byte behind a `\` for itself.
 pub fn spelled(alloc: Global, text: &str) -> anyhow::Result<Vec<u8>> {
     let mut bytes = Vec::new(alloc);
     let mut escaped = false;
     for byte in text.as_bytes() {
-        match (escaped, *byte) {
-            (false, b'\\') => {}
-            (false, plain) => bytes.push(plain)?,
-            (true, b'n') => bytes.push(b'\n')?,
-            (true, b'r') => bytes.push(b'\r')?,
-            (true, b't') => bytes.push(b'\t')?,
-            (true, b'\\') => bytes.push(b'\\')?,
-            (true, _) => bail!("what is escaped? {text}"),
+        if *byte == b'\\' && !escaped {
+            escaped = true;
+        } else {
+            bytes.push(if escaped { meant(*byte) } else { *byte })?;
+            escaped = false;
         }
-        escaped = !escaped && *byte == b'\\';
     }
     Ok(bytes)
+}
+
+// The byte that one behind a `\` means.
+fn meant(byte: u8) -> u8 {
+    match byte {
+        b'n' => b'\n',
+        b'r' => b'\r',
+        b't' => b'\t',
+        other => other,
+    }
 }
 
 /// The number that a word spells.
