@@ -4,6 +4,8 @@ plain names of the same length, at 25,000, 50,000 and 100,000 of them. Of a sour
 the next one; of `link` one module has all names as symbols.
 
     bench/crowd.py [PROGRAM]     counts
+    bench/crowd.py last [PROGRAM]   counts for names that are looked up in the last map alone
+    bench/crowd.py search        searches for such names, some minutes
     bench/crowd.py NAMES COUNT   writes a source of so many labels: plain16, product, plain32, hash or way
 """
 import itertools
@@ -13,14 +15,13 @@ import struct
 import sys
 import tempfile
 
+from last_names import LAST, ONE_HASH, ON_THE_WAY, search
 from link import module, symbol
 from measure import NOP, instructions, the_program
 
 COUNTS = (25_000, 50_000, 100_000)
+REFERENCES = 20_000
 SOME = string.ascii_letters + string.digits + "_"
-# Names of 32 bytes that begin so have one quick hash: the third eight bytes are the state of the hasher behind the first
-# sixteen, so that what it multiplies next has a factor of 0.
-ONE_HASH = "crowd_0000100431jxd8Xp31"
 # With a factor of 1 the hash is the last eight bytes, but for a constant. Where their last four are alike too, all names
 # go one way through the first tree.
 ONE_WAY = "crowd_0000100431kxd8Xp31"
@@ -78,7 +79,53 @@ def count(program, folder, kind, number):
     return {command: instructions([program, *words]) / number for command, words in calls.items()}
 
 
+def uses(names, used, count):
+    """A source that defines names, in this order, and branches to some of them."""
+    labels = "".join(f"{name}:\n" for name in names)
+    branches = "".join(f" br $31,{used[number % len(used)]}\n" for number in range(count))
+    return f".code\n{labels}{branches}.entry {names[0]}\n".encode()
+
+
+def count_uses(program, folder, names, used):
+    """The host instructions of a branch and of a label line by `asm`, and of a symbol that one module names and another one
+    defines by `link`."""
+    path, out = os.path.join(folder, "source"), os.path.join(folder, "out")
+    counts = []
+    for text in (source(names[:-len(used)]), source(names), uses(names, used, 1), uses(names, used, REFERENCES + 1)):
+        with open(path, "wb") as file:
+            file.write(text)
+        counts.append(instructions([program, "asm", path, out]))
+    taken = {"a label line": (counts[1] - counts[0]) / len(used), "a branch": (counts[3] - counts[2]) / REFERENCES}
+    files = []
+    for number, name in enumerate([*names, "start"]):
+        files.append(os.path.join(folder, f"m{number}"))
+        with open(files[-1], "wb") as file:
+            file.write(module(struct.pack("<I", NOP), b"", [symbol(0, name.encode())], []))
+    both = []
+    for symbols in ([], [symbol(2, name.encode()) for name in sorted(used)]):
+        with open(path, "wb") as file:
+            file.write(module(struct.pack("<I", NOP), b"", symbols, []))
+        both.append(instructions([program, "link", out, *files, *[path] * (64 - len(files))]))
+    taken["a symbol of link"] = (both[1] - both[0]) / (len(used) * (64 - len(files)))
+    return taken
+
+
+def last(program, folder):
+    """Names that are looked up in the map behind both trees, beside plain names."""
+    # The first of all has the one slot of the first tree.
+    dear = [ONE_HASH + word for word in ["aaaaaaaa", *ON_THE_WAY, *LAST]]
+    plain = NAMES["plain32"](len(dear))
+    counted = {name: count_uses(program, folder, names, names[-len(LAST):]) for name, names in (("plain", plain), ("last", dear))}
+    for what, each in counted["last"].items():
+        print(f"{what}: {each:,.0f}, {each / counted['plain'][what]:.2f} times plain names")
+
+
 def main():
+    if sys.argv[1:] == ["search"]:
+        return search()
+    if sys.argv[1:2] == ["last"]:
+        with tempfile.TemporaryDirectory() as folder:
+            return last(the_program(sys.argv[2:]), folder)
     if len(sys.argv) == 3 and sys.argv[1] in NAMES and sys.argv[2].isdigit() and int(sys.argv[2]) > 0:
         sys.stdout.write(source(NAMES[sys.argv[1]](int(sys.argv[2]))).decode())
         return

@@ -4,6 +4,7 @@ the same source in one file, how much memory beside the image and the modules, a
 
     bench/link.py [PROGRAM]         counts and measures
     bench/link.py names [PROGRAM]   the memory for modules of short names alone
+    bench/link.py order [PROGRAM]   what the order of the files costs alone
 """
 import os
 import string
@@ -16,6 +17,7 @@ from measure import NOP, best, counts_instructions, instructions, most_memory, t
 
 WORDS = 4_096
 LABELS = 78
+SHARED = 512
 MEBIBYTE = 1_048_576
 # What a name begins with and goes on with, in the order of their bytes.
 FIRST = string.ascii_uppercase + "_" + string.ascii_lowercase
@@ -170,12 +172,41 @@ def all_names(folder):
             many_names_of(folder, files, size, count)
 
 
+def orders(folder):
+    """What a symbol that another module defines takes, wherever that module stands."""
+    names = [b"shared_by_all%05d" % number for number in range(SHARED)]
+    word = struct.pack("<I", NOP)
+    definer = folder.keep("definer", module(word, b"", [symbol(0, name) for name in [*names, b"start"]], []))
+    user = folder.keep("user", module(word, b"", [symbol(2, name) for name in names], []))
+    empty = folder.keep("empty", module(word, b"", [], []))
+
+    def each(*files):
+        command = [folder.program, "link", folder.path("image"), *files]
+        least = [empty if file == user else file for file in files]
+        least = [folder.program, "link", folder.path("image"), *least]
+        return (instructions(command) - instructions(least)) / (SHARED * files.count(user))
+
+    first = each(definer, *[user] * 63)
+    rows = {
+        "the module that defines all first of 64": first,
+        "last of 64": each(*[user] * 63, definer),
+        "in the middle of 64": each(*[user] * 31, definer, *[user] * 32),
+        "and one other alone": each(definer, user),
+        "and one other behind 62 without symbols": each(*[empty] * 62, definer, user),
+    }
+    for what, taken in rows.items():
+        print(f"{what}: {taken:,.0f} instructions a symbol, {taken / first:.2f} times", flush=True)
+
+
 def main():
-    alone = sys.argv[1:2] == ["names"]
+    alone = sys.argv[1] if sys.argv[1:2] in (["names"], ["order"]) else None
     program = the_program(sys.argv[2:] if alone else None)
     with tempfile.TemporaryDirectory() as name:
         folder = Folder(program, name)
-        all_names(folder)
+        if alone != "names" and counts_instructions():
+            orders(folder)
+        if alone != "order":
+            all_names(folder)
         if alone:
             return
         for count in (4, 16, 64):
