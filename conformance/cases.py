@@ -7,6 +7,9 @@ import random
 import struct
 from collections import namedtuple
 
+import families
+from families import lines, wild
+
 ALL = ("wrap", "saturate", "stop")
 # How an image is run: by which completions, for how many steps, over which input, and whether the registers at barriers are
 # asked for; and which journals of it are recorded, by each of these completions.
@@ -30,6 +33,8 @@ EXTRACTS = "extbl extwl extll extql extwh extlh extqh insbl inswl insll insql in
 MASKS = "mskbl mskwl mskll mskql mskwh msklh mskqh zap zapnot sll srl sra sextb sextw".split()
 COUNTS = "ctpop ctlz cttz implver sextb sextw addq".split()
 UNARY = {"sextb", "sextw", "amask", "ctpop", "ctlz", "cttz"}
+FORMS = {"arithmetic": ARITHMETIC, "triggers": TRIGGERS, "comparisons": COMPARISONS, "moves": MOVES, "extracts": EXTRACTS, "masks": MASKS,
+         "counts": ["amask", "implver", "ctpop", "ctlz", "cttz"]}
 VALUES = {"arithmetic": (ARITHMETIC, 1), "triggers": (TRIGGERS, 1), "comparisons": (COMPARISONS, 1), "moves": (MOVES, 1),
           "extracts": (EXTRACTS, 1), "masks": (MASKS, 1), "features": (["amask", "implver"], 1), "counts": (COUNTS, 2)}
 
@@ -70,12 +75,21 @@ def long_source(words, condition):
     return "\n".join([*head, *["lda $4,4($31)"] * words, *tail]) + "\n"
 
 
+LINES = {"branches": ("Branches, 1 where they are taken.", lines.branches), "addresses": ("LDA and LDAH.", lines.addresses),
+         "bases": ("Loads whose base is loaded, stores, links, and what R31 takes.", lines.bases),
+         "flags": ("Conditional stores behind each kind of word, 1 where the flag was still set.", lines.flags)}
+
+
 def made_sources():
     """The sources that are made here, by name."""
     made = {f"values-{name}": values_source(*what) for name, what in VALUES.items()}
+    made["values-products"] = values_source(TRIGGERS + ["umulh", "mull", "mulq"], 1)
     made["shadow-c9"] = long_source(1_025, "C9")
     made["shadow-c9-repaired"] = long_source(1_024, "As shadow-c9, with one word less")
-    return made
+    made |= {f"values-forms-{name}": lines.source("Registers that are alike, R31, and literals.", list(lines.forms(names)), 2)
+             for name, names in FORMS.items()}
+    made |= {f"values-{name}": lines.source(about, list(rows_of()), 2) for name, (about, rows_of) in LINES.items()}
+    return made | wild.sources() | families.sources()
 
 
 def rows(triples):
@@ -95,6 +109,28 @@ def shifts():
                  (0, 1, 2, 3, 4, 5, 6, 7, 8, 15, 31, 32, 33, 62, 63, 64, 0xF9, 0x80, 0x8000, -1, 1 << 63)])
 
 
+def few():
+    """Rows for lines whose registers matter, and not so much what they have."""
+    return rows([(0x8877665544332211, 0x123456789ABCDEF, 0x7A6958473625140), (5, 3, 2), (0, 1, -1), (-1, 0, 1 << 63), ((1 << 63) - 1, 1, 1 << 31)])
+
+
+def bounds():
+    """Products and sums at the bounds of 32 and 64 bits, and one to each side of them."""
+    whole, half = 1 << 63, 1 << 31
+    products = [(3, -(whole + 1) // 3), (-3, (whole + 1) // 3), (3, (whole + 1) // 3), (-1, whole - 1), (1, whole - 1), (-1, -whole), (1, -whole), (2, whole // 2),
+                (-2, whole // 2), (7, (whole - 1) // 7), (-7, (whole - 1) // 7), (1 << 32, half), (1 << 32, -half), (-(1 << 32), half),
+                (3, -(half + 1) // 3), (-3, (half + 1) // 3), (3, (half + 1) // 3), (-1, half - 1), (1, -half), (-1, -half), (1 << 16, 1 << 15), (1 << 16, -(1 << 15)),
+                (1 << 33, 1), (half, half), (-half, half), (-half, -half), (46_341, 46_341), (46_340, 46_341), (3_037_000_500, 3_037_000_500), (3_037_000_499, 3_037_000_500),
+                ((5 << 32) + 3, (7 << 32) + 4), ((1 << 32) + half - 1, (9 << 32) + 1)]
+    sums = [(a + b, c) for a in (whole - 1, -whole, half - 1, -half) for b in (-1, 0, 1) for c in (-2, -1, 0, 1, 2)]
+    return rows([(a, b, 0x5555AAAA) for a, b in products + sums])
+
+
+def values():
+    """A value a row, with 0, 1, both signs and each low and high bit alone."""
+    return rows([(value, 2, 3) for value in [0, 1, 2, 3, -1, -2, 1 << 63, (1 << 63) + 1, (1 << 63) - 1, *[1 << n for n in (8, 16, 31, 32, 33, 47, 62)], -(1 << 32), 1 << 32 | 1]])
+
+
 def quadwords(*values):
     return b"".join(struct.pack("<Q", value % (1 << 64)) for value in values)
 
@@ -110,6 +146,10 @@ CASES = {
     "values-masks": PLAIN._replace(given=shifts(), is_watched=False),
     "values-features": PLAIN._replace(given=shifts(), is_watched=False),
     "values-counts": PLAIN._replace(given=pairs(), is_watched=False),
+    "values-products": PLAIN._replace(given=bounds(), is_watched=False, completions=("wrap", "saturate")),
+    **{f"values-forms-{name}": PLAIN._replace(given=few(), is_watched=False) for name in FORMS},
+    **{f"values-{name}": PLAIN._replace(given=values() if name == "branches" else few(), is_watched=False) for name in LINES},
+    **{name: PLAIN._replace(completions=ALL, journals=("1", "2", "3", "late")) for name in wild.sources()},
     "reads": PLAIN._replace(given=b"twenty bytes, or so\n"),
     "locks": PLAIN._replace(completions=ALL, journals=SOME),
     "completions": PLAIN._replace(completions=ALL, journals=MANY),
@@ -125,20 +165,23 @@ CASES = {
     "end-odd": PLAIN._replace(journals=("1",)),
     "calls": PLAIN._replace(journals=("1",)),
     "late-orders": PLAIN._replace(completions=ALL, journals=MANY),
-    "shadow-drawn": PLAIN._replace(journals=MANY),
-    "shadow-c3-mask": PLAIN._replace(journals=MANY),
-    "shadow-c1-second": PLAIN._replace(journals=(*SOME, "second")),
-    "shadow-c4": PLAIN._replace(journals=(*SOME, "astray")),
-    "shadow-c7": PLAIN._replace(journals=(*SOME, "at-once", "behind")),
+    "shadow-drawn": PLAIN._replace(completions=ALL, journals=MANY),
+    "shadow-c3-mask": PLAIN._replace(completions=ALL, journals=MANY),
+    "shadow-c1-second": PLAIN._replace(completions=ALL, journals=(*SOME, "second")),
+    "shadow-c4": PLAIN._replace(completions=ALL, journals=(*SOME, "astray")),
+    "shadow-c7": PLAIN._replace(completions=ALL, journals=(*SOME, "at-once", "behind")),
     "shadow-c9": PLAIN._replace(is_watched=False, journals=("1", "late")),
     "shadow-c9-repaired": PLAIN._replace(is_watched=False, journals=("1", "late")),
 }
 
 
 def case_of(name):
+    """How an image is run, or None where cases.tsv alone says it."""
+    if name in families.sources():
+        return None
     if name not in CASES and name.startswith("shadow-"):
         is_repaired = name.endswith("-repaired")
-        return PLAIN._replace(completions=("wrap", "stop") if is_repaired else ("wrap",), journals=("1", "late") if is_repaired else SOME)
+        return PLAIN._replace(completions=ALL, journals=("1", "late") if is_repaired else SOME)
     return CASES.get(name, PLAIN)
 
 

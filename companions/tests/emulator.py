@@ -8,12 +8,20 @@ import struct
 import subprocess
 import sys
 
-from parts import files, image, journal, machine, playing, table
+from parts import files, goodness, image, journal, machine, playing, table
 from .helpers import ASKED, HERE, TOP, Failed, Lacking, companion, needs_program, read, rows, want, write
 
 SUITE = os.path.join(TOP, "conformance")
-RUN, FOLLOW, RECORD = "run --watch --complete {complete} --steps {steps} {image}", "replay {image} {journal}", (
-    "record --seed {seed} --complete {complete} --steps {steps} {image} {journal}")
+sys.path.insert(0, SUITE)
+import packed  # noqa: E402  (behind the path)
+import suite  # noqa: E402
+
+RUN, FOLLOW = "run --watch --complete {complete} --steps {steps} {image}", "replay {image} {journal}"
+RECORD = "record --seed {seed} --complete {complete} --steps {steps} {image} {journal}"
+CHOOSE = "--choices {choices} --complete {complete} --steps {steps} {image}"
+# What an emulator in Python is run over: all of it takes minutes.
+SOME = ("answers/end-", "answers/c", "answers/l", "answers/memory", "answers/shadow-drawn", "journals/late-", "journals/shadow-drawn", "refused/", "images.both-",
+        "reads-long.", "steps.few-1")
 
 
 def manifest():
@@ -80,19 +88,50 @@ def test_the_suite_has_what_its_page_says(_):
 
 @needs_program
 def test_the_program_passes_the_suite(_):
-    want(against("--run", f"{shlex.quote(ASKED)} {RUN}", "--follow", f"{shlex.quote(ASKED)} {FOLLOW}")[0], 0, "the program")
+    asked = shlex.quote(ASKED)
+    status, said = against("--run", f"{asked} {RUN}", "--follow", f"{asked} {FOLLOW}", "--choose", f"{asked} run --imprecise --force {CHOOSE}")
+    want(status, 0, said)
 
 
 def test_an_emulator_that_is_right_passes_the_suite(_):
     status, said = against("--run", emulator() + RUN, "--follow", emulator() + FOLLOW, "--record", emulator() + RECORD,
-                           "--judge", emulator() + FOLLOW, "--seeds", "1")
+                           "--judge", emulator() + FOLLOW, "--seeds", "1", *(word for part in SOME for word in ("--only", part)))
     want(status, 0, said)
+
+
+def test_the_model_gives_what_each_small_case_wants(_):
+    for case in packed.cases():
+        if case.kind == "image":
+            fault = goodness.first_fault(case.given[0])
+            told = "image kind {} first {} second {}".format(*fault) if fault else ""
+            want(told, case.answer if case.answer.startswith("image ") else "", case.file)
+            continue
+        whole = image.read_image(image_of({"image": case.image}))
+        if case.kind == "run":
+            want(run_of(machine.Machine(whole, case.completion, b"".join(case.given)), int(case.steps)), (case.answer, case.output), case.file)
+            continue
+        try:
+            fault = playing.Replay(whole, journal.journal_of(case.journal)).play()
+            want(fault and fault.line(), None if case.kind == "late" else case.answer, case.file)
+        except journal.BadJournal as bad:
+            want(bad.line, case.answer, case.file)
+
+
+def run_of(made, steps):
+    """The notes of a run of the model without barriers, as the table has them, and its output."""
+    notes = []
+    while made.end is None and steps:
+        steps -= 1
+        if made.step() == "overflow":
+            notes.append(f"overflow {made.overflowed_at:016x}")
+    name, *numbers = made.end or ("none", 0, 0)
+    return "; ".join([*notes, suite.ENDINGS[[known for known, _ in journal.ENDINGS].index(name)].format(*numbers)]), bytes(made.put)
 
 
 @needs_program
 def test_the_program_accepts_the_journals_of_that_emulator(_):
-    status, said = against("--record", emulator() + RECORD, "--judge", f"{shlex.quote(ASKED)} {FOLLOW}", "--seeds", "2", "--only", "late-",
-                           "--only", "shadow-", "--only", "locks", "--only", "completions")
+    status, said = against("--record", emulator() + RECORD, "--judge", f"{shlex.quote(ASKED)} {FOLLOW}", "--seeds", "1", "--only", "answers/late-",
+                           "--only", "answers/shadow-", "--only", "answers/locks", "--only", "answers/completions")
     want(status, 0, said)
 
 
@@ -256,7 +295,7 @@ def test_damaged_journals_and_texts_are_refused(folder):
         want((said in notes, os.path.exists(out)), (True, False), f"{text}: {notes}")
     companion("journal", "first", path, status=2)
     companion("journal", "make", os.path.join(folder, "no-such-file"), out, status=1)
-    companion("emulate", "run", path, status=1)
+    companion("emulate", "run", path, status=4)
 
 
 def test_other_bytes_are_refused_or_run(_):

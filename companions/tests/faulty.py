@@ -1,0 +1,87 @@
+"""The wrong emulators of the suite, and emulators that don't behave."""
+import os
+import shlex
+import shutil
+import subprocess
+import sys
+
+from .emulator import CHOOSE, FOLLOW, RECORD, RUN, SUITE, against
+from .helpers import TOP, Failed, Lacking, want, write
+
+SAMPLE = 10
+
+
+def faulty(*words):
+    """The status and the output of conformance/faulty."""
+    if shutil.which(os.environ.get("CC", "cc")) is None:
+        raise Lacking("there is no C compiler")
+    done = subprocess.run([sys.executable, os.path.join(SUITE, "faulty"), *words], capture_output=True, text=True, check=False)
+    if "Traceback" in done.stderr or done.returncode not in (0, 1):
+        raise Failed(f"{words}: status {done.returncode}: {done.stderr}")
+    return done.returncode, done.stdout
+
+
+def test_the_emulator_of_the_suite_passes_it(folder):
+    made = os.path.join(folder, "emulator")
+    want(faulty("--make", "none", made), (0, ""), "the right emulator")
+    commands = {"--run": RUN, "--follow": FOLLOW, "--record": RECORD, "--choose": f"run {CHOOSE}", "--judge": FOLLOW}
+    words = [word for name, text in commands.items() for word in (name, text if text.startswith(made) else f"{shlex.quote(made)} {text}")]
+    status, said = against(*words, "--seeds", "1")
+    want(status, 0, said)
+
+
+def test_a_sample_of_wrong_emulators_is_caught(_):
+    status, said = faulty("--sample", str(SAMPLE), "--jobs", "2")
+    want((status, said.splitlines()[-1].split()[0]), (0, "all"), said)
+
+
+def test_the_text_of_each_fault_stands_once(_):
+    sys.path.insert(0, SUITE)
+    from emulator import faults  # it stands in the folder above
+    known = faults.all_faults()
+    want(len(known) > 1_000, True, f"{len(known)} faults")
+    for fault in known.values():
+        want(faults.text_with(fault) != fault.right, True, fault.name)
+
+
+# What an emulator does, its command, and what is told of it.
+MISBEHAVED = [
+    ("it hangs", "sleep 30", "no end within 0.5 seconds"),
+    ("something that it started hangs", "sh -c 'sleep 30 & exit 0'", "no end within 0.5 seconds"),
+    ("it writes without end", "yes", "it wrote more than 16,777,216 bytes, and was stopped"),
+    ("it writes notes without end", "sh -c 'yes >&2'", "it wrote more than 16,777,216 bytes, and was stopped"),
+    ("it writes nothing", "true", "the end is `no line`, and `exit 0` is wanted"),
+    ("it isn't there", "./no-such-emulator", "./no-such-emulator: No such file or directory"),
+    ("it is killed behind its notes", "sh -c 'echo exit 0 >&2; kill -SEGV $$'", "it was ended by SIGSEGV behind `exit 0`, and 0 is wanted"),
+    ("its status is another", "sh -c 'echo exit 0 >&2; exit 3'", "its status is 3 behind `exit 0`, and 0 is wanted"),
+    ("it is killed before its end", "sh -c 'kill -SEGV $$'", "the end is `no line`, and `exit 0` is wanted; it was ended by SIGSEGV"),
+]
+
+
+def test_emulators_that_do_not_behave_are_failed_cases(_):
+    for what, command, told in MISBEHAVED:
+        status, said = against("--run", command, "--only", "calls-wide.exit-value-0", "--seconds", "0.5" if "hang" in what else "10")
+        want((status, said.splitlines()[0]), (1, f"calls-wide.exit-value-0: {told}"), what)
+
+
+def test_a_journal_without_end_is_a_failed_case(_):
+    status, said = against("--record", "sh -c 'yes > {journal}'", "--judge", "true", "--only", "answers/end-bpt", "--seeds", "1", "--seconds", "20")
+    want((status, "end-bpt by wrap with seed 1: " in said), (1, True), said)
+
+
+def test_bad_images_must_be_refused_and_good_ones_run(folder):
+    """An emulator that refuses every image, and one that tells another fault."""
+    path = os.path.join(folder, "emulator")
+    for line, only, told in (("image kind 3 first 1 second 0", "images.code-base-0", None), ("image kind 3 first 2 second 0", "images.code-base-0", "and `image kind 3 first 1 second 0` is wanted"),
+                             ("bad image", "images.code-base-0", None), ("image kind 3 first 1 second 0", "images.code-at-0", "It is a good image")):
+        write(path, f"#!/bin/sh\necho {line} >&2\nexit 4\n".encode())
+        os.chmod(path, 0o755)
+        status, said = against("--run", shlex.quote(path), "--only", only)
+        want((status, told is None or told in said), (0 if told is None else 1, True), f"{line}: {said}")
+
+
+def test_small_cases_can_be_kept(folder):
+    kept = os.path.join(folder, "kept")
+    against("--follow", "true", "--only", "ends.exit-first-0", "--keep", kept)
+    want(sorted(os.listdir(kept)), ["ends.exit-first-0.journal", "ends.img"], "the files of a case")
+    want(os.path.exists(os.path.join(TOP, "conformance", "images", "ends.img")), True, "its image")

@@ -1,0 +1,101 @@
+"""Where something happened: the lines of the source that an address, a barrier or an item of a journal stands for."""
+import functools
+import os
+import sys
+
+HERE = os.path.dirname(os.path.abspath(__file__))
+sys.path.insert(0, os.path.join(os.path.dirname(HERE), "companions"))
+from parts import files, image as images, journal as journals, machine, places, playing  # noqa: E402  (behind the path)
+
+MOST_LINES = 8
+# Where the images of blocks keep what a run shows: 64 bytes of memory, and 32 registers.
+SHOWN, SHOWN_MEMORY, FIRST_SHOWN = 320, 64, 0x10000040
+
+
+@functools.lru_cache(maxsize=None)
+def source_of(image):
+    return places.Source(os.path.join(HERE, "sources", f"{image}.s"))
+
+
+@functools.lru_cache(maxsize=None)
+def image_of(image):
+    return images.read_image(os.path.join(HERE, "images", f"{image}.img"))
+
+
+def line_at(image, address):
+    """The line of the source at an address of the image, or what is there else."""
+    try:
+        return source_of(image).tell(address, True) or f"no code at {address:#x}"
+    except files.Refused:
+        return f"address {address:#x}"
+
+
+def short(lines):
+    """Some lines, without those in the middle where they are many."""
+    lines = list(dict.fromkeys(lines))
+    half = MOST_LINES // 2
+    return lines if len(lines) <= MOST_LINES else [*lines[:half], f".. {len(lines) - MOST_LINES} lines ..", *lines[-half:]]
+
+
+def between(image, completion, given, number):
+    """The lines of the source that a right run makes between barrier `number`, counted from 1, and the one before."""
+    made, passed, found = machine.Machine(image_of(image), completion, given), 0, []
+    while made.end is None and passed < number:
+        pc = made.pc
+        is_barrier = made.step() == "barrier"
+        if passed == number - 1:
+            found.append(line_at(image, pc))
+        passed += is_barrier
+    return short(found)
+
+
+def block(image, given):
+    """The lines of the block that an input of an image of blocks chooses, up to the next label."""
+    start = int.from_bytes(given[:8], "little")
+    source = source_of(image)
+    first = source.lines.get(start)
+    if first is None:
+        return None
+    rest = [text.split("#")[0].strip() for text in source.text[first - 1:]]
+    lines = [text for text in rest[:next((n for n, text in enumerate(rest) if text.endswith(":") and n and rest[n - 1].startswith("br dump")), 20)] if text]
+    return f"{image}.s:{first}: " + "; ".join(lines[:20])
+
+
+def item_text(image, content, number):
+    """Item `number` of a journal, and where the machine stands before it."""
+    played = playing.Replay(image_of(image), journals.journal_of(content))
+    items = played.journal.items
+    if number >= len(items):
+        return f"it has {len(items)} items"
+    for item in items[:number]:
+        for _ in range(item[1] if item[0] == journals.UNITS else 1):
+            played.make(item)
+    pending = "" if played.machine.waited is None else f", with a trap pending, mask {played.machine.mask}"
+    return f"item {number} is `{journals.item_text(items[number])}` at {line_at(image, played.machine.pc)}{pending}"
+
+
+def logged(image, content):
+    """The addresses of the overflows that a journal's run logs."""
+    played, found = playing.Replay(image_of(image), journals.journal_of(content)), []
+    report = played.machine.report
+
+    def noted():
+        if report() == "overflow":
+            found.append(played.machine.overflowed_at)
+    played.machine.report = noted
+    played.play()
+    return found
+
+
+def shown(at, have, wanted):
+    """What a byte of the output of an image of blocks is of, with both values."""
+    if at < SHOWN_MEMORY:
+        return f"byte {FIRST_SHOWN + at:#x} of the memory is {have[at]:02x}, and {wanted[at]:02x} is wanted"
+    start = at // 8 * 8
+    values = (int.from_bytes(content[start:start + 8], "little") for content in (have, wanted))
+    return "${} is {:016x}, and {:016x} is wanted".format((at - SHOWN_MEMORY) // 8, *values)
+
+
+def shown_name(at):
+    """What a byte of such an output is of."""
+    return f"byte {FIRST_SHOWN + at:#x} of the memory" if at < SHOWN_MEMORY else f"${(at - SHOWN_MEMORY) // 8}"
