@@ -1,112 +1,118 @@
-"""Which registers hold a value that may still be read, behind each statement of a text.
+"""Which registers hold a value that may still be read, behind each instruction of a text or an image.
 
-It goes by the calling standard: a call by $26 reads arguments and spoils what a function may spoil, and a return by $26 leaves
-results and what a function has to keep. Of all that can't be followed, as a jump by a table, every register counts as read.
+What each instruction reads and writes is that of the one table; where the flow goes is that of `flow`. A return goes back
+behind the calls that it is shown to come from, so what a caller keeps over a call counts, by whatever agreement the two have.
+Only of code that isn't there the calling standard says what it reads and keeps. Of all that can't be followed every register
+counts as read.
 """
-import re
+from . import flow, steps
 
-from . import gas, instructions, table
-
-
-def mask(*registers):
-    return sum(1 << register for register in registers if register != 31)
-
-
-ALL = mask(*range(31))
-KEPT = mask(*range(9, 16), 26, 29, 30)
-ARGUMENTS = mask(*range(16, 22))
-RESULT, AT, PV, RA, DIVIDED_RETURN = 0, 28, 27, 26, 23
+ARGUMENTS = steps.bits(*range(16, 22))
+RESULT = 0
 # A call reads $25 as well, which some languages pass the number of arguments in.
-CALL_READS = ARGUMENTS | mask(25, PV, 29, 30)
-CALL_SPOILS = ALL & ~KEPT | mask(RA)
-SYSTEM_READS = ARGUMENTS | mask(RESULT)
-DIVISION_READS = mask(24, 25, PV, 29, 30)
-INNER = re.compile(r"\((\$\w+)\)")
-MOVES = {"mov", "clr", "negl", "negq", "negl/v", "negq/v", "not", "sextl"}
+CALL_READS = ARGUMENTS | steps.bits(25, steps.PV, steps.GP, steps.SP)
+DIVISION_READS = steps.bits(24, 25, steps.PV, steps.GP, steps.SP)
+# What a caller that isn't there may read behind a return.
+BACK = {steps.RA: flow.KEPT | steps.bits(RESULT, steps.RA, steps.GP), steps.BY_DIVISION: steps.ALL & ~steps.bits(steps.AT)}
 
 
-class Effect:
-    """What a statement reads and sets, the label where it may go on, and whether it goes on behind itself."""
+class Liveness:
+    """`before` and `behind` have a set of bits for each place: the registers that may be read from there on."""
 
-    def __init__(self, reads=0, sets=0, label=None, goes_on=True):
-        self.reads, self.sets, self.label, self.goes_on = reads, sets, label, goes_on
+    def __init__(self, code):
+        self.code, self.returns = code, code.returns()
+        self.places = sorted(code.reached, reverse=True)
+        self.calls = self.calls_by_target()
+        self.back = {place: self.back_of(pairs) for place, pairs in self.returns.links.items()}
+        # First what is read before a function returns, then what is read behind its returns too.
+        self.callees = None
+        self.callees = self.settled(lambda place, before: self.back[place][1] & -(self.back[place][1] == steps.ALL))
+        self.before = self.settled(self.read_behind_return)
+        self.behind = [self.out(place, self.before, self.read_behind_return) if place in code.reached else steps.ALL
+                       for place in range(len(code.steps))]
+
+    def calls_by_target(self):
+        """The places of calls, by where they lead, or by the register that they leave their address in where that isn't seen."""
+        found = {}
+        for place in self.places:
+            step = self.code.steps[place]
+            if steps.is_call(step):
+                found.setdefault(self.key(place, step), []).append(place)
+        return found
+
+    def key(self, place, step):
+        """Where a call leads: to a place, elsewhere by a name, or where nothing says."""
+        if self.code.targets[place] is not None:
+            return self.code.targets[place]
+        return ("unseen" if step.label is None else "elsewhere", steps.link_of(step))
+
+    def back_of(self, pairs):
+        """Where a return goes: the places behind calls, and the registers that are read elsewhere."""
+        behind, elsewhere = set(), 0
+        for entry, link in pairs:
+            called = self.calls.get(entry, [])
+            if link is None or any(steps.link_of(self.code.steps[place]) != link for place in called):
+                return set(), steps.ALL
+            behind.update(self.code.after[place] for place in called + self.calls.get(("unseen", link), []))
+            if entry in self.code.outside:
+                elsewhere |= BACK.get(link, steps.ALL)
+        return (set(), steps.ALL) if None in behind else (behind, elsewhere)
+
+    def read_behind_return(self, place, before):
+        behind, found = self.back[place]
+        for other in behind:
+            found |= before[other]
+        return found
+
+    def settled(self, at_return):
+        """What is read from each place on, by passes from the last to the first until nothing changes."""
+        before = [0 if place in self.code.reached else steps.ALL for place in range(len(self.code.steps))]
+        changed = True
+        while changed:
+            changed = False
+            unseen = {key: self.read_by(key, self.callees or before) for key in self.calls}
+            for place in self.places:
+                found = self.read(place, before, at_return, unseen)
+                if found != before[place]:
+                    before[place], changed = found, True
+        return before
+
+    def read_by(self, key, before):
+        """What a called function reads before it returns."""
+        if not isinstance(key, tuple):
+            return before[key]
+        found = {steps.RA: CALL_READS, steps.BY_DIVISION: DIVISION_READS}.get(key[1], steps.ALL)
+        for entry in self.returns.callable_by(key[1]) if key[0] == "unseen" else ():
+            found |= before[entry]
+        return found
+
+    def out(self, place, before, at_return):
+        """What is read behind an instruction, where it goes on within its function."""
+        step, onward = self.code.steps[place], self.code.next[place]
+        if step.insn.name == "ret":
+            return at_return(place, before) if place in self.back else steps.ALL
+        if not onward:
+            return 0 if step.insn.name == "callsys" else steps.ALL
+        found = 0
+        for other in onward:
+            found |= steps.ALL if other is None else before[other]
+        return found
+
+    def read(self, place, before, at_return, unseen):
+        step = self.code.steps[place]
+        found = self.out(place, before, at_return)
+        if steps.is_call(step):
+            found |= unseen[self.key(place, step)]
+        return reads(step) | found & ~step.insn.sets
+
+    def leaving(self, place):
+        """What may be read where control leaves a function at a place: by a call, behind it too, by a return, or elsewhere."""
+        found, step = self.behind[place], self.code.steps[place]
+        if steps.is_call(step):
+            found |= self.read_by(self.key(place, step), self.callees)
+        return found
 
 
-def registers_in(texts):
-    """All registers that are named in some operands."""
-    names = (name for text in texts if not text.startswith('"') for name in re.findall(r"\$\w+", text))
-    return mask(*(gas.REGISTERS[name] for name in names if name in gas.REGISTERS))
-
-
-def effect(statement):
-    name = instructions.ALIASES.get(statement.name, statement.name)
-    operands = statement.operands
-    if not name or name.startswith("."):
-        return Effect()
-    if name in table.BRANCH.values() and operands:
-        return branch(name, operands)
-    if name in table.JUMP:
-        return jump(name, operands)
-    if name in instructions.BARRIERS and name not in ("trapb", "excb"):
-        return Effect(SYSTEM_READS)
-    loads = name in table.MEMORY.values() and not name.startswith("st")
-    if loads and len(operands) == 2:
-        return Effect(registers_in(operands[1:]) | mask(29), registers_in(operands[:1]))
-    is_three = (name in instructions.OPERATE or instructions.TRIGGER.match(statement.name)) and len(operands) == 3
-    if is_three and not name.startswith("cmov") or name in MOVES | table.UNARY and operands:
-        return Effect(registers_in(operands[:-1]), registers_in(operands[-1:]))
-    return Effect(registers_in(operands))
-
-
-def branch(name, operands):
-    link = registers_in(operands[:-1])
-    if name == "bsr":
-        return call(link or mask(RA))
-    if name == "br":
-        return Effect(0, link, operands[-1], False)
-    return Effect(link, 0, operands[-1])
-
-
-def jump(name, operands):
-    by = mask(*(gas.REGISTERS.get(inner, 31) for text in operands for inner in INNER.findall(text)))
-    if name == "ret":
-        own = by not in (0, mask(RA)) or operands and not INNER.search(" ".join(operands)) and registers_in(operands) != mask(RA)
-        return Effect(ALL & ~mask(AT) if own else KEPT | mask(RESULT), 0, None, False)
-    if name == "jsr":
-        named = operands and gas.REGISTERS.get(operands[0])
-        made = call(mask(RA) if named is None or operands[0].startswith("(") else mask(named))
-        made.reads |= by
-        return made
-    return Effect(ALL, 0, None, False)
-
-
-def call(link):
-    if link == mask(RA):
-        return Effect(CALL_READS, CALL_SPOILS)
-    # The divisions return by $23, and keep what other functions may spoil. Of another call nothing is known.
-    return Effect(DIVISION_READS, link) if link == mask(DIVIDED_RETURN) else Effect(ALL)
-
-
-def live_behind(statements):
-    """For each statement a set of bits: the registers whose values may be read behind it."""
-    effects = [effect(statement) for statement in statements]
-    at_label = {label: n for n, statement in enumerate(statements) for label in statement.labels}
-    count = len(statements)
-    before = [0] * count + [ALL]
-    behind = [0] * count
-    changed = True
-    while changed:
-        changed = False
-        for n in range(count - 1, -1, -1):
-            one = effects[n]
-            out = before[n + 1] if one.goes_on else 0
-            if one.label is not None:
-                out |= before[at_label[one.label]] if one.label in at_label else ALL
-            elif not one.goes_on:
-                # A jump and a return say what is read where they lead to.
-                out = 0
-            behind[n] = out
-            found = one.reads | out & ~one.sets
-            if found != before[n]:
-                before[n], changed = found, True
-    return behind
+def reads(step):
+    """The registers that an instruction reads, those of a system call too."""
+    return step.insn.uses | steps.PAL_READS.get(step.insn.name, 0)

@@ -1,0 +1,150 @@
+#!/usr/bin/env python3
+"""Repairs random C programs in both ways, and runs what comes of it beside what gcc made.
+
+    bench/repairs.py [PROGRAM] [--count N] [--first N] [--levels 0,1,2,3,s] [--keep FOLDER]
+
+Each program of bench/programs.py goes, at each level of gcc with -ftrapv, through `shadowfix` as text and as a linked file with
+--aside, to an image that `check` must accept, and back to ELF. qemu-alpha runs gcc's own file and the repaired one: the
+same output and status are wanted. The table counts by level and way what was accepted with the same, with another, and what
+was refused, by its cause; the status is 1 where anything was accepted with another. With --keep the files of the programs
+that weren't accepted with the same output are kept.
+"""
+import argparse
+import collections
+import os
+import re
+import shutil
+import subprocess
+import sys
+import tempfile
+from concurrent.futures import ThreadPoolExecutor
+
+import programs
+from measure import TOP
+
+COMPANIONS = os.path.join(TOP, "companions")
+COMPILE = ["alpha-linux-gnu-gcc", "-ftrapv", "-ffreestanding", "-mno-fp-regs", "-w"]
+LINK = ["-static", "-nostdlib", "-Wl,-z,separate-code,-z,max-page-size=8192,-Ttext-segment=0x10000,--build-id=none"]
+BESIDE = [os.path.join(COMPANIONS, "start.s"), os.path.join(COMPANIONS, "divide.s")]
+SECONDS = 20
+SAME, OTHER, SLOW = "the same", "OTHER OUTPUT", "too slow by itself"
+
+
+class Refused(Exception):
+    """A step that didn't go well, and its first line."""
+
+
+def call(*words, given=None, good=(0,)):
+    done = subprocess.run(words, input=given, capture_output=True, check=False, timeout=10 * SECONDS)
+    if done.returncode not in good:
+        raise Refused(f"{os.path.basename(words[0])}: {cause(done.stderr.decode(errors='replace'))}")
+    return done.stdout
+
+
+def cause(notes):
+    """What a refusal says, without names of files, numbers, and all but the first reason."""
+    lines = [line for line in notes.splitlines() if line.strip()] or ["no line"]
+    found = next((line for line in lines if "as it was: " in line), lines[0])
+    found = found.split("as it was: ")[-1]
+    return re.sub(r"\b(0x)?[0-9a-f]*[0-9][0-9a-f]*\b", "N", re.sub(r"\S*[./]\S*:(\d+:)?", "", found)).strip()[:100]
+
+
+def outcome(path):
+    """The output and the status of a run under qemu-alpha."""
+    done = subprocess.run(["qemu-alpha", path], input=b"", capture_output=True, check=False, timeout=SECONDS)
+    return done.stdout, done.returncode
+
+
+class Trial:
+    """A program at a level, in a folder of its own."""
+
+    def __init__(self, program, folder, number, level):
+        self.program, self.folder = program, folder
+        shutil.copy(os.path.join(COMPANIONS, "data/io.h"), folder)
+        with open(self.path("p.c"), "w", encoding="ascii") as file:
+            file.write(programs.program(number))
+        call(*COMPILE, f"-O{level}", "-S", self.path("p.c"), "-o", self.path("p.s"))
+        self.link("p.s", "p.elf")
+        self.wanted = outcome(self.path("p.elf"))
+
+    def path(self, name):
+        return os.path.join(self.folder, name)
+
+    def companion(self, name, *words):
+        call(os.path.join(COMPANIONS, name), "--help") if not words else call(os.path.join(COMPANIONS, name), *words)
+
+    def link(self, text, out):
+        call(COMPILE[0], *LINK, *BESIDE, self.path(text), "-o", self.path(out))
+
+    def by_text(self):
+        self.companion("shadowfix", self.path("p.s"), "-o", self.path("text.s"))
+        self.link("text.s", "text.elf")
+        self.companion("elf2image", self.path("text.elf"), self.path("text.img"))
+        return self.judged("text.img")
+
+    def aside(self):
+        self.companion("elf2image", self.path("p.elf"), self.path("p.img"), "--map", self.path("p.map"))
+        listing = call(self.program, "dis", self.path("p.img"))
+        labelled = call("awk", "-f", os.path.join(TOP, "examples/labels.awk"), given=listing)
+        with open(self.path("list.s"), "wb") as file:
+            file.write(labelled)
+        self.companion("shadowfix", "--aside", "--map", self.path("p.map"), self.path("list.s"), "-o", self.path("aside.s"))
+        call(self.program, "asm", self.path("aside.s"), self.path("aside.img"))
+        self.companion("same", self.path("p.img"), self.path("aside.img"), "--symbols", self.path("p.map"))
+        return self.judged("aside.img")
+
+    def judged(self, made):
+        call(self.program, "check", self.path(made))
+        out = self.path(made.replace(".img", ".again.elf"))
+        self.companion("image2elf", "--alpha", self.program, self.path(made), out)
+        return SAME if outcome(out) == self.wanted else OTHER
+
+
+def tried(program, number, level, keep):
+    """What becomes of a program at a level, by way."""
+    with tempfile.TemporaryDirectory() as folder:
+        try:
+            trial = Trial(program, folder, number, level)
+        except subprocess.TimeoutExpired:
+            return {"text": SLOW, "aside": SLOW}
+        found = {}
+        for way, run in (("text", trial.by_text), ("aside", trial.aside)):
+            try:
+                found[way] = run()
+            except Refused as refused:
+                found[way] = str(refused)
+            except subprocess.TimeoutExpired:
+                found[way] = OTHER
+        if keep is not None and set(found.values()) - {SAME}:
+            shutil.copytree(folder, os.path.join(keep, f"{number}-{level}"), dirs_exist_ok=True)
+        return found
+
+
+def main():
+    parser = argparse.ArgumentParser(description=__doc__, formatter_class=argparse.RawDescriptionHelpFormatter)
+    parser.add_argument("program", nargs="?", default=os.path.join(TOP, "crates/alpha_tool/out/alpha_tool"))
+    parser.add_argument("--count", type=int, default=20)
+    parser.add_argument("--first", type=int, default=0)
+    parser.add_argument("--levels", default="0,1,2,3,s")
+    parser.add_argument("--keep")
+    options = parser.parse_args()
+    missing = [name for name in (COMPILE[0], "qemu-alpha") if shutil.which(name) is None]
+    if missing:
+        sys.exit(f"there is no {missing[0]} on the path")
+    counts = collections.Counter()
+    for level in options.levels.split(","):
+        with ThreadPoolExecutor(2) as pool:
+            numbers = range(options.first, options.first + options.count)
+            for number, found in zip(numbers, pool.map(lambda one: tried(os.path.abspath(options.program), one, level, options.keep), numbers)):
+                for way, what in found.items():
+                    counts[level, way, what] += 1
+                    if what != SAME:
+                        print(f"program {number} at -O{level}, {way}: {what}", flush=True)
+    print(f"\n| Level | Way | What became of {options.count} programs | Count |\n|---|---|---|---|")
+    for (level, way, what), count in sorted(counts.items()):
+        print(f"| -O{level} | {way} | {what} | {count} |")
+    sys.exit(1 if any(what == OTHER for _, _, what in counts) else 0)
+
+
+if __name__ == "__main__":
+    main()

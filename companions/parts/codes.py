@@ -1,0 +1,223 @@
+"""The code of a text, and that of an image, as `flow` follows it."""
+import re
+from bisect import bisect_right
+
+from . import addresses, files, flow, places, steps, table
+
+SECTIONS = {".text": ".text", ".code": ".text", ".data": ".data", ".bss": ".bss", ".rdata": ".rodata", ".rodata": ".rodata",
+            ".sdata": ".sdata", ".sbss": ".sbss", ".segment": ".data"}
+# Directives that put nothing into a section.
+SILENT = (".cfi_", ".loc", ".file", ".globl", ".global", ".weak", ".local", ".hidden", ".type", ".size", ".ent", ".end", ".frame", ".mask",
+          ".fmask", ".prologue", ".eflag", ".set", ".align", ".p2align", ".balign", ".ident", ".arch", ".comm", ".lcomm", ".section",
+          ".usepv", ".gprel", ".codebase", ".database", ".entry", ".stack", ".level", *SECTIONS)
+POINTERS = (".quad", ".gprel32", ".long", ".word", ".int", ".8byte", ".4byte")
+NAMES = re.compile(r"[A-Za-z_.$][\w.$]*")
+
+
+class Text:
+    """The instructions of a text: `code`, `statements` with the index of the statement of each place, and `labels` with the
+    places of labels. A map's symbols are (place, size in words, name, is it a function)."""
+
+    def __init__(self, statements, symbols=()):
+        self.given, self.symbols = statements, symbols
+        self.statements, self.labels, self.numbered = [], {}, {}
+        self.names, self.globals, self.taken = [], set(), set()
+        self.after, self.open, self.sections, self.by_line = [], {}, [], {}
+        self.is_whole = any(statement.name == ".entry" for statement in statements)
+        self.base, self.segments = addresses.data_of(statements)
+        self.read()
+        found = [steps.of_statement(statements[index]) for index in self.statements]
+        targets = [self.target(place, step) for place, step in enumerate(found)]
+        self.look_at_operands(found)
+        self.code = self.whole(found, targets) if self.is_whole else self.part(found, targets)
+
+    def read(self):
+        """Lays the instructions into their sections."""
+        section, before, waiting = ".text", ".text", {}
+        for index, statement in enumerate(self.given):
+            for label in statement.labels:
+                waiting.setdefault(section, []).append(label)
+            name = statement.name
+            if name in SECTIONS or name in (".section", ".previous", ".pushsection", ".popsection", ".subsection"):
+                section, before = self.switched(statement, section, before), section
+            elif name and not name.startswith("."):
+                place = len(self.statements)
+                self.statements.append(index)
+                self.sections.append(section)
+                self.by_line.setdefault(statement.line, []).append(place)
+                self.after.append(None)
+                if self.open.get(section) is not None:
+                    self.after[self.open[section]] = place
+                self.open[section] = place
+                for label in waiting.pop(section, []):
+                    self.note(label, place)
+            elif name and not name.startswith(SILENT):
+                # Data: the instruction before it goes on into it, and labels here are those of data.
+                self.open[section] = None
+                waiting.pop(section, None)
+            self.note_directive(statement)
+
+    def statement(self, place):
+        return self.given[self.statements[place]]
+
+    def spot(self, place):
+        """The line of a place, and behind a dot which instruction of it, where it isn't the first."""
+        line = self.statement(place).line
+        number = self.by_line[line].index(place)
+        return f"{line}.{number}" if number else str(line)
+
+    def place_on(self, spot):
+        """The place of a spot, None where there is none."""
+        line, _, number = spot.partition(".")
+        found = self.by_line.get(int(line), [])
+        return found[int(number or 0)] if int(number or 0) < len(found) else None
+
+    def spelled(self, place):
+        """The instruction of a place as it is written."""
+        statement = self.statement(place)
+        return statement.name, *statement.operands, statement.relocation
+
+    def data_items(self):
+        """All statements but the instructions, and all labels but theirs, in order."""
+        found = []
+        for statement in self.given:
+            labels = [label for label in statement.labels if label not in self.labels and label not in self.numbered]
+            is_field = statement.name == ".codebase"
+            if statement.name.startswith(".") and not is_field or labels:
+                found.append((labels, statement.name if statement.name.startswith(".") else "", statement.operands))
+        # What is put behind the data of a listing goes back to its code.
+        while found[-1:] == [([], ".code", [])]:
+            found.pop()
+        return found
+
+    def numbers(self):
+        """The places of which an address stands in the code or the data as a number."""
+        linked = addresses.Linked(self.code.steps, self.after, self.base, self.segments, [])
+        return linked.taken(linked.pointers(self.code.roots)) | {place for places in self.code.tables.values() for place in places}
+
+    def switched(self, statement, section, before):
+        if statement.name in SECTIONS:
+            return SECTIONS[statement.name]
+        if statement.name in (".section", ".pushsection") and statement.operands:
+            return statement.operands[0].strip('"')
+        return before
+
+    def note(self, label, place):
+        if label.isdigit():
+            self.numbered.setdefault(label, []).append(place)
+        else:
+            self.labels[label] = place
+
+    def note_directive(self, statement):
+        name, operands = statement.name, statement.operands
+        if name in (".globl", ".global", ".weak"):
+            self.globals.update(operands)
+        elif name == ".ent" or name == ".type" and operands[-1].strip("@%\"") == "function":
+            self.names += operands[:1]
+        elif name in POINTERS or name == ".entry":
+            self.taken.update(found for text in operands for found in NAMES.findall(text))
+        if name == ".entry":
+            self.names += operands
+
+    def target(self, place, step):
+        """The place to which an instruction branches, None where it isn't here."""
+        if step.label is None:
+            return None
+        label = step.label
+        if label[:-1].isdigit() and label[-1] in "fb":
+            places = self.numbered.get(label[:-1], [])
+            at = bisect_right(places, place if label[-1] == "b" else place)
+            return (places[at - 1] if at else None) if label[-1] == "b" else places[at] if at < len(places) else None
+        if match := re.fullmatch(r"\.\s*([+-])\s*([0-9]+|0x[0-9a-fA-F]+)", label):
+            words, rest = divmod(int(match[2], 0), 4)
+            other = place + (words if match[1] == "+" else -words)
+            return other if rest == 0 and 0 <= other < len(self.statements) else None
+        return self.labels.get(label)
+
+    def look_at_operands(self, found):
+        """The labels whose address an instruction may take."""
+        for place, step in enumerate(found):
+            statement = self.given[self.statements[place]]
+            texts = statement.operands[:2] if steps.is_call(step) else statement.operands
+            if step.label is None or step.symbol is not None and not steps.is_call(step):
+                self.taken.update(name for text in texts for name in NAMES.findall(text) if name in self.labels)
+
+    def functions(self):
+        """The functions of a text by its names; what gcc puts elsewhere of one, as `main.cold`, belongs to it."""
+        starts = sorted((self.labels[name], name) for name in set(self.names) if name in self.labels)
+        ends = [start for start, _ in starts[1:]] + [len(self.statements)]
+        return [addresses.Function(start, end, name) for (start, name), end in zip(starts, ends)]
+
+    def part(self, found, targets):
+        """The code of a text for GNU as: whatever has a global name may be called from elsewhere."""
+        here, functions = self.labels, self.functions()
+        starts = {function.start for function in functions if ".cold" not in function.name}
+        taken = {here[name] for name in self.taken if name in here}
+        called = {targets[place] for place, step in enumerate(found) if steps.is_call(step)}
+        outside = {here[name] for name in self.globals if name in here} | taken & starts | starts - called
+        if not functions:
+            every = set(here.values()) | {place for places in self.numbered.values() for place in places} | ({0} if found else set())
+            outside |= every - called
+        linked = addresses.Linked(found, self.after, 0, [], functions)
+        tables = {place: [other for other in sorted(taken - starts) if linked.are_of_one(place, other)] for place, step in enumerate(found)
+                  if step.insn.name == "jmp" and addresses.is_by_table(found, place, self.after)}
+        return flow.Code(found, targets, starts | taken | outside, starts, outside, tables, self.after)
+
+    def whole(self, found, targets):
+        """The code of a source for `asm`, a listing among them."""
+        here, functions = self.labels, [addresses.Function(place, place + size, name) for place, size, name, is_function in self.symbols
+                                        if is_function and size]
+        entries = {here[name] for name in self.names if name in here}
+        entries |= {(int(name, 0) - self.base) // 4 for name in self.names if name.isalnum() and name[0].isdigit()}
+        taken = {here[name] for name in self.taken if name in here}
+        linked = addresses.Linked(found, self.after, self.base, self.segments, functions)
+        return program(linked, targets, entries, taken, self.symbols)
+
+
+def program(linked, targets, entries, taken, symbols):
+    """The code of a whole program."""
+    found, count = linked.steps, len(linked.steps)
+    starts = {place for place in entries if 0 <= place < count}
+    starts |= {place for place, _, name, is_function in symbols if is_function and ".cold" not in name and place < count}
+    roots = starts | taken | {place for place, *_ in symbols if place < count}
+    begins = roots | {place + 1 for place, step in enumerate(found) if steps.is_call(step)}
+    pointers = linked.pointers(begins | {target for target in targets if target is not None})
+    if any(steps.is_call(step) and targets[place] is None or step.insn.name == "jmp" for place, step in enumerate(found)):
+        roots = roots | linked.taken(pointers)
+    code = flow.Code(found, targets, roots, starts, (), {}, linked.after)
+    # A jump may be reached only by another one's table.
+    while (tables := linked.tables(pointers, code.returns().states)) != code.tables and len(tables) >= len(code.tables):
+        code = flow.Code(found, targets, roots, starts, (), tables, linked.after)
+    return code
+
+
+def of_image(given, symbols=()):
+    """The code of an image, with the symbols of its map by places."""
+    count = len(given.words)
+    known = {word: steps.of_word(word) for word in set(given.words)}
+    found = [known[word] for word in given.words]
+    targets = [target_of(place, step, count) for place, step in enumerate(found)]
+    functions = [addresses.Function(place, place + size, name) for place, size, name, is_function in symbols if is_function and size]
+    after = [place + 1 for place in range(count - 1)] + [None]
+    linked = addresses.Linked(found, after, given.code_base, [(one.base, one.data) for one in given.segments], functions)
+    return program(linked, targets, {given.place(given.entry)} - {None}, set(), symbols)
+
+
+def target_of(place, step, count):
+    """The place to which a word branches by its displacement, None where that is no code."""
+    if step.insn.name not in table.BRANCH.values():
+        return None
+    other = place + 1 + ((step.word & 0x1FFFFF ^ 0x100000) - 0x100000)
+    return other if 0 <= other < count else None
+
+
+def symbols_of(path, base):
+    """The symbols of a map that may be code: (place, size in words, name, whether it is a function)."""
+    found = []
+    for line in files.read_text(path).splitlines():
+        match = places.MAP_LINE.fullmatch(line)
+        if match and match[3] != "object":
+            place, rest = divmod(int(match[1], 16) - base, 4)
+            if rest == 0 and place >= 0:
+                found.append((place, int(match[2], 16) // 4, match[4], match[3] == "func"))
+    return found

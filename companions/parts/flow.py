@@ -1,0 +1,365 @@
+"""Where the code of a text or of an image goes: what is reached, where calls come back, and which returns are shown to.
+
+A return is shown to go back behind a call where the register that it goes by has, on every way from the function's entry,
+what a register had there: it was never set, or was kept in the stack and loaded from there. A store of which the flow
+doesn't show that it goes there counts as one elsewhere.
+"""
+from . import steps, table
+
+# What a function of the calling standard keeps.
+KEPT = steps.bits(*range(9, 16), steps.SP)
+EXIT = 1
+STACK = ("stack", None)
+
+
+class Code:
+    """Instructions by place, with the places to which they branch, None for one that isn't here.
+
+    `roots` are the places that a name or the entry makes code, `functions` those of them where a function begins, and
+    `outside` those that code elsewhere may call. `tables` has the places to which a jump by a table goes, by its place.
+    """
+
+    def __init__(self, found, targets, roots, functions, outside=(), tables=None, after=None):
+        self.steps, self.targets = found, targets
+        # The place behind each in its section, None where that holds data or ends.
+        self.after = after or [place + 1 for place in range(len(found) - 1)] + [None] * bool(found)
+        self.roots, self.functions, self.outside = set(roots), set(functions), set(outside)
+        self.tables = tables or {}
+        self.joined = self.roots | self.functions | {target for target in targets if target is not None}
+        self.joined.update(place for places in self.tables.values() for place in places)
+        self.next = [self.onward(place) for place in range(len(found))]
+        self.reached = self.reach(self.roots | self.functions, True)
+        self.entries = self.entries_of()
+        self.known = None
+
+    def returns(self):
+        """What the flow shows of its functions, found once."""
+        self.known = self.known or Returns(self)
+        return self.known
+
+    def onward(self, place):
+        """The places where the flow goes on within a function; a call comes back behind it. None stands for elsewhere."""
+        step = self.steps[place]
+        name, behind = step.insn.name, self.after[place]
+        if name == "br":
+            return [self.targets[place]]
+        if steps.is_conditional(step):
+            return [behind, self.targets[place]]
+        if name in table.JUMP and not steps.is_call(step):
+            return list(self.tables.get(place, [])) if name == "jmp" else []
+        if name == "callsys" and self.is_exit(place):
+            return []
+        return [behind]
+
+    def is_exit(self, place):
+        """Whether a system call is the one that ends a program: its number is loaded before it, with no label between."""
+        while place > 0 and place not in self.joined:
+            place -= 1
+            step = self.steps[place]
+            if step.spoils & 1:
+                return step.word == steps.OPCODES["lda"] << 26 | 31 << 16 | EXIT and step.symbol is None
+            if step.insn.kind in (table.TURN, table.BARRIER):
+                return False
+        return False
+
+    def reach(self, starts, with_calls):
+        """The places that the flow reaches from some on."""
+        found, left = set(), [start for start in starts if start is not None]
+        while left:
+            place = left.pop()
+            if place in found:
+                continue
+            found.add(place)
+            left += [after for after in self.next[place] if after is not None]
+            if with_calls and self.targets[place] is not None:
+                left.append(self.targets[place])
+        return found
+
+    def entries_of(self):
+        """Where functions begin: where a name says so, where a call leads, and else where nothing but a name does."""
+        entries = {place for place in self.functions if place < len(self.steps)}
+        entries |= {self.targets[place] for place in self.reached if steps.is_call(self.steps[place])} - {None}
+        covered = self.reach(entries, True)
+        for place in sorted(self.roots):
+            if place not in covered:
+                entries.add(place)
+                covered |= self.reach([place], True)
+        return entries
+
+    def places(self):
+        """The places that are reached, in order."""
+        return sorted(self.reached)
+
+
+class Left:
+    """What a function leaves at its returns: a set of registers that are as they were, where the stack pointer stands, the
+    registers by which it returns, None among them where nothing shows that, and what it keeps in a part of the stack that it
+    has taken, as a part of a function does that saves registers for the rest."""
+
+    def __init__(self, kept, stack, links, saved=None):
+        self.kept, self.stack, self.links, self.saved = kept, stack, links, saved or {}
+
+    def __eq__(self, other):
+        return other is not None and vars(self) == vars(other)
+
+    def joined(self, other):
+        """What both say; None says nothing, of a function that hasn't returned yet."""
+        if other is None:
+            return self
+        stack = None if None in (self.stack, other.stack) else meet({0: self.stack}, {0: other.stack})[0]
+        return Left(self.kept & other.kept, stack, self.links | other.links, meet(self.saved, other.saved))
+
+
+def locked(code):
+    """The places that lie between a locked load and its conditional store, on some way through the code."""
+    loads = {place for place in code.reached if code.steps[place].insn.name.endswith("_l")}
+    stores = {place for place in code.reached if code.steps[place].insn.name.endswith("_c")}
+    if not loads or not stores:
+        return set()
+    onward = {place: [after for after in code.next[place] if after is not None] for place in code.reached}
+    before = {place: [] for place in code.reached}
+    for place, others in onward.items():
+        for other in others:
+            before[other].append(place)
+    return spread(loads, stores, onward) & spread(stores, loads, before)
+
+
+def spread(starts, ends, ways):
+    """The places that ways lead to from some on, up to the ends."""
+    found, left = set(), [other for start in starts for other in ways[start]]
+    while left:
+        place = left.pop()
+        if place not in found and place not in ends:
+            found.add(place)
+            left += ways[place]
+    return found
+
+
+# What a call leaves by the calling standard, where the function isn't here: one that returns by $26, or a division.
+STANDARD = {steps.RA: Left(KEPT, ("stack", 0), {steps.RA}),
+            steps.BY_DIVISION: Left(steps.ALL & ~steps.bits(steps.BY_DIVISION, 24, 25, steps.PV, steps.AT), ("stack", 0), {steps.BY_DIVISION})}
+
+
+class Returns:
+    """What the flow shows of each function, found anew for its callers until nothing changes.
+
+    `links` has for each place of a return the pairs of entry and register, None where nothing shows that it is a return.
+    `left` has what each entry's function leaves, None where it never returns. `states` has for each place what its registers
+    are known to have, over all functions that it is in. `is_stack` says that the stack pointer is one, wherever a call leads,
+    and `below` has places that use memory below it.
+    """
+
+    def __init__(self, code):
+        self.code = code
+        self.left = dict.fromkeys(code.entries)
+        self.followed, waiting = {}, set(code.entries)
+        while waiting:
+            for entry in sorted(waiting):
+                self.followed[entry] = self.follow(entry)
+            changed = {entry for entry in waiting if self.is_other(entry)}
+            waiting = {entry for entry in code.entries if self.depends(entry, changed)}
+        self.links, self.states, self.below, self.is_stack = {}, {}, set(), True
+        for entry in sorted(code.entries):
+            self.look_at(entry)
+
+    def is_other(self, entry):
+        """Whether a function leaves something else than was known."""
+        found = None
+        for place, state in self.followed[entry].items():
+            one = self.left_at(place, state)
+            found = one.joined(found) if one is not None else found
+        is_other = found is not None and found != self.left[entry]
+        self.left[entry] = found
+        return is_other
+
+    def depends(self, entry, changed):
+        """Whether a function calls one of those that changed, or any that isn't seen."""
+        return bool(changed) and any(steps.is_call(self.code.steps[place]) and (
+            self.code.targets[place] is None or self.code.targets[place] in changed) for place in self.followed[entry])
+
+    def follow(self, entry):
+        """What is known before each place of a function."""
+        start = {register: ("entry", register) for register in range(31)} | {steps.SP: ("stack", 0)}
+        states, left = {entry: start}, [entry]
+        while left:
+            place = left.pop()
+            after = self.behind(place, states[place])
+            if after is None:
+                continue
+            for other in self.code.next[place]:
+                if other is None:
+                    continue
+                joined = after if other not in states else meet(states[other], after)
+                if other not in states or joined != states[other]:
+                    states[other] = joined
+                    left.append(other)
+        return states
+
+    def left_at(self, place, state):
+        """What a function leaves where it ends at a place, None where it goes on."""
+        step, name = self.code.steps[place], self.code.steps[place].insn.name
+        if None in self.code.next[place] or name == "jsr_coroutine":
+            return Left(0, None, {None})
+        stack = state.get(steps.SP)
+        stack = stack if stack is not None and stack[0] == "stack" else None
+        if name == "ret":
+            link = self.link_at(step, state)
+            return Left(0, stack, {None}) if link is None else Left(kept_in(state), stack, {link}, saved_in(state))
+        if name == "jmp" and place not in self.code.tables:
+            # With the return address and the stack as they were it goes on in another function, which returns from this one.
+            is_tail = state.get(steps.RA) == ("entry", steps.RA) and stack == ("stack", 0)
+            return Left(kept_in(state) & KEPT, stack, {steps.RA}) if is_tail else Left(0, None, {None})
+        return None
+
+    @staticmethod
+    def link_at(step, state):
+        by = state.get(steps.base_of(step), ("", None))
+        return by[1] if by[0] == "entry" else None
+
+    def look_at(self, entry):
+        """Notes what the places of a function show."""
+        for place, state in self.followed[entry].items():
+            step = self.code.steps[place]
+            self.states[place] = state if place not in self.states else meet(self.states[place], state)
+            if steps.is_call(step) and state.get(steps.SP, ("", 0))[0] != "stack":
+                self.is_stack = False
+            if step.word is not None and step.insn.span is not None and is_below(state, step):
+                self.below.add(place)
+            if step.insn.name == "ret":
+                self.links.setdefault(place, []).append((entry, self.link_at(step, state)))
+
+    def behind(self, place, state):
+        """What is known behind an instruction."""
+        step = self.code.steps[place]
+        if steps.is_call(step):
+            return self.behind_call(place, step, state)
+        after = dict(state)
+        value = value_of(step, state)
+        for register in range(31):
+            if step.spoils >> register & 1:
+                after.pop(register, None)
+        if value is not None:
+            after[step.insn.sets.bit_length() - 1] = value
+        if step.word is not None and step.insn.kind in (table.STORE, table.LOCKED):
+            note_store(after, step, state)
+        if step.insn.kind == "unknown" and step.spoils == steps.ALL:
+            return {}
+        return after
+
+    def behind_call(self, place, step, state):
+        """What is known where a call comes back, None where it isn't known to."""
+        left = self.left_by(place, step)
+        if left is None:
+            return None
+        after = {register: state[register] for register in range(31) if left.kept >> register & 1 and register in state}
+        after.pop(steps.link_of(step), None)
+        after.pop(steps.SP, None)
+        before = state.get(steps.SP, ("", None))
+        if left.stack is None or before[0] != "stack":
+            return after
+        after[steps.SP] = STACK if None in (before[1], left.stack[1]) else ("stack", before[1] + left.stack[1])
+        # What stands below the stack pointer isn't the caller's. Where its depth isn't known, it lies below what is.
+        after.update((slot, value) for slot, value in state.items() if isinstance(slot, tuple) and (before[1] is None or slot[1] >= before[1]))
+        if before[1] is not None:
+            after.update((("slot", before[1] + slot[1]), state[value[1]]) for slot, value in left.saved.items() if value[1] in state)
+        return after
+
+    def left_by(self, place, step):
+        """What a call leaves."""
+        target, link = self.code.targets[place], steps.link_of(step)
+        if target is not None:
+            return self.left[target]
+        found = STANDARD.get(link, Left(0, None, {None}))
+        for entry in self.callable_by(link) if step.label is None else ():
+            found = found.joined(self.left[entry])
+        return found
+
+    def callable_by(self, link):
+        """The functions that a call may lead to of which the flow doesn't show where: those that return by its register."""
+        return [entry for entry, left in self.left.items() if left is None or link in left.links or None in left.links]
+
+
+def meet(one, two):
+    """What both say."""
+    found = {}
+    for key, value in one.items():
+        other = two.get(key)
+        if other == value:
+            found[key] = value
+        elif other is not None and other[0] == value[0] == "stack":
+            found[key] = STACK
+    return found
+
+
+def kept_in(state):
+    kept = steps.bits(*(register for register in range(31) if state.get(register) == ("entry", register)))
+    return kept | (steps.bits(steps.SP) if state.get(steps.SP) == ("stack", 0) else 0)
+
+
+def saved_in(state):
+    """What stands in the part of the stack that a function leaves taken."""
+    depth = state.get(steps.SP, ("", 0))[1] or 0
+    return {slot: value for slot, value in state.items() if isinstance(slot, tuple) and depth <= slot[1] < 0 and value[0] == "entry"}
+
+
+def value_of(step, state):
+    """What is known of what an instruction sets, or None."""
+    if step.word is None or step.symbol is not None or step.insn.sets == 0:
+        return None
+    name, ra, rb = step.insn.name, step.word >> 21 & 31, steps.base_of(step)
+    if name in ("lda", "ldah"):
+        # What is made from the global pointer is a place of the data.
+        base = ("pointer", 0) if rb == steps.GP != ra else state.get(rb)
+        return moved(base, steps.displacement_of(step) << (16 if name == "ldah" else 0))
+    if name == "ldq":
+        base = state.get(rb, ("", None))
+        return state.get(("slot", base[1] + steps.displacement_of(step))) if base[0] == "stack" and base[1] is not None else None
+    is_literal, literal = step.word & steps.LITERAL, step.word >> 13 & 0xFF
+    if name == "bis" and not is_literal and (ra == 31 or rb in (31, ra)):
+        return state.get(rb if ra == 31 else ra)
+    if name in ("s4addq", "addq") and not is_literal:
+        # A distance in a table of the data. Only the second operand of `s4addq` is taken as it is.
+        for one in (rb, ra) if name == "addq" else (rb,):
+            if state.get(one, ("", 0))[0] == "pointer":
+                return ("table", state[one][1])
+    if name in ("addq", "subq", "addq/v", "subq/v") and state.get(ra, ("", 0))[0] == "stack":
+        if is_literal:
+            return moved(state[ra], literal if name.startswith("add") else -literal)
+        return STACK
+    return None
+
+
+def moved(value, distance):
+    if value is None or value[0] == "entry":
+        return value if distance == 0 else None
+    return (value[0], None if value[1] is None else value[1] + distance)
+
+
+def note_store(after, step, state):
+    """Puts what a store by the stack pointer keeps into what is known of the stack."""
+    base, offset = state.get(steps.base_of(step), ("", None)), steps.displacement_of(step)
+    if base[0] != "stack" or base[1] is None or step.symbol is not None:
+        return
+    first, last = span_in_stack(base[1], step)
+    for slot in [slot for slot in after if isinstance(slot, tuple) and slot[1] < last and first < slot[1] + 8]:
+        del after[slot]
+    value = state.get(step.word >> 21 & 31)
+    if step.insn.name == "stq" and value is not None:
+        after["slot", base[1] + offset] = value
+
+
+def span_in_stack(base, step):
+    """The bytes of an access by a distance from the stack pointer at the entry, which is a multiple of 8."""
+    _, first, last = step.insn.span
+    if step.insn.name.endswith("_u"):
+        first = base + steps.displacement_of(step) & ~7
+        return first, first + 8
+    return base + first, base + last
+
+
+def is_below(state, step):
+    """Whether an access lies below the stack pointer, as far as is known."""
+    base, stack = state.get(steps.base_of(step), ("", None)), state.get(steps.SP, ("", None))
+    if steps.base_of(step) == steps.SP and not step.insn.name.endswith("_u"):
+        return step.insn.span[1] < 0
+    return base[0] == stack[0] == "stack" and None not in (base[1], stack[1]) and span_in_stack(base[1], step)[0] < stack[1]
