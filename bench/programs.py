@@ -28,7 +28,7 @@ class Made:
             values = ", ".join(str(self.random.randrange(-(1 << KEPT[type_] - 2), 1 << KEPT[type_] - 2)) for _ in range(SIZE))
             self.lines.append(f"static {type_} {name}[{SIZE}] = {{{values}}};")
         self.lines.append(f"struct pair {{ int first; long second; short third; }} pairs[{SIZE}];")
-        for _ in range(self.random.randrange(2, 8)):
+        for _ in range(self.random.choice((1, 2, 2, 3, 4, 6))):
             self.function()
         self.main()
         return "\n".join(self.lines) + "\n"
@@ -81,7 +81,7 @@ class Body:
 
     def __init__(self, made, names, type_):
         self.made, self.random, self.names, self.type = made, made.random, dict(names), type_
-        self.constants, self.depth, self.budget = set(), 0, made.random.randrange(4, 40)
+        self.constants, self.depth, self.budget = set(), 0, made.random.randrange(2, 24)
 
     def lines(self, itself, parameters):
         self.itself, self.parameters = itself, parameters

@@ -15,13 +15,13 @@ def text_of(path, map_path=None, text=None):
     return codes.Text(statements, () if map_path is None else codes.symbols_of(map_path, addresses.data_of(statements)[0]))
 
 
-def held_texts(path, old, new, pairs):
-    """Holds a repaired text against the old one; the line of what was shown. It refuses what can't be shown, with its line."""
-    same = sameness.Same(old.code, new.code, pairs, lambda place: f"line {old.statement(place).line}")
+def held_texts(path, old, new, pairs, live=None):
+    """Holds a repaired text against the old one; what was shown. It refuses what can't be shown, with its line."""
+    same = sameness.Same(old.code, new.code, pairs, lambda place: f"line {old.statement(place).line}", live)
     lines = [f"{path}:{old.statement(place).line}: {why}" for place, why in same.show()]
     lines += [f"{path}: {why}" for why in other_faults(old, new, pairs)]
     refuse(lines)
-    return same.told_all()
+    return same
 
 
 def other_faults(old, new, pairs):
@@ -57,7 +57,7 @@ def refuse(lines):
 
 
 def held_images(path, old, new, pairs, symbols=()):
-    """Holds a repaired image against the old one, by pairs of places; the line of what was shown."""
+    """Holds a repaired image against the old one, by pairs of places; what was shown."""
     moved = next((place for place, other in sorted(pairs.items()) if old.address(place) != new.address(other)), None)
     if moved is not None:
         raise files.Refused(f"{path}: the word at {old.address(moved):016x} moves: of images no word may, so hold the texts against each other")
@@ -66,7 +66,7 @@ def held_images(path, old, new, pairs, symbols=()):
         raise files.Refused(f"{path}: the entry, the stack or the data of the repair are others")
     same = sameness.Same(codes.of_image(old, symbols), codes.of_image(new), pairs, lambda place: f"{old.address(place):016x}")
     refuse([f"{path}: {old.address(place):016x} {why}" for place, why in same.show()])
-    return same.told_all()
+    return same
 
 
 def same_addresses(old, new):

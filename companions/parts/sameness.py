@@ -101,7 +101,7 @@ class Same:
                 self.faults.append((place, str(unclear)))
         return self.faults
 
-    def told_all(self):
+    def told_whole(self):
         """The line of what was shown."""
         left = len(self.old.steps) - len(self.old.reached)
         told = f"{len(self.pairs)} words are shown to do what they did, {self.executed} of them by execution"

@@ -49,7 +49,10 @@ def of_statement(statement):
         found = encoded(name, statement.operands, statement.relocation)
     except (instructions.Untold, ValueError, IndexError):
         found = None
-    return found or macro(name, statement)
+    try:
+        return found or macro(name, statement)
+    except (instructions.Untold, IndexError):
+        return Step(None, table.Insn(name, "unknown", ALL, 0, None), f"{statement.name} {','.join(statement.operands)}", None, ALL)
 
 
 def encoded(name, operands, relocation):

@@ -182,3 +182,21 @@ def test_a_difference_is_told_and_a_bad_image_refused(folder):
     want(asked.call("asm", source, made), (0, b"", ""), "asm")
     _, notes = companion("image2elf", "--check-qemu", made, out, status=1)
     want("`exit 9`, and qemu-alpha with status 1" in notes and os.path.exists(out), True, notes)
+
+
+@needs_program
+def test_the_original_file_is_run_beside_the_repaired_one(folder):
+    emulator()
+    asked, made, out = program.Program(ASKED), os.path.join(folder, "a.img"), os.path.join(folder, "a.elf")
+    companion("elf2image", data("sort.elf"), made)
+    given = read(data("sort.in"), "rb")
+    companion("image2elf", "--check-qemu", "--original", data("sort.elf"), made, out, given=given)
+    _, notes = companion("image2elf", "--check-qemu", "--original", data("sum.elf"), made, out, given=given, status=1)
+    want("sum.elf runs otherwise" in notes and os.path.exists(out), True, notes)
+    # An image that runs as its own file does, and not as the one of which it should be: its first word is another.
+    changed = image.read_image(made)
+    changed.words[changed.place(changed.entry)] = 0x47FF041F
+    write(made, changed.spelled())
+    want(asked.verdict(made) is not None, True, "verdict")
+    companion("image2elf", "--check-qemu", "--original", data("sort.elf"), made, out, given=given, status=1)
+    companion("image2elf", "--original", data("sort.elf"), made, out, status=2)
