@@ -1,0 +1,203 @@
+"""Calls: what the clauses of `check`, `run` and `run --imprecise` say of calls of the program, and what words ask for.
+
+A clause must hold of a call as it was, and of one with another status, output, line or input left it mustn't.
+"""
+from . import drawn
+from .reference import NONE, Late, broken_in, parts_of, some
+from .runs import options_of
+from .translate import record
+
+DONE, LAST_COUNT = ("Done", 0), (1 << 64) - 1
+NAMES = (b"FILE", b"-x", b"file", b"a", b"")
+
+
+def told(files):
+    """Files as a shelf tells them."""
+    return some(lambda name: some(tuple(files[bytes(name)])) if bytes(name) in files else NONE)
+
+
+def words_of(*texts):
+    return tuple(tuple(text) for text in texts)
+
+
+def shelf_of(files, after=None, before=0, now=0):
+    takes = object()
+    return record(old=told(files), new=told(files if after is None else after), took=takes, takes=takes, before=before, now=now)
+
+
+def sunk_of(content, before=0, now=0):
+    return record(old=some((9,)), new=some((9, *content)), before=before, now=now)
+
+
+def call_of(files, given, left, out, notes, **changed):
+    """What a call did to its devices."""
+    made = {"shelf": shelf_of(files), "input": record(old=some(tuple(given)), new=some(tuple(left)), before=0, now=0),
+            "out": sunk_of(out), "notes": sunk_of(notes)}
+    return record(**{**made, **changed})
+
+
+def status_by(number, notes, end):
+    """A run's status in the definitions' words, by how it ended."""
+    return DONE if number == 0 else ("StepsSpent",) if number == 6 else ("Stopped", end[1])
+
+
+class Ran:
+    name, about = "clauses of run", "`ran` and `alike` of calls of the program as they were, and with something else"
+    counts = {"sample": 50, "whole": 1_500}
+    is_quick = False
+    WAYS = ("as it was", "no memory", "drawn", "status", "output", "notes", "left", "files", "file", "device", "refused", "unknown")
+
+    def cases(self, chooser, count, asked):
+        for n in range(count):
+            whole = drawn.program(chooser, True)
+            given = bytes(chooser.randrange(256) for _ in range(chooser.choice((0, 9))))
+            if not Late(whole, "wrap", given).ends_within(1_000):
+                continue
+            imprecise = chooser.random() < 0.5
+            words = ["run", "--imprecise", "FILE"] if imprecise else ["run", "FILE"]
+            status, out, notes = asked.call(*words, given=given, FILE=whole.spelled())
+            if status in (0, 5, 6):
+                for way in (self.WAYS[n % len(self.WAYS)], chooser.choice(self.WAYS)):
+                    yield whole, tuple(words), given, status, out, notes, way
+
+    def difference(self, d, case):
+        whole, words, given, number, out, notes, way = case
+        d.forget()
+        parts, content = parts_of(whole), whole.spelled()
+        program = record(image=parts, how=("Wrap",))
+        run = d("alpha_seq.Run.sequential")(program, tuple(given), 2_000, False)
+        files, left = {b"FILE": content, b"other": b"x"}, run.left
+        d.given(images=[parts], names=words_of(*NAMES, b"other"), options=[options_of("wrap", 100_000_000, False), options_of("stop", 5, True)],
+                file_bytes=[()])
+        status = status_by(number, notes, run.end)
+        call, wanted = call_of(files, given, left, out, notes), True
+        if way == "no memory":
+            status, call = ("NoMemory",), call_of(files, given, left, b"", b"")
+        elif way == "drawn" and status[0] == "Done":
+            status = ("Done", 77)
+        elif way == "status":
+            status, wanted = ("StepsSpent",) if number != 6 else DONE, False
+        elif way == "output":
+            call, wanted = call_of(files, given, left, out + b"x", notes), False
+        elif way == "notes":
+            call, wanted = call_of(files, given, left, out, notes[:-1]), False
+        elif way == "left":
+            call, wanted = call_of(files, given, left + (1,), out, notes), False
+        elif way == "files":
+            call, wanted = call_of(files, given, left, out, notes, shelf=shelf_of(files, {b"FILE": content})), False
+        elif way == "file":  # Nothing is said of another file.
+            call = call_of({b"FILE": content + b"x"}, given, left, out + b"x", notes)
+        elif way == "device":  # Nor where a device failed.
+            part = ("shelf", "input", "out", "notes")[len(out) % 4]
+            call = call_of(files, given, left, out + b"x", notes)
+            call = call._replace(**{part: getattr(call, part)._replace(now=1)})
+        elif way == "refused":  # Nor of code that isn't accepted.
+            whole.words.append(drawn.operate("addq/v", 1, 2, 3))
+            d.given(images=[parts_of(whole)], names=words_of(*NAMES), options=[options_of("wrap", 100_000_000, False)], file_bytes=[()])
+            call = call_of({b"FILE": whole.spelled()}, given, left, out + b"x", notes)
+            whole.words.pop()
+        elif way == "unknown":  # Nor where the input isn't told.
+            call = call_of(files, given, left, out + b"x", notes, input=record(old=NONE, new=NONE, before=0, now=0))
+        words = words_of(*(text.encode() for text in words))
+        given = d("alpha_cmd.ToldRun.Ran")(words, status, call), d("alpha_cmd.Alike.Alike")(words, status, call)
+        return "" if given == (wanted, wanted) else f"{way} of {whole.spelled().hex()}: {given}, and {wanted} is wanted"
+
+
+class Checked:
+    name, about = "clauses of check", "`checked` and `restarts`, and `IsRestartable`, of accepted and of refused images"
+    counts = {"sample": 30, "whole": 700}
+    is_quick = False
+
+    def cases(self, chooser, count, asked):
+        for n in range(count):
+            whole = drawn.program(chooser, n % 2 == 0)
+            choices = [tuple((chooser.random() < 0.3, number, number, chooser.random() < 0.5)
+                             for number in (drawn.number(chooser) for _ in range(chooser.choice((0, 9, 40))))) for _ in range(2)]
+            status = asked.call("check", "FILE", FILE=whole.spelled())[0]
+            yield whole, tuple(choices), status, not broken_in(whole.words)
+
+    def difference(self, d, case):
+        whole, choices, status, is_accepted = case
+        d.forget()
+        parts, content = parts_of(whole), tuple(whole.spelled())
+        rows = [tuple(record(**dict(zip(("report", "value", "bytes", "adds"), one))) for one in row) for row in choices]
+        d.given(images=[parts], inputs=[(), (1, 2)], choices=rows, names=words_of(*NAMES))
+        if (status == 0) != is_accepted:
+            return f"{whole.spelled().hex()}: status {status}"
+        if is_accepted and not d("alpha_imprecise.Restart.IsRestartable")(parts):
+            return f"{whole.spelled().hex()} can't be restarted"
+        words = words_of(b"check", b"FILE")
+        for files, number, wanted in (({b"FILE": content}, 0, is_accepted or None), ({b"FILE": content + (0,)}, 0, False), ({}, 0, False),
+                                      ({}, 1, True)):
+            answer = DONE if number == 0 else ("BadWords",)
+            given = {d(name)(words, answer, told(files)) for name in ("alpha_cmd.Checked.Checked", "alpha_cmd.Restarts.Restarts")}
+            if wanted is not None and given != {wanted}:
+                return f"{whole.spelled().hex()}: {given}, and {wanted} is wanted"
+        other = {d(name)(words_of(b"dis", b"FILE"), DONE, told({})) for name in ("alpha_cmd.Checked.Checked", "alpha_cmd.Restarts.Restarts")}
+        return "" if other == {True} else "other words"
+
+
+class Spoken:
+    name, about = "words of commands", "what words ask for: worked ones, and random ones as the program takes them"
+    counts = {"sample": 160, "whole": 4_000}
+    is_quick = False
+    PIECES = ("run", "check", "FILE", "--imprecise", "--force", "--watch", "--steps", "5", "--steps=7", "--steps=", "--complete", "stop",
+              "--complete=wrap", "--complete=no", "--seed", "--seed=3", "--seed=00000000000000000018446744073709551615", "18446744073709551616",
+              "--choices", "--choices=CHOICES", "--", "-x", "--wat", "-", "", "--steps=18446744073709551615", "--watch=1", "--force", "saturate")
+
+    def cases(self, chooser, count, asked):
+        for _ in range(count):
+            first = chooser.choice(("run", "run", "run", "check"))
+            rest = [chooser.choice(self.PIECES) for _ in range(chooser.choice((0, 1, 1, 2, 2, 3, 4, 5)))]
+            if chooser.random() < 0.7:
+                rest.insert(chooser.randrange(len(rest) + 1), "FILE")
+            status = asked.call(first, *rest)[0]
+            yield (first, *rest), None, status != 2
+        for words, wanted in WORKED:
+            yield tuple(words.split()), wanted, wanted is not None
+
+    def difference(self, d, case):
+        texts, wanted, is_command = case
+        words = words_of(*(text.encode() for text in texts))
+        spoken = d("alpha_request.Commands.Run.spoken")() if texts[0] == "run" else d("alpha_request.Commands.OfImage.spoken")(("Check",))
+        rows = d("alpha_request.Matched.matches_on")(spoken.app, words)
+        command = spoken.made(rows[1]) if rows != NONE else NONE
+        if (command != NONE) != is_command:
+            return f"{texts}: a command is {command != NONE}"
+        if wanted is not None and command != some(wanted):
+            return f"{texts}: {command}, and {wanted} is wanted"
+        return self.asked(d, words, command) if command != NONE else ""
+
+    def asked(self, d, words, command):
+        """The facts about the words, by the command that they make."""
+        kind, *parts = command[1]
+        if kind == "run":
+            options, file = parts
+            given = d("alpha_request.Commands.Run.Asks")(words, options, file), not d("alpha_request.Commands.Run.Asks")(words, options, file + (1,))
+        elif kind == "imprecise":
+            options, origin, force, file = parts
+            asks = d("alpha_request.Commands.Run.AsksImprecise")
+            given = asks(words, options, origin, force, file), not asks(words, options, origin, not force, file)
+        else:
+            given = d("alpha_request.Commands.OfImage.Asks")(("Check",), words, parts[1]), \
+                not d("alpha_request.Commands.OfImage.Asks")(("Dis",), words, parts[1])
+        return "" if all(given) else f"{words}: {given}"
+
+
+FILE = tuple(b"FILE")
+DEFAULT = options_of("wrap", 100_000_000, False)
+# Words, and what they ask for by docs/commands.md; None where they are no command.
+WORKED = [
+    ("run FILE", ("run", DEFAULT, FILE)), ("check FILE", ("of_image", ("Check",), FILE)), ("check", None), ("run", None),
+    ("check -- --x", ("of_image", ("Check",), tuple(b"--x"))), ("check - -", None), ("check -", ("of_image", ("Check",), tuple(b"-"))),
+    ("run --steps 5 FILE", ("run", options_of("wrap", 5, False), FILE)), ("run FILE --steps=005", ("run", options_of("wrap", 5, False), FILE)),
+    ("run --complete stop --watch FILE", ("run", options_of("stop", 100_000_000, True), FILE)), ("run --complete=up FILE", None),
+    ("run --complete saturate FILE", ("run", options_of("saturate", 100_000_000, False), FILE)), ("run --seed 1 FILE", None),
+    ("run --steps 18446744073709551616 FILE", None), ("run --steps 000000000000000000001 FILE", None), ("run --steps -3 FILE", None),
+    ("run --force FILE", None), ("run --choices X FILE", None), ("run --watch= FILE", None), ("run --steps 5 --steps 5 FILE", None),
+    ("run --imprecise FILE", ("imprecise", DEFAULT, ("seed", 0), False, FILE)),
+    ("run --imprecise --seed 3 --force FILE", ("imprecise", DEFAULT, ("seed", 3), True, FILE)),
+    ("run FILE --imprecise --choices=-x", ("imprecise", DEFAULT, ("file", tuple(b"-x")), False, FILE)),
+    ("run --imprecise --choices= FILE", ("imprecise", DEFAULT, ("file", ()), False, FILE)),
+    ("run --imprecise --seed 3 --choices X FILE", None), ("run --imprecise --seed x FILE", None), ("run --imprecise --imprecise FILE", None),
+]

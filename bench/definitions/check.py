@@ -1,0 +1,97 @@
+#!/usr/bin/env python3
+"""Runs the definitions that the clauses of accepted code reach, and holds them against what is from elsewhere.
+
+    bench/definitions/check.py [--whole] [--seed N] [--lines] [--slips [N]] [PROGRAM]
+
+A program of Python translates the text of the definitions, those of the clauses that data.py names and of answers of `run`,
+into functions; nothing of them is written by hand. These are held against words that GNU as made, results that were
+measured on qemu-alpha, worked verdicts and images, programs with their output, the models of companions/parts, and the
+built program, crates/alpha_tool/out/alpha_tool where none is given. A sample takes under two minutes of a processor, --whole
+some fifty.
+
+--lines also tells how many lines of each file were run. --slips changes N of the definitions' lines, all where N is left out,
+and tells which changes no case of the sample finds.
+"""
+import argparse
+import os
+import random
+import sys
+import time
+
+sys.dont_write_bytecode = True
+HERE = os.path.dirname(os.path.abspath(__file__))
+sys.path = [path for path in sys.path if os.path.abspath(path or ".") != HERE] + [os.path.dirname(HERE)]
+from definitions import calls, images, library, lines, moments, places, runs, slips, words  # noqa: E402  (behind the path)
+from definitions.asking import Asked  # noqa: E402
+from definitions.running import Definitions, deeply  # noqa: E402
+from definitions.sources import TOP  # noqa: E402
+from definitions.translate import key_of  # noqa: E402
+
+GROUPS = [library.Library(), words.Words(), words.Values(), words.Taken(), places.Places(), places.Longest(), runs.Programs(), runs.Sequential(),
+          runs.Late(), moments.Moments(), moments.Each(), images.Fronts(), images.Images(), calls.Ran(), calls.Checked(),
+          calls.Spoken()]
+MOST_SHOWN = 3
+
+
+def tried(group, d, case):
+    """What the definitions have otherwise than the case; an exception is a difference too."""
+    try:
+        return group.difference(d, case)
+    except Exception as error:  # Of whatever kind: a definition that doesn't run is what is looked for.
+        return f"{type(error).__name__}: {error}"
+
+
+def held(group, d, cases):
+    """Tries the cases, and tells how many there were and the first differences."""
+    begun, differences = time.process_time(), []
+    for case in cases:
+        found = tried(group, d, case)
+        if found:
+            differences.append(found)
+    print(f"{group.name}: {len(cases):,} cases, {len(differences) or 'no'} difference{'s' * (len(differences) > 1)} "
+          f"({time.process_time() - begun:.1f} s): {group.about}", flush=True)
+    for text in differences[:MOST_SHOWN]:
+        print(f"    {text[:600]}")
+    return not differences
+
+
+def untranslated(d):
+    """The definitions that aren't translated; one that nobody has named is an error."""
+    for declaration, reason in sorted(d.translation.refused.items(), key=lambda one: str(one[0])):
+        print(f"not translated: {key_of(declaration)}: {reason}")
+    return not d.translation.refused
+
+
+def work(options, asked):
+    d = Definitions()
+    size = "whole" if options.whole else "sample"
+    fine = untranslated(d)
+    made = {}
+    for group in GROUPS:
+        cases = list(group.cases(random.Random(f"{group.name} {options.seed}"), group.counts[size], asked))
+        fine = held(group, d, cases) and fine
+        made[group] = cases
+    print(f"{len(d.translation.functions):,} definitions were run, with {asked.calls:,} calls of the program")
+    if options.lines:
+        lines.tell(lines.watched(made))
+    if options.slips is not None:
+        fine = slips.tell(made, options.slips, random.Random(options.seed)) and fine
+    return fine
+
+
+def main():
+    parser = argparse.ArgumentParser(prog="bench/definitions/check.py", description=__doc__.split("\n")[0])
+    parser.add_argument("program", metavar="PROGRAM", nargs="?", default=str(TOP / "crates/alpha_tool/out/alpha_tool"))
+    parser.add_argument("--whole", action="store_true", help="all cases, and not a sample")
+    parser.add_argument("--seed", type=int, default=1, help="what random cases are drawn by (1)")
+    parser.add_argument("--lines", action="store_true", help="tell how many lines of each file were run")
+    parser.add_argument("--slips", type=int, nargs="?", const=0, metavar="N", help="change N lines, or each")
+    options = parser.parse_args()
+    if not os.access(options.program, os.X_OK) or os.path.isdir(options.program):
+        parser.error(f"{options.program}: no program is there")
+    with Asked(options.program) as asked:
+        sys.exit(0 if deeply(work, options, asked) else 1)
+
+
+if __name__ == "__main__":
+    main()

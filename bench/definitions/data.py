@@ -1,0 +1,32 @@
+"""What the runner says of definitions by their names: where it begins, and what no text bounds."""
+
+# The clauses whose definitions are run: crate, function, clause.
+CLAUSES = [("alpha_restart", "laws_of_restarts", "accepted"), ("alpha_cmd", "alpha_top", "checked"),
+           ("alpha_cmd", "alpha_top", "ran"), ("alpha_cmd", "alpha_top", "alike"), ("alpha_cmd", "alpha_top", "restarts")]
+# Definitions of answers, which are run beside those.
+ANSWERS = [("Rattle.alpha_cmd.specs.Commands.Imprecise", "answer_wild"),
+           ("Rattle.alpha_cmd.specs.Commands.Imprecise", "run_by")]
+
+# The domain of a variable, by DEFINITION.VARIABLE: an expression over variables in braces, and `given`, by which the runner
+# hands in what is tried.
+DOMAINS = {
+    # No place past the end of the code holds a word, and the last that a condition speaks of is the end itself.
+    "IsAccepted.trigger": "range(len({code}) + 1)", "IsAccepted.at": "range(len({code}) + 2)",
+    # Any element: it is never looked at, since the places are those of elements.
+    "AllPairs.d": "{xs}[:1]", "All.d": "{xs}[:1]",
+    # What is said of every input, every list of choices and every image is tried on those that are handed in.
+    "IsRestartable.input": "given['inputs']", "RestartsFrom.choices": "given['choices']",
+    "SpellsRestartable.image": "given['images']", "Ran.image": "given['images']", "Alike.image": "given['images']",
+    # The file is one of the words.
+    "Ran.file": "{words}", "Alike.file": "{words}", "Checked.file": "{words}", "Restarts.file": "{words}",
+    "Alike.options": "given['options']", "HaveWords.bytes": "given['file_bytes']",
+    # Told files are compared by these names.
+    "KeepsFiles.name": "given['names']", "KeepsOtherFiles.other": "given['names']",
+}
+
+# What isn't translated, and why.
+NAMED = {}
+
+# Functions whose values are remembered by their arguments, and those that go by the number below, row by row.
+REMEMBERED = {"alpha_table.Words.class_in"}
+BY_ROWS = {"alpha_seq.Run.after"}

@@ -1,0 +1,117 @@
+"""Which lines of the definitions were run: by a translation that notes each equation and each field of a fact.
+
+A line of a type counts where a value of it was made or taken apart, and a signature where an equation of it ran.
+"""
+from . import data
+from .core import Call, Case, Change, Make, Part, Tuple, is_data
+from .natives import NATIVES
+from .running import Definitions, reading
+from .sources import TOP, Declaration
+
+
+MOST_CASES, MOST_FORGOTTEN = 3_500, 800
+
+
+def watched(made):
+    """The watched definitions, and for each number of a line the cases that ran it, as (group, number of the case)."""
+    d, ran = Definitions(is_watched=True), {}
+    for group, cases in made.items():
+        for number, case in enumerate(cases[:MOST_CASES]):
+            d.translation.seen.clear()
+            # What is remembered isn't run again.
+            if number < MOST_FORGOTTEN or number % 20 == 0:
+                d.translation.forget()
+            group.difference(d, case)
+            for line in d.translation.seen:
+                ran.setdefault(line, []).append((group, number))
+    return d, ran
+
+
+def shapes(term, found):
+    """The types of cases and the names of fields in a term."""
+    if isinstance(term, Case):
+        if isinstance(term.of, Declaration):
+            found.add(term.of)
+    elif isinstance(term, Part):
+        found.add(term.name)
+        shapes(term.of, found)
+    elif isinstance(term, (Make, Change)):
+        found.update(term.fields)
+        shapes([part for part in term], found)
+    elif isinstance(term, dict):
+        shapes(list(term.values()), found)
+    elif isinstance(term, (list, Call, Tuple)) or hasattr(term, "_fields"):
+        for part in term:
+            shapes(part, found)
+    return found
+
+
+def own_lines(declaration, chunk):
+    """The numbers of a chunk's lines that count."""
+    first, lines = chunk
+    return {first + n for n, line in enumerate(lines) if line.strip() and not line.lstrip().startswith("--")}
+
+
+def counted(d, ran):
+    """By file of the repository: how many lines of definitions the clauses reach, and which of them ran."""
+    translation, used = d.translation, set()
+    for declaration, known in translation.known.items():
+        for line in known:
+            if line.number in ran:
+                shapes([line.left, line.body], used)
+    files = {}
+    for module, name in reached():
+        found = translation.sources.module(module).declared(name)
+        every = set().union(*(own_lines(found, chunk) for chunk in found.chunks))
+        files.setdefault(found.module.path, [set(), set()])
+        files[found.module.path][0] |= every
+        files[found.module.path][1] |= run_in(translation, found, every, ran, used)
+    return files
+
+
+def run_in(translation, found, every, ran, used):
+    """Which of a declaration's lines ran."""
+    read = found.parts()
+    if is_data(found, NATIVES):
+        names = {name for name, _, _ in read.parts} if read.kind == "record" else set()
+        return every if found in used or names & used or read.kind == "function" else set()
+    lines = [line for line in translation.known.get(found, ()) if line.number in ran]
+    chunks = {chunk[0]: own_lines(found, chunk) for chunk in found.chunks}
+    if read.kind != "function":
+        fields = {line.first for line in translation.known.get(found, ())}
+        return every - fields | {line.first for line in lines} | things(translation, found) if lines else set()
+    return set().union(chunks[found.line], *(chunks[line.first] for line in lines)) if lines else set()
+
+
+def things(translation, found):
+    """The lines of a record's fields that are no facts."""
+    return {line.first for line in translation.known.get(found, ()) if line.body is None}
+
+
+def reached():
+    """The definitions of the repository that the clauses reach by names, as bench/reading.py counts them: (module, name)."""
+    found = set()
+    for crate, function, clause in data.CLAUSES:
+        rows, names, modules = reading.clauses(crate, function)
+        todo = reading.find(next(text for name, text in rows if name == clause), names, modules)
+        done = set()
+        while todo:
+            place, name = todo.pop()
+            file = place if isinstance(place, reading.File) else reading.File.of(place)
+            if file is None or name not in file.owner or (file, file.owner[name]) in done:
+                continue
+            owner = file.owner[name]
+            done.add((file, owner))
+            if file.is_own:
+                crate_name, _, *inner = file.path.relative_to(TOP / "crates").with_suffix("").parts
+                found.add((f"Rattle.{crate_name}.specs.{'.'.join(inner)}", owner))
+            todo |= file.reached("\n".join(file.parts[owner]))
+    return found
+
+
+def tell(watch):
+    files = counted(*watch)
+    for path, (every, run) in sorted(files.items()):
+        lacking = sorted(every - run)
+        print(f"{path.relative_to(TOP)}: {len(run)} of {len(every)} lines ran" + (f"; not {lacking}" if lacking else ""))
+    print(f"{sum(len(run) for _, run in files.values()):,} of {sum(len(every) for every, _ in files.values()):,} lines of {len(files)} files ran")
