@@ -34,9 +34,12 @@ class Refused(Exception):
     """A step that didn't go well, and its first line."""
 
 
-def call(*words, given=None, good=(0,)):
-    done = subprocess.run(words, input=given, capture_output=True, check=False, timeout=10 * SECONDS)
-    if done.returncode not in good:
+def call(*words, given=None):
+    try:
+        done = subprocess.run(words, input=given, capture_output=True, check=False, timeout=30 * SECONDS)
+    except subprocess.TimeoutExpired as expired:
+        raise Refused(f"{os.path.basename(words[0])}: took more than {30 * SECONDS} seconds") from expired
+    if done.returncode:
         raise Refused(f"{os.path.basename(words[0])}: {cause(done.stderr.decode(errors='replace'))}")
     return done.stdout
 
@@ -71,7 +74,7 @@ class Trial:
         return os.path.join(self.folder, name)
 
     def companion(self, name, *words):
-        call(os.path.join(COMPANIONS, name), "--help") if not words else call(os.path.join(COMPANIONS, name), *words)
+        call(os.path.join(COMPANIONS, name), *words)
 
     def link(self, text, out):
         call(COMPILE[0], *LINK, *BESIDE, self.path(text), "-o", self.path(out))

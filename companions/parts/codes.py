@@ -11,6 +11,7 @@ SILENT = (".cfi_", ".loc", ".file", ".globl", ".global", ".weak", ".local", ".hi
           ".fmask", ".prologue", ".eflag", ".set", ".align", ".p2align", ".balign", ".ident", ".arch", ".comm", ".lcomm", ".section",
           ".usepv", ".gprel", ".codebase", ".database", ".entry", ".stack", ".level", *SECTIONS)
 POINTERS = (".quad", ".gprel32", ".long", ".word", ".int", ".8byte", ".4byte")
+MOST_ROUNDS = 16
 NAMES = re.compile(r"[A-Za-z_.$][\w.$]*")
 
 
@@ -184,11 +185,14 @@ def program(linked, targets, entries, taken, symbols):
     pointers = linked.pointers(begins | {target for target in targets if target is not None})
     if any(steps.is_call(step) and targets[place] is None or step.insn.name == "jmp" for place, step in enumerate(found)):
         roots = roots | linked.taken(pointers)
-    code = flow.Code(found, targets, roots, starts, (), {}, linked.after)
-    # A jump may be reached only by another one's table.
-    while (tables := linked.tables(pointers, code.returns().states)) != code.tables and len(tables) >= len(code.tables):
+    first = code = flow.Code(found, targets, roots, starts, (), {}, linked.after)
+    # A jump may be reached only by another one's table, so they are looked for until no more are found.
+    for _ in range(MOST_ROUNDS):
+        tables = linked.tables(pointers, code.returns().states)
+        if tables == code.tables:
+            return code
         code = flow.Code(found, targets, roots, starts, (), tables, linked.after)
-    return code
+    return first
 
 
 def of_image(given, symbols=()):

@@ -98,7 +98,7 @@ def test_a_linked_program_is_repaired_and_no_address_changes(folder):
     companion("elf2image", data("sort.elf"), made, "--map", symbols)
     write(listing, with_labels(asked.listing(made)))
     _, notes = companion("shadowfix", "--aside", "--map", symbols, listing, "-o", fixed)
-    want("26 /V words: 0 had a barrier, 8 got one, 18 go through" in notes and "460 words are shown" in notes, True, notes)
+    want("26 /V words: 0 had a barrier, 8 got one, 18 go through" in notes and "; 460 words shown" in notes, True, notes)
     want(asked.call("asm", fixed, out), (0, b"", ""), "asm")
     want(asked.verdict(out), None, "verdict")
     runs_alike(asked, "sort", out)
