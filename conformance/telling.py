@@ -5,7 +5,10 @@ import sys
 
 HERE = os.path.dirname(os.path.abspath(__file__))
 sys.path.insert(0, os.path.join(os.path.dirname(HERE), "companions"))
-from parts import files, image as images, journal as journals, machine, places, playing  # noqa: E402  (behind the path)
+try:
+    from parts import files, image as images, journal as journals, machine, places, playing
+except ImportError:  # this folder was copied without the companions: it runs all the same, and tells no lines
+    places = None
 
 MOST_LINES = 8
 # Where the images of blocks keep what a run shows: 64 bytes of memory, and 32 registers.
@@ -39,6 +42,8 @@ def short(lines):
 
 def between(image, completion, given, number):
     """The lines of the source that a right run makes between barrier `number`, counted from 1, and the one before."""
+    if places is None:
+        return []
     made, passed, found = machine.Machine(image_of(image), completion, given), 0, []
     while made.end is None and passed < number:
         pc = made.pc
@@ -51,6 +56,8 @@ def between(image, completion, given, number):
 
 def block(image, given):
     """The lines of the block that an input of an image of blocks chooses, up to the next label."""
+    if places is None:
+        return None
     start = int.from_bytes(given[:8], "little")
     source = source_of(image)
     first = source.lines.get(start)
@@ -63,6 +70,8 @@ def block(image, given):
 
 def item_text(image, content, number):
     """Item `number` of a journal, and where the machine stands before it."""
+    if places is None:
+        return None
     played = playing.Replay(image_of(image), journals.journal_of(content))
     items = played.journal.items
     if number >= len(items):
@@ -75,7 +84,9 @@ def item_text(image, content, number):
 
 
 def logged(image, content):
-    """The addresses of the overflows that a journal's run logs."""
+    """The addresses of the overflows that a journal's run logs, or None without the companions."""
+    if places is None:
+        return None
     played, found = playing.Replay(image_of(image), journals.journal_of(content)), []
     report = played.machine.report
 

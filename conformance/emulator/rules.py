@@ -13,8 +13,12 @@ def of_limits():
     for text, (group, what) in LIMITS.items():
         name, number = text.split(" = ")
         for step in (-1, 1, -8, 16):
-            yield Fault(f"limit-{name.lower()}{step:+d}", group, f"{int(number) + step:,} {what} in place of {int(number):,}", text, f"{name} = {int(number) + step}")
-        yield Fault(f"limit-{name.lower()}-half", group, f"half as many {what}", text, f"{name} = {int(number) // 2}")
+            yield limit(f"limit-{name.lower()}{step:+d}", group, f"{int(number) + step:,} {what} in place of {int(number):,}", text, f"{name} = {int(number) + step}")
+        yield limit(f"limit-{name.lower()}-half", group, f"half as many {what}", text, f"{name} = {int(number) // 2}")
+
+
+def limit(name, group, what, right, wrong):
+    return Fault(name, group, what, right, wrong, {"images": "images.", "late": "late-limits", "following": "pending."}[group], EQUAL.get(name))
 
 
 # Name, group, what, the right text, the wrong text, and where it is caught.
@@ -235,7 +239,9 @@ RULES = [
     ("record-short", "recording", "the last item is left out where it is a report", " put_little(head + 30, m.output.count, 4),", "\n    items.count -= items.count && items.at[items.count - 1].kind == REPORT;\n    put_little(head + 30, m.output.count, 4),"),
 ]
 # Faults that give the same answers, and why.
-EQUAL = {}
+SIXTEENS = "the size of a stack is a multiple of 16"
+EQUAL = {"limit-least_stack-1": SIXTEENS, "limit-least_stack-8": SIXTEENS, "limit-least_stack-half": SIXTEENS, "limit-most_stack+1": SIXTEENS,
+         "zeroed-32": "segments that end below 2^30 have fewer bytes than 2^32"}
 
 
 def faults():

@@ -316,6 +316,10 @@ def edges():
     for how, distance in (("end", 0), ("behind-end", 4), ("far-behind", 4_096), ("before", CODE - 4 - made.end()), ("wide", 1 << 32), ("top", -made.end() - 4)):
         made.late(how, "jumps", f"a trap is reported at {made.end() + distance & blocks.MASK:#x}, with the code's end at {made.end():#x}: outside the code "
                   "there is no way back, but from its end", OVERFLOWS | {6: made.end() + distance & blocks.MASK}, [0x77, *waits((0, 0))], ALL)
+    for bit in (30, 31, 32, 63):
+        address = made.places["long"] + 8 | 1 << bit
+        made.late(f"over-{bit}", "jumps", f"a jump while a trap is pending goes to {address:#x}, where no code is: the trap is reported there, and lost",
+                  OVERFLOWS | {6: address}, [0x77, *waits((0, 0), (0, 0), (0, 0))])
     for count in (1, 2, 255, 256, 1_000, 1_023, 1_024, 1_025, 1_026, 1_300):
         made.late(f"long-{count}", "jumps", f"the handler looks back over {count:,} words: no number of them is too many", OVERFLOWS | {6: made.places["long"] + 4 * count},
                   [0x77, *waits((0, 0)), 0])

@@ -74,6 +74,9 @@ def places():
         bits = range(64) if name == "jmp" else (1, 17, 32, 63)
         for bit in bits:
             made.run(f"{name}-bit-{bit}", name, f"`{name} $5,($6)`: bit {bit} of the PC, of which 0 and 1 are cleared", {6: 1 << bit})
+    for name in late.JUMPS:
+        for bit in range(30, 64) if name == "jmp" else (32, 63):
+            made.run(f"{name}-over-{bit}", name, f"`{name} $5,($6)` to the address of a code word with bit {bit}, where no code is", {6: made.places["dump"] | 1 << bit})
     # The code has no word so far away, so that each target is the end's address.
     words = [1 << bit for bit in range(12, 20)] + [-(1 << bit) for bit in range(12, 21)] + [(1 << 20) - 1, -4097, 0xAAAAA, -0xAAAAB]
     for name, register in [*[(name, "$31") for name in ("br", "bsr")], *[(name, "$6") for name in late.BRANCHES]]:
@@ -109,6 +112,8 @@ def calls():
         told[f"count-{number}-bare"] = (number, descriptor, address, 1 << 32)
         told[f"wraps-{number}"] = (number, descriptor, address, -address & MASK)
         told[f"wraps-more-{number}"] = (number, descriptor, address, -address + 16 & MASK)
+        for more in (0, 1, 8, 320):
+            told[f"around-{more}-{number}"] = (number, descriptor, address, -64 + more & MASK)
         told[f"top-{number}"] = (number, descriptor, MASK - 7, 8)
         told[f"top-one-{number}"] = (number, descriptor, MASK, 1)
         for region, (first, behind) in {"cells": (CELLS, CELLS + 384), "odd": (CELLS + 0x2000, CELLS + 0x200D), "stack": (STACK, TOP),
