@@ -21,7 +21,7 @@ def members(whole):
             names = whole.part(start, length)
         elif name not in (b"/", b"/SYM64/", b"__.SYMDEF"):
             if match := re.fullmatch(rb"/([0-9]+)", name):
-                name = names[int(match[1]):].partition(b"/\n")[0]
+                name = names[int(match[1]):max(int(match[1]), names.find(b"/\n", int(match[1])))]
             elif (match := re.fullmatch(rb"#1/([0-9]+)", name)) and int(match[1]) <= length:
                 name = whole.part(start, int(match[1])).rstrip(b"\0")
                 start, length = start + int(match[1]), length - int(match[1])

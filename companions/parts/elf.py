@@ -57,21 +57,26 @@ class Elf(Linked):
         headers = list(self.rows(HEADER, at, count))
         text = headers[names][4]
         bases = laid_out(headers) if is_object else {}
+        loose = self.loose(headers) if is_object else {}
         for n, (name, kind, flags, address, offset, length, *_) in enumerate(headers):
             if n in bases if is_object else flags & ALLOC and length and not (kind == NOBITS and flags & TLS):
                 content = b"" if kind == NOBITS else self.content(offset, length)
-                loose = self.loose(headers, n) if is_object else frozenset()
-                self.sections.append(Section(self.text(text + name), kind, flags, bases.get(n, address), content, length, loose))
+                self.sections.append(Section(self.text(text + name), kind, flags, bases.get(n, address), content, length,
+                                             frozenset(loose.get(n, ()))))
         self.read_symbols(headers, bases if is_object else None)
         self.order()
 
-    def loose(self, headers, number):
-        """The offsets of a section's words of which a relocation is to make more than a branch, or the half of an address."""
-        found = set()
+    def loose(self, headers):
+        """By its number, the offsets of a section's words of which a relocation makes more than a branch, or the half of an address."""
+        found, total = {}, 0
         for _, kind, _, _, offset, length, _, of, *_ in headers:
-            if kind == RELOCATIONS and of == number:
-                found.update(place & ~3 for place, info, _ in self.rows("<QQq", offset, length // 24) if info & 0xFFFFFFFF not in HARMLESS)
-        return frozenset(found)
+            if kind == RELOCATIONS:
+                total += length
+                if total > self.file.size:
+                    raise ValueError("more relocations than the file has bytes for")
+                found.setdefault(of, set()).update(place & ~3 for place, info, _ in self.rows("<QQq", offset, length // 24)
+                                                   if info & 0xFFFFFFFF not in HARMLESS)
+        return found
 
     def read_symbols(self, headers, bases):
         """The symbols of the first table, but for those of sections that aren't in memory, as a debugger's are."""

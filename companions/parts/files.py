@@ -12,8 +12,10 @@ TOP = os.path.dirname(os.path.dirname(os.path.dirname(os.path.abspath(__file__))
 # What files are, by their first bytes, that are often given where a text is wanted.
 NO_TEXT = {b"\x7fELF": "no text: an ELF file, which companions/elf2image reads where it is linked", b"ALPHAIM": "no text: an image",
            b"ALPHAOB": "no text: a module", b"ALPHAJR": "no text: a journal"}
-# The most bytes that the program takes of each kind of file (docs/commands.md), and what is read of a compiler's text.
+# The most bytes that the program takes of each kind of file (docs/commands.md); of a compiler's text, and of a table or a section of a
+# linked file, as many are read.
 MOST_IMAGE, MOST_SOURCE, MOST_MODULE, MOST_JOURNAL, MOST_TEXT = 18_874_368, 16_777_216, 20_971_520, 33_554_432, 33_554_432
+MOST_PART = 134_217_728
 
 class Refused(Exception):
     """Input that a companion can't take. It has one line or several."""
@@ -56,6 +58,8 @@ class Parts:
         """Bytes of the file, all of them; ValueError where it hasn't so many."""
         if not 0 <= offset <= offset + length <= self.size:
             raise ValueError(f"{length} bytes at {offset}, of {self.size}")
+        if length > MOST_PART:
+            raise Refused(f"{self.path}: a table or a section of {length} bytes: at most {MOST_PART} are read")
         content = os.pread(self.file.fileno(), length, self.start + offset)
         if len(content) != length:
             raise ValueError("the file is shorter now")

@@ -12,7 +12,7 @@ from .loaded import FILLERS
 # A word that ends no program and opens no shadow, in the place of one that the table doesn't have.
 BARRIER = 0x63FF0000
 # How often symbols that share words may name each of them.
-MOST_SHARED = 16
+MOST_SHARED = 4
 # A symbol with the bytes that are its own: up to what its size says, or up to the next one.
 Function = namedtuple("Function", "symbol size section")
 # The words of a function, with barriers for those of `foreign`: places whose words can't be judged, each with the word, why, and

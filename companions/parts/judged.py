@@ -7,22 +7,34 @@ from . import broken, files, functions, image, shadows, table
 def verdicts(asked, found, jobs, of_all=False):
     """What is to be said of each function, in lines: its verdict, or why it has none; and where `of_all` says so, each of its broken
     triggers. Equal words have equal verdicts."""
-    told = [functions.row_of(function) for function in found]
-    rows = [row for row, _ in told if row is not None]
-    distinct = list({row.words.tobytes(): row.words for row in rows if functions.has_trigger(row.words)}.values())
-    verdict_of = dict(zip((words.tobytes() for words in distinct), broken.first_of_each(asked, distinct, jobs)))
+    told = list(rows_of(found))
+    rows = {id(row): row for row, _ in told if row is not None}
+    keys = {number: row.words.tobytes() for number, row in rows.items() if functions.has_trigger(row.words)}
+    distinct = {key: rows[number].words for number, key in keys.items()}
+    verdict_of = dict(zip(distinct, broken.first_of_each(asked, list(distinct.values()), jobs)))
+    by_row = {number: verdict_of[key] for number, key in keys.items()}
     # Words without a /V word open no shadow wherever they stand, so a verdict is asked of many functions at once.
-    for words in joined(row.words for row in rows if not functions.has_trigger(row.words)):
+    for words in joined(row.words for number, row in rows.items() if number not in keys):
         if broken.first_of_each(asked, [words], 1) != [None]:
             raise files.Refused("the program finds a broken trigger among words without /V")
-    lines = [[f"no verdict: {why}"] if row is None else [said(one.symbol.address, verdict_of.get(row.words.tobytes()), row)]
+    lines = [[f"no verdict: {why}"] if row is None else [said(one.symbol.address, by_row.get(id(row)), row)]
              for one, (row, why) in zip(found, told)]
     if of_all:
-        wanted = [n for n, (row, _) in enumerate(told) if row is not None and (has_shaded(row) or verdict_of.get(row.words.tobytes()))]
+        wanted = [n for n, (row, _) in enumerate(told) if row is not None and (has_shaded(row) or by_row.get(id(row)))]
         with ThreadPoolExecutor(max(1, jobs)) as pool:
             for n, more in zip(wanted, pool.map(lambda n: every_line(asked, found[n].symbol.address, told[n][0]), wanted)):
                 lines[n] += more
     return lines
+
+
+def rows_of(found):
+    """The row of each function, or why it has none. Names of the same words have the same row."""
+    known = {}
+    for one in found:
+        key = id(one.section), one.symbol.address, one.size
+        if key not in known:
+            known[key] = functions.row_of(one)
+        yield known[key]
 
 
 def joined(rows):

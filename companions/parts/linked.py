@@ -8,8 +8,8 @@ from . import files, shown
 
 PROGBITS, NOBITS = 1, 8
 EXEC, TLS = 4, 0x400
-# The most bytes of sections that are read of a file, and the bytes of a block in which its names are read.
-MOST_LOADED, BLOCK, LONGEST_NAME = 1 << 27, 1 << 14, 1 << 15
+# The bytes of a block in which names are read, and of the longest name.
+BLOCK, LONGEST_NAME = 1 << 14, 1 << 15
 # A section in memory; `content` is empty where it is one of zeroed bytes, NOBITS. `loose` has the offsets of the words of an
 # object whose lower half the linker is to make.
 Section = namedtuple("Section", "name kind flags address content size loose", defaults=(frozenset(),))
@@ -42,8 +42,8 @@ class Linked:
         self.loaded_bytes += length
         if self.loaded_bytes > self.file.size:
             raise ValueError("its sections have more bytes than the file")
-        if self.loaded_bytes > MOST_LOADED:
-            self.refuse(f"more than {MOST_LOADED} bytes of sections, the most that are read")
+        if self.loaded_bytes > files.MOST_PART:
+            self.refuse(f"more than {files.MOST_PART} bytes of sections, the most that are read")
         return self.file.part(offset, length)
 
     def read_block(self, number):
@@ -64,7 +64,7 @@ class Linked:
                 raise ValueError("a name without an end")
         self.named_bytes += len(found)
         # A linker may let names share their ends, but not so that they are many times longer than the file.
-        if self.named_bytes > 4 * self.file.size + BLOCK:
+        if self.named_bytes > min(4 * self.file.size, files.MOST_PART) + BLOCK:
             raise ValueError("its names are longer than the file")
         return shown.name(found.decode("utf-8", "surrogateescape"))
 

@@ -1,4 +1,6 @@
 """What a system loads of an ELF file, by its program headers, held against the sections by which code and data are told apart."""
+import bisect
+import itertools
 import struct
 from collections import namedtuple
 
@@ -23,6 +25,7 @@ class Loads:
         self.loads = [Load(flags, offset, address, held, memory) for kind, flags, offset, address, _, held, memory, _ in rows
                       if kind == LOAD and memory]
         self.look_at_rows()
+        self.ends = [one.address + one.size for one in self.loads]
 
     def look_at_rows(self):
         """Linux maps whole pages, a later part's over an earlier one's: so where two share a page, it must be the same of both."""
@@ -40,12 +43,16 @@ class Loads:
 
     def of(self, address, size):
         """The part that has all of these addresses, or None."""
-        return next((one for one in self.loads if one.address <= address and address + size <= one.address + one.size), None)
+        at = bisect.bisect_right(self.ends, address)
+        one = self.loads[at] if at < len(self.loads) else None
+        return one if one is not None and one.address <= address and address + size <= one.address + one.size else None
 
     def content(self, address, size):
         """What is loaded at some addresses; 0 where nothing is."""
         found = bytearray(size)
-        for one in self.loads:
+        for one in itertools.islice(self.loads, bisect.bisect_right(self.ends, address), None):
+            if one.address >= address + size:
+                break
             start, end = max(address, one.address), min(address + size, one.address + one.held)
             if start < end:
                 found[start - address:end - address] = self.whole.file.part(one.offset + start - one.address, end - start)
@@ -72,11 +79,12 @@ class Loads:
     def beside(self, sections):
         """The stretches that are loaded as code and are in no section of instructions, but for fillers: (address, size)."""
         code = [section for section in sections if section.flags & linked.EXEC]
+        begins = [section.address for section in code]
         for load in self.loads:
             if not load.flags & EXECUTE:
                 continue
             at, end = load.address, load.address + load.held
-            inner = [section for section in code if at <= section.address < end]
+            inner = code[bisect.bisect_left(begins, at):bisect.bisect_left(begins, end)]
             for start, stop in [*((section.address, section.address + section.size) for section in inner), (end, end)]:
                 if self.has_words(at, start):
                     yield at, start - at
