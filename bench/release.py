@@ -253,7 +253,7 @@ def try_refusals(room, program):
         skip("records of another gate", "there are changes since the commit")
         return
     record = record_of(program)
-    for word in record:
+    for word in ("commit", "sources", "program", "gate"):
         line = "how the gate ended" if word == "gate" else f"with {word} "
         text = "".join(f"{it} {'0' * 40 if it == word else value}\n" for it, value in record.items() if (it, word) != ("gate", "gate"))
         write(f"{room}/record", text)
