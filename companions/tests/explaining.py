@@ -3,7 +3,7 @@ import os
 import re
 
 from parts import lines, program
-from .helpers import ASKED, TOP, Failed, companion, needs_program, read, want, write
+from .helpers import ASKED, Failed, companion, needs_program, read, source, want, write
 
 ADDRESS = "0000000000010004"
 # The functions that put a kind behind a word, and what stands in a line behind the kind.
@@ -16,7 +16,7 @@ DETAILS = {"source kind 1 ": range(1, 5), "far kind 1 ": range(1, 5), "source ki
 
 
 def crate(path):
-    return read(os.path.join(TOP, "crates", path))
+    return read(source(path))
 
 
 def fault_lines():

@@ -48,8 +48,16 @@ def data(name):
     return os.path.join(DATA, name)
 
 
+def source(path):
+    """The path of a file of crates/, which isn't there where the companions are installed."""
+    path = os.path.join(TOP, "crates", path)
+    if not os.path.exists(path):
+        raise Lacking("the sources of the program aren't beside the companions")
+    return path
+
+
 def rows(name):
-    with open(os.path.join(TOP, "crates/alpha_vectors/data", name), encoding="ascii") as file:
+    with open(source(os.path.join("alpha_vectors/data", name)), encoding="ascii") as file:
         return [line.rstrip("\n").split("\t") for line in file if not line.startswith("#")]
 
 
