@@ -361,7 +361,7 @@ def main():
     with tempfile.TemporaryDirectory() as room:
         room = os.path.realpath(room)
         status, _, said = call([*RELEASE, "--trial", "--program", program, "-o", f"{room}/out"])
-        if status and "git" in said:
+        if status and re.match("release: (git |.*'git')", said):
             skip("all", said.strip())
             return 0
         show("an archive is made", status == 0, said == "" or "dpkg-deb" in said, f" {said}")
