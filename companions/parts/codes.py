@@ -25,6 +25,7 @@ class Text:
         self.names, self.globals, self.taken = [], set(), set()
         self.after, self.open, self.sections, self.by_line = [], {}, [], {}
         self.is_whole = any(statement.name == ".entry" for statement in statements)
+        self.is_listing = self.is_whole and any(statement.name == ".codebase" for statement in statements)
         self.base, self.segments = addresses.data_of(statements)
         self.read()
         found = [steps.of_statement(statements[index]) for index in self.statements]

@@ -268,7 +268,9 @@ class Returns:
         """What a call leaves."""
         target, link = self.code.targets[place], steps.link_of(step)
         if target is not None:
-            return self.left[target]
+            # A function with a global name may be another one's when it is linked.
+            standard = STANDARD[steps.RA] if target in self.code.outside and link == steps.RA else None
+            return self.left[target] and self.left[target].joined(standard)
         found = STANDARD.get(link, Left(0, None, {None}))
         for entry in self.callable_by(link) if step.label is None else ():
             found = found.joined(self.left[entry])

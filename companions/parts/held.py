@@ -40,7 +40,7 @@ def other_faults(old, new, pairs):
     if one != other:
         at = next((n for n, (mine, its) in enumerate(zip(one, other)) if mine != its), min(len(one), len(other)))
         yield f"`{spelled_item(one, at)}` of the old text, and `{spelled_item(other, at)}` of the new one: directives or data aren't the same"
-    if old.is_whole and any(old.base + 4 * place != new.base + 4 * image for place, image in pairs.items()) and old.numbers():
+    if old.is_listing and any(old.base + 4 * place != new.base + 4 * image for place, image in pairs.items()) and old.numbers():
         place = min(old.numbers())
         yield f"words move, and a number has the address {old.base + 4 * place:#x} of code: use --aside"
 

@@ -80,7 +80,8 @@ class Liveness:
     def read_by(self, key, before):
         """What a called function reads before it returns."""
         if not isinstance(key, tuple):
-            return before[key]
+            # A function with a global name may be another one's when it is linked.
+            return before[key] | (CALL_READS if key in self.code.outside else 0)
         found = {steps.RA: CALL_READS, steps.BY_DIVISION: DIVISION_READS}.get(key[1], steps.ALL)
         for entry in self.returns.callable_by(key[1]) if key[0] == "unseen" else ():
             found |= before[entry]

@@ -1,8 +1,10 @@
 """shadowfix: a register is taken only where nothing that may come reads it, and /V words that are no code are left."""
 import os
+import shutil
+import subprocess
 
 from parts import image, program
-from .helpers import ASKED, companion, needs_program, read, want, write
+from .helpers import ASKED, TOP, Lacking, companion, needs_program, read, want, write
 
 SPARE = (28, 22, 23, 24, 25, 8, 7, 6, 5, 4, 3, 2, 1)
 # Of each the register that may not be taken: the next read of it is a word that names it twice, or that reads what it sets.
@@ -104,3 +106,21 @@ def test_words_stand_before_the_code_where_there_is_no_room_behind(folder):
     _, notes = repaired(folder, text, "--aside", status=1)
     behind = 2048 - places - 4
     want(f"takes 2401 words, and there is room for {behind} behind the code and for 0 before it" in notes, True, notes)
+
+
+def test_a_listing_whose_numbers_are_addresses_of_code_is_repaired_aside_alone(folder):
+    text = LISTING.replace("br $31,L_10008\naddq/v $1,$2,$1\n", "ldah $27,1($31)\nlda $27,8($27)\njmp $31,($27),0\n").replace(
+        "L_10008: addq/v", "addq/v")
+    _, notes = repaired(folder, text, status=1)
+    want("words move, and a number has the address 0x10008 of code: use --aside" in notes, True, notes)
+
+
+@needs_program
+def test_random_programs_do_the_same_when_they_are_repaired(folder):
+    for tool in ("alpha-linux-gnu-gcc", "qemu-alpha"):
+        if shutil.which(tool) is None:
+            raise Lacking(f"there is no {tool} on the path")
+    done = subprocess.run([os.path.join(TOP, "bench/repairs.py"), ASKED, "--count", "1", "--first", "7", "--levels", "2"], cwd=folder,
+                          capture_output=True, check=False)
+    told = done.stdout.decode()
+    want((done.returncode, told.count("| the same | 1 |")), (0, 2), told + done.stderr.decode())

@@ -1,7 +1,7 @@
 """same: repairs that are right are shown, and wrong ones refused with the place."""
 import os
 
-from parts import program
+from parts import files, held, program
 from .helpers import ASKED, companion, data, needs_program, read, want, write
 
 OLD = """	.globl f
@@ -83,35 +83,42 @@ WRONG = [
 ]
 
 
-def held(folder, old, new, *words, status=0):
+def outcome(old, new):
+    """What `same` says of two texts, or why it refuses them."""
+    texts = [held.text_of(path, None, text) for path, text in (("old.s", old), ("new.s", new))]
+    try:
+        return held.held_texts("old.s", *texts, held.alike(*texts)).told_whole()
+    except files.Refused as refused:
+        return str(refused)
+
+
+def called(folder, old, new, *words, status=0):
     paths = [os.path.join(folder, name) for name in ("old.s", "new.s")]
     for path, text in zip(paths, (old, new)):
         write(path, text.encode())
     return companion("same", *paths, *words, status=status)
 
 
-def test_right_repairs_are_shown(folder):
+def test_right_repairs_are_shown(_):
     for text in RIGHT:
-        out, _ = held(folder, OLD, text)
-        want("18 words are shown to do what they did" in out, True, out)
+        want(outcome(OLD, text).startswith("18 words are shown to do what they did"), True, outcome(OLD, text))
 
 
-def test_wrong_repairs_are_refused_with_the_place(folder):
+def test_wrong_repairs_are_refused_with_the_place(_):
     for what, text, line, said in WRONG:
         want(text != NEW and text != OLD, True, what)
-        _, notes = held(folder, OLD, text, status=1)
-        want((f"old.s:{line}:" in notes if line else True, said in notes), (True, True), f"{what}: {notes}")
+        told = outcome(OLD, text)
+        want((f"old.s:{line}:" in told if line else "old.s: " in told, said in told), (True, True), f"{what}: {told}")
 
 
-def test_a_register_is_kept_only_by_a_stack_pointer(folder):
+def test_a_register_is_kept_only_by_a_stack_pointer(_):
     for front, said in (("\tlda $30,5($31)\n", "nothing shows that $30 is a stack pointer there"), ("\tstq $9,-8($30)\n", "line 4 has an access below $30")):
         old = OLD.replace("f:\tlda", f"f:\n{front}\tlda")
-        _, notes = held(folder, old, old.replace(MULTIPLIED, KEPT), status=1)
-        want(said in notes, True, notes)
+        want(said in outcome(old, old.replace(MULTIPLIED, KEPT)), True, said)
     # Where the old word sets $30 itself nothing may be kept below it.
     old = OLD.replace(MULTIPLIED, "\tsubq/v $30,$17,$30\n")
-    _, notes = held(folder, old, old.replace("\tsubq/v $30,$17,$30\n", KEPT.replace("mulq/v $16,$17,$28", "subq/v $30,$17,$28").replace("$28,$16", "$28,$30")), status=1)
-    want("old.s:5:" in notes, True, notes)
+    kept = KEPT.replace("mulq/v $16,$17,$28", "subq/v $30,$17,$28").replace("$28,$16", "$28,$30")
+    want("old.s:5:" in outcome(old, old.replace("\tsubq/v $30,$17,$30\n", kept)), True, "$30")
 
 
 def test_a_map_is_only_a_proposal(folder):
@@ -119,13 +126,13 @@ def test_a_map_is_only_a_proposal(folder):
     write(words, OLD.encode())
     companion("shadowfix", words, "-o", os.path.join(folder, "fixed.s"), "--words", symbols)
     fixed = read(os.path.join(folder, "fixed.s"))
-    want("18 words are shown to do what they did, 4 of them by execution" in held(folder, OLD, fixed, symbols)[0], True, "its own map")
+    want("18 words are shown to do what they did, 4 of them by execution" in called(folder, OLD, fixed, symbols)[0], True, "its own map")
     rows = read(symbols).splitlines()
     for lie, said in ((["3 4 1"] + rows[1:], "old.s:3:"), (["3 3 1"], "may be come to from elsewhere, and the map has no image of it"),
                       ([*rows, "4 3"], "the map has its image twice"), (["3 900"], "no line `OLD NEW COUNT`"), (["x y"], "no line `OLD NEW COUNT`"),
                       (["3 3 100000000"], "no line `OLD NEW COUNT`")):
         write(symbols, ("\n".join(lie) + "\n").encode())
-        _, notes = held(folder, OLD, fixed, symbols, status=1)
+        _, notes = called(folder, OLD, fixed, symbols, status=1)
         want(said in notes, True, f"{lie}: {notes}")
 
 
