@@ -16,8 +16,8 @@ MOST_SHARED = 4
 # A symbol with the bytes that are its own: up to what its size says, or up to the next one.
 Function = namedtuple("Function", "symbol size section")
 # The words of a function, with barriers for those of `foreign`: places whose words can't be judged, each with the word, why, and
-# the place of the trigger in whose shadow it stands, or None.
-Row = namedtuple("Row", "words foreign")
+# the place of the trigger in whose shadow it stands, or None. `is_idle` where no word has /V.
+Row = namedtuple("Row", "words foreign is_idle")
 Foreign = namedtuple("Foreign", "place word why trigger")
 
 insn_of = functools.lru_cache(1 << 15)(table.insn_of)
@@ -129,7 +129,7 @@ def row_with_barriers(words, loose=frozenset()):
             loads.append((insn.span[0], n in loose))
     for one in foreign:
         words[one.place] = BARRIER
-    return Row(words, foreign)
+    return Row(words, foreign, not any(insn_of(word).kind == table.TRIGGER for word in words))
 
 
 def unsure(insn, is_loose, loads):
@@ -148,9 +148,5 @@ def foreign_text(address, row):
     place, word, why, trigger = next((one for one in row.foreign if one.trigger is not None), row.foreign[0])
     shadow = f", in the shadow of {address + 4 * trigger:016x}" if trigger is not None else ""
     more = f", and {len(row.foreign) - 1} more" if len(row.foreign) > 1 else ""
-    idle = "" if has_trigger(row.words) else "; no /V word"
+    idle = "; no /V word" if row.is_idle else ""
     return f"{address + 4 * place:016x} is {word:08x}: {why}{shadow}{more}{idle}"
-
-
-def has_trigger(words):
-    return any(insn is not None and insn.kind == table.TRIGGER for insn in map(insn_of, words))

@@ -9,7 +9,7 @@ def verdicts(asked, found, jobs, of_all=False):
     triggers. Equal words have equal verdicts."""
     told = list(rows_of(found))
     rows = {id(row): row for row, _ in told if row is not None}
-    keys = {number: row.words.tobytes() for number, row in rows.items() if functions.has_trigger(row.words)}
+    keys = {number: row.words.tobytes() for number, row in rows.items() if not row.is_idle}
     distinct = {key: rows[number].words for number, key in keys.items()}
     verdict_of = dict(zip(distinct, broken.first_of_each(asked, list(distinct.values()), jobs)))
     by_row = {number: verdict_of[key] for number, key in keys.items()}
@@ -63,7 +63,7 @@ def said(address, verdict, row):
         return f"no verdict: {functions.foreign_text(address, row)}"
     if row.foreign:
         return f"accepted but for words in no shadow: {functions.foreign_text(address, row)}"
-    return "accepted" if functions.has_trigger(row.words) else "accepted; no /V word"
+    return "accepted; no /V word" if row.is_idle else "accepted"
 
 
 def broken_text(address, verdict):
