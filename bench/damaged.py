@@ -1,7 +1,7 @@
 #!/usr/bin/env python3
 """Feeds the companions with damaged files: ELF, ECOFF, archives, images, modules, sources, texts of a compiler, maps and journals,
 cut, with a hole behind them, or with other numbers and bytes. Each call must end within 10 seconds of the processor's time and 300 MB
-of memory, with a status that it has, without a traceback, and by status 1 with a line on standard error and without a file. Prints how
+of memory, with a status that it has, without a traceback, and by status 1 with a line and without a file. Prints how
 often each status came, by kind of file, the most time and memory, and each call that did otherwise, with its file kept.
 
     bench/damaged.py [PROGRAM] [COUNT] [SEED] [JOBS]    2,000 files, seed 1 and 2 jobs where they are left out
@@ -94,11 +94,11 @@ class Outcome:
 
 
 def called(words, program, folder):
-    """Calls a companion whose output is put away."""
+    """Calls a companion. `journal first` tells on its output what is wrong, the others on standard error why they refuse."""
     notes_path, out = os.path.join(folder, "notes"), os.path.join(folder, "out")
     with open(notes_path, "wb") as notes, subprocess.Popen(
             ["timeout", "-s", "KILL", str(KILLED), sys.executable, os.path.join(COMPANIONS, words[0]), *words[1:]],
-            stdin=subprocess.DEVNULL, stdout=subprocess.DEVNULL, stderr=notes, env=os.environ | {"ALPHA": program}) as call:
+            stdin=subprocess.DEVNULL, stdout=notes, stderr=notes, env=os.environ | {"ALPHA": program}) as call:
         _, status, usage = os.wait4(call.pid, 0)
         call.returncode = os.waitstatus_to_exitcode(status)
     return Outcome(call.returncode, read(notes_path), usage, os.path.exists(out))
