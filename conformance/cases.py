@@ -3,12 +3,16 @@
 An image is that of the source of its name. What it is for is said by the comment at the head of the source. Sources that
 would be long and alike are made here.
 """
+import os
 import random
 import struct
 from collections import namedtuple
 
 import families
 from families import lines, wild
+from parts import files
+
+HERE = os.path.dirname(os.path.abspath(__file__))
 
 ALL = ("wrap", "saturate", "stop")
 # How an image is run: by which completions, for how many steps, over which input, and whether the registers at barriers are
@@ -89,6 +93,8 @@ def made_sources():
     made |= {f"values-forms-{name}": lines.source("Registers that are alike, R31, and literals.", list(lines.forms(names)), 2)
              for name, names in FORMS.items()}
     made |= {f"values-{name}": lines.source(about, list(rows_of()), 2) for name, (about, rows_of) in LINES.items()}
+    two = files.read_text(os.path.join(HERE, "sources", "late-two.s")).split("\n", 2)[2]
+    made |= {f"late-two-{steps}": f"# As late-two, which exits with its ninth step, by {steps} steps.\n{two}" for steps in (4, 5, 8, 9)}
     return made | wild.sources() | families.sources()
 
 
@@ -151,6 +157,7 @@ CASES = {
     **{f"values-{name}": PLAIN._replace(given=values() if name == "branches" else few(), is_watched=False) for name in LINES},
     **{name: PLAIN._replace(completions=ALL, journals=("1", "2", "3", "late")) for name in wild.sources()},
     "reads": PLAIN._replace(given=b"twenty bytes, or so\n"),
+    **{f"late-two-{steps}": PLAIN._replace(steps=steps, completions=ALL, journals=SOME) for steps in (4, 5, 8, 9)},
     "locks": PLAIN._replace(completions=ALL, journals=SOME),
     "completions": PLAIN._replace(completions=ALL, journals=MANY),
     "late-masks": PLAIN._replace(completions=ALL, journals=MANY),

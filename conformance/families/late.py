@@ -57,6 +57,7 @@ def drawn():
             first, second = OVERFLOWING[name]
             made.late(f"{told}-over", label, f"`{line}` would overflow while a trap is pending: it is executed as others, and $5 gets the drawn value",
                       OVERFLOWS | {4: first, 6: second}, [0x77, *waits((value, 0), (0x99, 0))], ALL)
+    choosing(made)
     zeros = {"addq": "addq $4,$6,$31", "addlv": "addl/v $4,$6,$31", "cmoveq": "cmoveq $31,$6,$31", "lda": "lda $31,8($6)",
              "ldq": "ldq $31,1($31)", "ldbu": "ldbu $31,1($31)", "ldq_u": "ldq_u $31,1($31)", "ldl": "ldl $31,2($31)", "ldwu": "ldwu $31,2($31)",
              "ldq_l": "ldq_l $31,72($9)", "ldl_l": "ldl_l $31,72($9)", "stq_c": "stq_c $31,72($9)", "br": "br $31,.+4", "jmp": "jmp $31,($7)"}
@@ -73,6 +74,27 @@ def drawn():
     made.late("jump-own", "ours", "a jump while a trap is pending reads its register before that gets the drawn value", OVERFLOWS,
               [0x77, *waits((0x1234, 0), (5, 0))])
     return made
+
+
+def choosing(made):
+    """Which words choose what, where what is left shows it."""
+    value = 0x8877665544332211
+    for number, word in enumerate((1, 2, 3, 7, 9, 1 << 63 | 1, -1, 4, 8, 12, 1 << 63, -4, 1 << 32)):
+        made.late(f"word-{number}", "addq", f"the word {word & blocks.MASK:#x} chooses: a report where its two low bits are 0, else $5 is drawn", OVERFLOWS,
+                  [0x77, word, value, 1, 0x99])
+        made.late(f"adds-{number}", "addl_v", f"the word {word & blocks.MASK:#x} chooses at a /V word: its third bit adds to the mask", OVERFLOWS,
+                  [0x77, word, value, 1, 0x99])
+    whole = blocks.quadwords([0x77, 1, value, 1, 0x99])
+    for size in (*range(16, 24), 25, 33):
+        made.late(f"short-{size}", "addq", f"{size} bytes of choices: a short last word is filled up with zeros", OVERFLOWS, whole[:size])
+    made.add("again", [SUM, "lda $5,1($31)", SUM, "trapb", SUM, "lda $6,1($31)", SUM, "trapb", "br dump"])
+    second = [0x78, *waits((0x6655, 0), (0x9A, 0))]
+    made.late("again", "again", "a report that is forced draws no word", OVERFLOWS, [0x77, *waits((value, 0), (0x99, 0)), *second], ALL)
+    made.late("again-chosen", "again", "a report that is chosen draws one word, and a trigger one", OVERFLOWS, [0x77, 0, 0x79, 0, *second], ALL)
+    made.add("exact", [SUM, "nop", "nop", "trapb", "mov $3,$16", "lda $0,1($31)", "callsys"])
+    for steps in range(15, 24):
+        made.late(f"exact-{steps}", "exact", f"{steps} steps, of which words that wait are none: the program exits with the last of 22", OVERFLOWS,
+                  [0x77, *waits((1, 0), (1, 0))], ALL, steps=steps)
 
 
 def stores():

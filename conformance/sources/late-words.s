@@ -700,6 +700,24 @@ jsr_coroutine:
         addq/v $1,$2,$3
         trapb
         br dump
+again:
+        addq/v $1,$2,$3
+        lda $5,1($31)
+        addq/v $1,$2,$3
+        trapb
+        addq/v $1,$2,$3
+        lda $6,1($31)
+        addq/v $1,$2,$3
+        trapb
+        br dump
+exact:
+        addq/v $1,$2,$3
+        nop
+        nop
+        trapb
+        mov $3,$16
+        lda $0,1($31)
+        callsys
 zero_addq:
         lda $7,12($8)
         addq/v $1,$2,$3
