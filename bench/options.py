@@ -52,7 +52,8 @@ def main():
         sys.exit("options: there is no alpha-linux-gnu-gcc on the path")
     paths = sorted(glob.glob(f"{COMPANIONS}/data/*.c") + glob.glob(f"{COMPANIONS}/data/three/*.c"))
     print(subprocess.run(["alpha-linux-gnu-gcc", "--version"], capture_output=True, text=True, check=True).stdout.splitlines()[0])
-    print(f"{len(paths)} programs; broken of all /V words, and barriers\n\n| Options | {' | '.join(LEVELS)} |\n|{'---|' * (1 + len(LEVELS))}")
+    print(f"{len(paths)} programs; broken of all /V words, and barriers\n")
+    print(f"| Options | {' | '.join(LEVELS)} |\n|{'---|' * (1 + len(LEVELS))}")
     with ThreadPoolExecutor(2) as pool:
         for options in OPTIONS:
             cells = []

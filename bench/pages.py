@@ -47,7 +47,7 @@ TOLD = [
     (20, r"journal full$"),
 ]
 # The companions that judge, with status 3 where a place is broken, and how they count such places.
-JUDGES = re.compile(r"companions/(allbroken|elf2image --functions)\b[^|]*")
+JUDGES = re.compile(r"companions/(allbroken|elf2image --functions)\b[^|;]*")
 COUNTED = re.compile(r"[1-9]\d* of \d+ /V words are broken|, [1-9]\d* broken,")
 ENDS = re.compile(r"\x1e(\d+)\n")
 LAW = re.compile(r"(?:laws|limits)_of_\w+")

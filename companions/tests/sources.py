@@ -80,8 +80,8 @@ def test_a_jump_table_is_refused_by_one_line(folder):
     each once."""
     path = os.path.join(folder, "a.s")
     with open(path, "w", encoding="ascii") as file:
-        file.write("\t.globl f\nf:\tldgp $29,0($27)\n\tldah $1,$L4($29)\t\t!gprelhigh\n\taddq $29,$1,$1\n\tjmp $31,($1),$L4\n\tldt $f1,0($2)\n\tldt $f1,0($2)\n" +
-                   "\t.section .rodata\n$L4:\n" + "\t.gprel32 f\n" * 120)
+        file.write("\t.globl f\nf:\tldgp $29,0($27)\n\tldah $1,$L4($29)\t\t!gprelhigh\n\taddq $29,$1,$1\n\tjmp $31,($1),$L4\n" +
+                   "\tldt $f1,0($2)\n" * 2 + "\t.section .rodata\n$L4:\n" + "\t.gprel32 f\n" * 120)
     _, notes = companion("gas2source", "--entry", "f", path, status=1)
-    want(notes, f"gas2source: {path}:4: $29 is used as a value, and has none here: compile with -fno-jump-tables (121 lines which that option "
-         f"leaves out)\ngas2source: {path}:6: `ldt` is of floating point, which the product doesn't have (2 lines alike)\n", "lines")
+    want(notes, f"gas2source: {path}:4: $29 is used as a value, and has none here: compile with -fno-jump-tables (121 lines which that "
+         f"option leaves out)\ngas2source: {path}:6: `ldt` is of floating point, which the product doesn't have (2 lines alike)\n", "lines")
