@@ -27,8 +27,8 @@ import versions  # noqa: E402
 NOBODY = ["setpriv", "--reuid=65534", "--regid=65534", "--clear-groups", "--no-new-privs"]
 HOME = "/usr/lib/bantamtinsel"
 SUITE = '--run "{0} run --watch --steps {{steps}} --complete {{complete}} {{image}}" --follow "{0} replay {{image}} {{journal}}"'
-# Seconds that the tests of the companions may take in all.
-LONGEST = 1200
+# Seconds that a script may take: the tests of the companions on a machine that others use too.
+LONGEST = 3600
 
 
 class Root:
@@ -42,7 +42,10 @@ class Root:
         words = ["unshare", "--mount", "--pid", "--fork", f"--mount-proc={self.path}/proc", "chroot", self.path]
         words += [*(NOBODY if user else []), "sh", "-c", f"cd {self.folder} && {script}"]
         env = {"PATH": "/usr/local/sbin:/usr/local/bin:/usr/sbin:/usr/bin:/sbin:/bin", "HOME": self.folder, "LC_ALL": "C.UTF-8"}
-        return call(words, env=env, timeout=LONGEST)
+        try:
+            return call(words, env=env, timeout=LONGEST)
+        except subprocess.TimeoutExpired:
+            return None, "", f"no end within {LONGEST} seconds"
 
     def has(self, command):
         return self.call(f"command -v {command}")[0] == 0
