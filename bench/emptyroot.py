@@ -39,7 +39,7 @@ class Root:
 
     def call(self, script, user=True):
         """(status, output, notes) of a script of sh in that folder, of a user who may do nothing else, or of root."""
-        words = ["unshare", "--mount", "--pid", "--fork", f"--mount-proc={self.path}/proc", "chroot", self.path]
+        words = ["unshare", "--mount", "--pid", "--kill-child", f"--mount-proc={self.path}/proc", "chroot", self.path]
         words += [*(NOBODY if user else []), "sh", "-c", f"cd {self.folder} && {script}"]
         env = {"PATH": "/usr/local/sbin:/usr/local/bin:/usr/sbin:/usr/bin:/sbin:/bin", "HOME": self.folder, "LC_ALL": "C.UTF-8"}
         try:
