@@ -6,8 +6,8 @@
   fact or type that a quoted clause names stands where the first lines of its file say; and each row of a table of
   clauses says how much its clause reaches: of definitions, of clap, and of types of the code (bench/reading.py).
 - Each clause of `alpha_top` is named on one of the two. Each law that a page names is a function of some crate.
-- Of docs/theorems.md: the reading order has just the files of definitions that its clauses reach, each with its lines
-  and with those of the clauses that reach it, and each name of a quoted clause is in one of them; each promise of the
+- Of docs/theorems.md: the reading order has just the files of definitions that its clauses reach, each with those of the
+  clauses that reach it (how many of its lines were run is held by bench/definitions/check.py), and each name of a quoted clause is in one of them; each promise of the
   table from claim to clause begins with words of README.md, and its clauses are there; each must-fail edit is there.
 - Of docs/ARCHITECTURE.md: the constants and definitions that the table of limits names have its numbers; each file that
   another table names is in the crate of its row, and has the names that it is said to have.
@@ -30,7 +30,7 @@ PROMISES = TOP / "docs" / "promises.md"
 BLOCK = re.compile(r"^```rattle:(\S+)\n(.*?)^```$", re.M | re.S)
 LAW = re.compile(r"(?:laws|limits)_of_\w+")
 EDIT = re.compile(r"^\| `(alpha_\w+)` \| `(\w+)` \|", re.M)
-ORDERED = re.compile(r"^\| `(crates/\S+\.antt)` \| ([\d,]+) \| ([^|\n]*) \|", re.M)
+ORDERED = re.compile(r"^\| `(crates/\S+\.antt)` \| (\S+) \| ([^|\n]*) \|", re.M)
 PROMISED = re.compile(r"^\| ([^|\n]+) \| ([^|\n]+) \| [^|\n]+ \|$", re.M)
 LIMIT = re.compile(r"^\| ([^|\n]+) \| ([^|\n]+) \| ([^|\n]+) \| ([^|\n]+) \|$", re.M)
 # Tables of files in docs/ARCHITECTURE.md.
@@ -119,15 +119,15 @@ def check_order(text, write, wrong):
     wrong.extend(f"the reading order has {path} twice" for path in sorted(set(listed)) if listed.count(path) > 1)
 
     def checked(found):
-        path, *said = found.groups()
+        path, lines, said = found.groups()
         by = [name for name in READ if path in reach[name]]
         if not by:
             wrong.append(f"no clause of the reading order reaches {path}")
             return found.group()
-        now = [f"{len((TOP / path).read_text().splitlines()):,}", "all" if len(by) == len(READ) else ", ".join(by)]
+        now = "all" if len(by) == len(READ) else ", ".join(by)
         if now != said and not write:
-            wrong.append(f"the reading order has {' | '.join(said)} for {path}, not {' | '.join(now)}")
-        return f"| `{path}` | {now[0]} | {now[1]} |"
+            wrong.append(f"the reading order has {said} for {path}, not {now}")
+        return f"| `{path}` | {lines} | {now} |"
 
     return ORDERED.sub(checked, text)
 

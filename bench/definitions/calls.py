@@ -11,6 +11,19 @@ DONE, LAST_COUNT = ("Done", 0), (1 << 64) - 1
 NAMES = (b"FILE", b"-x", b"file", b"a", b"")
 
 
+class Device:
+    """A device at a moment: what it tells, what it takes, and its count of faults."""
+
+    def __init__(self, told, faults=0, takes=None):
+        self.told, self.faults, self.takes = told, faults, takes
+
+
+# What can be told of a device, by the ghosts of its trait: each tells what it holds by a name of its own.
+FAULTS = {"faults": lambda device: device.faults}
+SHELF = record(files=lambda device: device.told, takes=lambda device: device.takes, **FAULTS)
+SOURCE, SINK = record(left=lambda device: device.told, **FAULTS), record(written=lambda device: device.told, **FAULTS)
+
+
 def told(files):
     """Files as a shelf tells them."""
     return some(lambda name: some(tuple(files[bytes(name)])) if bytes(name) in files else NONE)
@@ -20,20 +33,16 @@ def words_of(*texts):
     return tuple(tuple(text) for text in texts)
 
 
-def shelf_of(files, after=None, before=0, now=0):
+def call_of(d, files, given, left, out, notes, **changed):
+    """What a call did to its devices, by the devices before and after it."""
     takes = object()
-    return record(old=told(files), new=told(files if after is None else after), took=takes, takes=takes, before=before, now=now)
-
-
-def sunk_of(content, before=0, now=0):
-    return record(old=some((9,)), new=some((9, *content)), before=before, now=now)
-
-
-def call_of(files, given, left, out, notes, **changed):
-    """What a call did to its devices."""
-    made = {"shelf": shelf_of(files), "input": record(old=some(tuple(given)), new=some(tuple(left)), before=0, now=0),
-            "out": sunk_of(out), "notes": sunk_of(notes)}
-    return record(**{**made, **changed})
+    old = {"shelf": Device(told(files), takes=takes), "input": Device(some(tuple(given))), "out": Device(some((9,))), "notes": Device(some((8,)))}
+    new = {"shelf": Device(told(files), takes=takes), "input": Device(some(tuple(left))), "out": Device(some((9, *out))),
+           "notes": Device(some((8, *notes)))}
+    for name, device in changed.items():
+        moment, _, part = name.partition("_")
+        (old if moment == "old" else new)[part] = device
+    return d("alpha_cmd.Call.called")(SHELF, SOURCE, SINK, SINK, record(**old), record(**new))
 
 
 def status_by(number, notes, end):
@@ -45,7 +54,9 @@ class Ran:
     name, about = "clauses of run", "`ran` and `alike` of calls of the program as they were, and with something else"
     counts = {"sample": 50, "whole": 1_500}
     is_quick = False
-    WAYS = ("as it was", "no memory", "drawn", "status", "output", "notes", "left", "files", "file", "device", "refused", "unknown")
+    ASKED = ("run FILE", "run FILE", "run --imprecise FILE", "run --imprecise FILE", "run --imprecise --seed 7 FILE",
+             "run --force --imprecise FILE", "run --imprecise --choices CHOICES FILE")
+    WAYS = ("as it was", "no memory", "drawn", "status", "output", "notes", "left", "files", "file", "device", "full", "refused", "unknown")
 
     def cases(self, chooser, count, asked):
         for n in range(count):
@@ -53,9 +64,8 @@ class Ran:
             given = bytes(chooser.randrange(256) for _ in range(chooser.choice((0, 9))))
             if not Late(whole, "wrap", given).ends_within(1_000):
                 continue
-            imprecise = chooser.random() < 0.5
-            words = ["run", "--imprecise", "FILE"] if imprecise else ["run", "FILE"]
-            status, out, notes = asked.call(*words, given=given, FILE=whole.spelled())
+            words = chooser.choice(self.ASKED).split()
+            status, out, notes = asked.call(*words, given=given, FILE=whole.spelled(), CHOICES=bytes(range(64)))
             if status in (0, 5, 6):
                 for way in (self.WAYS[n % len(self.WAYS)], chooser.choice(self.WAYS)):
                     yield whole, tuple(words), given, status, out, notes, way
@@ -66,41 +76,49 @@ class Ran:
         parts, content = parts_of(whole), whole.spelled()
         program = record(image=parts, how=("Wrap",))
         run = d("alpha_seq.Run.sequential")(program, tuple(given), 2_000, False)
-        files, left = {b"FILE": content, b"other": b"x"}, run.left
-        d.given(images=[parts], names=words_of(*NAMES, b"other"), options=[options_of("wrap", 100_000_000, False), options_of("stop", 5, True)],
-                file_bytes=[()])
+        files, left = {b"FILE": content, b"other": b"x", b"CHOICES": bytes(range(64))}, run.left
+        self.hand_in(d, parts)
         status = status_by(number, notes, run.end)
-        call, wanted = call_of(files, given, left, out, notes), True
+        call, wanted = call_of(d, files, given, left, out, notes), True
         if way == "no memory":
-            status, call = ("NoMemory",), call_of(files, given, left, b"", b"")
+            status, call = ("NoMemory",), call_of(d, files, given, left, b"", b"")
         elif way == "drawn" and status[0] == "Done":
             status = ("Done", 77)
         elif way == "status":
             status, wanted = ("StepsSpent",) if number != 6 else DONE, False
         elif way == "output":
-            call, wanted = call_of(files, given, left, out + b"x", notes), False
+            call, wanted = call_of(d, files, given, left, out + b"x", notes), False
         elif way == "notes":
-            call, wanted = call_of(files, given, left, out, notes[:-1]), False
+            call, wanted = call_of(d, files, given, left, out, notes[:-1]), False
         elif way == "left":
-            call, wanted = call_of(files, given, left + (1,), out, notes), False
+            call, wanted = call_of(d, files, given, left + (1,), out, notes), False
         elif way == "files":
-            call, wanted = call_of(files, given, left, out, notes, shelf=shelf_of(files, {b"FILE": content})), False
+            call, wanted = call_of(d, files, given, left, out, notes, new_shelf=Device(told({b"FILE": content}))), False
         elif way == "file":  # Nothing is said of another file.
-            call = call_of({b"FILE": content + b"x"}, given, left, out + b"x", notes)
+            call = call_of(d, {b"FILE": content + b"x"}, given, left, out + b"x", notes)
         elif way == "device":  # Nor where a device failed.
             part = ("shelf", "input", "out", "notes")[len(out) % 4]
-            call = call_of(files, given, left, out + b"x", notes)
+            call = call_of(d, files, given, left, out + b"x", notes)
             call = call._replace(**{part: getattr(call, part)._replace(now=1)})
+        elif way == "full":  # Nor where a count of faults can't rise.
+            part = ("shelf", "input", "out", "notes")[len(out) % 4]
+            call = call_of(d, files, given, left, out + b"x", notes)
+            call = call._replace(**{part: getattr(call, part)._replace(before=LAST_COUNT, now=LAST_COUNT)})
         elif way == "refused":  # Nor of code that isn't accepted.
             whole.words.append(drawn.operate("addq/v", 1, 2, 3))
-            d.given(images=[parts_of(whole)], names=words_of(*NAMES), options=[options_of("wrap", 100_000_000, False)], file_bytes=[()])
-            call = call_of({b"FILE": whole.spelled()}, given, left, out + b"x", notes)
+            self.hand_in(d, parts_of(whole))
+            call = call_of(d, {b"FILE": whole.spelled(), b"CHOICES": b""}, given, left, out + b"x", notes)
             whole.words.pop()
         elif way == "unknown":  # Nor where the input isn't told.
-            call = call_of(files, given, left, out + b"x", notes, input=record(old=NONE, new=NONE, before=0, now=0))
-        words = words_of(*(text.encode() for text in words))
+            call = call_of(d, files, given, left, out + b"x", notes, old_input=Device(NONE), new_input=Device(NONE))
+        is_plain, words = len(words) == 2 or words[1:-1] == ("--imprecise",), words_of(*(text.encode() for text in words))
         given = d("alpha_cmd.ToldRun.Ran")(words, status, call), d("alpha_cmd.Alike.Alike")(words, status, call)
-        return "" if given == (wanted, wanted) else f"{way} of {whole.spelled().hex()}: {given}, and {wanted} is wanted"
+        expected = wanted or not is_plain, wanted
+        return "" if given == expected else f"{way} of {whole.spelled().hex()}: {given}, and {expected} is wanted"
+
+    def hand_in(self, d, parts):
+        d.given(images=[parts], names=words_of(*NAMES, b"other"), options=[DEFAULT, options_of("stop", 5, True)],
+                file_bytes=[(), tuple(range(64))])
 
 
 class Checked:

@@ -1,7 +1,7 @@
 #!/usr/bin/env python3
 """Runs the definitions that the clauses of accepted code reach, and holds them against what is from elsewhere.
 
-    bench/definitions/check.py [--whole] [--seed N] [--lines] [--slips [N]] [PROGRAM]
+    bench/definitions/check.py [--whole] [--seed N] [--lines] [--write] [--slips [N]] [PROGRAM]
 
 A program of Python translates the text of the definitions, those of the clauses that data.py names and of answers of `run`,
 into functions; nothing of them is written by hand. These are held against words that GNU as made, results that were
@@ -9,7 +9,8 @@ measured on qemu-alpha, worked verdicts and images, programs with their output, 
 built program, crates/alpha_tool/out/alpha_tool where none is given. A sample takes under two minutes of a processor, --whole
 some fifty.
 
---lines also tells how many lines of each file were run. --slips changes N of the definitions' lines, all where N is left out,
+How many lines of each file were run is held against the reading order of docs/theorems.md; --lines tells which weren't, and
+--write writes the numbers there. --slips changes N of the definitions' lines, all where N is left out,
 and tells which changes no case of the sample finds.
 """
 import argparse
@@ -21,7 +22,7 @@ import time
 sys.dont_write_bytecode = True
 HERE = os.path.dirname(os.path.abspath(__file__))
 sys.path = [path for path in sys.path if os.path.abspath(path or ".") != HERE] + [os.path.dirname(HERE)]
-from definitions import calls, images, library, lines, moments, places, runs, slips, words  # noqa: E402  (behind the path)
+from definitions import calls, facts, images, library, lines, moments, places, runs, slips, words  # noqa: E402  (behind the path)
 from definitions.asking import Asked  # noqa: E402
 from definitions.running import Definitions, deeply  # noqa: E402
 from definitions.sources import TOP  # noqa: E402
@@ -29,7 +30,7 @@ from definitions.translate import key_of  # noqa: E402
 
 GROUPS = [library.Library(), words.Words(), words.Values(), words.Taken(), places.Places(), places.Longest(), runs.Programs(), runs.Sequential(),
           runs.Late(), moments.Moments(), moments.Each(), images.Fronts(), images.Images(), calls.Ran(), calls.Checked(),
-          calls.Spoken()]
+          calls.Spoken(), facts.Facts(), facts.Scans()]
 MOST_SHOWN = 3
 
 
@@ -72,10 +73,12 @@ def work(options, asked):
         fine = held(group, d, cases) and fine
         made[group] = cases
     print(f"{len(d.translation.functions):,} definitions were run, with {asked.calls:,} calls of the program")
+    watch = lines.watched(made)
+    fine = lines.held(watch, options.write) and fine
     if options.lines:
-        lines.tell(lines.watched(made))
+        lines.tell(watch)
     if options.slips is not None:
-        fine = slips.tell(made, options.slips, random.Random(options.seed)) and fine
+        fine = slips.tell(made, watch, options.slips, random.Random(options.seed)) and fine
     return fine
 
 
@@ -85,6 +88,7 @@ def main():
     parser.add_argument("--whole", action="store_true", help="all cases, and not a sample")
     parser.add_argument("--seed", type=int, default=1, help="what random cases are drawn by (1)")
     parser.add_argument("--lines", action="store_true", help="tell how many lines of each file were run")
+    parser.add_argument("--write", action="store_true", help="write these numbers into docs/theorems.md")
     parser.add_argument("--slips", type=int, nargs="?", const=0, metavar="N", help="change N lines, or each")
     options = parser.parse_args()
     if not os.access(options.program, os.X_OK) or os.path.isdir(options.program):

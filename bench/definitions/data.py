@@ -1,6 +1,7 @@
 """What the runner says of definitions by their names: where it begins, and what no text bounds."""
 
-# The clauses whose definitions are run: crate, function, clause.
+# The clauses whose definitions are run: crate, function, clause. The first READ of them are those of the reading order.
+READ = 3
 CLAUSES = [("alpha_restart", "laws_of_restarts", "accepted"), ("alpha_cmd", "alpha_top", "checked"),
            ("alpha_cmd", "alpha_top", "ran"), ("alpha_cmd", "alpha_top", "alike"), ("alpha_cmd", "alpha_top", "restarts")]
 # Definitions of answers, which are run beside those.

@@ -76,13 +76,13 @@ def word(chooser, registers, bases, level=1):
         return operate_word(chooser, [name for name in PLAIN if level == 2 or name not in table.LEVEL_TWO], registers)
     if kind < 0.56:
         return memory(chooser.choice(("lda", "ldah")), chooser.choice(registers), chooser.choice(registers), chooser.randrange(-3, 9))
-    if kind < 0.80:
+    if kind < 0.78:
         return access_word(chooser, registers, LOOSE, bases)
-    if kind < 0.84:
+    if kind < 0.86:
         return access_word(chooser, registers, ACCESSES, bases)
-    if kind < 0.89:
-        return branch(chooser.choice(list(BRANCHES)), chooser.choice(registers), chooser.choice((0, 0, 1, 1, 2, 3, -2)))
     if kind < 0.90:
+        return branch(chooser.choice(list(BRANCHES)), chooser.choice(registers), chooser.choice((0, 0, 1, 1, 2, 3, -2)))
+    if kind < 0.91:
         return jump(chooser.randrange(4), chooser.choice(registers), chooser.choice(bases), chooser.getrandbits(14))
     if kind < 0.995:
         return chooser.choice((TRAPB, TRAPB, TRAPB | 0x400, 0x63FF4000, 0x63FF4400, 0x63E88000, 0x63EAA000, 0x86, 0x9E, 0x9F))

@@ -2,6 +2,8 @@
 
 A line of a type counts where a value of it was made or taken apart, and a signature where an equation of it ran.
 """
+import re
+
 from . import data
 from .core import Call, Case, Change, Make, Part, Tuple, is_data
 from .natives import NATIVES
@@ -10,6 +12,7 @@ from .sources import TOP, Declaration
 
 
 MOST_CASES, MOST_FORGOTTEN = 3_500, 800
+PAGE, ORDERED = TOP / "docs/theorems.md", re.compile(r"^\| `(crates/\S+\.antt)` \| (\S+) \|", re.M)
 
 
 def watched(made):
@@ -52,15 +55,15 @@ def own_lines(declaration, chunk):
     return {first + n for n, line in enumerate(lines) if line.strip() and not line.lstrip().startswith("--")}
 
 
-def counted(d, ran):
-    """By file of the repository: how many lines of definitions the clauses reach, and which of them ran."""
+def counted(d, ran, clauses):
+    """By file of the repository: the lines of definitions that these clauses reach, and which of them ran."""
     translation, used = d.translation, set()
     for declaration, known in translation.known.items():
         for line in known:
             if line.number in ran:
                 shapes([line.left, line.body], used)
     files = {}
-    for module, name in reached():
+    for module, name in reached(clauses):
         found = translation.sources.module(module).declared(name)
         every = set().union(*(own_lines(found, chunk) for chunk in found.chunks))
         files.setdefault(found.module.path, [set(), set()])
@@ -88,10 +91,10 @@ def things(translation, found):
     return {line.first for line in translation.known.get(found, ()) if line.body is None}
 
 
-def reached():
-    """The definitions of the repository that the clauses reach by names, as bench/reading.py counts them: (module, name)."""
+def reached(clauses):
+    """The definitions of the repository that clauses reach by names, as bench/reading.py counts them: (module, name)."""
     found = set()
-    for crate, function, clause in data.CLAUSES:
+    for crate, function, clause in clauses:
         rows, names, modules = reading.clauses(crate, function)
         todo = reading.find(next(text for name, text in rows if name == clause), names, modules)
         done = set()
@@ -110,8 +113,24 @@ def reached():
 
 
 def tell(watch):
-    files = counted(*watch)
+    """Prints how many lines of each file ran, and which didn't."""
+    files = counted(*watch, data.CLAUSES)
     for path, (every, run) in sorted(files.items()):
         lacking = sorted(every - run)
-        print(f"{path.relative_to(TOP)}: {len(run)} of {len(every)} lines ran" + (f"; not {lacking}" if lacking else ""))
-    print(f"{sum(len(run) for _, run in files.values()):,} of {sum(len(every) for every, _ in files.values()):,} lines of {len(files)} files ran")
+        print(f"    {len(run):3} of {len(every):3}  {path.relative_to(TOP)}" + (f"; not {lacking}" if lacking else ""))
+    every, run = (sum(len(parts[n]) for parts in files.values()) for n in (0, 1))
+    print(f"{run:,} of {every:,} lines of {len(files)} files were run")
+
+
+def held(watch, is_written):
+    """Holds the reading order of docs/theorems.md, which has beside each file how many of its lines ran, or writes it anew."""
+    files = {str(path.relative_to(TOP)): f"{len(run)}/{len(every)}"
+             for path, (every, run) in counted(*watch, data.CLAUSES[:data.READ]).items()}
+    text = PAGE.read_text()
+    wrong = [f"docs/theorems.md has {said} for {path}, and {files.get(path)} ran"
+             for path, said in ORDERED.findall(text) if files.get(path) != said]
+    if is_written:
+        PAGE.write_text(ORDERED.sub(lambda found: f"| `{found[1]}` | {files.get(found[1], found[2])} |", text))
+    for line in wrong:
+        print(line)
+    return not wrong

@@ -10,12 +10,13 @@ import select
 import sys
 import time
 
-from .core import KINDS, Both, Call, Case, Native, Part, Use, Value, Var, explicit, is_data, replaced, text_of
-from .lines import reached, watched
+from . import data
+from .core import KINDS, Both, Call, Case, Native, Part, Use, Value, Var, explicit, is_data, text_of
+from .lines import reached
 from .natives import NATIVES
 from .running import Definitions
 from .sources import TOP, Declaration
-from .translate import Line, key_of
+from .translate import key_of
 from .same import SAME
 
 TURNED = {"◌+◌": "◌-◌", "◌-◌": "◌+◌", "◌*◌": "◌+◌", "◌/◌": "◌%◌", "◌%◌": "◌/◌", "◌^◌": "◌*◌", "◌<◌": "◌≤◌", "◌≤◌": "◌<◌",
@@ -24,7 +25,7 @@ TURNED = {"◌+◌": "◌-◌", "◌-◌": "◌+◌", "◌*◌": "◌+◌", "◌
           "drop": "take", "list_any": "list_all", "list_all": "list_any", "ltb": "leb", "leb": "ltb", "min": "max", "max": "min"}
 WIDTHS, ORDERED = ("w8", "w16", "w32", "w64"), ("◌-◌", "◌/◌", "◌%◌", "◌^◌", "◌<◌", "◌≤◌", "◌-ℤ◌", "ltb", "leb")
 REFUSED = ("TypeError", "AttributeError", "IndexError", "KeyError", "ValueError", "RecursionError", "Unmatched", "Unknown", "NameError")
-FIRST, MOST, LONGEST, PROCESSES = 6, 400, 90, 2
+FIRST, MOST, LONGEST, PROCESSES = 5, 60, 120, 2
 
 
 # ---- changes of a term
@@ -163,7 +164,7 @@ def fields_of(sources):
 def all_slips(d):
     """Every slip of the definitions of the repository that the clauses reach, with a text that names it."""
     fields, found = fields_of(d.translation.sources), []
-    for module, name in sorted(reached()):
+    for module, name in sorted(reached(data.CLAUSES)):
         declaration = d.translation.sources.module(module).declared(name)
         if is_data(declaration, NATIVES):
             continue
@@ -283,10 +284,9 @@ def results(numbers, known):
     return {number: what for worker in workers for number, what in worker.results.items()}
 
 
-def tell(made, count, chooser):
+def tell(made, watch, count, chooser):
     """Tries so many slips, all where it is 0, and tells which no case finds and nobody has explained."""
-    watch, ran = watched(made)
-    d = Definitions()
+    (watch, ran), d = watch, Definitions()
     slips = all_slips(d)
     # Both translations number their lines alike, since they read the same text in the same order.
     names = {line.number: (key_of(line.of), line.first) for known in watch.translation.known.values() for line in known}

@@ -67,8 +67,10 @@ class Words:
             return chooser.getrandbits(32)
         if way < 0.4:
             return known ^ 1 << chooser.randrange(32)
-        if way < 0.5:
+        if way < 0.48:
             return known & ~(0x7F << 5) | chooser.getrandbits(7) << 5
+        if way < 0.5:
+            return 0x1C << 26 | chooser.choice((31, 31, chooser.getrandbits(5))) << 21 | chooser.getrandbits(9) << 12 | chooser.choice((0, 1, 0x30, 0x32, 0x33)) << 5
         if way < 0.55:
             return chooser.choice((0, 0x18 << 26 | 31 << 21 | 31 << 16)) | chooser.choice((chooser.getrandbits(16), 0x80 + chooser.getrandbits(6)))
         return known & 0xFC00FFFF | chooser.getrandbits(10) << 16 if way < 0.8 else known & ~31 | chooser.getrandbits(5)

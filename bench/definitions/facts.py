@@ -1,0 +1,92 @@
+"""Worked facts: small definitions at values that no run of a program brings about, and the scan at any place."""
+from . import drawn
+from .calls import told
+from .reference import MASK, NONE, Late, option, parts_of, some
+from .translate import record
+
+FILE, OTHER, WORD = tuple(b"FILE"), tuple(b"other"), drawn.operate("addq", 1, 2, 3)
+ONE, TWO, NO_FILES = told({b"FILE": b"x"}), told({b"FILE": b"x", b"other": b""}), told({})
+REGS = tuple(range(32))
+
+
+def shelved(old, new):
+    return record(old=old, new=new, took=None, takes=None, before=0, now=0)
+
+
+# A definition, its arguments, and what it is there.
+WORKED = [
+    ("alpha_io.Files.KeepsFiles", (NONE, NONE), True), ("alpha_io.Files.KeepsFiles", (NONE, ONE), False),
+    ("alpha_io.Files.KeepsFiles", (ONE, NONE), False), ("alpha_io.Files.KeepsFiles", (ONE, ONE), True),
+    ("alpha_io.Files.KeepsFiles", (ONE, TWO), False), ("alpha_io.Files.KeepsFiles", (TWO, ONE), False),
+    ("alpha_io.Files.KeepsOtherFiles", (NONE, NONE, FILE), True), ("alpha_io.Files.KeepsOtherFiles", (NONE, ONE, FILE), False),
+    ("alpha_io.Files.KeepsOtherFiles", (ONE, NONE, FILE), False), ("alpha_io.Files.KeepsOtherFiles", (ONE, TWO, OTHER), True),
+    ("alpha_io.Files.KeepsOtherFiles", (ONE, TWO, FILE), False), ("alpha_io.Files.KeepsOtherFiles", (NO_FILES, ONE, FILE), True),
+    ("alpha_cmd.Kept.HasKept", (("file", FILE, tuple(b"x")), shelved(NO_FILES, ONE)), True),
+    ("alpha_cmd.Kept.HasKept", (("file", FILE, tuple(b"y")), shelved(NO_FILES, ONE)), False),
+    ("alpha_cmd.Kept.HasKept", (("file", FILE, tuple(b"x")), shelved(NO_FILES, TWO)), False),
+    ("alpha_cmd.Kept.HasKept", (("spoilt", OTHER), shelved(ONE, TWO)), True),
+    ("alpha_cmd.Kept.HasKept", (("spoilt", FILE), shelved(ONE, TWO)), False),
+    ("alpha_cmd.Kept.HasKept", (("nothing",), shelved(ONE, TWO)), False), ("alpha_cmd.Kept.HasKept", (("nothing",), shelved(ONE, ONE)), True),
+    ("alpha_io.Files.HasFile", (NONE, FILE, ()), True), ("alpha_io.Files.HasFile", (ONE, OTHER, ()), False),
+    ("alpha_io.Files.HasFile", (ONE, FILE, tuple(b"x")), True), ("alpha_io.Files.HasFile", (ONE, FILE, ()), False),
+    ("alpha_request.Plain.IsPlain", ((),), True), ("alpha_request.Plain.IsPlain", ((45, 1),), False),
+    ("alpha_request.Plain.IsPlain", ((46, 45),), True),
+    ("alpha_image.Layout.first_segment", ((),), record(base=0, filled=0, zeroed=0)),
+    ("alpha_image.Parts.IsByte", (255,), True), ("alpha_image.Parts.IsByte", (256,), False),
+    ("alpha_image.Parts.IsCodeWord", (("One",), WORD), True), ("alpha_image.Parts.IsCodeWord", (("One",), WORD + (1 << 32)), False),
+    ("alpha_image.Parts.IsCodeWord", (("One",), drawn.operate("ctpop", 31, 2, 2)), False), ("alpha_image.Parts.IsCodeWord", (("Two",), drawn.operate("ctpop", 31, 2, 2)), True),
+    ("alpha_trap.Completed.completed_regs", (("Wrap",), NONE, REGS), REGS),
+    ("alpha_trap.Completed.completed_regs", (("Wrap",), some(("idle",)), REGS), REGS),
+    ("alpha_values.Bits.pairwise", (lambda x: lambda y: x + y, (1, 2, 3), (4, 5)), (5, 7)),
+    ("alpha_values.Bits.pairwise", (lambda x: lambda y: x + y, (1,), (4, 5)), (5,)),
+    ("alpha_request.Commands.OfImage.word_of", (("Debug",),), tuple(b"debug")), ("alpha_request.Commands.OfImage.word_of", (("Dis",),), tuple(b"dis")),
+    ("alpha_cmd.Drawn.but_drawn", (("Done", 9),), ("Done", 0)), ("alpha_cmd.Drawn.but_drawn", (("NoMemory",),), ("NoMemory",)),
+    ("alpha_io.Faults.Calm", (0, 0), True), ("alpha_io.Faults.Calm", (0, 1), False), ("alpha_io.Faults.Calm", (MASK - 1, MASK - 1), True),
+    ("alpha_io.Faults.Calm", (MASK, MASK), False),
+    ("alpha_seq.Notes.overflow_line", (0x1F2E3D4C5B6A7988,), tuple(b"overflow 1f2e3d4c5b6a7988\n")),
+    ("alpha_seq.Notes.end_line", (("Exit", MASK),), tuple(b"exit 18446744073709551615\n")),
+    ("alpha_seq.Notes.end_line", (("Signal", 2, 0x10004),), tuple(b"signal 2 at 0000000000010004\n")),
+    ("alpha_seq.Notes.end_line", (("Fetch", 0xABCDEF01),), tuple(b"fetch 00000000abcdef01\n")),
+    ("alpha_seq.Notes.end_line", (("Access", 16, 32),), tuple(b"access 0000000000000010 address 0000000000000020\n")),
+    ("alpha_seq.Notes.end_line", (("Align", 16, 32),), tuple(b"align 0000000000000010 address 0000000000000020\n")),
+    ("alpha_seq.Notes.end_line", (("Overflow", 16),), tuple(b"stop at 0000000000000010\n")),
+    ("alpha_cmd.ChoicesLimit.choices_limit", (), 1_048_576),
+    # No barrier waits.
+    ("alpha_imprecise.Step.spoilt", (NONE, REGS, None), REGS), ("alpha_imprecise.Step.spoilt", (some(("barrier", NONE)), REGS, None), REGS),
+    ("alpha_request.Options.is_there", (NONE,), False), ("alpha_request.Options.is_there", (some(()),), True),
+    ("alpha_request.Options.is_given", (NONE,), False), ("alpha_request.Options.is_given", (some(tuple(b"true")),), True),
+]
+
+
+class Facts:
+    name, about = "facts", "worked facts of files, faults, lines and lists"
+    counts = {"sample": 1, "whole": 1}
+    is_quick = True
+
+    def cases(self, chooser, count, asked):
+        yield from range(len(WORKED))
+
+    def difference(self, d, case):
+        name, arguments, wanted = WORKED[case]
+        d.given(names=[FILE, OTHER, ()])
+        given = d(name)(*arguments)
+        return "" if given == wanted else f"{name} of {arguments} is {given}, and {wanted} is wanted"
+
+
+class Scans:
+    name, about = "scans", "the place that the scan finds, by any address and mask, in random code"
+    counts = {"sample": 400, "whole": 20_000}
+    is_quick = False
+
+    def cases(self, chooser, count, asked):
+        for _ in range(count):
+            whole = drawn.program(chooser, chooser.random() < 0.5)
+            late = Late(whole, "wrap", b"")
+            late.pc = chooser.choice((whole.address(chooser.randrange(len(whole.words) + 2)), chooser.getrandbits(64), whole.code_base + 2, 0))
+            late.mask = sum(1 << n for n in set(chooser.choices((6, 7, 8, 1), k=chooser.choice((0, 1, 1, 1, 2, 2)))))
+            yield whole, late.pc, late.mask, late.scan()
+
+    def difference(self, d, case):
+        whole, pc, mask, wanted = case
+        given = d("alpha_trap.Scan.scan")(parts_of(whole), pc, mask)
+        return "" if given == option(wanted) else f"{whole.spelled().hex()}: {given} from {pc:x} by {mask:x}, and {wanted} is wanted"
