@@ -1,7 +1,7 @@
 """Worked facts: small definitions at values that no run of a program brings about, and the scan at any place."""
 from . import drawn
-from .calls import told
-from .reference import MASK, NONE, Late, option, parts_of, some
+from .calls import SHELF, SINK, SOURCE, Device, told
+from .reference import MASK, NONE, Late, image, option, parts_of, program_of, some
 from .translate import record
 
 FILE, OTHER, WORD = tuple(b"FILE"), tuple(b"other"), drawn.operate("addq", 1, 2, 3)
@@ -12,6 +12,15 @@ REGS = tuple(range(32))
 def shelved(old, new):
     return record(old=old, new=new, took=None, takes=None, before=0, now=0)
 
+
+def state(**changed):
+    """A state of no program, with a count of overflows that is about to pass its last value."""
+    fields = {"regs": REGS, "pc": drawn.CODE, "mem": (), "lock": some(3), "count": MASK, "logged": 5, "outside": None}
+    return record(**{**fields, **changed})
+
+
+SMALL = record(image=parts_of(image.Image([drawn.operate("addq/v", 1, 2, 3)], drawn.CODE, drawn.CODE, [], 64, 1)), how=("Wrap",))
+LOGGED = {"pc": drawn.CODE + 4, "lock": NONE, "logged": drawn.CODE, "regs": REGS}
 
 # A definition, its arguments, and what it is there.
 WORKED = [
@@ -51,6 +60,14 @@ WORKED = [
     ("alpha_seq.Notes.end_line", (("Align", 16, 32),), tuple(b"align 0000000000000010 address 0000000000000020\n")),
     ("alpha_seq.Notes.end_line", (("Overflow", 16),), tuple(b"stop at 0000000000000010\n")),
     ("alpha_cmd.ChoicesLimit.choices_limit", (), 1_048_576),
+    # Counts go from their last value to 0, and on from half of it; register 3 has the sum already.
+    ("alpha_seq.Step.logging", (state(), 3, 3), state(count=0, **LOGGED)),
+    ("alpha_seq.Step.logging", (state(count=MASK >> 1), 3, 3), state(count=1 << 63, **LOGGED)),
+    ("alpha_imprecise.Step.completed", (SMALL, state(), 0), state(count=0, **LOGGED)),
+    ("alpha_imprecise.Step.completed", (SMALL, state(count=MASK >> 1), 0), state(count=1 << 63, **LOGGED)),
+    ("alpha_io.Shelved.shelved", (SHELF, Device(1, 2, 3), Device(4, 5, 6)), record(old=1, new=4, took=3, takes=6, before=2, now=5)),
+    ("alpha_seq.Devices.drawn", (SOURCE, Device(1, 2), Device(4, 5)), record(old=1, new=4, before=2, now=5)),
+    ("alpha_io.Sunk.sunk", (SINK, Device(1, 2), Device(4, 5)), record(old=1, new=4, before=2, now=5)),
     # No barrier waits.
     ("alpha_imprecise.Step.spoilt", (NONE, REGS, None), REGS), ("alpha_imprecise.Step.spoilt", (some(("barrier", NONE)), REGS, None), REGS),
     ("alpha_request.Options.is_there", (NONE,), False), ("alpha_request.Options.is_there", (some(()),), True),
@@ -69,8 +86,40 @@ class Facts:
     def difference(self, d, case):
         name, arguments, wanted = WORKED[case]
         d.given(names=[FILE, OTHER, ()])
-        given = d(name)(*arguments)
+        function = d(name)
+        given = called(function, d.count(name), arguments)
         return "" if given == wanted else f"{name} of {arguments} is {given}, and {wanted} is wanted"
+
+
+def called(function, count, arguments):
+    """A function on its arguments, those behind the first ones one after another."""
+    given = function(*arguments[:count])
+    for argument in arguments[count:]:
+        given = given(argument)
+    return given
+
+
+class Stops:
+    name, about = "stops", "a late run that has used more units than the precise run has steps doesn't agree at its end"
+    counts = {"sample": 6, "whole": 100}
+    is_quick = True
+
+    def cases(self, chooser, count, asked):
+        while count:
+            whole = drawn.program(chooser, True)
+            if Late(whole, "wrap", b"").ends_within(300):
+                count -= 1
+                yield whole, chooser.choice((0, 1, 2))
+
+    def difference(self, d, case):
+        whole, more = case
+        d.forget()
+        program = program_of(whole, "wrap")
+        start = d("alpha_seq.Start.start")(program, ())
+        precise = d("alpha_seq.Run.after")(program, start, 300)
+        late = record(units=precise.steps + more, state=precise.state, pending=NONE, trace=precise.trace, last=("Precisely", precise.last))
+        given = d("alpha_imprecise.Restart.Agrees")(program, start, late)
+        return "" if given == (more == 0) else f"{whole.spelled().hex()}: {more} units more, and agrees is {given}"
 
 
 class Scans:

@@ -41,6 +41,11 @@ class Definitions:
             self.by_name[name] = self.translation.add(f"Rattle.{crate}.specs.{'.'.join(inner)}", last)
         return self.translation.space[self.translation.functions[self.by_name[name]]]
 
+    def count(self, name):
+        """How many arguments a definition's function takes at once."""
+        self(name)
+        return self.translation.count(self.by_name[name])
+
     def forget(self):
         """Forgets remembered values, but those of words."""
         for name in data.BY_ROWS:

@@ -4,6 +4,7 @@ A number becomes another, a sign, a test or a case its neighbour, a variable or 
 type change places, a part of a fact or a whole case is left out. A change that the language would refuse, since an
 argument has another type, a recursion has no end or a case is missing, is no slip and isn't counted.
 """
+import gc
 import os
 import resource
 import select
@@ -11,7 +12,7 @@ import sys
 import time
 
 from . import data
-from .core import KINDS, Both, Call, Case, Native, Part, Use, Value, Var, explicit, is_data, text_of
+from .core import KINDS, Both, Call, Case, Native, Part, Quantified, Use, Value, Var, explicit, is_data, text_of
 from .lines import reached
 from .natives import NATIVES
 from .running import Definitions
@@ -35,19 +36,19 @@ def changes(term, scope, fields):
     yield from own_changes(term, scope, fields)
     if isinstance(term, (Var, Value, Use, Case, Native)) or not isinstance(term, (tuple, list, dict)):
         return
+    if isinstance(term, Quantified):
+        names = {binder.name for binder in term.binders}
+        yield from ((what, term._replace(body=body)) for what, body in changes(term.body, scope | names, fields))
+        return
     parts = list(term.items()) if isinstance(term, dict) else list(enumerate(term))
     for key, part in parts:
-        for what, other in changes(part, scope | own_variables(term), fields):
+        for what, other in changes(part, scope, fields):
             if isinstance(term, dict):
                 yield what, {**term, key: other}
             elif isinstance(term, list):
                 yield what, term[:key] + [other] + term[key + 1:]
             else:
                 yield what, type(term)(*(other if n == key else one for n, one in enumerate(term)))
-
-
-def own_variables(term):
-    return {binder.name for binder in getattr(term, "binders", ())}
 
 
 def own_changes(term, scope, fields):
@@ -204,15 +205,15 @@ def chosen(made, ran, number):
     return first + more
 
 
-def child(numbers, known, given, out):
+def child(numbers, known, out):
     """Tries slips one after another, and writes what comes of each."""
     resource.setrlimit(resource.RLIMIT_AS, (4 << 30, resource.RLIM_INFINITY))
     sys.setrecursionlimit(30_000)
+    gc.disable()  # There is much that stays, and little that must be looked for.
     d, slips, made, ran = known
     for number in numbers:
         os.write(out, f"{number}\tbegun\n".encode())
         found = tried(d, slips[number], chosen(made, ran, slips[number][1]))
-        given[0] += 1
         os.write(out, f"{number}\t{' '.join(found.split())[:150] or 'not found'}\n".encode())
     os._exit(0)
 
@@ -230,7 +231,7 @@ class Worker:
         self.process = os.fork()
         if self.process == 0:
             try:
-                child(left, self.known, [0], out)
+                child(left, self.known, out)
             finally:
                 os._exit(1)
         os.close(out)
