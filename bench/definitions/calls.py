@@ -3,7 +3,7 @@
 A clause must hold of a call as it was, and of one with another status, output, line or input left it mustn't.
 """
 from . import drawn
-from .reference import NONE, Late, broken_in, parts_of, some
+from .reference import NONE, Late, broken_in, image, parts_of, some
 from .runs import options_of
 from .translate import record
 
@@ -45,7 +45,7 @@ def call_of(d, files, given, left, out, notes, **changed):
     return d("alpha_cmd.Call.called")(SHELF, SOURCE, SINK, SINK, record(**old), record(**new))
 
 
-def status_by(number, notes, end):
+def status_by(number, end):
     """A run's status in the definitions' words, by how it ended."""
     return DONE if number == 0 else ("StepsSpent",) if number == 6 else ("Stopped", end[1])
 
@@ -78,43 +78,43 @@ class Ran:
         run = d("alpha_seq.Run.sequential")(program, tuple(given), 2_000, False)
         files, left = {b"FILE": content, b"other": b"x", b"CHOICES": bytes(range(64))}, run.left
         self.hand_in(d, parts)
-        status = status_by(number, notes, run.end)
-        call, wanted = call_of(d, files, given, left, out, notes), True
-        if way == "no memory":
-            status, call = ("NoMemory",), call_of(d, files, given, left, b"", b"")
-        elif way == "drawn" and status[0] == "Done":
-            status = ("Done", 77)
-        elif way == "status":
-            status, wanted = ("StepsSpent",) if number != 6 else DONE, False
-        elif way == "output":
-            call, wanted = call_of(d, files, given, left, out + b"x", notes), False
-        elif way == "notes":
-            call, wanted = call_of(d, files, given, left, out, notes[:-1]), False
-        elif way == "left":
-            call, wanted = call_of(d, files, given, left + (1,), out, notes), False
-        elif way == "files":
-            call, wanted = call_of(d, files, given, left, out, notes, new_shelf=Device(told({b"FILE": content}))), False
-        elif way == "file":  # Nothing is said of another file.
-            call = call_of(d, {b"FILE": content + b"x"}, given, left, out + b"x", notes)
-        elif way == "device":  # Nor where a device failed.
-            part = ("shelf", "input", "out", "notes")[len(out) % 4]
-            call = call_of(d, files, given, left, out + b"x", notes)
-            call = call._replace(**{part: getattr(call, part)._replace(now=1)})
-        elif way == "full":  # Nor where a count of faults can't rise.
-            part = ("shelf", "input", "out", "notes")[len(out) % 4]
-            call = call_of(d, files, given, left, out + b"x", notes)
-            call = call._replace(**{part: getattr(call, part)._replace(before=LAST_COUNT, now=LAST_COUNT)})
-        elif way == "refused":  # Nor of code that isn't accepted.
-            whole.words.append(drawn.operate("addq/v", 1, 2, 3))
-            self.hand_in(d, parts_of(whole))
-            call = call_of(d, {b"FILE": whole.spelled(), b"CHOICES": b""}, given, left, out + b"x", notes)
-            whole.words.pop()
-        elif way == "unknown":  # Nor where the input isn't told.
-            call = call_of(d, files, given, left, out + b"x", notes, old_input=Device(NONE), new_input=Device(NONE))
+        status, call, wanted = self.altered(d, way, whole, files, given, left, number, out, notes, run.end)
         is_plain, words = len(words) == 2 or words[1:-1] == ("--imprecise",), words_of(*(text.encode() for text in words))
-        given = d("alpha_cmd.ToldRun.Ran")(words, status, call), d("alpha_cmd.Alike.Alike")(words, status, call)
+        found = d("alpha_cmd.ToldRun.Ran")(words, status, call), d("alpha_cmd.Alike.Alike")(words, status, call)
         expected = wanted or not is_plain, wanted
-        return "" if given == expected else f"{way} of {whole.spelled().hex()}: {given}, and {expected} is wanted"
+        return "" if found == expected else f"{way} of {content.hex()}: {found}, and {expected} is wanted"
+
+    def altered(self, d, way, whole, files, given, left, number, out, notes, end):
+        """The status and the call, with something else in it, and whether the clauses hold of that. They say nothing of another
+        file, nor where a device failed or its count can't rise, nor of code that is refused, nor where the input isn't told."""
+        status, more = status_by(number, end), call_of(d, files, given, left, out + b"x", notes)
+        part = ("shelf", "input", "out", "notes")[len(out) % 4]
+        if way == "no memory":
+            return ("NoMemory",), call_of(d, files, given, left, b"", b""), True
+        if way == "status":
+            return ("StepsSpent",) if number != 6 else DONE, call_of(d, files, given, left, out, notes), False
+        if way == "output":
+            return status, more, False
+        if way == "notes":
+            return status, call_of(d, files, given, left, out, notes[:-1]), False
+        if way == "left":
+            return status, call_of(d, files, given, left + (1,), out, notes), False
+        if way == "files":
+            return status, call_of(d, files, given, left, out, notes, new_shelf=Device(told({b"FILE": files[b"FILE"]}))), False
+        if way == "file":
+            return status, call_of(d, {b"FILE": files[b"FILE"] + b"x"}, given, left, out + b"x", notes), True
+        if way == "device":
+            return status, more._replace(**{part: getattr(more, part)._replace(now=1)}), True
+        if way == "full":
+            return status, more._replace(**{part: getattr(more, part)._replace(before=LAST_COUNT, now=LAST_COUNT)}), True
+        if way == "refused":
+            refused = image.Image([*whole.words, drawn.operate("addq/v", 1, 2, 3)], whole.code_base, whole.entry, whole.segments, whole.stack)
+            self.hand_in(d, parts_of(refused))
+            return status, call_of(d, {**files, b"FILE": refused.spelled()}, given, left, out + b"x", notes), True
+        if way == "unknown":
+            return status, call_of(d, files, given, left, out + b"x", notes, old_input=Device(NONE), new_input=Device(NONE)), True
+        drew = ("Done", 77) if way == "drawn" and status[0] == "Done" else status
+        return drew, call_of(d, files, given, left, out, notes), True
 
     def hand_in(self, d, parts):
         d.given(images=[parts], names=words_of(*NAMES, b"other"), options=[DEFAULT, options_of("stop", 5, True)],

@@ -22,14 +22,14 @@ import time
 sys.dont_write_bytecode = True
 HERE = os.path.dirname(os.path.abspath(__file__))
 sys.path = [path for path in sys.path if os.path.abspath(path or ".") != HERE] + [os.path.dirname(HERE)]
-from definitions import calls, facts, images, library, lines, moments, places, runs, slips, words  # noqa: E402  (behind the path)
+from definitions import calls, facts, images, library, lines, moments, places, refused, runs, slips, words  # noqa: E402
 from definitions.asking import Asked  # noqa: E402
 from definitions.running import Definitions, deeply  # noqa: E402
 from definitions.sources import TOP  # noqa: E402
 from definitions.translate import key_of  # noqa: E402
 
-GROUPS = [library.Library(), words.Words(), words.Values(), words.Taken(), places.Places(), places.Longest(), runs.Programs(), runs.Sequential(),
-          runs.Late(), moments.Moments(), moments.Each(), images.Fronts(), images.Images(), calls.Ran(), calls.Checked(),
+GROUPS = [refused.Refused(), library.Library(), words.Words(), words.Values(), words.Taken(), places.Places(), places.Longest(),
+          runs.Programs(), runs.Sequential(), runs.Late(), moments.Moments(), moments.Each(), images.Fronts(), images.Images(), calls.Ran(), calls.Checked(),
           calls.Spoken(), facts.Facts(), facts.Stops(), facts.Scans()]
 MOST_SHOWN = 3
 

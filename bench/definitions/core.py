@@ -7,7 +7,7 @@ import itertools
 import re
 from collections import namedtuple
 
-from .reader import Apply, Arrow, Bound, Field, Lambda, Let, Name, Number, Pair, Product, Record, Text, Universe, Unknown
+from .reader import Apply, Arrow, Bound, Name, Pair, Product, Universe, Unknown
 from .sources import Declaration, Missing, is_fact_type
 
 Var = namedtuple("Var", "name")

@@ -5,7 +5,7 @@ Against the models of the companions, by choices that are free: the bytes of a s
 from collections import Counter
 
 from . import drawn
-from .reference import COMPLETIONS, MASK, CONDITIONS, Late, agrees, broken_in, option, program_of, table
+from .reference import Late, agrees, broken_in, program_of
 from .translate import record
 
 MOST = 60
@@ -21,19 +21,16 @@ def moments_of(whole, how, given, choices):
     """What the models say of each moment: (kind of the step, PC, registers, mask, trigger's place, whether it agrees)."""
     late, precise, before = Late(whole, how, given), Late(whole, how, given), False
     for choice in choices:
-        over = late.end
         if late.choose(choice):
             before = precise.is_over()
             precise.advance()
         waits = late.waited is not None
-        yield (kind_of(late, over), late.pc, tuple(late.regs), late.mask if waits else None, late.place if waits else None,
+        yield (kind_of(late), late.pc, tuple(late.regs), late.mask if waits else None, late.place if waits else None,
                agrees(late, precise, before))
 
 
-def kind_of(late, over):
+def kind_of(late):
     """How the last step went, as the definitions call it."""
-    if late.end is not None and over is None:
-        return "Lost" if late.end[0] == "lost" else "Ends"
     if late.end is not None:
         return "Lost" if late.end[0] == "lost" else "Ends"
     return {"went": "Went", "barrier": "Barriered", "triggered": "Triggered", "waited": "Waited", "reported": "Reported"}[late.last]

@@ -58,8 +58,7 @@ def class_by(name, ra, rb, rc, literal, displacement):
     if name in STORES:
         return ("store_conditional" if name.endswith("_c") else "store", access(name, rb, displacement), ra)
     if name in table.BRANCH.values():
-        condition = NONE if name in ("br", "bsr") else some((("L" if name.startswith("bl") and len(name) == 4 else "") and
-                                                             name[1:].capitalize() or name[1:].capitalize(),))
+        condition = NONE if name in ("br", "bsr") else some((name[1:].capitalize(),))
         return ("branch", condition, ra, displacement)
     if name in table.JUMP:
         return ("jump", ra, rb)
