@@ -5,7 +5,7 @@ Against the models of the companions, by choices that are free: the bytes of a s
 from collections import Counter
 
 from . import drawn
-from .reference import Late, agrees, broken_in, program_of
+from .reference import Late, agrees, broken_in, parts_of, program_of, some
 from .translate import record
 
 MOST = 60
@@ -108,4 +108,17 @@ class Each:
         at = chooser.choice([5] + [n + 1 for n, word in enumerate(whole.words) if word == drawn.TRAPB])
         whole.words[at:at] = [*before, trigger, *behind, drawn.TRAPB]
 
-    difference, seen = Moments.difference, Moments.seen
+    seen = Moments.seen
+
+    def difference(self, d, case):
+        return Moments.difference(self, d, case) or self.clause(d, case)
+
+    def clause(self, d, case):
+        """The clause of `check` is false of such code where a list of choices is tried that ends where it doesn't agree."""
+        whole, _, _, choices, wanted = case
+        end = next(n for n, moment in enumerate(wanted, 1) if not moment[-1])
+        parts, row = parts_of(whole), tuple(record(**dict(zip(("report", "value", "bytes", "adds"), one))) for one in choices[:end])
+        d.given(images=[parts], inputs=[()], choices=[row], names=[])
+        words, files = (tuple(b"check"), tuple(b"FILE")), some(lambda name: some(tuple(whole.spelled())))
+        given = [d(name)(words, ("Done", 0), files) for name in ("alpha_cmd.Checked.Checked", "alpha_cmd.Restarts.Restarts")]
+        return "" if given == [False, False] else f"{whole.spelled().hex()}: the clause of check is {given}"
