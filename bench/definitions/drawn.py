@@ -51,7 +51,7 @@ def operate_word(chooser, names, registers):
 
 
 def access_word(chooser, registers, names, bases):
-    """An access, which mostly goes well where R5 has the data's base and R30 the stack's end."""
+    """An access, which mostly goes well where R5 has the data's base and R30 the stack's end; R27 has the code's."""
     name, base = chooser.choice(names), chooser.choice(bases)
     if chooser.random() < 0.06:
         return memory(name, chooser.choice(registers), base, chooser.choice((1, 2, 4, 7, 9, -4, -64, 200)))
@@ -76,7 +76,7 @@ def word(chooser, registers, bases, level=1):
         return operate_word(chooser, [name for name in PLAIN if level == 2 or name not in table.LEVEL_TWO], registers)
     if kind < 0.56:
         return memory(chooser.choice(("lda", "ldah")), chooser.choice(registers), chooser.choice(registers), chooser.randrange(-3, 9))
-    if kind < 0.78:
+    if kind < 0.76:
         return access_word(chooser, registers, LOOSE, bases)
     if kind < 0.86:
         return access_word(chooser, registers, ACCESSES, bases)
@@ -123,7 +123,7 @@ def program(chooser, is_accepted, level=1):
     start = [memory("ldah", 5, 31, 0x1000)] + [memory("ldq", n, 5, 8 * n) for n in (1, 2, 3, 4)]
     body = []
     for _ in range(chooser.randrange(3, 22)):
-        body += call(chooser) if chooser.random() < 0.06 else [word(chooser, (1, 2, 3, 4, 6, 6, 7, 7, 8, 8, 31), (5,) * 9 + (30,) * 9 + (2,), level)]
+        body += call(chooser) if chooser.random() < 0.06 else [word(chooser, (1, 2, 3, 4, 6, 6, 7, 7, 8, 8, 31), (5,) * 8 + (30,) * 8 + (27, 27, 2), level)]
     end = [TRAPB] if chooser.random() < 0.9 else []
     end += [memory("lda", 0, 31, 4), memory("lda", 16, 31, 1), operate("bis", 31, 5, 17), memory("lda", 18, 31, 48), CALLSYS]
     end += [operate("bis", 31, 1, 16), memory("lda", 0, 31, 1), CALLSYS]
