@@ -5,7 +5,7 @@ Against the models of the companions, by choices that are free: the bytes of a s
 from collections import Counter
 
 from . import drawn
-from .reference import Late, agrees, broken_in, parts_of, program_of, some
+from .reference import Late, agrees, broken_in, image, parts_of, program_of, some
 from .translate import record
 
 MOST = 60
@@ -65,6 +65,27 @@ class Moments:
         kind = run.last[1][0] if run.last[0] == "Precisely" else run.last[0]
         trap = run.pending[1] if run.pending[0] == "Some" else None
         return kind, run.state.pc, run.state.regs, trap and trap.mask, trap and trap.place
+
+
+class Waits:
+    """An access of each kind behind an overflow: in the data, in the code, nowhere, and at an odd address."""
+
+    name, about = "waits", "each access while a trap is pending, where it goes well and where it would fault"
+    counts = {"sample": 1, "whole": 1}
+    is_quick = True
+    PLACES = ((5, 8), (27, 8), (31, 8), (5, 9))
+
+    def cases(self, chooser, count, asked):
+        for name in drawn.ACCESSES:
+            for base, displacement in self.PLACES:
+                words = [drawn.memory("ldah", 5, 31, 0x1000), drawn.memory("ldq", 1, 5, 0), drawn.operate("addq/v", 1, 1, 7),
+                         drawn.memory(name, 8, base, displacement), drawn.TRAPB]
+                segment = image.Segment(drawn.DATA, ((1 << 63) - 1).to_bytes(8, "little") * 3)
+                whole = image.Image(words, drawn.CODE, drawn.CODE, [segment], drawn.STACK, 0)
+                choices = ((False, 3, 4, False),) * 8
+                yield whole, "wrap", b"", choices, tuple(moments_of(whole, "wrap", b"", choices))
+
+    difference, seen = Moments.difference, Moments.seen
 
 
 class Each:
