@@ -17,7 +17,7 @@ from measure import NOP, best, counts_instructions, instructions, most_memory, t
 
 WORDS = 4_096
 LABELS = 78
-SHARED = 512
+SHARED = 128
 MEBIBYTE = 1_048_576
 # What a name begins with and goes on with, in the order of their bytes.
 FIRST = string.ascii_uppercase + "_" + string.ascii_lowercase
