@@ -14,7 +14,8 @@ from measure import TOP
 # Users who are nobody here by name: each with its group. The last one is in the group of root.
 USERS = ((1, 1), (65_534, 65_534), (2, 0))
 LINKS = 40
-MOST_STACK = 112 << 10
+# So many KiB of stack each command does with.
+MOST_STACK, MOST_STACK_OF_DEBUG = 112, 140
 
 
 def as_user(user):
@@ -238,9 +239,9 @@ def streams(trial):
 
 
 def small_stack(trial):
-    """Each command that keeps a file does so with little stack."""
-    def limit():
-        resource.setrlimit(resource.RLIMIT_STACK, (MOST_STACK, resource.RLIM_INFINITY))
+    """Each command does with little stack."""
+    def limited(most):
+        return lambda: resource.setrlimit(resource.RLIMIT_STACK, (most << 10, resource.RLIM_INFINITY))
 
     image = os.path.join(TOP, "examples/factorial.img")
     source = os.path.join(TOP, "examples/modules/total.s")
@@ -250,9 +251,10 @@ def small_stack(trial):
         trial.run("module", os.path.join(TOP, "examples/modules", os.path.basename(part).replace(".mod", ".s")), part)
     for words in (["asm", trial.source, out], ["fix", trial.source, out], ["module", source, module], ["link", out, *parts],
                   ["record", image, out], ["run", image], ["run", "--imprecise", image], ["debug", image], ["dis", image], ["check", image]):
-        done = trial.run(*words, stdin=subprocess.DEVNULL, preexec_fn=limit)
-        trial.check(f"{words[0]} with {MOST_STACK >> 10} KiB of stack: status {done.returncode}", done.returncode == 0)
-    print(f"{MOST_STACK >> 10} KiB of stack: enough")
+        most = MOST_STACK_OF_DEBUG if words[0] == "debug" else MOST_STACK
+        done = trial.run(*words, stdin=subprocess.DEVNULL, preexec_fn=limited(most))
+        trial.check(f"{words[0]} with {most} KiB of stack: status {done.returncode}", done.returncode == 0)
+    print(f"{MOST_STACK} KiB of stack, and {MOST_STACK_OF_DEBUG} by debug: enough")
 
 
 def all_cases(trial):
