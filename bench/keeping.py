@@ -7,9 +7,11 @@ import subprocess
 import sys
 
 # The CALL of each name fails with NUMBER at its turn COUNT, or at every second turn where COUNT is 0. COUNTED is the
-# file that gets, at the end, how often it was called.
+# file that gets, at the end, how often it was called. Where SECRET is there the call doesn't fail: just before it each new
+# file in FOLDER is swapped for a link to SECRET.
 FAILING = r"""
 #define _GNU_SOURCE
+#include <dirent.h>
 #include <dlfcn.h>
 #include <errno.h>
 #include <fcntl.h>
@@ -20,12 +22,24 @@ FAILING = r"""
 #include <sys/stat.h>
 #include <unistd.h>
 static long turns;
+static void swap(const char *folder, const char *secret) {
+    char path[4096];
+    struct dirent *entry;
+    DIR *names = opendir(folder);
+    while (names && (entry = readdir(names))) {
+        if (strncmp(entry->d_name, ".alpha-keep", 11)) continue;
+        snprintf(path, sizeof path, "%s/%s", folder, entry->d_name);
+        if (!unlink(path)) symlink(secret, path);
+    }
+    if (names) closedir(names);
+}
 static int fails(const char *name) {
     const char *call = getenv("CALL");
     if (!call || strcmp(call, name)) return 0;
     long count = atol(getenv("COUNT"));
     turns += 1;
     if (count ? turns != count : turns % 2 == 0) return 0;
+    if (getenv("SECRET")) { swap(getenv("FOLDER"), getenv("SECRET")); return 0; }
     errno = atoi(getenv("NUMBER"));
     return 1;
 }
@@ -41,6 +55,10 @@ ssize_t read(int fd, void *to, size_t n) { REAL(ssize_t, "read"); return fails("
 ssize_t write(int fd, const void *from, size_t n) { REAL(ssize_t, "write"); return fails("write") ? -1 : real(fd, from, n); }
 int fsync(int fd) { REAL(int, "fsync"); return fails("fsync") ? -1 : real(fd); }
 int fchmod(int fd, mode_t mode) { REAL(int, "fchmod"); return fails("fchmod") ? -1 : real(fd, mode); }
+int chown(const char *path, uid_t owner, gid_t group) {
+    REAL(int, "chown");
+    return fails("chown") ? -1 : real(path, owner, group);
+}
 int rename(const char *from, const char *to) { REAL(int, "rename"); return fails("rename") ? -1 : real(from, to); }
 int statx(int fd, const char *path, int flags, unsigned mask, struct statx *to) {
     REAL(int, "statx");

@@ -6,7 +6,6 @@ import resource
 import shutil
 import stat
 import subprocess
-import threading
 
 from keeping import OLD
 from measure import TOP
@@ -14,6 +13,7 @@ from measure import TOP
 # Users who are nobody here by name: each with its group. The last one is in the group of root.
 USERS = ((1, 1), (65_534, 65_534), (2, 0))
 LINKS = 40
+MOST_TURNS = 10
 # So many KiB of stack each command does with.
 MOST_STACK, MOST_STACK_OF_DEBUG = 112, 140
 
@@ -80,26 +80,24 @@ def other_owners(trial):
     print("files of others: they keep their owner, group and mode")
 
 
-def swaps(trial, runs=60):
-    """Another user puts links to a private file of root in the place of each new file that he sees, and of OUT."""
+def swaps(trial):
+    """Just before each call the new file is swapped for a link to a private file of root, which must stay what it is."""
+    if not trial.library:
+        return print("left out: swapped names: there is no C compiler")
     folder, out = folder_of(trial, "swaps", 0o777)
-    secret, own = trial.path("secret"), trial.path("own_out")
+    secret = trial.path("secret")
     put(secret, OLD, 0o600)
-    script = ("import os, sys\nos.chdir(sys.argv[1])\nwhile not os.path.exists('stop'):\n"
-              "  for name in [name for name in os.listdir('.') if name.startswith('.alpha-keep')] + ['out']:\n    try:\n"
-              "      os.symlink(sys.argv[2], 'link')\n      os.rename('link', name)\n    except OSError: pass\n")
-    other = subprocess.Popen(["python3", "-c", script, folder, secret], preexec_fn=as_user(USERS[0]))
-    try:
-        for run in range(runs):
-            put(own, OLD, 0o600, USERS[0] if run % 2 else None)
-            os.rename(own, out)
-            trial.asm(out)
-            found = os.stat(secret)
-            trial.check("a private file of root was given away", (found.st_uid, found.st_gid, stat.S_IMODE(found.st_mode)) == (0, 0, 0o600))
-    finally:
-        put(os.path.join(folder, "stop"), b"")
-        other.wait()
-    print(f"{runs} keeps beside one who swaps names for links: no file was given away")
+    for call in ("open", "statx", "fchmod", "chown", "write", "fsync", "rename"):
+        for count in range(1, MOST_TURNS):
+            for mode, owner in ((0o600, USERS[0]), (0o644, None), (0o640, None)):
+                put(out, OLD, mode, owner)
+                trial.asm(out, env={**trial.failing(call, count, 0), "SECRET": secret, "FOLDER": folder})
+                found = os.stat(secret)
+                same = (found.st_uid, found.st_gid, stat.S_IMODE(found.st_mode)) == (0, 0, 0o600) and trial.read(secret) == OLD
+                trial.check(f"a private file of root was given away at {call} {count}", same)
+                for name in os.listdir(folder):
+                    os.remove(os.path.join(folder, name))
+    print("names swapped for links before each call: no file was given away")
 
 
 def access_lists(trial):
