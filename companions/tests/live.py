@@ -16,7 +16,7 @@ def repaired(folder, text, *words, status=0):
     path, out = os.path.join(folder, "a.s"), os.path.join(folder, "b.s")
     write(path, text.encode())
     _, notes = companion("shadowfix", *words, path, "-o", out, status=status)
-    return read(out), notes
+    return read(out) if os.path.exists(out) else None, notes
 
 
 def test_what_the_next_word_reads_is_not_taken(folder):
@@ -109,10 +109,10 @@ def test_words_stand_before_the_code_where_there_is_no_room_behind(folder):
 
 
 def test_a_listing_whose_numbers_are_addresses_of_code_is_repaired_aside_alone(folder):
-    text = LISTING.replace("br $31,L_10008\naddq/v $1,$2,$1\n", "ldah $27,1($31)\nlda $27,8($27)\njmp $31,($27),0\n").replace(
+    text = LISTING.replace("br $31,L_10008\naddq/v $1,$2,$1\n", "ldah $27,1($31)\nlda $27,12($27)\njmp $31,($27),0\n").replace(
         "L_10008: addq/v", "addq/v")
     _, notes = repaired(folder, text, status=1)
-    want("words move, and a number has the address 0x10008 of code: use --aside" in notes, True, notes)
+    want("words move, and a number has the address 0x1000c of code: use --aside" in notes, True, notes)
 
 
 @needs_program
