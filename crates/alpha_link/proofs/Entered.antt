@@ -2,6 +2,7 @@
 use Rattle.std.proofs.Common.{◌≡◌, ℕ, zero, suc, ◌+◌, ◌-◌, ◌<◌, ◌≤◌, Bool, true, false, ◌⊎◌, inl, inr, List, [], ◌∷◌, ◌++◌, length, map, take, drop, get_or, Option, None, Some, is_some, if◌then◌else◌, refl, sym, subst, ap, ◌∙◌, append_assoc, arith}
 use Rattle.std.specs.Prelude.{◌&&◌, not, is_none, slice_get}
 use Rattle.std.specs.Option.{option_map, option_map_or, option_and_then, option_or}
+use Rattle.std.specs.List.{flat_map}
 use Rattle.std.specs.Str.{bytes_eq}
 use Rattle.std.proofs.lemmas.List.{take_more, length-map, length-append}
 use Rattle.std.proofs.lemmas.Bool.{and_parts}
@@ -14,8 +15,9 @@ use Rattle.alpha_names.proofs.Naming.{sound, by_option}
 use Rattle.alpha_asm.specs.Layout.{first}
 use Rattle.alpha_link.specs.Symbols.{Named}
 use Rattle.alpha_link.specs.Linked.{Located, named_address}
+use Rattle.alpha_link.specs.Starts.{symbols_of}
 use Rattle.alpha_link.specs.Standings.{Standing, standing_of, standings_in, standings, defines, is_of, address_at, AreEntered}
-use Rattle.alpha_link.proofs.Naming.{first_append}
+use Rattle.alpha_link.proofs.Naming.{first_append, behind}
 use Rattle.alpha_link.proofs.Lists.{next, none_left}
 
 -- elements of two lists one behind the other
@@ -41,6 +43,27 @@ get_taken zero xs i h = absurd (omega arith)
 get_taken (suc m) [] i h = refl
 get_taken (suc m) (x ∷ xs) zero h = refl
 get_taken (suc m) (x ∷ xs) (suc i) h = get_taken m xs i (omega arith)
+
+pub get_before : {X : Type 0} (m : ℕ) (xs : List X) (i : ℕ) → i < m → slice_get (take m xs) i ≡ slice_get xs i
+get_before zero xs i h = absurd (omega arith)
+get_before (suc m) [] i h = refl
+get_before (suc m) (x ∷ xs) zero h = refl
+get_before (suc m) (x ∷ xs) (suc i) h = get_before m xs i (omega arith)
+
+-- what stands from a place on is all of what is behind it
+rest_length : {X : Type 0} (n : ℕ) (xs : List X) → length (drop n xs) ≡ length xs - n
+rest_length zero xs = omega arith
+rest_length (suc n) [] = omega arith
+rest_length (suc n) (x ∷ xs) = let e : length xs - n ≡ suc (length xs) - suc n = omega arith in rest_length n xs ∙ e
+
+all_taken : {X : Type 0} (n : ℕ) (xs : List X) → length xs ≤ n → take n xs ≡ xs
+all_taken zero [] h = refl
+all_taken zero (x ∷ xs) h = absurd (omega arith)
+all_taken (suc n) [] h = refl
+all_taken (suc n) (x ∷ xs) h = ap (λ (l : List _). x ∷ l) (all_taken n xs (omega arith))
+
+pub from_place : {X : Type 0} (n : ℕ) (xs : List X) → take (length xs - n) (drop n xs) ≡ drop n xs
+from_place n xs = all_taken (length xs - n) (drop n xs) (omega (arith, rest_length n xs))
 
 -- an element of a part of a list
 pub at_place : {X : Type 0} (xs part : List X) (c m i : ℕ) → take m (drop c xs) ≡ part → i < length part → slice_get xs (c + i) ≡ slice_get part i
@@ -306,6 +329,40 @@ found_next es n count e old new more here before after name =
 -- the symbol with a number, as a loop goes along the modules
 rest_from : (ls : List Located) (i : ℕ) (l : Located) → i < length ls → l ≡ get_or ls i l → standings (drop i ls) ≡ standings_in l ++ standings (drop (i + 1) ls)
 rest_from ls i l within here = ap standings (next ls i l within) ∙ ap (λ (x : Located). standings (x ∷ drop (i + 1) ls)) (sym here)
+
+-- each symbol stands in the row
+pub counted : (ls : List Located) → length (standings ls) ≡ symbols_of ls
+counted [] = refl
+counted (l ∷ ls) = omega (
+  arith,
+  counted ls,
+  length-append (standings_in l) (standings ls),
+  length-map l.parts.symbols (standing_of l),
+  length-append l.parts.symbols (flat_map (λ (x : Located). x.parts.symbols) ls),
+)
+
+-- the symbol with a number, of the modules from one on whose symbols begin at that number or before it
+pub from_start : (ls : List Located) (i s n : ℕ) → s ≡ symbols_of (take i ls) → s ≤ n → slice_get (standings (drop i ls)) (n - s) ≡ slice_get (standings ls) n
+from_start ls i s n begins before =
+    let size : s ≡ length (standings (take i ls)) = begins ∙ sym (counted (take i ls)) in
+    let front = standings (take i ls) in
+    let back = standings (drop i ls) in
+    let far : length front ≤ n = subst (λ (k : ℕ). k ≤ n) size before in
+    ap (λ (k : ℕ). slice_get back (n - k)) size
+    ∙ sym (ap (λ (row : List Standing). slice_get row n) (standings_behind ls i) ∙ get_behind front back n far)
+
+pub next_symbols : (ls : List Located) (n : ℕ) (l : Located) → n < length ls → l ≡ get_or ls n l → symbols_of (take (n + 1) ls) ≡ symbols_of (take n ls) + length (standings_in l)
+next_symbols ls n l within here =
+    omega (arith, counted (take (n + 1) ls), counted (take n ls), count_next ls n l (behind ls n l within here), length-map l.parts.symbols (standing_of l))
+
+-- a further module's beginning
+pub push_start : (ls : List Located) (starts : List ℕ) (i count : ℕ) → length starts ≡ i → count ≡ symbols_of (take i ls)
+    → ((k s : ℕ) → slice_get starts k ≡ Some s → s ≡ symbols_of (take k ls))
+    → (k s : ℕ) → slice_get (starts ++ count ∷ []) k ≡ Some s → s ≡ symbols_of (take k ls)
+push_start ls starts i count size here before k s e = elim (get_push starts count k s e) [
+  | inl old ↦ before k s old
+  | inr new ↦ new.1 ∙ (here ∙ ap (λ (m : ℕ). symbols_of (take m ls)) (sym size ∙ sym new.0))
+]
 
 pub here_get : (ls : List Located) (i : ℕ) (l : Located) (rest count : ℕ) (whole : Option Standing) → i < length ls → l ≡ get_or ls i l → count ≡ length (standings_in l) → rest < count →
     slice_get (standings (drop i ls)) rest ≡ whole → slice_get (standings_in l) rest ≡ whole

@@ -14,6 +14,7 @@ pub mod Digits
 pub mod Made
 pub mod Numbered
 pub mod Standings
+pub mod Starts
 pub mod Names
 pub mod Addresses
 pub mod Listed

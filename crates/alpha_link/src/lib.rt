@@ -43,6 +43,7 @@
 //! - [`laws_of_linked_code`]: where the code of each module is accepted, the image that the modules link to
 //!   is accepted.
 //!
+//! `module.rt` has what a module is, `fault.rt` why there is none or no image of some, and `laws.rt` the laws.
 //! `header.rt` has the sizes at the front, `symbol.rt` and `relocation.rt` have what symbols and
 //! relocations are, `symbol_list.rt` has the symbols of a module, `symbols.rt` and `relocations.rt` read and write
 //! them, `number.rt` has numbers of two bytes; `read.rt` and `write.rt` are the ways in and out, and `judged.rt`

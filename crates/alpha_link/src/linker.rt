@@ -18,6 +18,7 @@ use crate::LinkFault;
 use crate::located::{Located, places};
 use crate::module::Module;
 use crate::output::Output;
+use crate::standings::starts_of;
 use crate::table::Names;
 use alpha_asm::{CODE_BASE, DATA_BASE, STACK_BYTES};
 use alpha_image::{Image, LevelFields, Segment, Version};
@@ -165,7 +166,7 @@ fn linked_at<'m>(
 
 /// The image that modules link to, 64 modules at most. Its entry is the address of a name. Memory taken
 /// is that of the image and of a table of the names that the modules define, of 16 bytes for each symbol, with
-/// 24 bytes for each module and 8 for each symbol of the module being joined, unless it defines all of them.
+/// 32 bytes for each module and 8 for each symbol of the module being joined, unless it defines all of them.
 ///
 /// # Errors
 ///
@@ -183,7 +184,8 @@ pub fn link<'m>(
         → linked modules.now entry.now ≡ Err fault) }
 {
     let places = places(alloc, modules)?;
-    let names = Names::of(alloc, &places)?;
+    let starts = starts_of(alloc, &places)?;
+    let names = Names::of(alloc, &places, &starts)?;
     if let Some(fault) = undefined(&names, &places) {
         return Err(fault);
     }

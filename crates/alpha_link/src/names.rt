@@ -10,6 +10,7 @@ ghost use Rattle.alpha_link.specs.Names.{found_in, again_in};
 ghost use Rattle.alpha_link.specs.Addresses.{address_by_own, Knows, AllKnow};
 ghost use Rattle.alpha_link.specs.Symbols.{named};
 ghost use Rattle.alpha_link.specs.Standings.{standings, standings_in};
+ghost use Rattle.alpha_link.specs.Starts.{AreStarts};
 
 use crate::LinkFault;
 use crate::addresses::Addresses;
@@ -32,12 +33,17 @@ impl SymbolSection {
 
 impl<'p, 'm> Names<'p, 'm> {
     /// No names, of modules that may have some.
-    fn empty(alloc: Global, places: &'p [Located<'m>]) -> Names<'p, 'm>
+    fn empty(alloc: Global, places: &'p [Located<'m>], starts: &'p [usize]) -> Names<'p, 'm>
+        requires { AreStarts starts.now places.now }
         ensures count { result.row.count ≡ 0 }
         ensures places { result.row.places.now ≡ places.entry.now }
     {
         Names {
-            row: Row { places, count: 0 },
+            row: Row {
+                places,
+                starts,
+                count: 0,
+            },
             numbers: Numbers::empty(alloc),
         }
     }
@@ -47,7 +53,12 @@ impl<'p, 'm> Names<'p, 'm> {
     /// # Errors
     ///
     /// `Duplicate`, with the least symbol that an earlier module defines too.
-    pub(crate) fn of(alloc: Global, places: &'p [Located<'m>]) -> Result<Names<'p, 'm>, LinkFault>
+    pub(crate) fn of(
+        alloc: Global,
+        places: &'p [Located<'m>],
+        starts: &'p [usize],
+    ) -> Result<Names<'p, 'm>, LinkFault>
+        requires { AreStarts starts.now places.now }
         ensures found { IfOk result (λ names. (name : List ℕ) →
             found_in names name ≡ address_of places.now name) }
         ensures own { IfOk result (λ names. AllKnow (found_in names) places.now) }
@@ -55,7 +66,7 @@ impl<'p, 'm> Names<'p, 'm> {
         ensures refused { IfErr result (λ fault. fault ≢ faults.NoMemory →
             option_map (λ p. faults.Duplicate p.0 p.1) (repeated [] places.now) ≡ Some fault) }
     {
-        let mut names = Names::empty(alloc, places);
+        let mut names = Names::empty(alloc, places, starts);
         for located in places {
             names.define_all(located)?;
         }

@@ -1,5 +1,7 @@
 //! The symbols of the modules that are linked, in one row.
 
+ghost use Rattle.alpha_link.specs.Starts.{AreStarts};
+
 use crate::located::Located;
 
 /// So many symbols of modules, those of the first module first.
@@ -7,8 +9,11 @@ use crate::located::Located;
 pub(crate) struct Row<'p, 'm> {
     /// The modules.
     pub places: &'p [Located<'m>],
+    /// Where the symbols of each module begin.
+    pub starts: &'p [usize],
     /// How many symbols.
     pub count: usize,
+    ghost begun: { AreStarts starts.now places.now },
 }
 
 /// A symbol of a row.

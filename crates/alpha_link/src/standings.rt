@@ -1,10 +1,12 @@
-ghost use Rattle.std.specs.Prelude.{◌≡◌, ◌<◌, length, slice_get};
+ghost use Rattle.std.specs.Prelude.{◌≡◌, ◌<◌, ◌≤◌, length, slice_get, Some, IfOk, IfSome};
 ghost use Rattle.std.specs.Option.{option_map};
 ghost use Rattle.alpha_link.specs.Standings.{standing, standings_in, standings, front, is_of};
+ghost use Rattle.alpha_link.specs.Starts.{AreStarts};
 
 use crate::located::Located;
 use crate::row::{Row, Standing};
 use alpha_names::Source;
+use std::alloc::{AllocError, Global};
 
 // How many symbols a module has.
 fn count_of(located: &Located<'_>) -> usize
@@ -12,6 +14,38 @@ fn count_of(located: &Located<'_>) -> usize
 {
     let module = located.module;
     module.symbols.len()
+}
+
+/// How many symbols stand before those of each module.
+pub(crate) fn starts_of(alloc: Global, places: &[Located<'_>]) -> Result<Vec<usize>, AllocError>
+    ensures { IfOk result (λ starts. AreStarts starts.items places.now) }
+{
+    let mut starts = Vec::with_capacity(alloc, places.len())?;
+    let mut count = 0usize;
+    for located in places {
+        starts.push(count)?;
+        let Some(behind) = count.checked_add(count_of(located)) else {
+            return Err(AllocError);
+        };
+        count = behind;
+    }
+    Ok(starts)
+}
+
+// The last module whose symbols begin at a number or before it, and where they begin.
+fn begun_at(starts: &[usize], number: usize) -> Option<(usize, usize)>
+    ensures here { IfSome result (λ begun. slice_get starts.now begun.0 ≡ Some begun.1) }
+    ensures before { IfSome result (λ begun. begun.1 ≤ number) }
+{
+    let at = starts
+        .partition_point(|start| *start <= number)
+        .checked_sub(1)?;
+    let start = *starts.get(at)?;
+    if start <= number {
+        Some((at, start))
+    } else {
+        None
+    }
 }
 
 // The symbol of a module with a number.
@@ -46,10 +80,13 @@ impl<'p, 'm> Row<'p, 'm> {
     pub(crate) fn get(&self, number: usize) -> Option<Standing<'m>>
         ensures { option_map standing result ≡ slice_get (front self.now) number }
     {
-        if number < self.count {
-            standing(self.places, number)
-        } else {
-            None
+        if number >= self.count {
+            return None;
+        }
+        // The way from there is short; it is right from any module that begins before.
+        match begun_at(self.starts, number) {
+            Some((at, start)) => standing(&self.places[at..], number - start),
+            None => standing(self.places, number),
         }
     }
 }

@@ -18,7 +18,10 @@ invariant_of-self-then-not-branch c = record {
 }
 
 pub invariant_of-self-in-Some-address : goal.invariant_of-self-in-Some-address
-invariant_of-self-in-Some-address c =
+invariant_of-self-in-Some-address c = record { begun = c.args.self.now.row.begun }
+
+pub invariant_of-self-in-Some-address-2 : goal.invariant_of-self-in-Some-address-2
+invariant_of-self-in-Some-address-2 c =
     let e : Standing = record { name = c.args.name.now; address = c.args.address } in
     let free = none_found (number_in c.args.self.now.numbers (is_of (front c.args.self.now.row) e.name) e.name) (sym c.if-not-branch.false ∙ c.in_ok-add-in-Some-address.ensures.value) in
     record {
@@ -29,10 +32,10 @@ invariant_of-self-in-Some-address c =
 pub invariant_of-self-in-None : goal.invariant_of-self-in-None
 invariant_of-self-in-None c =
     let e : Standing = record { name = c.args.name.now; address = c.args.address } in
-    record {
-      entered = entered_free (standings c.args.self.now.row.places.now) c.args.self.now.row.count c.in-Some.count e c.args.self.now.numbers c.in-Some.ensures.1 c.requires (ap is_some c.in-None.is)
-          c.args.self.now.entered;
-    }
+    let entered =
+    entered_free (standings c.args.self.now.row.places.now) c.args.self.now.row.count c.in-Some.count e c.args.self.now.numbers c.in-Some.ensures.1 c.requires (ap is_some c.in-None.is)
+    c.args.self.now.entered in
+    ((c.args.self.now.row.begun, tt), (entered, tt))
 
 -- whether a symbol is added that has an address
 added_some : (address : Option ℕ) (a : ℕ) (there : Bool) → address ≡ Some a → not there ≡ not (is_some address && there)
