@@ -11,3 +11,5 @@ pub mod Steps
 pub mod Passing
 pub mod Judging
 pub mod Decided
+pub mod Stretches
+pub mod Alone

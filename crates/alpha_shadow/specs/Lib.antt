@@ -7,4 +7,6 @@ pub mod Held
 pub mod Window
 pub mod Place
 pub mod Fetched
+pub mod Quiet
+pub mod Words
 pub mod Report

@@ -1,5 +1,7 @@
 ghost use Rattle.std.specs.Prelude.{◌≡◌};
 
+use thiserror::Error;
+
 /// A condition of a trap shadow, C1 to C9 in this order (Architecture Handbook, arithmetic trap
 /// completion; the exact form is this project's own). At a place of the shadow:
 #[derive(Clone, Copy, Debug, PartialEq, Eq)]
@@ -46,7 +48,8 @@ impl Condition {
 }
 
 /// A broken place: the trigger's word number, the word number of the place, and the condition.
-#[derive(Clone, Copy, Debug, PartialEq, Eq)]
+#[derive(Clone, Copy, Debug, PartialEq, Eq, Error)]
+#[error("word {at} breaks C{} of the trigger at word {trigger}", .condition.number())]
 pub struct Broken {
     /// The word number of the trigger.
     pub trigger: u32,

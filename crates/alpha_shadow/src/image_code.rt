@@ -1,6 +1,7 @@
 ghost use Rattle.std.specs.Prelude.{◌≡◌, ◌+◌, ◌-◌, ◌<◌, ◌≤◌, ◌^◌, min, length, drop, Some, slice_get};
 
-use crate::Fetch;
+use crate::quiet::first_trigger;
+use crate::{Fetch, NextTrigger};
 use alpha_image::Image;
 use alpha_table::Insn;
 use std::marker::Model;
@@ -76,6 +77,21 @@ impl<'a> Fetch for ImageCode<'a> {
     fn insn(&mut self, place: u32) -> Insn {
         count(&mut self.fetches);
         insn_in(self.insns, place as usize)
+    }
+
+    #[inline(always)]
+    fn next_trigger(&mut self, from: u32) -> Option<NextTrigger> {
+        let place = first_trigger(self.insns, from as usize);
+        let quiet = place - from as usize;
+        self.fetches = self.fetches.saturating_add(quiet as u64);
+        if place == self.insns.len() {
+            return None;
+        }
+        count(&mut self.fetches);
+        Some(NextTrigger {
+            place: place as u32,
+            insn: insn_in(self.insns, place),
+        })
     }
 }
 

@@ -6,24 +6,27 @@
 //! - [`judge`] is the verdict on the instructions that a [`Fetch`] gives. It looks at each word once at
 //!   most, in their order, and takes no memory. A [`Checker`] gives one verdict after another, in the
 //!   same room. [`ImageCode`] is the code of an image, or the rest of it from a place on.
+//! - [`judge_words`] is the verdict on words, for who has neither an image nor a [`Fetch`] of his own, or a
+//!   [`Refusal`].
 //! - [`write_broken`] writes the line of a broken place, [`line_of_broken`] has it, and [`place_address`] is the
 //!   address of a place.
 //! - [`laws_of_verdicts`] says that each condition is decided, and that every list of words is
 //!   accepted or has a least broken place.
 //!
-//! `specs/Code.antt` reads the columns of the code by place, `specs/Broken.antt` says when a place is
-//! broken and which code is accepted, `specs/Least.antt` which broken place is the least. The body is `verdict.rt` (the
-//! walk over the words) over `place.rt` (the least broken place at one word, condition by condition),
-//! `window.rt` (what is known of the words before a place, whose meaning is `specs/Window.antt`),
-//! `triggers.rt` and `loads.rt` (the open triggers, and the loads after the first of them), `last.rt`
-//! (the last place of each register) and `columns.rt` (what is read of one word). `broken.rt` has what a
-//! verdict names, `fetch.rt` and `image_code.rt` where the words come from, and `report.rt` the line.
+//! `specs/Code.antt` reads the columns of the code by place, `specs/Broken.antt` says when a place is broken and which
+//! code is accepted, `specs/Least.antt` which broken place is the least. The body is `verdict.rt` (the walk over the
+//! words, which `quiet.rt` brings to the next trigger where no shadow is open) over `place.rt` (the least broken place
+//! at one word, condition by condition), `window.rt` (what is known of the words before a place, whose meaning is
+//! `specs/Window.antt`), `triggers.rt` and `loads.rt` (the open triggers, and the loads after the first of them),
+//! `last.rt` (the last place of each register) and `columns.rt` (what is read of one word). `broken.rt` has what a
+//! verdict names, `fetch.rt` and `image_code.rt` where the words come from, `words.rt` the verdict on a slice of them,
+//! and `report.rt` the line.
 //!
-//! `proofs/Shadows.antt`, `OpenLoads.antt` and `Ends.antt` follow the open triggers, the open loads and the
-//! registers' places word by word; `Places.antt` ties each condition to them, `Steps.antt` joins the
-//! conditions, `Passing.antt` and `Judging.antt` make the walk, and `Decided.antt` has the laws.
-//! `Covers.antt` has what a cover of loads covers. `Tables.antt` alone looks into the instruction table,
-//! and `Barriers.antt` has what a barrier leaves.
+//! `proofs/Shadows.antt`, `OpenLoads.antt` and `Ends.antt` follow the open triggers, the open loads and the registers'
+//! places word by word; `Places.antt` ties each condition to them, `Steps.antt` joins the conditions, `Passing.antt`
+//! and `Judging.antt` make the walk, and `Decided.antt` has the laws. `Stretches.antt` goes over the words where no
+//! shadow is open, and `Alone.antt` has a trigger there. `Covers.antt` has what a cover of loads covers. `Tables.antt`
+//! alone looks into the instruction table, and `Barriers.antt` has what a barrier leaves.
 #![tactic(auto)]
 
 mod broken;
@@ -34,14 +37,17 @@ mod last;
 mod laws;
 mod loads;
 mod place;
+mod quiet;
 mod report;
 mod triggers;
 mod verdict;
 mod window;
+mod words;
 
 pub use broken::{Broken, Condition};
-pub use fetch::Fetch;
+pub use fetch::{Fetch, NextTrigger};
 pub use image_code::ImageCode;
 pub use laws::laws_of_verdicts;
 pub use report::{line_of_broken, place_address, write_broken};
 pub use verdict::{Checker, judge};
+pub use words::{Refusal, judge_words};

@@ -1,9 +1,9 @@
-ghost use Rattle.std.specs.Prelude.{◌≡◌, ◌≢◌, ◌<◌, ◌+◌, ◌⊎◌, ℕ, List, Some, length};
+ghost use Rattle.std.specs.Prelude.{◌≡◌, ◌≢◌, ◌<◌, ◌+◌, ◌⊎◌, ℕ, List, [], Some, length};
 ghost use Rattle.alpha_table.specs.declared.columns.InsnKind.TheVariants as kinds;
 ghost use Rattle.alpha_shadow.specs.Code.{kind_at};
 ghost use Rattle.alpha_shadow.specs.Columns.{HasColumns};
 ghost use Rattle.alpha_shadow.specs.Least.{condition_number};
-ghost use Rattle.alpha_shadow.specs.Window.{Summarizes, IsUnbroken};
+ghost use Rattle.alpha_shadow.specs.Window.{Summarizes, IsUnbroken, open_triggers};
 ghost use Rattle.alpha_shadow.specs.Place.{IsFirstBroken, IsLeastUpTo};
 
 use crate::columns::Columns;
@@ -18,6 +18,7 @@ const LONGEST: u64 = 1024;
 
 /// The least broken place at the next word, where nothing before it is broken: the least trigger,
 /// and then the least condition.
+#[inline(always)]
 pub(crate) fn broken_at(window: &Window, at: u32, word: &Columns) -> Option<Broken>
     ensures { (code : List ℕ) → Summarizes code window.now at → IsUnbroken code at
         → HasColumns code at word.now → IsLeastUpTo code at 9 result }
@@ -30,6 +31,22 @@ pub(crate) fn broken_at(window: &Window, at: u32, word: &Columns) -> Option<Brok
         InsnKind::Load | InsnKind::Store | InsnKind::Locked => broken_by_access(window, at, word),
     };
     lesser(found, at, Condition::Long, long(window, at))
+}
+
+/// The least broken place at a trigger, where no shadow is open: it may break its own alone.
+#[inline(always)]
+pub(crate) fn broken_alone(at: u32, word: &Columns) -> Option<Broken>
+    requires { word.now.kind ≡ kinds.Trigger }
+    ensures { (code : List ℕ) → open_triggers code at ≡ [] → HasColumns code at word.now
+        → IsLeastUpTo code at 9 result }
+{
+    let found = lesser(
+        None,
+        at,
+        Condition::ZeroDestination,
+        zero_destination(at, word),
+    );
+    lesser(found, at, Condition::SourceLost, lost_at_once(at, word))
 }
 
 // The least broken place at a trigger, but for C9.
@@ -141,6 +158,16 @@ fn zero_destination(at: u32, word: &Columns) -> Option<u32>
     } else {
         None
     }
+}
+
+// Where no shadow is open, a trigger loses a source only by setting it.
+fn lost_at_once(at: u32, word: &Columns) -> Option<u32>
+    requires { word.now.kind ≡ kinds.Trigger }
+    ensures { (code : List ℕ) → open_triggers code at ≡ [] → HasColumns code at word.now
+        → IsFirstBroken code at Condition.SourceLost result }
+{
+    let r = word.sets?;
+    if word.uses.has(r) { Some(at) } else { None }
 }
 
 // A register that the word sets is lost for the triggers after the last word that set it, and not

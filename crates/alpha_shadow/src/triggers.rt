@@ -1,4 +1,4 @@
-ghost use Rattle.std.specs.Prelude.{◌≡◌, ◌<◌, ◌++◌, ◌∷◌, ◌==◌, [], length};
+ghost use Rattle.std.specs.Prelude.{◌≡◌, ◌<◌, ◌++◌, ◌∷◌, [], length};
 
 use alpha_words::Reg;
 use std::marker::Model;
@@ -53,13 +53,6 @@ impl Triggers {
         ensures { result.now ≡ self.now.items }
     {
         &self.held[..self.len]
-    }
-
-    /// Whether there is none.
-    pub(crate) fn is_empty(&self) -> bool
-        ensures { result ≡ (length self.now.items == 0) }
-    {
-        self.len == 0
     }
 
     /// Adds one behind the others.

@@ -1,12 +1,16 @@
-ghost use Rattle.std.specs.Prelude.{◌≡◌, ◌≤◌, ◌+◌, length, OnOk, IfErr};
+ghost use Rattle.std.specs.Prelude.{◌≡◌, ◌≤◌, ◌<◌, ◌+◌, ◌-◌, ◌^◌, ℕ, List, [], length, OnOk, IfErr, IfNone};
+ghost use Rattle.alpha_table.specs.declared.columns.InsnKind.TheVariants as kinds;
+ghost use Rattle.alpha_table.specs.Columns.{kind_of};
 ghost use Rattle.alpha_shadow.specs.Broken.{IsAccepted};
 ghost use Rattle.alpha_shadow.specs.Least.{IsLeastBroken};
-ghost use Rattle.alpha_shadow.specs.Window.{Summarizes};
+ghost use Rattle.alpha_shadow.specs.Place.{IsLeastUpTo};
+ghost use Rattle.alpha_shadow.specs.Quiet.{IsInsnAt};
+ghost use Rattle.alpha_shadow.specs.Window.{Summarizes, IsUnbroken};
 
 use crate::columns::Columns;
-use crate::place::broken_at;
+use crate::place::{broken_alone, broken_at};
 use crate::window::Window;
-use crate::{Broken, Condition, Fetch};
+use crate::{Broken, Condition, Fetch, NextTrigger};
 use alpha_table::InsnKind;
 
 /// The verdict on the code, which may survive late traps even where it is refused: `Ok` exactly
@@ -61,20 +65,28 @@ fn judge_by<F: Fetch>(window: &mut Window, code: &mut F) -> Result<(), Broken>
     ensures fetches { F.fetches code.new ≤ F.fetches code.old + length (F.code code.old) }
 {
     let words = code.words();
-    for at in 0..words {
-        let insn = code.insn(at);
-        if window.is_quiet(&insn) {
-            continue;
-        }
-        let columns = Columns::of(insn);
-        if columns.kind == InsnKind::Barrier {
-            window.close();
-            continue;
-        }
-        if let Some(broken) = broken_at(window, at, &columns) {
+    let mut at = 0;
+    // No shadow is open at `at`.
+    'quiet: loop {
+        let Some(next) = code.next_trigger(at) else {
+            return Ok(());
+        };
+        if let Some(broken) = begun(window, &next) {
             return Err(broken);
         }
-        window.pass(at, &columns);
+        for place in next.place + 1..words {
+            let columns = Columns::of(code.insn(place));
+            if columns.kind == InsnKind::Barrier {
+                window.close();
+                at = place + 1;
+                continue 'quiet;
+            }
+            if let Some(broken) = broken_at(window, place, &columns) {
+                return Err(broken);
+            }
+            window.pass(place, &columns);
+        }
+        break;
     }
     match window.first() {
         None => Ok(()),
@@ -84,4 +96,25 @@ fn judge_by<F: Fetch>(window: &mut Window, code: &mut F) -> Result<(), Broken>
             condition: Condition::Open,
         }),
     }
+}
+
+// Opens the shadow of a trigger, where none is open, unless the trigger itself breaks it.
+#[inline(always)]
+fn begun(window: &mut Window, next: &NextTrigger) -> Option<Broken>
+    requires none { window.old.triggers.items ≡ [] }
+    requires bound { next.now.place < 2 ^ 32 - 1 }
+    requires trigger { kind_of next.now.insn ≡ kinds.Trigger }
+    ensures found { (code : List ℕ) → Summarizes code window.old next.now.place
+        → IsUnbroken code next.now.place → IsInsnAt code next.now.place next.now.insn
+        → IsLeastUpTo code next.now.place 9 result }
+    ensures none { IfNone result ((code : List ℕ) → Summarizes code window.old next.now.place
+        → IsInsnAt code next.now.place next.now.insn
+        → Summarizes code window.new (next.now.place + 1)) }
+{
+    let columns = Columns::of_trigger(next.insn);
+    let broken = broken_alone(next.place, &columns);
+    if broken.is_none() {
+        window.pass(next.place, &columns);
+    }
+    broken
 }

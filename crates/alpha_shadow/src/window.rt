@@ -8,11 +8,11 @@ ghost use Rattle.alpha_shadow.specs.Columns.{HasColumns};
 ghost use Rattle.alpha_shadow.specs.Window.{Summarizes, HasRoom, Notes, place_of, stands_within};
 ghost use Rattle.alpha_shadow.specs.Reach.{MayTouch};
 
-use crate::columns::{Columns, is_trigger};
+use crate::columns::Columns;
 use crate::last::LastPlaces;
 use crate::loads::{Loads, Reach};
 use crate::triggers::{Trigger, Triggers};
-use alpha_table::{Insn, InsnKind};
+use alpha_table::InsnKind;
 use alpha_words::Reg;
 
 /// What is known of the words before a place: the triggers whose shadows reach it, in order, the
@@ -105,15 +105,6 @@ impl Window {
         }
     }
 
-    /// Whether no shadow has a word of this instruction: none reaches its place, and it begins none.
-    #[inline(always)]
-    pub(crate) fn is_quiet(&self, insn: &Insn) -> bool
-        ensures { IsTrue result
-            ↔ ((self.now.triggers.items ≡ []) × (kind_of insn.now ≢ kinds.Trigger)) }
-    {
-        self.triggers.is_empty() && !is_trigger(insn)
-    }
-
     /// Ends every shadow.
     pub(crate) fn close(&mut self)
         ensures triggers { self.new.triggers.items ≡ [] }
@@ -126,6 +117,7 @@ impl Window {
     }
 
     /// Goes on behind the next word, which breaks no shadow.
+    #[inline(always)]
     pub(crate) fn pass(&mut self, place: u32, columns: &Columns)
         requires bound { place < 2 ^ 32 - 1 }
         requires room { HasRoom self.old columns.now.kind }
