@@ -2,6 +2,8 @@ pub mod Counts
 pub mod FileMaps
 pub mod Fronts
 pub mod NewFiles
+pub mod Pieces
+pub mod Puts
 pub mod ReadAnswers
 pub mod Shelved
 pub mod Sinks

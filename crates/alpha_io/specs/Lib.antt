@@ -1,5 +1,7 @@
 pub mod Faults
 pub mod Files
+pub mod Heard
+pub mod History
 pub mod Keeping
 pub mod Line
 pub mod ReadWhole

@@ -1,7 +1,8 @@
--- What a call did to a shelf: what it tells and its count of faults, before the call and after it.
+-- What a call did to a shelf: what it tells, its count of faults and what its calls answered, before the call and after it.
 use Rattle.std.specs.Prelude.{◌≡◌, ℕ, ◌≤◌, List, Bool}
 use Rattle.alpha_io.specs.declared.shelf.Shelf.{Ghosts}
 use Rattle.alpha_io.specs.Files.{Files, KeepsFiles}
+use Rattle.alpha_io.specs.History.{Reply}
 
 pub record Shelved : Type 0 where
   pub old : Files
@@ -10,8 +11,10 @@ pub record Shelved : Type 0 where
   pub takes : List ℕ → ℕ → Bool
   pub before : ℕ
   pub now : ℕ
+  pub past : List Reply
+  pub history : List Reply
 
--- by the ghosts of the shelf's type, `Shelf.files`, `Shelf.takes` and `Shelf.faults`
+-- by the ghosts of the shelf's type, `Shelf.files`, `Shelf.takes`, `Shelf.faults` and `Shelf.replies`
 abbrev pub shelved : {H : Type 0} → Ghosts H → H → H → Shelved
 shelved g old new = record {
   old = g.files old;
@@ -20,6 +23,8 @@ shelved g old new = record {
   takes = g.takes new;
   before = g.faults old;
   now = g.faults new;
+  past = g.replies old;
+  history = g.replies new;
 }
 
 -- no file was kept: told files and what the shelf takes stay, and the count of faults doesn't fall. It stays where the fact holds.

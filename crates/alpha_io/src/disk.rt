@@ -1,8 +1,10 @@
 ghost use Rattle.std.specs.Prelude.{◌≡◌};
 ghost use Rattle.std.specs.Io.{ReadsAtMost};
+ghost use Rattle.alpha_io.specs.Heard.{heard_nothing};
 
 use crate::again::read_again;
 use crate::fault::counted;
+use crate::history::History;
 use crate::keep::Keep;
 use crate::{Failed, Shelf};
 use std::io::{Seek, SeekFrom};
@@ -27,6 +29,7 @@ pub struct DiskShelf<R: Files + RandomSource + AllocGlobal> {
     spares_streams: bool,
     begun: Option<Begun<R::File>>,
     faults: u64,
+    history: History,
 }
 
 // A file that is open, how far it was read, and its name, unless no memory was left for it.
@@ -38,37 +41,44 @@ struct Begun<F> {
 }
 
 impl<R: Files + RandomSource + AllocGlobal> Model for DiskShelf<R> {
-    ghost use Rattle.std.specs.Prelude.{ℕ};
+    ghost use Rattle.alpha_io.specs.Heard.{Heard, heard_code};
 
-    ghost Value = { ℕ };
+    ghost Value = { Heard };
 
-    ghost view = { λ s. s.faults };
+    ghost coded = { heard_code };
+
+    ghost view = { λ s. record {
+      replies = s.history.replies;
+      faults = s.faults;
+    } };
 }
 
 impl<R: Files + RandomSource + AllocGlobal> DiskShelf<R> {
     /// The shelf of the runtime's file system, without a fault so far. A program's `main`, which is
     /// given `rt: HostRuntime`, makes it by `DiskShelf::new(&rt)`.
     pub fn new(files: R) -> DiskShelf<R>
-        ensures { result ≡ 0 }
+        ensures { result ≡ heard_nothing }
     {
         DiskShelf {
             files,
             spares_streams: false,
             begun: None,
             faults: 0,
+            history: History::new(),
         }
     }
 
     /// The same for a program that writes to its streams around a keep. It refuses to write a file or a pipe in place
     /// that standard output or standard error goes to, since neither would have its bytes whole.
     pub fn sparing_streams(files: R) -> DiskShelf<R>
-        ensures { result ≡ 0 }
+        ensures { result ≡ heard_nothing }
     {
         DiskShelf {
             files,
             spares_streams: true,
             begun: None,
             faults: 0,
+            history: History::new(),
         }
     }
 
@@ -112,11 +122,19 @@ impl<R: Files + RandomSource + AllocGlobal> Shelf for DiskShelf<R> {
 
     ghost takes = { λ _ _ _. true };
 
-    ghost faults = { λ s. s };
+    ghost replies = { λ s. s.replies };
+
+    ghost faults = { λ s. s.faults };
 
     fn piece(&mut self, name: &str, at: u64, buf: &mut [u8]) -> Result<usize, Failed> {
-        let answer = self.read_at(name, at, buf);
-        counted(answer, &mut self.faults)
+        let answer = counted(self.read_at(name, at, buf), &mut self.faults);
+        match answer {
+            Ok(count) => self
+                .history
+                .note(&[0, at, 1], name.as_bytes(), &buf[..count]),
+            Err(_) => self.history.note(&[0, at, 0], name.as_bytes(), &[]),
+        }
+        answer
     }
 
     fn keep(&mut self, name: &str, bytes: &[u8]) -> Result<(), Failed> {
@@ -127,6 +145,11 @@ impl<R: Files + RandomSource + AllocGlobal> Shelf for DiskShelf<R> {
             bytes,
             spares_streams: self.spares_streams,
         };
-        counted(keep.run(), &mut self.faults)
+        let answer = counted(keep.run(), &mut self.faults);
+        match answer {
+            Ok(()) => self.history.note(&[1, 0, 1], name.as_bytes(), bytes),
+            Err(_) => self.history.note(&[1, 0, 0], name.as_bytes(), bytes),
+        }
+        answer
     }
 }

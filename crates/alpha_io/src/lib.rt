@@ -33,6 +33,7 @@ mod again;
 mod beside;
 mod disk;
 mod fault;
+mod history;
 mod keep;
 mod laws;
 mod line;
@@ -46,6 +47,7 @@ mod source;
 mod stream;
 
 pub use disk::DiskShelf;
+pub use history::History;
 pub use laws::{laws_of_counts, laws_of_files, laws_of_prefixes, laws_of_reading, laws_of_sinks};
 pub use line::{LINE_ROOM, Line};
 pub use memory::shelf::MemoryShelf;

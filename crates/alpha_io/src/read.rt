@@ -1,5 +1,6 @@
-ghost use Rattle.std.specs.Prelude.{◌≡◌, ◌^◌, ◌<◌, ◌≤◌, ◌++◌, ◌+◌, take, length, vec_len, IfOk};
+ghost use Rattle.std.specs.Prelude.{◌≡◌, ◌^◌, ◌<◌, ◌≤◌, ◌++◌, ◌+◌, ◌∷◌, [], Some, take, length, vec_len, IfOk};
 ghost use Rattle.std.specs.Io.{ReadsAtMost};
+ghost use Rattle.alpha_io.specs.History.{Piece, IsReadWhole};
 ghost use Rattle.alpha_io.specs.Files.{Lacks, KeepsFiles, IfTold, IsPiece};
 ghost use Rattle.alpha_io.specs.ReadWhole.{ReadCause, PieceCause};
 ghost use Rattle.alpha_io.specs.declared.read.ReadFault.TheVariants.{Shelf, NoMemory};
@@ -54,6 +55,8 @@ pub fn read_whole<H: Shelf>(
     limit: u64,
 ) -> Result<Vec<u8>, ReadFault>
     requires { limit < 2 ^ 32 }
+    ensures read { IfOk result (λ v.
+        IsReadWhole (H.replies shelf.old) (H.replies shelf.new) name.now v.items) }
     ensures cause { ReadCause (H.files shelf.old) name.now limit
         (H.faults shelf.old) (H.faults shelf.new) result }
     ensures later { H.faults shelf.old ≤ H.faults shelf.new }
@@ -89,6 +92,8 @@ fn append_piece<H: Shelf>(
     ensures len { IfOk result (λ n.
         (vec_len bytes.new ≡ vec_len bytes.old + n) × (n ≤ length buffer.old)) }
     ensures items { IfOk result (λ n. bytes.new.items ≡ bytes.old.items ++ take n buffer.new) }
+    ensures replies { IfOk result (λ n. H.replies shelf.new ≡ H.replies shelf.old
+        ++ Piece name.now (length bytes.old.items) (Some (take n buffer.new)) ∷ []) }
     ensures piece { IfOk result (λ n. IfTold (H.files shelf.old) name.now
         (λ file. IsPiece file (length bytes.old.items) n buffer.new)) }
     ensures files { KeepsFiles (H.files shelf.old) (H.files shelf.new) }

@@ -1,5 +1,6 @@
-ghost use Rattle.std.specs.Prelude.{◌≡◌, ℕ, ◌<◌, List, length, Bool, Option, IfOk, OnOk};
+ghost use Rattle.std.specs.Prelude.{◌≡◌, ℕ, ◌<◌, List, [], ◌∷◌, ◌++◌, length, Bool, Option, IfOk, OnOk};
 ghost use Rattle.std.specs.Io.{ReadsAtMost};
+ghost use Rattle.alpha_io.specs.History.{Reply, piece_reply, keep_reply};
 ghost use Rattle.alpha_io.specs.Faults.{HasCauseOr};
 ghost use Rattle.alpha_io.specs.Files.{IfTold, HasFile, Lacks, Refuses, KeepsFiles, KeepsOtherFiles, IsPiece};
 
@@ -12,6 +13,9 @@ pub trait Shelf {
 
     /// Whether a file of so many bytes may be kept under a name. It counts where files are told.
     ghost takes: { Self → List ℕ → ℕ → Bool };
+
+    /// What its calls answered so far.
+    ghost replies: { Self → List Reply };
 
     /// How often the shelf has failed, at most the last value of a `u64`.
     ghost faults: { Self → ℕ };
@@ -26,6 +30,8 @@ pub trait Shelf {
             IfTold (files self.old) name.now (λ file. IsPiece file at n buf.new)) }
         ensures files { KeepsFiles (files self.old) (files self.new) }
         ensures takes { takes self.new ≡ takes self.old }
+        ensures replies { replies self.new
+            ≡ replies self.old ++ piece_reply name.now at result buf.new ∷ [] }
         ensures cause { HasCauseOr (Lacks (files self.old) name.now)
             (faults self.old) (faults self.new) result };
 
@@ -37,6 +43,8 @@ pub trait Shelf {
         ensures refused { Refuses (files self.old) (takes self.old name.now (length bytes.now)) →
             KeepsFiles (files self.old) (files self.new) }
         ensures takes { takes self.new ≡ takes self.old }
+        ensures replies { replies self.new
+            ≡ replies self.old ++ keep_reply name.now bytes.now result ∷ [] }
         ensures cause { HasCauseOr
             (Refuses (files self.old) (takes self.old name.now (length bytes.now)))
             (faults self.old) (faults self.new) result };

@@ -1,7 +1,9 @@
 ghost use Rattle.std.specs.Prelude.{◌≡◌};
+ghost use Rattle.alpha_io.specs.Heard.{heard_nothing};
 
 use crate::again::{read_again, write_again};
 use crate::fault::{counted, next_count};
+use crate::history::History;
 use crate::{Failed, Sink, Source};
 use std::io::{Read, Write};
 use std::marker::Model;
@@ -44,41 +46,55 @@ impl<R: Read> Source for ReadSource<R> {
     }
 }
 
-/// A real writer as a sink, which tells nothing. Each error, and each write of nothing, counts one
-/// fault. A clause sees the count of faults.
+/// A real writer as a sink, which tells the bytes that it took. Each error, and each write of nothing,
+/// counts one fault. A clause sees what its calls answered, and the count of faults.
 #[derive(Drop)]
 pub struct WriteSink<W: Write> {
     writer: W,
     faults: u64,
+    history: History,
 }
 
 impl<W: Write> Model for WriteSink<W> {
-    ghost use Rattle.std.specs.Prelude.{ℕ};
+    ghost use Rattle.alpha_io.specs.Heard.{Heard, heard_code};
 
-    ghost Value = { ℕ };
+    ghost Value = { Heard };
 
-    ghost view = { λ s. s.faults };
+    ghost coded = { heard_code };
+
+    ghost view = { λ s. record {
+      replies = s.history.replies;
+      faults = s.faults;
+    } };
 }
 
 impl<W: Write> WriteSink<W> {
     /// A sink over the writer, without a fault so far.
     pub fn new(writer: W) -> WriteSink<W>
-        ensures { result ≡ 0 }
+        ensures { result ≡ heard_nothing }
     {
-        WriteSink { writer, faults: 0 }
+        WriteSink {
+            writer,
+            faults: 0,
+            history: History::new(),
+        }
     }
 }
 
 impl<W: Write> Sink for WriteSink<W> {
-    ghost use Rattle.std.specs.Prelude.{None};
+    ghost use Rattle.std.specs.Prelude.{Some};
+    ghost use Rattle.alpha_io.specs.History.{all_put};
 
-    ghost written = { λ _. None };
+    ghost written = { λ s. Some (all_put s.replies) };
 
-    ghost faults = { λ s. s };
+    ghost faults = { λ s. s.faults };
 
     fn put(&mut self, bytes: &[u8]) -> Result<usize, Failed> {
         match write_again(&mut self.writer, bytes) {
-            Ok(count) if count > 0 => Ok(count),
+            Ok(count) if count > 0 => {
+                self.history.note(&[2, 0, 1], &[], &bytes[..count]);
+                Ok(count)
+            }
             _ => {
                 self.faults = next_count(self.faults);
                 Err(Failed)

@@ -1,12 +1,14 @@
-ghost use Rattle.std.specs.Prelude.{◌≡◌, ◌≢◌, ◌⊎◌, ◌↔◌, ◌-◌, ◌<◌, ℕ, List, length, min, Some, None, IfOk, OnOk, OnErr, IsErr, IsSomeAnd, MatchOption, Contains, option_copied};
+ghost use Rattle.std.specs.Prelude.{◌≡◌, ◌≢◌, ◌⊎◌, ◌↔◌, ◌-◌, ◌<◌, ℕ, List, length, min, Some, None, IfOk, OnOk, OnErr, IsErr, IsSomeAnd, MatchOption, Contains, option_copied, false};
 ghost use Rattle.std.specs.Io.{ReadsAtMost};
 ghost use Rattle.std.specs.FinMap as map;
+ghost use Rattle.alpha_io.specs.History.{Kept, piece_reply};
 ghost use Rattle.alpha_io.specs.Faults.{HasCause, HasCauseOr};
 ghost use Rattle.alpha_io.specs.Files.{IsPiece};
 ghost use Rattle.alpha_io.specs.ShelfState.{file_map, shelf_started, shelf_with, shelf_counted, shelf_failed, shelf_kept};
 
 use super::{copy_piece, is_listed};
 use crate::fault::next_count;
+use crate::history::History;
 use crate::{Failed, Shelf};
 use alpha_words::NoMemory;
 use std::alloc::Global;
@@ -23,6 +25,7 @@ pub struct MemoryShelf {
     failing: Vec<u64>,
     calls: u64,
     faults: u64,
+    history: History,
 }
 
 impl Model for MemoryShelf {
@@ -37,6 +40,7 @@ impl Model for MemoryShelf {
       failing = s.failing.items;
       calls = s.calls;
       faults = s.faults;
+      replies = s.history.replies;
     } };
 }
 
@@ -52,6 +56,7 @@ impl MemoryShelf {
             failing,
             calls: 0,
             faults: 0,
+            history: History::new(),
         }
     }
 
@@ -75,6 +80,8 @@ impl Shelf for MemoryShelf {
 
     ghost takes = { λ _ _ _. true };
 
+    ghost replies = { λ s. s.replies };
+
     ghost faults = { λ s. s.faults };
 
     /// It fails exactly where the file isn't there or the call is listed.
@@ -87,9 +94,11 @@ impl Shelf for MemoryShelf {
             (λ file. n ≡ min (length buf.old) (length file - at))) }
         ensures bytes { IfOk result (λ n. IsSomeAnd (map.get self.old.files name.now)
             (λ file. IsPiece file at n buf.new)) }
-        ensures given { OnOk result (self.new ≡ shelf_counted self.old) }
+        ensures given { OnOk result (self.new
+            ≡ shelf_counted self.old (piece_reply name.now at result buf.new)) }
         ensures failed { OnErr result (MatchOption (map.get self.old.files name.now)
-            (self.new ≡ shelf_counted self.old) (λ _. self.new ≡ shelf_failed self.old)) }
+            (self.new ≡ shelf_counted self.old (piece_reply name.now at result buf.new))
+            (λ _. self.new ≡ shelf_failed self.old (piece_reply name.now at result buf.new))) }
         ensures files { self.new.files ≡ self.old.files }
         ensures cause { HasCauseOr (map.get self.old.files name.now ≡ None)
             self.old.faults self.new.faults result }
@@ -97,20 +106,25 @@ impl Shelf for MemoryShelf {
         let number = self.calls;
         self.calls = next_count(number);
         let Some(file) = find_file(&self.files, name) else {
+            self.history.note(&[0, at, 0], name.as_bytes(), &[]);
             return Err(Failed);
         };
         if is_listed(&self.failing, number) {
             self.faults = next_count(self.faults);
+            self.history.note(&[0, at, 0], name.as_bytes(), &[]);
             return Err(Failed);
         }
-        Ok(copy_piece(file, at, buf))
+        let count = copy_piece(file, at, buf);
+        self.history
+            .note(&[0, at, 1], name.as_bytes(), &buf[..count]);
+        Ok(count)
     }
 
     /// It fails where the call is listed, or for want of memory, which is a fault too.
     fn keep(&mut self, name: &str, bytes: &[u8]) -> Result<(), Failed>
         ensures listed { Contains self.old.failing self.old.calls → IsErr result }
         ensures stored { OnOk result (self.new ≡ shelf_kept self.old name.now bytes.now) }
-        ensures failed { OnErr result (self.new ≡ shelf_failed self.old) }
+        ensures failed { OnErr result (self.new ≡ shelf_failed self.old (Kept name.now bytes.now false)) }
         ensures ok { OnOk result (map.get self.new.files name.now ≡ Some bytes.now) }
         ensures others { (other : List ℕ) → other ≢ name.now →
             map.get self.new.files other ≡ map.get self.old.files other }
@@ -122,8 +136,10 @@ impl Shelf for MemoryShelf {
             || store(self.alloc, &mut self.files, name, bytes).is_err()
         {
             self.faults = next_count(self.faults);
+            self.history.note(&[1, 0, 0], name.as_bytes(), bytes);
             return Err(Failed);
         }
+        self.history.note(&[1, 0, 1], name.as_bytes(), bytes);
         Ok(())
     }
 }

@@ -1,9 +1,11 @@
 ghost use Rattle.std.specs.Prelude.{◌≡◌, ◌≢◌, ◌↔◌, ◌-◌, ◌<◌, ◌≤◌, ℕ, List, length, min, true, false, Some, None, IfOk, OnOk, OnErr, IsErr, IsSomeAnd, string_bytes, option_copied};
 ghost use Rattle.std.specs.Io.{ReadsAtMost};
+ghost use Rattle.alpha_io.specs.History.{Kept, piece_reply};
 ghost use Rattle.alpha_io.specs.Files.{IsPiece};
-ghost use Rattle.alpha_io.specs.SureShelfState.{sure_started, sure_file, sure_takes};
+ghost use Rattle.alpha_io.specs.SureShelfState.{sure_started, sure_file, sure_takes, sure_answered};
 
 use super::copy_piece;
+use crate::history::History;
 use crate::{Failed, Shelf};
 use alpha_words::NoMemory;
 use std::alloc::Global;
@@ -19,13 +21,16 @@ pub struct SureShelf {
     room: usize,
     is_kept: bool,
     kept: Vec<u8>,
+    history: History,
 }
 
 impl Model for SureShelf {
     ghost use Rattle.std.specs.Prelude.{◌≤◌, ◌≢◌, vec_capacity, string_bytes, if◌then◌else◌, Some, None};
-    ghost use Rattle.alpha_io.specs.SureShelfState.{SureShelfState};
+    ghost use Rattle.alpha_io.specs.SureShelfState.{SureShelfState, sure_code};
 
     ghost Value = { SureShelfState };
+
+    ghost coded = { sure_code };
 
     ghost view = { λ s. record {
       name = string_bytes s.name;
@@ -33,6 +38,7 @@ impl Model for SureShelf {
       out = string_bytes s.out;
       room = s.room;
       kept = if s.is_kept then Some s.kept.items else None;
+      replies = s.history.replies;
     } };
 
     ghost invariant = { λ s. (s.room ≤ vec_capacity s.kept)
@@ -64,6 +70,7 @@ impl SureShelf {
             room,
             is_kept: false,
             kept,
+            history: History::new(),
         })
     }
 
@@ -89,6 +96,8 @@ impl Shelf for SureShelf {
 
     ghost takes = { sure_takes };
 
+    ghost replies = { λ s. s.replies };
+
     ghost faults = { λ _. 0 };
 
     /// It fails exactly where the file isn't there.
@@ -100,29 +109,40 @@ impl Shelf for SureShelf {
             (λ file. n ≡ min (length buf.old) (length file - at))) }
         ensures bytes { IfOk result (λ n. IsSomeAnd (sure_file self.old name.now)
             (λ file. IsPiece file at n buf.new)) }
-        ensures same { self.new ≡ self.old }
+        ensures same { self.new ≡ sure_answered self.old (piece_reply name.now at result buf.new) }
     {
         match self.find_file(name) {
-            Some(file) => Ok(copy_piece(file, at, buf)),
-            None => Err(Failed),
+            Some(file) => {
+                let count = copy_piece(file, at, buf);
+                self.history
+                    .note(&[0, at, 1], name.as_bytes(), &buf[..count]);
+                Ok(count)
+            }
+            None => {
+                self.history.note(&[0, at, 0], name.as_bytes(), &[]);
+                Err(Failed)
+            }
         }
     }
 
     /// It fails exactly where the shelf doesn't take so many bytes under this name.
     fn keep(&mut self, name: &str, bytes: &[u8]) -> Result<(), Failed>
         ensures fails { IsErr result ↔ (sure_takes self.old name.now (length bytes.now) ≡ false) }
-        ensures stored { OnOk result (self.new ≡ record self.old { kept = Some bytes.now }) }
-        ensures refused { OnErr result (self.new ≡ self.old) }
+        ensures stored { OnOk result (self.new
+            ≡ sure_answered (record self.old { kept = Some bytes.now }) (Kept name.now bytes.now true)) }
+        ensures refused { OnErr result (self.new ≡ sure_answered self.old (Kept name.now bytes.now false)) }
         ensures ok { OnOk result (sure_file self.new name.now ≡ Some bytes.now) }
         ensures others { (other : List ℕ) → other ≢ name.now →
             sure_file self.new other ≡ sure_file self.old other }
     {
         if name != self.out.as_str() || bytes.len() > self.room {
+            self.history.note(&[1, 0, 0], name.as_bytes(), bytes);
             return Err(Failed);
         }
         self.kept.clear();
         self.kept.extend_from_slice(bytes).unwrap();
         self.is_kept = true;
+        self.history.note(&[1, 0, 1], name.as_bytes(), bytes);
         Ok(())
     }
 }

@@ -1,10 +1,12 @@
 use Rattle.std.proofs.Common.{◌≡◌, ◌≤◌, ◌-◌, vec_len}
 use Rattle.alpha_io.specs.Files.{KeepsFiles}
+use Rattle.alpha_io.proofs.Pieces.{IsReadTo}
 use Rattle.alpha_io.proofs.Fronts.{IsFront}
 use Rattle.alpha_io.proofs.read.read_whole.Given as goal
 
 abbrev pub invariant-loop-buffer : goal.invariant-loop-buffer
 invariant-loop-buffer g l = record {
+  so : IsReadTo (g.H.Shelf.replies l.initial.shelf) (g.H.Shelf.replies l.shelf) l.name l.bytes.items;
   front : IsFront (g.H.Shelf.files l.initial.shelf) l.name l.bytes.items;
   room : vec_len l.bytes ≤ l.most;
   files : KeepsFiles (g.H.Shelf.files l.initial.shelf) (g.H.Shelf.files l.shelf);

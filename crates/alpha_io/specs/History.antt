@@ -1,0 +1,74 @@
+-- What the calls of a device answered. It exists in proofs alone.
+use Rattle.std.specs.Prelude.{◌≡◌, ℕ, zero, suc, ◌+◌, ◌==◌, Bool, true, false, List, [], ◌∷◌, ◌++◌, length, take, slice_index, Option, None, Some, if◌then◌else◌, Result, Ok, Err, refl}
+use Rattle.std.specs.List.{concat}
+use Rattle.std.specs.Coded.{Coded, code_by, coded×, coded_ℕ, coded_list, coded_option}
+use base.Stored.{coded_bool}
+
+pub data Reply : Type 0 where
+  -- of `piece` of a shelf: the name, where the piece was to begin, and the bytes that were given, unless it failed
+  Piece : List ℕ → ℕ → Option (List ℕ) → Reply
+  -- of `keep` of a shelf: the name, the bytes, and whether it was done
+  Kept : List ℕ → List ℕ → Bool → Reply
+  -- of `put` of a sink: the bytes that were taken
+  Put : List ℕ → Reply
+
+-- the reply to a call of `piece` that filled the buffer, and that to a call of `keep`
+abbrev pub piece_reply : {E : Type 0} → List ℕ → ℕ → Result ℕ E → List ℕ → Reply
+piece_reply name at (Ok n) buffer = Piece name at (Some (take n buffer))
+piece_reply name at (Err e) buffer = Piece name at None
+
+abbrev pub keep_reply : {T E : Type 0} → List ℕ → List ℕ → Result T E → Reply
+keep_reply name bytes (Ok x) = Kept name bytes true
+keep_reply name bytes (Err e) = Kept name bytes false
+
+-- the calls that gave these pieces of a file, each behind the one before
+abbrev pub pieces_from : List ℕ → ℕ → List (List ℕ) → List Reply
+pieces_from name at [] = []
+pieces_from name at (piece ∷ pieces) = Piece name at (Some piece) ∷ pieces_from name (at + length piece) pieces
+
+-- Between these two moments the shelf was asked for the pieces of this file, from its start on and each behind the one before, and
+-- for nothing else. The last one was empty, which says that the file ends there. The pieces are these bytes.
+pub record IsReadWhole (old new : List Reply) (name bytes : List ℕ) : Type 0 where
+  pub pieces : List (List ℕ)
+  pub whole : concat pieces ≡ bytes
+  pub calls : new ≡ old ++ pieces_from name 0 pieces ++ Piece name (length bytes) (Some []) ∷ []
+
+-- the bytes that a sink took
+abbrev pub bytes_put : Reply → List ℕ
+bytes_put (Put bytes) = bytes
+bytes_put reply = []
+
+abbrev pub all_put : List Reply → List ℕ
+all_put [] = []
+all_put (reply ∷ replies) = bytes_put reply ++ all_put replies
+
+-- What the code notes: which call it was, where a piece begins, and 1 where it was done; the name; the bytes.
+abbrev pub noted : List ℕ → List ℕ → List ℕ → Reply
+noted numbers name bytes =
+    if slice_index numbers 0 == 0
+    then Piece name (slice_index numbers 1) (if slice_index numbers 2 == 1 then Some bytes else None)
+    else (if slice_index numbers 0 == 1 then Kept name bytes (slice_index numbers 2 == 1) else Put bytes)
+
+-- A reply as the kit stores it.
+abbrev pub Stored : Type 0
+Stored = ℕ × (List ℕ × (ℕ × (Bool × (List ℕ × Option (List ℕ)))))
+
+abbrev pub stored : Reply → Stored
+stored (Piece name at given) = (0, (name, (at, (true, ([], given)))))
+stored (Kept name bytes done) = (1, (name, (0, (done, (bytes, None)))))
+stored (Put bytes) = (2, ([], (0, (true, (bytes, None)))))
+
+abbrev pub read_back : Stored → Reply
+read_back (zero, (name, (at, (done, (bytes, given))))) = Piece name at given
+read_back (suc zero, (name, (at, (done, (bytes, given))))) = Kept name bytes done
+read_back (suc (suc n), (name, (at, (done, (bytes, given))))) = Put bytes
+
+pub stored_back : (reply : Reply) → read_back (stored reply) ≡ reply
+stored_back (Piece name at given) = refl
+stored_back (Kept name bytes done) = refl
+stored_back (Put bytes) = refl
+
+abbrev pub replies_code : Coded (List Reply)
+replies_code =
+    coded_list (code_by Stored (coded× coded_ℕ (coded× (coded_list coded_ℕ) (coded× coded_ℕ (coded× coded_bool (coded× (coded_list coded_ℕ) (coded_option (coded_list coded_ℕ)))))))
+    stored read_back stored_back)
