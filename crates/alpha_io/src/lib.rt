@@ -7,7 +7,9 @@
 //! - In memory: [`MemorySource`] and [`SureSource`], [`MemorySink`], [`TrickleSink`] and
 //!   [`NullSink`], [`MemoryShelf`] and [`SureShelf`]. The sure ones and the null one never fail.
 //! - On a real system: [`ReadSource`] over a reader, [`WriteSink`] over a writer, [`DiskShelf`] over
-//!   the file system. They tell nothing. A read or a write that a signal interrupts is made again.
+//!   the file system. A read or a write that a signal interrupts is made again.
+//! - [`History`] is what a device's calls answered so far, in proofs alone. Each shelf has one, and
+//!   [`WriteSink`]: so clauses speak of what a real disk gave, which tells nothing beforehand.
 //!
 //! The laws: a count of faults never falls. An `Ok` leaves it, and a call answers `Failed` only
 //! where it rose or stands at the last value of a `u64`. Two refusals of a shelf that tells its
@@ -23,10 +25,10 @@
 //! [`laws_of_sinks`]: what was written in calls in a row, whole or in part. [`laws_of_files`]: files
 //! that stayed. [`laws_of_reading`]: what [`read_whole`] answers of files that are told.
 //!
-//! `specs/Faults.antt` has the words on counts, `specs/Written.antt` and `specs/Sunk.antt` those on
-//! what was written, `specs/Files.antt` and `specs/Shelved.antt` those on files, and
-//! `specs/ReadWhole.antt` the answers of `read_whole`. The other files say what a clause sees of an
-//! object in memory.
+//! `specs/History.antt` has the words on what was answered, `specs/Faults.antt` those on counts,
+//! `specs/Written.antt` and `specs/Sunk.antt` those on what was written, `specs/Files.antt` and
+//! `specs/Shelved.antt` those on files, and `specs/ReadWhole.antt` the answers of `read_whole`. The
+//! other files say what a clause sees of an object.
 #![tactic(auto)]
 
 mod again;
