@@ -89,7 +89,7 @@ module _ {H S K N : Type 0} (h : shelves.Ghosts H) (s : sources.Ghosts S) (k : s
 -- ---- a command that makes bytes of files, and then keeps them
 
 pub Serves-after : (a b : Shelved) (stays also : Type 0) → a.new ≡ b.old → a.takes ≡ b.took → a.now ≡ b.before → stays → OnlyReads a stays → Serves b also
-    → Serves (record { old = a.old; new = b.new; took = a.took; takes = b.takes; before = a.before; now = b.now }) also
+    → Serves (record { old = a.old; new = b.new; took = a.took; takes = b.takes; before = a.before; now = b.now; past = a.past; history = b.history }) also
 Serves-after a b stays also files takes count is first second = record {
   takes = second.takes ∙ (sym takes ∙ first.takes);
   later = omega (arith, first.later, second.later, count);

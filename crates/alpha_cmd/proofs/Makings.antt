@@ -1,15 +1,18 @@
 -- The laws of the commands that make something of a source.
-use Rattle.std.proofs.Common.{ℕ, List, [], ◌∷◌}
+use Rattle.std.proofs.Common.{ℕ, List, [], ◌∷◌, IsSome}
+use Rattle.alpha_io.specs.Files.{Files, IfTold}
 use Rattle.alpha_request.specs.declared.request.SourceCommand.{SourceCommand}
 use Rattle.alpha_request.specs.declared.request.SourceCommand.TheVariants as asked
 use Rattle.alpha_cmd.specs.AnswerBy.{World}
+use Rattle.alpha_cmd.specs.declared.status.Status.{Status}
 use Rattle.alpha_cmd.specs.Image.{Reads}
+use Rattle.alpha_cmd.specs.Outcome.{stops}
 use Rattle.alpha_cmd.specs.Makings.{source_limit, Bytes, Makes, form, there}
 use Rattle.alpha_cmd.proofs.Makings.Asm.{Assembles-lawful}
 use Rattle.alpha_cmd.proofs.Makings.Fix.{Fixes-lawful}
 use Rattle.alpha_cmd.proofs.Makings.Module.{Modules-lawful}
 use Rattle.alpha_cmd.proofs.Forms.{IsLawfulForm, making_lawful}
-use Rattle.alpha_cmd.proofs.Lawful.{Lawful, Then-lawful}
+use Rattle.alpha_cmd.proofs.Lawful.{Lawful, IsRefusal, Then-lawful}
 use Rattle.alpha_cmd.proofs.Stages.{Reads-lawful}
 pub mod Asm
 pub mod Fix
@@ -20,8 +23,16 @@ Bytes-lawful told whole there asked.Asm source = Assembles-lawful told whole the
 Bytes-lawful told whole there asked.Fix source = Fixes-lawful told whole there source
 Bytes-lawful told whole there asked.Module source = Modules-lawful told whole there source
 
+Makes-lawful : (told whole there : Type 0) (what : SourceCommand) (files : Files) (name : List ℕ) → (told → IsSome files) → (whole → IsSome files)
+    → (there → IfTold files name (λ bytes. Unit {0})) → Lawful told whole there (Makes what files name)
+Makes-lawful told whole there what files name is_told is_whole has =
+    Then-lawful {R = Reads files name source_limit} {S = Bytes what} (Reads-lawful told whole there files name source_limit is_told is_whole has)
+    (λ source read. Bytes-lawful told whole there what source)
+
+-- it never stops with a device's fault
+pub makes_plain : (what : SourceCommand) (files : Files) (name : List ℕ) (s : Status) (line : List ℕ) → Makes what files name (stops s line) → IsRefusal ⊥ s
+makes_plain what files name = (Makes-lawful ⊥ ⊥ ⊥ what files name (λ no. absurd no) (λ no. absurd no) (λ no. absurd no)).plain
+
 pub lawful : (what : SourceCommand) (file out : List ℕ) (w : World) → IsLawfulForm (form what file out) (there what file out) w
 lawful what file out w =
-    making_lawful (file ∷ []) (λ w. Makes what w.files file) out w
-    (Then-lawful {R = Reads w.files file source_limit} {S = Bytes what} (Reads-lawful _ _ _ w.files file source_limit (λ h. h) (λ h. h.0) (λ h. h.0.0))
-    (λ source read. Bytes-lawful _ _ _ what source))
+    making_lawful (file ∷ []) (λ w. Makes what w.files file) out w (Makes-lawful _ _ _ what w.files file (λ h. h) (λ h. h.0) (λ h. h.0.0))

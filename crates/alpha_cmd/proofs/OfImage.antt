@@ -1,9 +1,14 @@
 -- The laws of what is asked of an image.
-use Rattle.std.proofs.Common.{ℕ, List}
+use Rattle.std.proofs.Common.{◌≡◌, ℕ, List, refl}
+use Rattle.alpha_io.specs.Shelved.{Shelved}
+use Rattle.alpha_shadow.specs.Broken.{IsAccepted}
 use Rattle.alpha_request.specs.declared.request.ImageCommand.{ImageCommand}
 use Rattle.alpha_request.specs.declared.request.ImageCommand.TheVariants as asked
+use Rattle.alpha_request.specs.Command.{of_image}
 use Rattle.alpha_cmd.specs.AnswerBy.{World}
+use Rattle.alpha_cmd.specs.Checked.{ReadsImage}
 use Rattle.alpha_cmd.specs.OfImage.{form, there}
+use Rattle.alpha_cmd.specs.Replied.{Replied}
 use Rattle.alpha_cmd.proofs.Forms.{IsLawfulForm}
 use Rattle.alpha_cmd.proofs.OfImage.Check as checks
 use Rattle.alpha_cmd.proofs.OfImage.Debug as sessions
@@ -16,3 +21,9 @@ pub lawful : (what : ImageCommand) (file : List ℕ) (w : World) → IsLawfulFor
 lawful asked.Check = checks.lawful
 lawful asked.Dis = listings.lawful
 lawful asked.Debug = sessions.lawful
+
+-- what the shelf replied to a check, and to no other
+pub of_image_replied : (what : ImageCommand) (file : List ℕ) (s : Shelved) → (what ≡ asked.Check → ReadsImage s file (λ image. IsAccepted image.words)) → Replied (of_image what file) s
+of_image_replied asked.Check file s h = h refl
+of_image_replied asked.Dis file s h = tt
+of_image_replied asked.Debug file s h = tt

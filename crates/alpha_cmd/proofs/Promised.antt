@@ -3,8 +3,12 @@ use Rattle.std.proofs.Common.{◌≡◌, ◌≢◌, ◌⊎◌, ◌∙◌, ℕ, f
 use Rattle.alpha_io.specs.declared.sink.Sink.{Ghosts}
 use Rattle.alpha_io.specs.Faults.{Rose}
 use Rattle.alpha_io.specs.Files.{Files}
+use Rattle.alpha_io.specs.Shelved.{Shelved}
 use Rattle.alpha_io.specs.Sunk.{Sunk, sunk, Puts, Partly, HasFailed}
 use Rattle.alpha_io.proofs.Counts.{Rose-not_calm}
+use Rattle.alpha_shadow.specs.Broken.{IsAccepted}
+use Rattle.alpha_imprecise.specs.Restart.{IsRestartable}
+use Rattle.alpha_restart.proofs.Agreeing.{accepted_restarts}
 use Rattle.alpha_request.specs.Asked.{asked}
 use Rattle.alpha_request.specs.Command.{Command, check, fix, make_module, link, replay, run, imprecise}
 use Rattle.alpha_request.specs.Origin.{seed}
@@ -22,7 +26,7 @@ use Rattle.alpha_cmd.specs.Answer.{Answer}
 use Rattle.alpha_cmd.specs.AnswerBy.{World, told}
 use Rattle.alpha_cmd.specs.Asks.{Asks}
 use Rattle.alpha_cmd.specs.Call.{Call, Quiet}
-use Rattle.alpha_cmd.specs.Checked.{Checked, SpellsRestartable}
+use Rattle.alpha_cmd.specs.Checked.{Checked, ReadsImage}
 use Rattle.alpha_cmd.specs.Restarts.{Restarts}
 use Rattle.alpha_cmd.specs.Accepts.{Accepts}
 use Rattle.alpha_cmd.specs.Commands.{kind_of, EndsBy, IsTold, MayTake, Spares}
@@ -36,10 +40,10 @@ use Rattle.alpha_cmd.specs.Gave.{Gave}
 use Rattle.alpha_cmd.specs.Promises.{tried_in, EndsWhole, EndsCut, GivesOne, GivesThe, SparesFiles, TakesInput, EndsAsked, LosesNone}
 use Rattle.alpha_cmd.specs.ReadsNothing.{answer_unread, Unread, UnreadAlike}
 use Rattle.alpha_cmd.specs.Replayed.{ShowsRuns}
+use Rattle.alpha_cmd.specs.Replied.{Replies}
 use Rattle.alpha_cmd.specs.ToldRun.{answer_told, Ran}
 use Rattle.alpha_cmd.specs.Tried.{IsAnswer}
 use Rattle.alpha_cmd.proofs.Accepted.{checked as checked_file}
-use Rattle.alpha_cmd.proofs.Alike.{tried_restarts}
 use Rattle.alpha_cmd.proofs.Endings as endings
 use Rattle.alpha_cmd.proofs.Endings.{Leaves-not_sink, given_whole, given_as, calm_part}
 use Rattle.alpha_cmd.proofs.Fixed.{tried_fixed}
@@ -76,6 +80,9 @@ delivered k n o p q x y z words c d status so_far (inr e) puts notes output line
     let calm : status ≢ SinkFault = λ is. not_sink words c d (sunk k o p) (sunk n x y) so_far (sym e ∙ is) in
     written calm (endings.whole k.written k.faults n.written n.faults o p q x y z c.shelf (tried_in words c) (answer_in c.input.new d) so_far status e (puts calm) (notes calm))
 
+can_restart : (s : Shelved) (file : List ℕ) → ReadsImage s file (λ image. IsAccepted image.words) → ReadsImage s file IsRestartable
+can_restart s file r = record { image = r.image; good = r.good; read = r.read; told = r.told; has = accepted_restarts r.image r.good r.has }
+
 -- what stands of files and of input stands under the status that its delivery answers
 module _ (status decided : Status) (is : (status ≡ SinkFault) ⊎ (status ≡ decided)) where
   either : (P : Status → Type 0) → (P decided → P SinkFault) → P decided → P status
@@ -88,6 +95,16 @@ module _ (status decided : Status) (is : (status ≡ SinkFault) ⊎ (status ≡ 
   pub takes : (Same : Type 0) (words : List (List ℕ)) → Same ⊎ TakesInput words decided → Same ⊎ TakesInput words status
   takes Same words (inl h) = inl h
   takes Same words (inr (command, asks, h)) = inr (command, asks, either (MayTake command) (MayTake-sink (kind_of command) decided) h)
+
+  pub replied : (words : List (List ℕ)) (s : Shelved) → Replies words decided s → Replies words status s
+  replied words s h command asks e =
+      ⊎_elim (λ (f : status ≡ SinkFault). absurd (let x = sym e ∙ f in cc)) (λ (f : status ≡ decided). h command asks (sym f ∙ e)) is
+
+  pub restarts : (words : List (List ℕ)) (s : Shelved) → Replies words decided s → Restarts words status s
+  restarts words s h file asks e = can_restart s file (replied words s h (check file) (asked_rows words (check file) asks) e)
+
+  pub checked : (words : List (List ℕ)) (s : Shelved) → Replies words decided s → Checked words status s
+  checked words s h file is_check plain e = can_restart s file (replied words s h (check file) (ap asked is_check ∙ plain_check file plain) e)
 
   pub keeps : (P : Command → Type 0) (w : World) (files : Files) → KeepsUnder P decided w files → KeepsUnder P status w files
   keeps P w files kept options choices force file out end lost n asks ends =
@@ -122,17 +139,6 @@ module _ {words : List (List ℕ)} {status : Status} {c : Call} (how : Ended wor
 
   ends_done : status ≡ Done 0 → Ends (tried_in words c) status c.input.new c.shelf c.out c.notes
   ends_done e = whole how (λ failed. let x : Done 0 ≡ SinkFault = sym e ∙ failed in cc)
-
-  spells : (name : List ℕ) → Asks words (check name) → status ≡ Done 0 → SpellsRestartable c.shelf.old name
-  spells name asks e =
-      let ends = ends_done e in
-      tried_restarts (Rose c.shelf.before c.shelf.now) (Rose c.input.before c.input.now) words name (told c) ends.tried asks ends.is (sym ends.status_is ∙ e)
-
-  pub restarts : Restarts words status c.shelf.old
-  restarts name asks e = spells name (asked_rows words (check name) asks) e
-
-  pub checked : Checked words status c.shelf.old
-  checked name is plain e = spells name (ap asked is ∙ plain_check name plain) e
 
   pub fixed : Fixes words status c.shelf.old c.shelf.new
   fixed name out asks e =

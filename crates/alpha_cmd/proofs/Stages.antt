@@ -1,5 +1,5 @@
 -- The laws of the stages that several commands have: a file, an image, the verdict, and a file that is kept.
-use Rattle.std.proofs.Common.{◌≡◌, ◌<◌, ◌≤◌, ◌∙◌, ◌⊎◌, ℕ, Bool, true, false, List, length, All, Option, None, Some, IsSome, IsSomeAnd, refl, sym, ap, subst, inl, inr, ⊎_elim, arith}
+use Rattle.std.proofs.Common.{◌≡◌, ◌<◌, ◌≤◌, ◌∙◌, ◌⊎◌, ℕ, Bool, true, false, List, length, All, Option, None, Some, IsSome, IsSomeAnd, Result, Ok, Err, IfOk, refl, sym, ap, subst, inl, inr, ⊎_elim, arith}
 use Rattle.std.proofs.lemmas.Bool.{cases_lt}
 use Rattle.alpha_io.specs.Files.{Files, HasFile, KeepsFiles, IfTold, Refuses}
 use Rattle.alpha_io.proofs.Shelved.{Lacks-not_told}
@@ -15,13 +15,18 @@ use Rattle.alpha_shadow.specs.Least.{IsLeastBroken, NoLater}
 use Rattle.alpha_shadow.specs.Report.{broken_line}
 use Rattle.alpha_shadow.proofs.Conditions.{condition_number-injective}
 use Rattle.alpha_shadow.proofs.Decided.{verdict}
+use Rattle.alpha_cmd.specs.declared.decision.Decision.{Decision}
 use Rattle.alpha_cmd.specs.declared.status.Status.{Status}
-use Rattle.alpha_cmd.specs.declared.status.Status.TheVariants.{NotRestartable, BadImage, ShelfFault, TooLarge}
-use Rattle.alpha_cmd.specs.Status.{class_of, status_line, Says}
-use Rattle.alpha_cmd.specs.Outcome.{goes, stops, Either}
+use Rattle.alpha_cmd.specs.declared.status.Status.TheVariants.{Done, NotRestartable, BadImage, ShelfFault, TooLarge}
+use Rattle.alpha_cmd.specs.declared.stop.Stop.{Stop}
+use Rattle.alpha_cmd.specs.Status.{refused, class_of, status_line, Says}
+use Rattle.alpha_cmd.specs.Outcome.{Outcome, goes, stops, Either}
 use Rattle.alpha_cmd.specs.Image.{Unread, Reads, Spells, ImageOf, Judges, image_limit}
+use Rattle.alpha_cmd.specs.Answer.{Answer}
 use Rattle.alpha_cmd.specs.AnswerBy.{World, HaveBytes, kept_as}
+use Rattle.alpha_cmd.specs.Decision.{SaysStop}
 use Rattle.alpha_cmd.specs.Keeping.{Untaken, KeepsAs}
+use Rattle.alpha_cmd.specs.Stage.{StopsBy, stop_status, stop_line}
 use Rattle.alpha_cmd.proofs.Lawful.{Lawful, HasOutcome, IsSingle, IsRefusal, Either-single, Says-one, Faults-lawful, Then-lawful}
 
 -- ---- a file
@@ -120,6 +125,27 @@ pub ImageOf-lawful : (told whole there : Type 0) (files : Files) (name : List �
 ImageOf-lawful told whole there files name is_told is_whole has =
     Then-lawful {R = Reads files name image_limit} {S = Spells} (Reads-lawful told whole there files name image_limit is_told (λ h. (is_whole h).0) has)
     (λ bytes read. Spells-lawful told whole there bytes (λ h. read_bytes files name bytes (is_whole h).0 (is_whole h).1 read.0))
+
+at_stop : {X : Type 0} (R : Outcome X → Type 0) (shelf : Type 0) → ((s : Status) (line : List ℕ) → R (stops s line) → IsRefusal ⊥ s)
+    → (stop : Stop) → StopsBy R shelf stop → stop_status stop ≡ Done 0 → ⊥
+at_stop R shelf plain stop (inl h) e =
+    ⊎_elim (λ (no : class_of (stop_status stop) ≡ refused). let x = sym (ap class_of e) ∙ no in cc)
+    (λ (no : (stop_status stop ≡ ShelfFault) × (⊥ → ⊥)). let x = sym e ∙ no.0 in cc)
+    (plain (stop_status stop) (stop_line stop) h)
+at_stop R shelf plain stop (inr (inl is)) e = let x = sym e ∙ ap stop_status is in cc
+at_stop R shelf plain stop (inr (inr h)) e = let x = sym e ∙ ap stop_status h.0 in cc
+
+-- a decision that says why a stage stopped isn't that it is done
+pub stopped_undone : {X : Type 0} (R : Outcome X → Type 0) (shelf : Type 0) → ((s : Status) (line : List ℕ) → R (stops s line) → IsRefusal ⊥ s)
+    → (stop : Stop) (d : Decision) → SaysStop stop d → StopsBy R shelf stop → d.status ≡ Done 0 → ⊥
+stopped_undone R shelf plain stop d says why done = at_stop R shelf plain stop why (sym (ap (λ (a : Answer). a.status) (says None)) ∙ done)
+
+pub image_plain : (files : Files) (name : List ℕ) (s : Status) (line : List ℕ) → ImageOf files name (stops s line) → IsRefusal ⊥ s
+image_plain files name = (ImageOf-lawful ⊥ ⊥ ⊥ files name (λ no. absurd no) (λ no. absurd no) (λ no. absurd no)).plain
+
+pub IfOk-more : {T E : Type 0} {P Q : T → Type 0} (r : Result T E) → ((v : T) → P v → Q v) → IfOk r P → IfOk r Q
+IfOk-more (Ok v) more h = more v h
+IfOk-more (Err e) more h = tt
 
 -- ---- the verdict
 

@@ -1,17 +1,24 @@
 -- What a call of the plain words `check FILE` shows.
 use Rattle.std.specs.Prelude.{◌≡◌, ℕ, List, [], ◌∷◌, codes}
-use Rattle.alpha_io.specs.Files.{Files, HasFile}
+use Rattle.alpha_io.specs.Files.{HasFile}
+use Rattle.alpha_io.specs.History.{IsReadWhole}
+use Rattle.alpha_io.specs.Shelved.{Shelved}
 use Rattle.alpha_image.specs.Parts.{Parts, IsImage, spelling}
 use Rattle.alpha_imprecise.specs.Restart.{IsRestartable}
 use Rattle.alpha_request.specs.Plain.{IsPlain}
 use Rattle.alpha_cmd.specs.declared.status.Status.{Status}
 use Rattle.alpha_cmd.specs.declared.status.Status.TheVariants.{Done}
 
--- where files are told, this one is the spelling of a good image; and the image can be restarted after each late trap
-abbrev pub SpellsRestartable : Files → List ℕ → Type 0
-SpellsRestartable files file = (image : Parts) × IsImage image × HasFile files file (spelling image) × IsRestartable image
+-- The shelf was asked for this file alone, from its start to its end, and the bytes that it gave are the spelling of a good image, which
+-- has P. Where files are told, they are the file's.
+pub record ReadsImage (s : Shelved) (file : List ℕ) (P : Parts → Type 0) : Type 0 where
+  pub image : Parts
+  pub good : IsImage image
+  pub read : IsReadWhole s.past s.history file (spelling image)
+  pub told : HasFile s.old file (spelling image)
+  pub has : P image
 
--- where it is done, that holds of its file
-abbrev pub Checked : List (List ℕ) → Status → Files → Type 0
-Checked words status files = (file : List ℕ) → words ≡ codes "check" ∷ file ∷ [] → IsPlain file
-    → status ≡ Done 0 → SpellsRestartable files file
+-- where it is done, that image can be restarted after each late trap
+abbrev pub Checked : List (List ℕ) → Status → Shelved → Type 0
+Checked words status s = (file : List ℕ) → words ≡ codes "check" ∷ file ∷ [] → IsPlain file
+    → status ≡ Done 0 → ReadsImage s file IsRestartable

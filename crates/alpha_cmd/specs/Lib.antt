@@ -28,6 +28,7 @@ pub mod Promises
 pub mod ReadsNothing
 pub mod RecordedRun
 pub mod Replayed
+pub mod Replied
 pub mod Restarts
 pub mod RunAnswer
 pub mod SpentLine

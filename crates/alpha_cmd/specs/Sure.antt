@@ -19,6 +19,8 @@ sure_call old new = record {
     takes = sure_takes new.shelf;
     before = 0;
     now = 0;
+    past = old.shelf.replies;
+    history = new.shelf.replies;
   };
   input = record { old = Some old.input; new = Some new.input; before = 0; now = 0 };
   out = still None 0;

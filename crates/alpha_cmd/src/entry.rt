@@ -16,6 +16,7 @@ ghost use Rattle.alpha_cmd.specs.Fixed.{Fixes};
 ghost use Rattle.alpha_cmd.specs.Promises.{EndsWhole, EndsCut, GivesOne, GivesThe, ServesUnder, SparesFiles, TakesInput, DrawsUnder, LeavesScript, EndsAsked, LosesNone};
 ghost use Rattle.alpha_cmd.specs.ReadsNothing.{Unread, UnreadAlike};
 ghost use Rattle.alpha_cmd.specs.Replayed.{ShowsRuns};
+ghost use Rattle.alpha_cmd.specs.Replied.{Replies};
 ghost use Rattle.alpha_cmd.specs.Restarts.{Restarts};
 ghost use Rattle.alpha_cmd.specs.Accepts.{Accepts};
 ghost use Rattle.alpha_cmd.specs.ToldRun.{Ran};
@@ -59,8 +60,9 @@ pub fn alpha_main<H: Shelf, S: Source, K: Sink, N: Sink>(
         (called H.Shelf S.Source K.Sink N.Sink devices.old devices.new) }
     ensures exact { GivesThe (words_in arguments.now) result
         (called H.Shelf S.Source K.Sink N.Sink devices.old devices.new) }
-    ensures restarts { Restarts (words_in arguments.now) result (H.files devices.old.shelf) }
-    ensures checked { Checked (words_in arguments.now) result (H.files devices.old.shelf) }
+    ensures replied { Replies (words_in arguments.now) result (shelved H.Shelf devices.old.shelf devices.new.shelf) }
+    ensures restarts { Restarts (words_in arguments.now) result (shelved H.Shelf devices.old.shelf devices.new.shelf) }
+    ensures checked { Checked (words_in arguments.now) result (shelved H.Shelf devices.old.shelf devices.new.shelf) }
     ensures accepted { Accepts (words_in arguments.now) result
         (called H.Shelf S.Source K.Sink N.Sink devices.old devices.new) }
     ensures ran { Ran (words_in arguments.now) result (called H.Shelf S.Source K.Sink N.Sink devices.old devices.new) }

@@ -1,9 +1,10 @@
 //! The stages that lead to a file and to its image.
 
 ghost use Rattle.std.specs.Prelude.{◌≡◌, ◌⊎◌, ◌^◌, ◌<◌, IfOk, IfErr, OnOk, None};
+ghost use Rattle.alpha_io.specs.History.{IsReadWhole};
 ghost use Rattle.alpha_io.specs.Shelved.{shelved};
 ghost use Rattle.alpha_image.specs.ImageFault.{first_fault};
-ghost use Rattle.alpha_image.specs.Parts.{spelling};
+ghost use Rattle.alpha_image.specs.Parts.{IsImage, spelling};
 ghost use Rattle.alpha_cmd.specs.Outcome.{goes, stops};
 ghost use Rattle.alpha_cmd.specs.Status.{status_line};
 ghost use Rattle.alpha_shadow.specs.Broken.{IsAccepted};
@@ -45,7 +46,9 @@ pub(crate) fn read_file<H: Shelf>(
     limit: u64,
 ) -> Result<Vec<u8>, Stop>
     requires { limit < 2 ^ 32 }
-    ensures { Stage (Reads (H.files shelf.old) name.now limit) (λ bytes. bytes.items) result
+    ensures read { IfOk result (λ bytes.
+        IsReadWhole (H.replies shelf.old) (H.replies shelf.new) name.now bytes.items) }
+    ensures stage { Stage (Reads (H.files shelf.old) name.now limit) (λ bytes. bytes.items) result
         (shelved H.Shelf shelf.old shelf.new) }
 {
     match read_whole(alloc, shelf, name, limit) {
@@ -69,7 +72,9 @@ pub(crate) fn spelled(alloc: Global, image: &Image) -> Result<Vec<u8>, Stop>
 
 /// The image of a file.
 pub(crate) fn load<H: Shelf>(alloc: Global, shelf: &mut H, name: &str) -> Result<Image, Stop>
-    ensures { Stage (ImageOf (H.files shelf.old) name.now) (λ image. image) result
+    ensures read { IfOk result (λ image. IsImage image
+        × IsReadWhole (H.replies shelf.old) (H.replies shelf.new) name.now (spelling image)) }
+    ensures stage { Stage (ImageOf (H.files shelf.old) name.now) (λ image. image) result
         (shelved H.Shelf shelf.old shelf.new) }
 {
     let bytes = read_file(alloc, shelf, name, IMAGE_LIMIT)?;

@@ -1,7 +1,8 @@
 //! The last stage of a command that makes bytes and keeps them.
 
-ghost use Rattle.std.specs.Prelude.{◌≢◌, List, ℕ, Option};
+ghost use Rattle.std.specs.Prelude.{◌≡◌, ◌≢◌, ◌++◌, ◌∷◌, [], List, ℕ, Option, true};
 ghost use Rattle.alpha_io.specs.Faults.{Rose};
+ghost use Rattle.alpha_io.specs.History.{Kept};
 ghost use Rattle.alpha_io.specs.Shelved.{shelved};
 ghost use Rattle.alpha_cmd.specs.Decision.{answer_in};
 ghost use Rattle.alpha_cmd.specs.Ends.{Settles};
@@ -19,6 +20,8 @@ pub(crate) fn keep_as<H: Shelf>(bytes: &[u8], out: &str, shelf: &mut H) -> Decis
         → Settles (TriesKeep (Rose (H.faults shelf.old) (H.faults shelf.new))
         (record { files = H.files shelf.old; takes = H.takes shelf.old; input = input })
         out.now bytes.now) (answer_in input result) (shelved H.Shelf shelf.old shelf.new) }
+    ensures kept { result.status ≡ Status.Done 0 → H.replies shelf.new
+        ≡ H.replies shelf.old ++ Kept out.now bytes.now true ∷ [] }
     ensures shelf { Serves (shelved H.Shelf shelf.old shelf.new)
         (result.status ≢ Status.ShelfFault) }
     ensures files { SparesBy (keeps_last out.now) result.status

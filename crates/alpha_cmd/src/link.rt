@@ -1,12 +1,14 @@
 //! `link [--entry NAME] OUT FILE...`: the image that the modules of files link to, kept as a file.
 
-ghost use Rattle.std.specs.Prelude.{◌≡◌, ◌≤◌, IfOk, length, map};
+ghost use Rattle.std.specs.Prelude.{◌≡◌, ◌≤◌, ℕ, List, IfOk, length, map};
 ghost use Rattle.alpha_image.specs.Parts as images;
 ghost use Rattle.alpha_io.specs.Shelved.{shelved};
-ghost use Rattle.alpha_cmd.specs.Outcome.{Then};
+ghost use Rattle.alpha_cmd.specs.Outcome.{goes, Then};
 ghost use Rattle.alpha_cmd.specs.Commands.Link as links;
 ghost use Rattle.alpha_cmd.specs.Commands.Link.{FilesOf, ModuleOf, ModulesOf, Links, Makes};
 ghost use Rattle.alpha_cmd.specs.Does.{Does};
+ghost use Rattle.alpha_cmd.specs.Ends.{status_in};
+ghost use Rattle.alpha_cmd.specs.Replied.{IsReadEach, KeepsLinked};
 ghost use Rattle.alpha_cmd.specs.Stage.{Computes, Stage};
 
 use crate::Status;
@@ -34,7 +36,10 @@ pub(crate) fn link<H: Shelf, S: Source, K: Sink, N: Sink>(
     devices: &mut Devices<H, S, K, N>,
 ) -> Result<Decision, Failed>
     requires { length files.now ≤ 64 }
-    ensures { Does H.Shelf S.Source K.Sink N.Sink
+    ensures kept { status_in result ≡ Status.Done 0
+        → KeepsLinked (shelved H.Shelf devices.old.shelf devices.new.shelf)
+        entry.now out.now (map (λ name. name.now) files.now) }
+    ensures does { Does H.Shelf S.Source K.Sink N.Sink
         (links.form entry.now out.now (map (λ name. name.now) files.now)) result
         devices.old devices.new }
 {
@@ -53,7 +58,10 @@ fn made<H: Shelf>(
     shelf: &mut H,
 ) -> Result<Vec<u8>, Stop>
     requires { length names.now ≤ 64 }
-    ensures { Stage (Makes (H.files shelf.old) entry.now (map (λ name. name.now) names.now))
+    ensures read { IfOk result (λ bytes. (files : List (List ℕ))
+        × IsReadEach (H.replies shelf.old) (H.replies shelf.new) (map (λ name. name.now) names.now) files
+        × Then (ModulesOf files) (Links entry.now) (goes bytes.items)) }
+    ensures stage { Stage (Makes (H.files shelf.old) entry.now (map (λ name. name.now) names.now))
         (λ bytes. bytes.items) result (shelved H.Shelf shelf.old shelf.new) }
 {
     let files = read_files(alloc, names, shelf)?;
@@ -62,6 +70,8 @@ fn made<H: Shelf>(
 
 // The bytes of files within the limit of modules, read in the order of their names.
 fn read_files<H: Shelf>(alloc: Global, names: &[&str], shelf: &mut H) -> Result<Vec<Vec<u8>>, Stop>
+    ensures read { IfOk result (λ all. IsReadEach (H.replies shelf.old) (H.replies shelf.new)
+        (map (λ name. name.now) names.now) (map (λ file. file.items) all.items)) }
     ensures found { Stage (FilesOf (H.files shelf.old) (map (λ name. name.now) names.now))
         (λ all. map (λ file. file.items) all.items) result (shelved H.Shelf shelf.old shelf.new) }
     ensures count { IfOk result (λ all. length all.items ≡ length names.now) }

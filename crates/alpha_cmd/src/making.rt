@@ -1,12 +1,17 @@
 //! `asm FILE OUT`, `fix FILE OUT` and `module FILE OUT`: what a source makes, kept as a file.
 
-ghost use Rattle.std.specs.Prelude.{◌^◌, ◌<◌, length};
+ghost use Rattle.std.specs.Prelude.{◌≡◌, ◌^◌, ◌<◌, ℕ, List, length, IfOk};
+ghost use Rattle.alpha_io.specs.History.{IsReadWhole};
 ghost use Rattle.alpha_io.specs.Shelved.{shelved};
 ghost use Rattle.alpha_cmd.specs.Does.{Does};
+ghost use Rattle.alpha_cmd.specs.Ends.{status_in};
 ghost use Rattle.alpha_cmd.specs.Makings as makings;
 ghost use Rattle.alpha_cmd.specs.Makings.{Bytes, Makes};
+ghost use Rattle.alpha_cmd.specs.Outcome.{goes};
+ghost use Rattle.alpha_cmd.specs.Replied.{KeepsMade};
 ghost use Rattle.alpha_cmd.specs.Stage.{Computes, Stage};
 
+use crate::Status;
 use crate::decision::Decision;
 use crate::devices::Devices;
 use crate::image::read_file;
@@ -33,7 +38,10 @@ pub(crate) fn make<H: Shelf, S: Source, K: Sink, N: Sink>(
     out: &str,
     devices: &mut Devices<H, S, K, N>,
 ) -> Result<Decision, Failed>
-    ensures { Does H.Shelf S.Source K.Sink N.Sink (makings.form what file.now out.now) result
+    ensures kept { status_in result ≡ Status.Done 0
+        → KeepsMade (shelved H.Shelf devices.old.shelf devices.new.shelf) file.now out.now
+        (λ source bytes. Bytes what source (goes bytes)) }
+    ensures does { Does H.Shelf S.Source K.Sink N.Sink (makings.form what file.now out.now) result
         devices.old devices.new }
 {
     match made(alloc, what, file, &mut devices.shelf) {
@@ -50,7 +58,10 @@ fn made<H: Shelf>(
     name: &str,
     shelf: &mut H,
 ) -> Result<Vec<u8>, Stop>
-    ensures { Stage (Makes what (H.files shelf.old) name.now) (λ bytes. bytes.items) result
+    ensures read { IfOk result (λ bytes. (source : List ℕ)
+        × IsReadWhole (H.replies shelf.old) (H.replies shelf.new) name.now source
+        × Bytes what source (goes bytes.items)) }
+    ensures stage { Stage (Makes what (H.files shelf.old) name.now) (λ bytes. bytes.items) result
         (shelved H.Shelf shelf.old shelf.new) }
 {
     let source = read_file(alloc, shelf, name, SOURCE_LIMIT)?;

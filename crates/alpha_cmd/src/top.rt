@@ -24,6 +24,7 @@ ghost use Rattle.alpha_cmd.specs.Kept.{Serves};
 ghost use Rattle.alpha_cmd.specs.Promises.{EndsWhole, EndsCut, GivesOne, GivesThe, ServesUnder, SparesFiles, TakesInput, DrawsUnder, LeavesScript, EndsAsked, LosesNone};
 ghost use Rattle.alpha_cmd.specs.ReadsNothing.{Unread, UnreadAlike};
 ghost use Rattle.alpha_cmd.specs.Replayed.{ShowsRuns};
+ghost use Rattle.alpha_cmd.specs.Replied.{Replied, Replies};
 ghost use Rattle.alpha_cmd.specs.Restarts.{Restarts};
 ghost use Rattle.alpha_cmd.specs.Accepts.{Accepts};
 ghost use Rattle.alpha_cmd.specs.ToldRun.{Ran};
@@ -106,10 +107,16 @@ pub fn alpha_top<H: Shelf, S: Source, K: Sink, N: Sink>(
     // or memory ran out.
     ensures exact { GivesThe words.now result (called H.Shelf S.Source K.Sink N.Sink devices.old devices.new) }
 
-    // Where a check is done, its file spells an image that can be restarted after each late trap. So it
-    // is of the two plain words `check FILE`.
-    ensures restarts { Restarts words.now result (H.files devices.old.shelf) }
-    ensures checked { Checked words.now result (H.files devices.old.shelf) }
+    // Where a command is done that judges an image or keeps what it makes of files, the shelf was asked for
+    // these files alone, from their start to their end, and to keep just what is made of the bytes that it
+    // gave, which it did. Whatever the shelf tells.
+    ensures replied { Replies words.now result (shelved H.Shelf devices.old.shelf devices.new.shelf) }
+
+    // Where a check is done, the bytes that the shelf's calls gave of its file, from its start to its end
+    // and nothing else, spell an image that can be restarted after each late trap, whatever the shelf tells.
+    // So it is of the two plain words `check FILE`.
+    ensures restarts { Restarts words.now result (shelved H.Shelf devices.old.shelf devices.new.shelf) }
+    ensures checked { Checked words.now result (shelved H.Shelf devices.old.shelf devices.new.shelf) }
 
     // Where the shelf tells that the file spells an accepted image and no device fails, a check of it
     // is done, or memory ran out.
@@ -181,6 +188,8 @@ fn decide<H: Shelf, S: Source, K: Sink, N: Sink>(
     ensures rest { LeavesEnd (drawn S.Source devices.old.input devices.new.input) }
     ensures script { (file : List ℕ) → Asks words.now (commands.debug file)
         → LeavesTail script_most (S.left devices.old.input) (S.left devices.new.input) }
+    ensures replied { Replies words.now (status_in result)
+        (shelved H.Shelf devices.old.shelf devices.new.shelf) }
     ensures recorded { KeepsUnder (Asks words.now) (status_in result)
         (world H.Shelf S.Source devices.old.shelf devices.old.input) (H.files devices.new.shelf) }
 {
@@ -203,6 +212,8 @@ fn perform<H: Shelf, S: Source, K: Sink, N: Sink>(
         devices.old devices.new }
     ensures script { (file : List ℕ) → command_of request.entry ≡ commands.debug file
         → LeavesTail script_most (S.left devices.old.input) (S.left devices.new.input) }
+    ensures replied { status_in result ≡ Status.Done 0 → Replied (command_of request.entry)
+        (shelved H.Shelf devices.old.shelf devices.new.shelf) }
     ensures recorded { KeepsUnder (λ command. command_of request.entry ≡ command) (status_in result)
         (world H.Shelf S.Source devices.old.shelf devices.old.input) (H.files devices.new.shelf) }
 {

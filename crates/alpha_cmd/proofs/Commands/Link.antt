@@ -1,9 +1,10 @@
 -- The laws of `link`, and what leads to its answers.
-use Rattle.std.proofs.Common.{◌≡◌, ◌∙◌, ℕ, List, [], ◌∷◌, ◌++◌, length, map, drop, get_or, suc, Bor, Vec, Global, ◌<◌, ◌+◌, All, Result, Ok, Err, IsSome, refl, sym, ap, subst}
+use Rattle.std.proofs.Common.{◌≡◌, ◌∙◌, ℕ, List, [], ◌∷◌, ◌++◌, length, map, drop, get_or, suc, Bor, Vec, Global, ◌<◌, ◌+◌, All, Result, Ok, Err, IsSome, refl, sym, ap, subst, append_assoc, append-nil, add-one, ◌≤◌}
 use Rattle.std.specs.List.{AllByRecursion}
-use Rattle.std.proofs.lemmas.List.{map-append}
+use Rattle.std.proofs.lemmas.List.{map-append, drop_all}
 use Rattle.std.proofs.lemmas.List.Elements.{All-nil, All-cons}
 use Rattle.alpha_io.specs.Files.{Files, HasFile, IfTold, KeepsFiles}
+use Rattle.alpha_io.specs.History.{Reply, IsReadWhole}
 use Rattle.alpha_image.specs.Parts.{Parts, IsImage, IsByte}
 use Rattle.alpha_image.specs.Parts as images
 use Rattle.alpha_asm.specs.Program.{Program, program_of}
@@ -26,9 +27,10 @@ use Rattle.alpha_cmd.specs.Image.{Reads}
 use Rattle.alpha_cmd.specs.AnswerBy.{World, HaveBytes}
 use Rattle.alpha_cmd.specs.Form.{IsThere}
 use Rattle.alpha_cmd.specs.Commands.Link.{module_limit, FilesOf, ModuleOf, ModulesOf, IsLinked, Links, Makes, Spell, form, there}
-use Rattle.alpha_cmd.proofs.Lawful.{Lawful, HasOutcome, Faults-lawful, Then-lawful}
+use Rattle.alpha_cmd.proofs.Lawful.{Lawful, HasOutcome, IsRefusal, Faults-lawful, Then-lawful}
 use Rattle.alpha_cmd.proofs.Listed.{Each-lawful, Each-zip, Zip, Rest, drop_at, rest_next, rest_stops}
 use Rattle.alpha_cmd.proofs.Stages.{Reads-lawful, read_bytes, kept_same}
+use Rattle.alpha_cmd.specs.Replied.{IsReadEach}
 use Rattle.alpha_cmd.proofs.Forms.{IsLawfulForm, making_lawful}
 
 -- ---- a module
@@ -125,18 +127,57 @@ modules_lawful told whole there files (n ∷ names) (b ∷ all) is_whole read = 
   modules_lawful told whole there files names all is_whole read.1,
 )
 
+makes_lawful : (told whole there : Type 0) (files : Files) (entry : List ℕ) (names : List (List ℕ)) → (told → IsSome files) → (whole → IsSome files × HaveBytes files)
+    → AllByRecursion (λ name. there → IfTold files name (λ bytes. Unit {0})) names → Lawful told whole there (Makes files entry names)
+makes_lawful told whole there files entry names is_told is_whole has =
+    Then-lawful {R = FilesOf files names} {S = λ all. Then (ModulesOf all) (Links entry)}
+    (Each-lawful (λ before name. Reads files name module_limit) [] names (files_lawful told whole there files names is_told (λ h. (is_whole h).0) has))
+    (λ all read.
+    Then-lawful {R = ModulesOf all} {S = Links entry}
+    (Each-lawful (λ before bytes. ModuleOf (length before) bytes) [] all (modules_lawful told whole there files names all is_whole (files_read files names all read)))
+    (λ ms found. Links-lawful told whole there entry ms (all_modules all ms (modules_spelled all ms found))))
+
+none_there : (files : Files) (names : List (List ℕ)) → AllByRecursion (λ name. ⊥ → IfTold files name (λ bytes. Unit {0})) names
+none_there files [] = tt
+none_there files (n ∷ names) = ((λ no. absurd no), none_there files names)
+
+-- it never stops with a device's fault
+pub makes_plain : (files : Files) (entry : List ℕ) (names : List (List ℕ)) (s : Status) (line : List ℕ) → Makes files entry names (stops s line) → IsRefusal ⊥ s
+makes_plain files entry names = (makes_lawful ⊥ ⊥ ⊥ files entry names (λ no. absurd no) (λ no. absurd no) (none_there files names)).plain
+
 pub lawful : (entry out : List ℕ) (names : List (List ℕ)) (w : World) → IsLawfulForm (form entry out names) (there entry out names) w
 lawful entry out names w =
     making_lawful names (λ w. Makes w.files entry names) out w
-    (Then-lawful {R = FilesOf w.files names} {S = λ all. Then (ModulesOf all) (Links entry)}
-    (Each-lawful (λ before name. Reads w.files name module_limit) [] names
-    (files_lawful _ _ _ w.files names (λ h. h) (λ h. h.0) (each_there w (there entry out names w) names (λ h. h.0))))
-    (λ all read.
-    Then-lawful {R = ModulesOf all} {S = Links entry}
-    (Each-lawful (λ before bytes. ModuleOf (length before) bytes) [] all (modules_lawful _ _ _ w.files names all (λ h. h) (files_read w.files names all read)))
-    (λ ms found. Links-lawful _ _ _ entry ms (all_modules all ms (modules_spelled all ms found)))))
+    (makes_lawful _ _ _ w.files entry names (λ h. h) (λ h. h) (each_there w (there entry out names w) names (λ h. h.0)))
 
 -- ---- its answers
+
+-- the files of the names from a place on are read behind those that were
+abbrev pub ReadsLeft : List Reply → List Reply → List (Bor (List ℕ)) → List (Vec ℕ Global) → ℕ → Type 0
+ReadsLeft old now names all i =
+    (new : List Reply) (more : List (List ℕ)) → IsReadEach now new (map (λ (name : Bor (List ℕ)). name.now) (drop i names)) more
+    → IsReadEach old new (map (λ (name : Bor (List ℕ)). name.now) names) (map (λ (file : Vec ℕ Global). file.items) all ++ more)
+
+pub reads_next : (old now next : List Reply) (names : List (Bor (List ℕ))) (all after : List (Vec ℕ Global)) (i : ℕ) (name : Bor (List ℕ)) (file : Vec ℕ Global)
+    → drop i names ≡ name ∷ drop (suc i) names → IsReadWhole now next name.now file.items → after ≡ all ++ file ∷ [] → ReadsLeft old now names all i
+    → ReadsLeft old next names after (i + 1)
+reads_next old now next names all after i name file cut read is rest new more h =
+    let told = λ (l : List (Bor (List ℕ))). map (λ (n : Bor (List ℕ)). n.now) l in
+    let behind : IsReadEach next new (told (drop (suc i) names)) more = subst (λ (n : ℕ). IsReadEach next new (told (drop n names)) more) (add-one i) h in
+    let from : IsReadEach now new (told (drop i names)) (file.items ∷ more) =
+    subst (λ (l : List (Bor (List ℕ))). IsReadEach now new (told l) (file.items ∷ more)) (sym cut) (next, read, behind) in
+    let so_far = map (λ (f : Vec ℕ Global). f.items) all in
+    let same : so_far ++ file.items ∷ more ≡ map (λ (f : Vec ℕ Global). f.items) after ++ more =
+    sym (ap (λ l. l ++ more) (ap (map (λ (f : Vec ℕ Global). f.items)) is ∙ map-append (λ (f : Vec ℕ Global). f.items) all (file ∷ []))
+    ∙ append_assoc so_far (file.items ∷ []) more) in
+    subst (λ (l : List (List ℕ)). IsReadEach old new (told names) l) same (rest new (file.items ∷ more) from)
+
+pub reads_all : (old now : List Reply) (names : List (Bor (List ℕ))) (all : List (Vec ℕ Global)) (i : ℕ) → length names ≤ i → ReadsLeft old now names all i
+    → IsReadEach old now (map (λ (name : Bor (List ℕ)). name.now) names) (map (λ (file : Vec ℕ Global). file.items) all)
+reads_all old now names all i end rest =
+    let told = λ (l : List (Bor (List ℕ))). map (λ (n : Bor (List ℕ)). n.now) l in
+    let none : IsReadEach now now (told (drop i names)) [] = subst (λ (l : List (Bor (List ℕ))). IsReadEach now now (told l) []) (sym (drop_all i names end)) refl in
+    subst (λ (files : List (List ℕ)). IsReadEach old now (told names) files) (append-nil (map (λ (file : Vec ℕ Global). file.items) all)) (rest now [] none)
 
 -- the files of the names from a place on, behind those that were read
 abbrev pub FilesLeft : Files → List (Bor (List ℕ)) → List (Vec ℕ Global) → ℕ → Type 0

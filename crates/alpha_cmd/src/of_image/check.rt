@@ -1,17 +1,20 @@
 //! `check`: whether an image's code is accepted, and so can be restarted after a late overflow trap.
 
+ghost use Rattle.std.specs.Prelude.{◌≡◌};
+ghost use Rattle.alpha_shadow.specs.Broken.{IsAccepted};
 ghost use Rattle.alpha_request.specs.declared.request.ImageCommand.TheVariants as asked;
 ghost use Rattle.alpha_cmd.specs.AnswerBy.{AnswerBy, World};
 ghost use Rattle.alpha_cmd.specs.Decision.{answer_in};
 ghost use Rattle.alpha_cmd.specs.OfImage as images;
 
 use crate::decision::Decision;
-use crate::image;
+use crate::{Status, image};
 use alpha_image::Image;
 
 /// Judges an image.
 pub(crate) fn judged(image: &Image) -> Decision
-    ensures { (w : World)
+    ensures accepted { result.status ≡ Status.Done 0 → IsAccepted image.now.words }
+    ensures answer { (w : World)
         → AnswerBy (images.on asked.Check image.now).steps w (answer_in w.input result) }
 {
     match image::judged(image) {

@@ -14,6 +14,7 @@ use Rattle.alpha_cmd.specs.Fixed.{Fixes}
 use Rattle.alpha_cmd.specs.Promises.{EndsWhole, EndsCut, GivesOne, GivesThe, SparesFiles, TakesInput, LeavesScript, EndsAsked, LosesNone}
 use Rattle.alpha_cmd.specs.ReadsNothing.{Unread, UnreadAlike}
 use Rattle.alpha_cmd.specs.Replayed.{ShowsRuns}
+use Rattle.alpha_cmd.specs.Replied.{Replies}
 use Rattle.alpha_cmd.specs.Restarts.{Restarts}
 use Rattle.alpha_cmd.specs.ToldRun.{Ran}
 use Rattle.alpha_cmd.proofs.JournalStatus.{no_end}
@@ -39,8 +40,9 @@ returns-in-Ok g c =
       script = subst (λ (words : List (List ℕ)). LeavesScript words did.input) is done.script;
       given = subst (λ (words : List (List ℕ)). GivesOne words status did) is done.given;
       exact = subst (λ (words : List (List ℕ)). GivesThe words status did) is done.exact;
-      restarts = subst (λ (words : List (List ℕ)). Restarts words status did.shelf.old) is done.restarts;
-      checked = subst (λ (words : List (List ℕ)). Checked words status did.shelf.old) is done.checked;
+      replied = subst (λ (words : List (List ℕ)). Replies words status did.shelf) is done.replied;
+      restarts = subst (λ (words : List (List ℕ)). Restarts words status did.shelf) is done.restarts;
+      checked = subst (λ (words : List (List ℕ)). Checked words status did.shelf) is done.checked;
       accepted = subst (λ (words : List (List ℕ)). Accepts words status did) is done.accepted;
       ran = subst (λ (words : List (List ℕ)). Ran words status did) is done.ran;
       alike = subst (λ (words : List (List ℕ)). Alike words status did) is done.alike;
@@ -71,6 +73,7 @@ returns-in-Err g c =
       script = λ file asks. tail_same left left refl;
       given = λ quiet. inr refl;
       exact = λ a told quiet is. inr refl;
+      replied = λ command asks e. absurd (undone e);
       restarts = λ file asks e. absurd (undone e);
       checked = λ file is plain e. absurd (undone e);
       accepted = λ image file asks good safe files there quiet. inr refl;

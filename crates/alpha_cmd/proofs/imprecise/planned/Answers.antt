@@ -13,5 +13,5 @@ returns-in_err-chooser g c =
     let p = err_from_is_err_and c.from_residual-in_err-chooser.result c.from_residual-in_err-chooser.ensures.1 in
     rw (p.1, p.2)
     (second_stops g.H.Shelf c.args.shelf.now c.load.new.shelf c.chooser_of.new.shelf (λ files. ImageOf files c.args.file.now) (λ files. ChoicesOf files (origin_of c.args.choices.now))
-    (λ image ahead. Gives (plan_by image ahead)) (λ plan. plan_by plan.image (ahead_in plan.chooser)) c.in_ok-image.image c.in_err-chooser.field-0.0 _ (λ e. cc) c.in_ok-image.ensures.ok
-    c.in_ok-image.ensures.shelf c.in_err-chooser.ensures)
+    (λ image ahead. Gives (plan_by image ahead)) (λ plan. plan_by plan.image (ahead_in plan.chooser)) c.in_ok-image.image c.in_err-chooser.field-0.0 _ (λ e. cc) c.in_ok-image.ensures.stage.ok
+    c.in_ok-image.ensures.stage.shelf c.in_err-chooser.ensures)

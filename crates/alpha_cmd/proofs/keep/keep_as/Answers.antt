@@ -1,4 +1,4 @@
-use Rattle.std.proofs.Common.{length, refl, ap, subst, sym, inl, inr, ⊎_elim}
+use Rattle.std.proofs.Common.{length, refl, ap, subst, sym, inl, inr, ⊎_elim, ◌∙◌}
 use Rattle.alpha_io.specs.Faults.{Rose}
 use Rattle.alpha_io.specs.Files.{Refuses}
 use Rattle.alpha_io.specs.Shelved.{shelved}
@@ -31,6 +31,12 @@ returns-in-Ok-clause-tried g c = λ input.
 pub returns-in-Ok-clause-files : goal.returns-in-Ok-clause-files
 returns-in-Ok-clause-files g c =
     inr (c.args.out.now, subst (λ s. MayKeepBy (keeps_last c.args.out.now) s c.args.out.now) (sym c.said.ensures.status) (refl, inl refl), c.in-Ok.ensures.others)
+
+pub returns-in-Ok-clause-kept : goal.returns-in-Ok-clause-kept
+returns-in-Ok-clause-kept g c = λ done. c.in-Ok.ensures.replies
+
+pub returns-in-Err-clause-kept : goal.returns-in-Err-clause-kept
+returns-in-Err-clause-kept g c = λ done. absurd (let x = sym c.said-in-Err.ensures.status ∙ done in cc)
 
 pub returns-in-Err-clause-tried : goal.returns-in-Err-clause-tried
 returns-in-Err-clause-tried g c = λ input.

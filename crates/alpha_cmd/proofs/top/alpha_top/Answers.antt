@@ -1,5 +1,5 @@
 use Rattle.std.proofs.Common.{◌≡◌, refl, rules}
-use Rattle.alpha_cmd.specs.declared.status.Status.TheVariants.{SinkFault}
+use Rattle.alpha_cmd.specs.declared.status.Status.TheVariants.{Done, SinkFault}
 use Rattle.alpha_cmd.specs.AnswerBy.{told}
 use Rattle.alpha_cmd.specs.Asks.{Asks}
 use Rattle.alpha_cmd.specs.Call.{called}
@@ -36,8 +36,9 @@ returns-in-Ok g c =
       script = c.in-Ok.ensures.script;
       given = promised.given how;
       exact = promised.exact how;
-      restarts = promised.restarts how;
-      checked = promised.checked how;
+      replied = promised.replied status decided is words did.shelf c.in-Ok.ensures.replied;
+      restarts = promised.restarts status decided is words did.shelf c.in-Ok.ensures.replied;
+      checked = promised.checked status decided is words did.shelf c.in-Ok.ensures.replied;
       accepted = promised.accepted how;
       alike = promised.alike how;
       ran = promised.ran how;
@@ -68,8 +69,9 @@ returns-in-Err g c =
       script = c.in-Err.ensures.script;
       given = promised.given how;
       exact = promised.exact how;
-      restarts = promised.restarts how;
-      checked = promised.checked how;
+      replied = λ command asks e. absurd (let x : SinkFault ≡ Done 0 = e in cc);
+      restarts = λ file asks e. absurd (let x : SinkFault ≡ Done 0 = e in cc);
+      checked = λ file is plain e. absurd (let x : SinkFault ≡ Done 0 = e in cc);
       accepted = promised.accepted how;
       alike = promised.alike how;
       ran = promised.ran how;

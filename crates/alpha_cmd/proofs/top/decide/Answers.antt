@@ -1,7 +1,7 @@
 use Rattle.std.proofs.Common.{◌≡◌, ◌∙◌, [], Some, refl, sym, ap, subst, inl, inr, ⊎_elim}
 use Rattle.alpha_io.specs.Faults.{Rose}
 use Rattle.alpha_io.proofs.Shelved.{KeepsFiles-refl}
-use Rattle.alpha_request.specs.Command.{record_run}
+use Rattle.alpha_request.specs.Command.{Command, record_run}
 use Rattle.alpha_request.specs.CommandOf.{command_of}
 use Rattle.alpha_request.proofs.Blocks.{asked_blocks}
 use Rattle.alpha_cmd.specs.AnswerBy.{told}
@@ -12,6 +12,7 @@ use Rattle.alpha_cmd.specs.Commands.{form_of}
 use Rattle.alpha_cmd.specs.Form.{Kind, MayTakeBy, SparesBy}
 use Rattle.alpha_cmd.specs.Does.{TriesIn}
 use Rattle.alpha_cmd.specs.Promises.{tried_in}
+use Rattle.alpha_cmd.specs.Replied.{Replied}
 use Rattle.alpha_cmd.proofs.Endings.{Leaves-all, Decides-map}
 use Rattle.alpha_cmd.proofs.Told.{tail_same}
 use Rattle.alpha_cmd.proofs.Tried.{asked_tried, kind_is}
@@ -37,6 +38,9 @@ returns-in-Ok g c =
       source = does.source;
       rest = does.rest;
       script = λ file also. c.perform.ensures.script file (let e = sym asks ∙ also in cc);
+      replied = λ also asked done.
+          let same : command ≡ also = (let e = sym asks ∙ asked in cc) in
+          subst (λ (x : Command). Replied x did.shelf) same (c.perform.ensures.replied done);
       recorded = λ options choices force file out end lost n also is.
           let same : command ≡ record_run options choices force file out = (let e = sym asks ∙ also in cc) in
           c.perform.ensures.recorded options choices force file out end lost n same is;
@@ -50,6 +54,12 @@ returns-in-Err-BadWords-clause-tried g c =
     let did = called g.H.Shelf g.S.Source g.K.Sink g.N.Sink c.args.devices.now c.args.devices.now in
     Leaves-all (tried_in c.args.words.now did) (answer_in did.input.new c.said.result) did.shelf did.out.old did.notes.old did.out.now did.notes.now
     (inl (inl (rw c.in-Err-BadWords.field-0-is at c.in-Err-BadWords.ensures, c.said.ensures.answer did.input.new))) (KeepsFiles-refl did.shelf.old)
+
+pub returns-in-Err-BadWords-clause-replied : goal.returns-in-Err-BadWords-clause-replied
+returns-in-Err-BadWords-clause-replied g c = λ command asks done. absurd (let x = sym c.said.ensures.status ∙ done in cc)
+
+pub returns-in-Err-NoMemory-clause-replied : goal.returns-in-Err-NoMemory-clause-replied
+returns-in-Err-NoMemory-clause-replied g c = λ command asks done. absurd (let x = sym c.said-in-Err-NoMemory.ensures.status ∙ done in cc)
 
 pub returns-in-Err-NoMemory-clause-rest : goal.returns-in-Err-NoMemory-clause-rest
 returns-in-Err-NoMemory-clause-rest g c = λ bytes tells. ([], bytes, refl, tells)
