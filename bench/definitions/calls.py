@@ -9,24 +9,37 @@ from .translate import record
 
 DONE, LAST_COUNT = ("Done", 0), (1 << 64) - 1
 NAMES = (b"FILE", b"-x", b"file", b"a", b"")
+CHECKS = ("alpha_cmd.Checked.Checked", "alpha_cmd.Restarts.Restarts")
 
 
 class Device:
-    """A device at a moment: what it tells, what it takes, and its count of faults."""
+    """A device at a moment: what it tells, what it takes, its count of faults, and what its calls answered so far."""
 
-    def __init__(self, told, faults=0, takes=None):
-        self.told, self.faults, self.takes = told, faults, takes
+    def __init__(self, told, faults=0, takes=None, replies=()):
+        self.told, self.faults, self.takes, self.replies = told, faults, takes, replies
 
 
 # What can be told of a device, by the ghosts of its trait: each tells what it holds by a name of its own.
 FAULTS = {"faults": lambda device: device.faults}
-SHELF = record(files=lambda device: device.told, takes=lambda device: device.takes, **FAULTS)
+SHELF = record(files=lambda device: device.told, takes=lambda device: device.takes, replies=lambda device: device.replies, **FAULTS)
 SOURCE, SINK = record(left=lambda device: device.told, **FAULTS), record(written=lambda device: device.told, **FAULTS)
 
 
 def told(files):
     """Files as a shelf tells them."""
     return some(lambda name: some(tuple(files[bytes(name)])) if bytes(name) in files else NONE)
+
+
+def shelf_that_gave(d, told, *replies):
+    """What a call did to a shelf that tells this, and replied so behind what it had replied before."""
+    before = (("Kept", tuple(b"FILE"), (1,), True),)
+    return d("alpha_io.Shelved.shelved")(SHELF, Device(told, replies=before), Device(told, replies=before + replies))
+
+
+def pieces_of(name, pieces):
+    """The replies to a reading of a file by these pieces, each behind the one before."""
+    starts = [sum(map(len, pieces[:n])) for n in range(len(pieces))]
+    return tuple(("Piece", tuple(name), at, some(tuple(piece))) for at, piece in zip(starts, pieces))
 
 
 def words_of(*texts):
@@ -139,19 +152,26 @@ class Checked:
         d.forget()
         parts, content = parts_of(whole), tuple(whole.spelled())
         rows = [tuple(record(**dict(zip(("report", "value", "bytes", "adds"), one))) for one in row) for row in choices]
-        d.given(images=[parts], inputs=[(), (1, 2)], choices=rows, names=words_of(*NAMES))
+        halves = (content[:-1], content[-1:])
+        d.given(images=[parts], inputs=[(), (1, 2)], choices=rows, names=words_of(*NAMES), pieces=[(content,), halves])
         if (status == 0) != is_accepted:
             return f"{whole.spelled().hex()}: status {status}"
         if is_accepted and not d("alpha_imprecise.Restart.IsRestartable")(parts):
             return f"{whole.spelled().hex()} can't be restarted"
         words = words_of(b"check", b"FILE")
-        for files, number, wanted in (({b"FILE": content}, 0, is_accepted or None), ({b"FILE": content + (0,)}, 0, False), ({}, 0, False),
-                                      ({}, 1, True)):
+        whole_file = pieces_of(b"FILE", (content, ()))
+        accepted = is_accepted or None
+        for files, replies, number, wanted in (
+                (told({b"FILE": content}), whole_file, 0, accepted), (told({b"FILE": content + (0,)}), whole_file, 0, False),
+                (told({}), whole_file, 0, False), (told({}), (), 1, True), (NONE, whole_file, 0, accepted),
+                (NONE, pieces_of(b"FILE", (*halves, ())), 0, accepted), (NONE, pieces_of(b"FILE", (content + (0,), ())), 0, False),
+                (NONE, pieces_of(b"other", (content, ())), 0, False), (NONE, whole_file[:1], 0, False), (NONE, (), 0, False),
+                (NONE, whole_file * 2, 0, False), (NONE, pieces_of(b"FILE", halves[:1]) + whole_file[1:], 0, False)):
             answer = DONE if number == 0 else ("BadWords",)
-            given = {d(name)(words, answer, told(files)) for name in ("alpha_cmd.Checked.Checked", "alpha_cmd.Restarts.Restarts")}
+            given = {d(name)(words, answer, shelf_that_gave(d, files, *replies)) for name in CHECKS}
             if wanted is not None and given != {wanted}:
                 return f"{whole.spelled().hex()}: {given}, and {wanted} is wanted"
-        other = {d(name)(words_of(b"dis", b"FILE"), DONE, told({})) for name in ("alpha_cmd.Checked.Checked", "alpha_cmd.Restarts.Restarts")}
+        other = {d(name)(words_of(b"dis", b"FILE"), DONE, shelf_that_gave(d, told({}))) for name in CHECKS}
         return "" if other == {True} else "other words"
 
 

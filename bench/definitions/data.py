@@ -17,7 +17,8 @@ DOMAINS = {
     "AllPairs.d": "{xs}[:1]", "All.d": "{xs}[:1]",
     # What is said of every input, every list of choices and every image is tried on those that are handed in.
     "IsRestartable.input": "given['inputs']", "RestartsFrom.choices": "given['choices']",
-    "SpellsRestartable.image": "given['images']", "Ran.image": "given['images']", "Alike.image": "given['images']",
+    "ReadsImage.image": "given['images']", "IsReadWhole.pieces": "given['pieces']",
+    "Ran.image": "given['images']", "Alike.image": "given['images']",
     # The file is one of the words.
     "Ran.file": "{words}", "Alike.file": "{words}", "Checked.file": "{words}", "Restarts.file": "{words}",
     "Alike.options": "given['options']", "HaveWords.bytes": "given['file_bytes']",

@@ -4,8 +4,8 @@ Against the models of the companions, by choices that are free: the bytes of a s
 """
 from collections import Counter
 
-from . import drawn
-from .reference import Late, agrees, broken_in, image, parts_of, program_of, some
+from . import calls, drawn
+from .reference import NONE, Late, agrees, broken_in, image, parts_of, program_of
 from .translate import record
 
 MOST = 60
@@ -139,7 +139,8 @@ class Each:
         whole, _, _, choices, wanted = case
         end = next(n for n, moment in enumerate(wanted, 1) if not moment[-1])
         parts, row = parts_of(whole), tuple(record(**dict(zip(("report", "value", "bytes", "adds"), one))) for one in choices[:end])
-        d.given(images=[parts], inputs=[()], choices=[row], names=[])
-        words, files = (tuple(b"check"), tuple(b"FILE")), some(lambda name: some(tuple(whole.spelled())))
-        given = [d(name)(words, ("Done", 0), files) for name in ("alpha_cmd.Checked.Checked", "alpha_cmd.Restarts.Restarts")]
+        content = tuple(whole.spelled())
+        d.given(images=[parts], inputs=[()], choices=[row], names=[], pieces=[(content,)])
+        words, shelf = (tuple(b"check"), tuple(b"FILE")), calls.shelf_that_gave(d, NONE, *calls.pieces_of(b"FILE", (content, ())))
+        given = [d(name)(words, calls.DONE, shelf) for name in calls.CHECKS]
         return "" if given == [False, False] else f"{whole.spelled().hex()}: the clause of check is {given}"
