@@ -1,8 +1,8 @@
 -- On an image that `check` accepts, a run of the imprecise machine has the answer of the sequential run, but for the number
 -- of words that it draws.
 use Rattle.std.proofs.Common.{◌≡◌, ◌∙◌, ℕ, Bool, true, false, List, Option, None, Some, IsSome, refl, sym, ap, subst}
-use Rattle.alpha_io.specs.Files.{Files, HasFile}
-use Rattle.alpha_image.specs.Parts.{Parts, IsImage, spelling}
+use Rattle.alpha_io.specs.Files.{Files}
+use Rattle.alpha_image.specs.Parts.{Parts}
 use Rattle.alpha_shadow.specs.Broken.{IsAccepted}
 use Rattle.alpha_request.specs.Command.{check, run}
 use Rattle.alpha_request.specs.declared.options.RunOptions.{RunOptions}
@@ -18,11 +18,9 @@ use Rattle.alpha_imprecise.specs.Free.{FreeAlike}
 use Rattle.alpha_imprecise.specs.Restart.{IsRestartable}
 use Rattle.alpha_imprecise.specs.Shown.{ShowsSame}
 use Rattle.alpha_imprecise.proofs.Showing.{runs_alike}
-use Rattle.alpha_cmd.specs.declared.status.Status.TheVariants.{Done}
 use Rattle.alpha_cmd.specs.Status.{class_of}
 use Rattle.alpha_cmd.specs.Outcome.{Outcome, goes, stops, Then}
 use Rattle.alpha_cmd.specs.Image.{ImageOf}
-use Rattle.alpha_cmd.specs.Asks.{Asks}
 use Rattle.alpha_cmd.specs.Answer.{Answer}
 use Rattle.alpha_cmd.specs.AnswerBy.{World, AnswerBy, answer_of}
 use Rattle.alpha_cmd.specs.Form.{IsThere, reads}
@@ -32,14 +30,13 @@ use Rattle.alpha_cmd.specs.Commands.Run.{run_by_reads, MayShow}
 use Rattle.alpha_cmd.specs.RunAnswer.{program_by, answer_shown}
 use Rattle.alpha_cmd.specs.Commands.Imprecise as wilds
 use Rattle.alpha_cmd.specs.Commands.Imprecise.{Plan, plan_by, PlanOf, Passes, with_drawn, run_by, MayShowWild, answer_wild, RunsWild}
-use Rattle.alpha_cmd.specs.Tried.{TriedBy}
 use Rattle.alpha_cmd.specs.AlikeByAnswers.{undrawn, IsChecked, HasWords}
 use Rattle.alpha_cmd.proofs.Forms.{done_goes, of_file}
 use Rattle.alpha_cmd.proofs.OfImage.Check.{lawful}
 use Rattle.alpha_cmd.proofs.Commands.Run.{shown_answer}
 use Rattle.alpha_cmd.proofs.Commands.Imprecise.{Planned-lawful, passed, some_shown, wild_answer}
 use Rattle.alpha_cmd.proofs.Lawful.{Then-found}
-use Rattle.alpha_cmd.proofs.Tried.{AnswerOf-single, done_tried}
+use Rattle.alpha_cmd.proofs.Tried.{AnswerOf-single}
 use Rattle.alpha_cmd.proofs.Untold.{made_same, same_may}
 
 -- ---- an accepted file
@@ -160,12 +157,3 @@ pub alike : (options : RunOptions) (choices : Origin) (force : Bool) (file : Lis
     → HasWords w.files choices → IsChecked file w → AnswerBy (runs.steps options file) w a → AnswerBy (wilds.steps options choices force file) w b → undrawn b ≡ a
 alike options choices force file w a b files input words checked is other =
     AnswerOf-single (run options file) w (undrawn b) a (files, input) (run_answer options choices force file w b files words checked other) is
-
--- ---- a check that is done
-
-pub tried_restarts : (shelf input : Type 0) (words : List (List ℕ)) (file : List ℕ) (w : World) (t : Answer) → Asks words (check file)
-    → TriedBy shelf input words w t → t.status ≡ Done 0 → (image : Parts) × IsImage image × HasFile w.files file (spelling image) × IsRestartable image
-tried_restarts shelf input words file w t asks tried e =
-    let good = checked_good file w (record { answer = t; is = done_tried shelf input words (check file) w t asks tried e; done = e }) in
-    let (bytes, read, spelt) = good.found in
-    (good.image, spelt.0, subst (HasFile w.files file) spelt.1 read.0, good_restarts file w.files good)
