@@ -1,5 +1,5 @@
 -- What the calls of a device answered. It exists in proofs alone.
-use Rattle.std.specs.Prelude.{◌≡◌, ℕ, zero, suc, ◌+◌, ◌==◌, Bool, true, false, List, [], ◌∷◌, ◌++◌, length, take, slice_index, Option, None, Some, if◌then◌else◌, Result, Ok, Err, refl}
+use Rattle.std.specs.Prelude.{◌≡◌, ◌≢◌, All, ℕ, zero, suc, ◌+◌, ◌==◌, Bool, true, false, List, [], ◌∷◌, ◌++◌, length, take, slice_index, Option, None, Some, if◌then◌else◌, Result, Ok, Err, refl}
 use Rattle.std.specs.List.{concat}
 use Rattle.std.specs.Coded.{Coded, code_by, coded×, coded_ℕ, coded_list, coded_option}
 use base.Stored.{coded_bool}
@@ -27,9 +27,10 @@ pieces_from name at [] = []
 pieces_from name at (piece ∷ pieces) = Piece name at (Some piece) ∷ pieces_from name (at + length piece) pieces
 
 -- Between these two moments the shelf was asked for the pieces of this file, from its start on and each behind the one before, and
--- for nothing else. The last one was empty, which says that the file ends there. The pieces are these bytes.
+-- for nothing else. The last one alone was empty, which says that the file ends there. The pieces are these bytes.
 pub record IsReadWhole (old new : List Reply) (name bytes : List ℕ) : Type 0 where
   pub pieces : List (List ℕ)
+  pub some : All (λ piece. piece ≢ []) pieces
   pub whole : concat pieces ≡ bytes
   pub calls : new ≡ old ++ pieces_from name 0 pieces ++ Piece name (length bytes) (Some []) ∷ []
 

@@ -1,7 +1,7 @@
 use Rattle.std.proofs.Common.{ℕ, refl, length, ◌∙◌, arith, length-take}
 use Rattle.alpha_io.specs.Files.{IsPiece}
 use Rattle.alpha_io.proofs.Shelved.{KeepsFiles-trans, IfTold-kept}
-use Rattle.alpha_io.proofs.Pieces.{IsReadTo-more}
+use Rattle.alpha_io.proofs.Pieces.{IsReadTo-more, some_bytes}
 use Rattle.alpha_io.proofs.Fronts.{IsFront-more}
 use Rattle.alpha_io.proofs.read.read_whole.Goals as goal
 
@@ -12,7 +12,7 @@ loop-buffer-preserved g c =
     let piece = IfTold-kept _ _ c.args.name.now (λ file. IsPiece file (length c.loop-buffer.bytes.items) c.in_ok-count.count c.append_piece.new.buffer) s.files now.piece in
     let front = IsFront-more (g.H.Shelf.files c.args.shelf.now) c.args.name.now c.loop-buffer.bytes.items (length c.loop-buffer.bytes.items) c.in_ok-count.count c.append_piece.new.buffer refl now.bound.1 s.front piece in
     record {
-      so = IsReadTo-more _ _ _ _ _ _ _ s.so now.replies now.items;
+      so = IsReadTo-more _ _ _ _ _ _ _ s.so (some_bytes c.in_ok-count.count _ now.bound.1 c.if-count-eq0.false) now.replies now.items;
       front = rw now.items front;
       room = omega (arith, now.len, length-take {A = ℕ});
       files = KeepsFiles-trans _ _ _ s.files now.files;
