@@ -3,6 +3,7 @@
 A clause must hold of a call as it was, and of one with another status, output, line or input left it mustn't.
 """
 from . import drawn
+from .moments import row_of
 from .reference import NONE, Late, broken_in, image, parts_of, some
 from .runs import options_of
 from .translate import record
@@ -151,9 +152,9 @@ class Checked:
         whole, choices, status, is_accepted = case
         d.forget()
         parts, content = parts_of(whole), tuple(whole.spelled())
-        rows = [tuple(record(**dict(zip(("report", "value", "bytes", "adds"), one))) for one in row) for row in choices]
         halves = (content[:-1], content[-1:])
-        d.given(images=[parts], inputs=[(), (1, 2)], choices=rows, names=words_of(*NAMES), pieces=[(content,), halves])
+        d.given(images=[parts], inputs=[(), (1, 2)], choices=[row_of(row) for row in choices], names=words_of(*NAMES),
+                pieces=[(content,), halves])
         if (status == 0) != is_accepted:
             return f"{whole.spelled().hex()}: status {status}"
         if is_accepted and not d("alpha_imprecise.Restart.IsRestartable")(parts):

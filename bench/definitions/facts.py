@@ -15,7 +15,7 @@ def shelved(old, new):
 
 def state(**changed):
     """A state of no program, with a count of overflows that is about to pass its last value."""
-    fields = {"regs": REGS, "pc": drawn.CODE, "mem": (), "lock": some(3), "count": MASK, "logged": 5, "outside": None}
+    fields = {"regs": REGS, "pc": drawn.CODE, "mem": (), "lock": some(3), "count": MASK, "logged": 5, "unique": 0}
     return record(**{**fields, **changed})
 
 
@@ -101,7 +101,7 @@ def called(function, count, arguments):
 
 
 class Stops:
-    name, about = "stops", "a late run that has used more units than the precise run has steps doesn't agree at its end"
+    name, about = "stops", "a late run of which more was seen than the precise run has events doesn't agree at its end"
     counts = {"sample": 6, "whole": 100}
     is_quick = True
 
@@ -116,11 +116,11 @@ class Stops:
         whole, more = case
         d.forget()
         program = program_of(whole, "wrap")
-        start = d("alpha_seq.Start.start")(program, ())
-        precise = d("alpha_seq.Run.after")(program, start, 300)
-        late = record(units=precise.steps + more, state=precise.state, pending=NONE, trace=precise.trace, last=("Precisely", precise.last))
-        given = d("alpha_imprecise.Restart.Agrees")(program, start, late)
-        return "" if given == (more == 0) else f"{whole.spelled().hex()}: {more} units more, and agrees is {given}"
+        start = d("alpha_seq.Start.start")(program)
+        precise = d("alpha_seq.Run.after")(program, start, (), 300)
+        late = record(state=precise.at.state, pending=NONE, happened=("Precisely", precise.at.event))
+        given = d("alpha_imprecise.Restart.Agrees")(program, start, precise.events + (precise.at.event,) * more, late)
+        return "" if given == (more == 0) else f"{whole.spelled().hex()}: {more} events more, and agrees is {given}"
 
 
 class Scans:

@@ -101,7 +101,7 @@ class Images:
     def memory(self, d, whole, parts):
         """The blocks of the start, by the image's bytes."""
         program = record(image=parts, how=("Wrap",))
-        state = d("alpha_seq.Start.start")(program, ())
+        state = d("alpha_seq.Start.start")(program)
         code = b"".join(word.to_bytes(4, "little") for word in whole.words)
         wanted = [(whole.code_base, code, False)] + [(one.base, one.data + bytes(one.zeroed), True) for one in whole.segments]
         wanted.append(((1 << 30) - whole.stack, bytes(whole.stack), True))

@@ -17,6 +17,11 @@ def choice_of(chooser):
     return chooser.random() < 0.3, number, chooser.choice((number, drawn.number(chooser))), chooser.random() < 0.6
 
 
+def row_of(choices):
+    """Choices in the definitions' words."""
+    return tuple(record(**dict(zip(("report", "value", "bytes", "adds"), choice))) for choice in choices)
+
+
 def moments_of(whole, how, given, choices):
     """What the models say of each moment: (kind of the step, PC, registers, mask, trigger's place, whether it agrees)."""
     late, precise, before = Late(whole, how, given), Late(whole, how, given), False
@@ -52,19 +57,18 @@ class Moments:
         whole, how, given, choices, wanted = case
         d.forget()
         program, given = program_of(whole, how), tuple(given)
-        start = d("alpha_seq.Start.start")(program, given)
-        run = d("alpha_imprecise.Run.started_wild")(start)
-        for choice, moment in zip(choices, wanted):
-            run = d("alpha_imprecise.Run.run_wild")(program, (record(**dict(zip(("report", "value", "bytes", "adds"), choice))),), run)
-            found = self.seen(run) + (d("alpha_imprecise.Restart.Agrees")(program, start, run),)
-            if found != moment:
-                return f"{whole.spelled().hex()} by {how}: {found}, and {moment} is wanted"
+        start = d("alpha_seq.Start.start")(program)
+        for (moment, steps), said in zip(d.late(program, start, row_of(choices), given), wanted):
+            events = d("alpha_imprecise.Run.seen")(steps)
+            found = self.seen(moment) + (d("alpha_imprecise.Restart.Agrees")(program, start, events, moment),)
+            if found != said:
+                return f"{whole.spelled().hex()} by {how}: {found}, and {said} is wanted"
         return ""
 
-    def seen(self, run):
-        kind = run.last[1][0] if run.last[0] == "Precisely" else run.last[0]
-        trap = run.pending[1] if run.pending[0] == "Some" else None
-        return kind, run.state.pc, run.state.regs, trap and trap.mask, trap and trap.place
+    def seen(self, moment):
+        kind = moment.happened[1][0] if moment.happened[0] == "Precisely" else moment.happened[0]
+        trap = moment.pending[1] if moment.pending[0] == "Some" else None
+        return kind, moment.state.pc, moment.state.regs, trap and trap.mask, trap and trap.place
 
 
 class Waits:
@@ -138,9 +142,9 @@ class Each:
         """The clause of `check` is false of such code where a list of choices is tried that ends where it doesn't agree."""
         whole, _, _, choices, wanted = case
         end = next(n for n, moment in enumerate(wanted, 1) if not moment[-1])
-        parts, row = parts_of(whole), tuple(record(**dict(zip(("report", "value", "bytes", "adds"), one))) for one in choices[:end])
+        parts = parts_of(whole)
         content = tuple(whole.spelled())
-        d.given(images=[parts], inputs=[()], choices=[row], names=[], pieces=[(content,)])
+        d.given(images=[parts], inputs=[()], choices=[row_of(choices[:end])], names=[], pieces=[(content,)])
         words, shelf = (tuple(b"check"), tuple(b"FILE")), calls.shelf_that_gave(d, NONE, *calls.pieces_of(b"FILE", (content, ())))
         given = [d(name)(words, calls.DONE, shelf) for name in calls.CHECKS]
         return "" if given == [False, False] else f"{whole.spelled().hex()}: the clause of check is {given}"

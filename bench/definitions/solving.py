@@ -96,11 +96,12 @@ class Search:
     def enter_record(self, of, arguments, depth):
         """The fields of a record: those that are things are variables, the others premises."""
         known = dict(zip(self.translation.parameters(of), arguments))
+        scope = dict(zip((name for name, _ in of.parts().parameters), arguments))
         for line in self.translation.lines_of(of):
             name, own, sort = line.left
             if sort:
                 known[own] = Var(fresh(name))
-                self.binders.append(Binder(known[own].name, sort, f"{of.name}.{name}", {}))
+                self.binders.append(Binder(known[own].name, sort, f"{of.name}.{name}", scope))
             elif line.body is not None:
                 self.note(line)
                 self.enter(put(line.body, known), depth + 1)

@@ -44,8 +44,8 @@ class Unmatched(Exception):
 
 
 class Rows:
-    """A function of a number that goes by its value at the one below it, whose values are kept for the latest other arguments.
-    A value that is the one below it is that of every number above."""
+    """A function of a number that goes by its value at the one below it. For the latest other arguments its latest value is
+    kept, and not each, since a value may be a long list. A value that is the one below it is that of every number above."""
 
     def __init__(self, function):
         self.function, self.known = function, {}
@@ -53,16 +53,18 @@ class Rows:
     def __call__(self, *arguments):
         *others, n = arguments
         key = tuple(map(id, others))
-        if key not in self.known:
-            if len(self.known) > 7:
-                self.known.clear()
-            self.known[key] = others, []
-        values = self.known[key][1]
-        while len(values) <= n:
-            if len(values) > 1 and values[-1] is values[-2]:
-                return values[-1]
-            values.append(self.function(*others, len(values)))
-        return values[n]
+        if key not in self.known and len(self.known) > 7:
+            self.known.clear()
+        _, at, value, is_last = self.known.get(key, (others, n + 1, None, False))
+        if n < at:
+            at, value, is_last = 0, self.function(*others, 0), False
+        while at < n and not is_last:
+            self.known[key] = others, at, value, False
+            below, at = value, at + 1
+            value = self.function(*others, at)
+            is_last = value is below
+        self.known[key] = others, at, value, is_last
+        return value
 
     def cache_clear(self):
         self.known.clear()

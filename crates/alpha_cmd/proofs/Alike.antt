@@ -8,13 +8,12 @@ use Rattle.alpha_request.specs.Command.{check, run}
 use Rattle.alpha_request.specs.declared.options.RunOptions.{RunOptions}
 use Rattle.alpha_request.specs.Origin.{Origin}
 use Rattle.alpha_restart.proofs.Agreeing.{accepted_restarts}
-use Rattle.alpha_restart.proofs.FreeTogether.{accepted_free}
 use Rattle.alpha_seq.specs.declared.end.End.{End}
 use Rattle.alpha_seq.specs.declared.end.End.TheVariants as ends
 use Rattle.alpha_seq.specs.State.{Program}
-use Rattle.alpha_seq.specs.Run.{Shown, shown, sequential, notes_of}
-use Rattle.alpha_imprecise.specs.Made.{ShownWild, LostTrap, shown_making, first_words, most_words}
-use Rattle.alpha_imprecise.specs.Free.{FreeAlike}
+use Rattle.alpha_seq.specs.Run.{Shown, sequential}
+use Rattle.alpha_imprecise.specs.Run.{seen}
+use Rattle.alpha_imprecise.specs.Made.{ShownWild, LostTrap, first_words, most_words}
 use Rattle.alpha_imprecise.specs.Restart.{IsRestartable}
 use Rattle.alpha_imprecise.specs.Shown.{ShowsSame}
 use Rattle.alpha_imprecise.proofs.Showing.{runs_alike}
@@ -26,10 +25,10 @@ use Rattle.alpha_cmd.specs.AnswerBy.{World, AnswerBy, answer_of}
 use Rattle.alpha_cmd.specs.Form.{IsThere, reads}
 use Rattle.alpha_cmd.specs.OfImage.Check.{Checks}
 use Rattle.alpha_cmd.specs.Commands.Run as runs
-use Rattle.alpha_cmd.specs.Commands.Run.{run_by_reads, MayShow}
+use Rattle.alpha_cmd.specs.Commands.Run.{shown_by, MayShow}
 use Rattle.alpha_cmd.specs.RunAnswer.{program_by, answer_shown}
 use Rattle.alpha_cmd.specs.Commands.Imprecise as wilds
-use Rattle.alpha_cmd.specs.Commands.Imprecise.{Plan, plan_by, PlanOf, Passes, with_drawn, run_by, MayShowWild, answer_wild, RunsWild}
+use Rattle.alpha_cmd.specs.Commands.Imprecise.{Plan, plan_by, PlanOf, Passes, with_drawn, run_by, shown_wild, MayShowWild, answer_wild, RunsWild}
 use Rattle.alpha_cmd.specs.AlikeByAnswers.{undrawn, IsChecked, HasWords}
 use Rattle.alpha_cmd.proofs.Forms.{done_goes, of_file}
 use Rattle.alpha_cmd.proofs.OfImage.Check.{lawful}
@@ -87,28 +86,27 @@ record IsShown (options : RunOptions) (input : Option (List ℕ)) (image : Parts
   may : MayShow options input image what
   same : undrawn (answer_wild input t) ≡ answer_shown input what
 
-is_shown : (options : RunOptions) (force : Bool) (input : Option (List ℕ)) (plan : Plan) (t : ShownWild) → IsRestartable plan.image → FreeAlike plan.image
+is_shown : (options : RunOptions) (force : Bool) (input : Option (List ℕ)) (plan : Plan) (t : ShownWild) → IsRestartable plan.image
     → MayShowWild options force input plan t → IsShown options input plan.image t
-is_shown options true None plan t restarts alike (m, is) =
-    let q = made_same options plan alike m in
-    let s = shown options.watch (run_by_reads options plan.image q.inputs) in
-    let wild = shown_making options.watch m.making in
+is_shown options true None plan t restarts (m, is) =
+    let q = made_same options plan restarts m in
+    let s = shown_by options.watch (seen m.steps) q.last in
     record {
       what = s;
-      may = same_may options plan.image m.making.run q;
+      may = same_may options plan m q;
       same =
           ap (λ (u : ShownWild). undrawn (answer_wild None u)) is
-          ∙ answers_alike None s (record wild { left = s.left })
-          (record { end = q.end; lost = q.lost; steps = q.steps; output = q.output; left = refl; notes = ap (notes_of options.watch) q.trace });
+          ∙ answers_alike None s (shown_wild options plan m)
+          (record { end = q.end; lost = q.lost; steps = q.count; output = refl; left = refl; notes = refl });
     }
-is_shown options false None plan t restarts alike (m, (s, may, is)) = record {
+is_shown options false None plan t restarts (m, (s, may, is)) = record {
   what = s;
   may = may;
   same =
       ap (λ (u : ShownWild). undrawn (answer_wild None u)) is
-      ∙ answers_alike None s (with_drawn s m.making.count) (record { end = refl; lost = refl; steps = refl; output = refl; left = refl; notes = refl });
+      ∙ answers_alike None s (with_drawn s m.drawn) (record { end = refl; lost = refl; steps = refl; output = refl; left = refl; notes = refl });
 }
-is_shown options force (Some input) plan t restarts alike is =
+is_shown options force (Some input) plan t restarts is =
     let g = program_by options plan.image in
     let s = sequential g input options.steps options.watch in
     record {
@@ -130,7 +128,7 @@ run_answer options choices force file w b files words checked (o, h, is) =
     shows : (good : IsGood file w.files) (o : Outcome Answer) → b ≡ answer_of w.input o → RunsWild options force w.input (plan_by good.image words.0) o
         → AnswerBy (runs.steps options file) w (undrawn b)
     shows good (goes a) is (t, may, wild) =
-        let s = is_shown options force w.input (plan_by good.image words.0) t (good_restarts file w.files good) (accepted_free good.image good.found.2.0 good.accepted) may in
+        let s = is_shown options force w.input (plan_by good.image words.0) t (good_restarts file w.files good) may in
         subst (AnswerBy (runs.steps options file) w) (sym (ap undrawn (is ∙ wild) ∙ s.same)) (shown_answer w options file good.image s.what good.found s.may)
     shows good (stops status line) is never = absurd never
 

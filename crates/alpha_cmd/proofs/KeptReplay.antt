@@ -12,7 +12,7 @@ use Rattle.alpha_replay.specs.declared.replaying.Replayed.{Replayed}
 use Rattle.alpha_replay.specs.Items.{item_bytes}
 use Rattle.alpha_replay.specs.Journal.{Parts, IsJournal, numbers, front, spelling}
 use Rattle.alpha_replay.specs.JournalEnd.{IsRecorded}
-use Rattle.alpha_replay.specs.Gathered.{closed}
+use Rattle.alpha_replay.specs.Gathered.{items_of}
 use Rattle.alpha_replay.specs.Replay.{reports_of, replayed}
 use Rattle.alpha_replay.proofs.FrontBytes.{length-front}
 use Rattle.alpha_replay.proofs.ItemBytes.{length-item_bytes}
@@ -63,7 +63,7 @@ recorded_replays : (options : RunOptions) (image : Image) (input : List ℕ) (ah
 recorded_replays options image input ahead p h =
     let words = first_words (most_words options.steps) ahead in
     let g = program_by options image in
-    let r : Replayed = record { units = h.place.making.run.units; reports = reports_of (closed h.place.gathered) } in (
+    let r : Replayed = record { units = h.place.run.units; reports = reports_of (items_of h.place.run.steps) } in (
       r,
       ap (replayed image) h.is ∙ journaled_replays options.steps image options.complete input words h.place h.stops h.within (journaled_lists options.steps g input words h.place h.stops),
     )

@@ -1,31 +1,29 @@
 -- The journal that is kept with an answer over a told input is that of the run that has this answer.
-use Rattle.std.proofs.Common.{◌≡◌, ◌∙◌, ◌&&◌, ◌||◌, ◌++◌, ◌^◌, ◌%◌, not, ℕ, Bool, true, false, List, [], Option, None, Some, refl, sym, ap, subst, inl, inr}
-use Rattle.std.proofs.lemmas.Bool.{eqb-true}
+use Rattle.std.proofs.Common.{◌≡◌, ◌∙◌, ◌^◌, ◌%◌, ℕ, Bool, true, false, List, [], Option, None, Some, refl, sym, ap, subst, inl, inr}
 use Rattle.alpha_image.specs.Parts.{Parts as Image}
 use Rattle.alpha_request.specs.declared.options.RunOptions.{RunOptions}
 use Rattle.alpha_request.specs.Origin.{Origin}
 use Rattle.alpha_restart.proofs.Agreeing.{accepted_restarts}
-use Rattle.alpha_seq.specs.State.{Program, State, Went}
+use Rattle.alpha_seq.specs.State.{Program, State, Went, Barriered, Overflowed, Ends}
 use Rattle.alpha_seq.specs.Start.{start}
 use Rattle.alpha_seq.specs.Run.{Shown, sequential}
-use Rattle.alpha_imprecise.specs.Moment.{Happening, Precisely}
+use Rattle.alpha_imprecise.specs.Moment.{Happening, Precisely, Triggered, Waited, Reported, Lost}
 use Rattle.alpha_imprecise.specs.Restart.{IsRestartable}
 use Rattle.alpha_imprecise.specs.Shown.{ShowsSame}
 use Rattle.alpha_imprecise.specs.Used.{HasUsed}
-use Rattle.alpha_imprecise.specs.Made.{Making, begun, steps_making, made, first_words, most_words, wild_end, lost_trap, ShownWild, shown_making, imprecise_by}
+use Rattle.alpha_imprecise.specs.Made.{Making, begun, made, first_words, most_words, wild_end, lost_trap, ShownWild, shown_making, imprecise_by}
+use Rattle.alpha_imprecise.proofs.Drawn.{made_by}
 use Rattle.alpha_imprecise.proofs.Settling.{made_is}
 use Rattle.alpha_imprecise.proofs.Showing.{runs_alike}
-use Rattle.alpha_run.proofs.WildUsed.{made_by}
-use Rattle.alpha_replay.specs.Gathered.{closed}
+use Rattle.alpha_replay.specs.Gathered.{items_of}
 use Rattle.alpha_replay.specs.Journal.{Parts, spelling}
-use Rattle.alpha_replay.specs.Journaled.{Journaled, unjournaled, taken_by, journal_at, is_within, IsJournaled}
+use Rattle.alpha_replay.specs.Journaled.{journal_at, is_within, IsJournaled}
 use Rattle.alpha_replay.specs.JournalEnd.{IsRecorded}
-use Rattle.alpha_replay.specs.Listed.{played_over, unplayed}
+use Rattle.alpha_replay.specs.Listed.{played_over}
 use Rattle.alpha_replay.specs.Replay.{ending_of, reports_of}
-use Rattle.alpha_replay.proofs.Feeding.{list_feeds}
-use Rattle.alpha_replay.proofs.JournaledReplays.{input_stays, journaled_lists, listed_taken, journaled_replays}
-use Rattle.alpha_replay.proofs.JournaledRuns.{played_in, steps_run}
-use Rattle.alpha_replay.proofs.Recording.{taken_is}
+use Rattle.alpha_replay.proofs.Going.{stopped_used}
+use Rattle.alpha_replay.proofs.JournaledReplays.{journaled_lists, took, listed_taken, journaled_replays}
+use Rattle.alpha_replay.proofs.JournaledRuns.{played_in, journaled_run}
 use Rattle.alpha_replay.proofs.Stopping.{few_words}
 use Rattle.alpha_cmd.specs.Outcome.{goes, stops}
 use Rattle.alpha_cmd.specs.Answer.{Answer}
@@ -40,32 +38,28 @@ use Rattle.alpha_cmd.proofs.Commands.Imprecise.{planned_image, planned_good}
 
 -- ---- where a run with its journal stops within the limits it is the run of all units
 
-used_there : (w f c e : Bool) → w ≡ true → (not w || (f || (c && e))) ≡ true → ((f || c) ≡ true) × (f ≡ false → e ≡ true)
-used_there false f c e h k = cc
-used_there true true c e h k = (refl, λ no. cc)
-used_there true false true e h k = (refl, λ no. k)
-used_there true false false e h k = cc
-
-module _ (n : ℕ) (g : Program) (s : State) (words : List ℕ) (k : Journaled) (is : IsJournaled n g (unjournaled (begun s None 0 words)) k)
+module _ (n : ℕ) (g : Program) (s : State) (input words : List ℕ) (k : Making) (is : IsJournaled n g (begun s input None 0 words) k)
     (within : is_within (journal_at g.how k) ≡ true) where
-  place_used : HasUsed n k.making.run
-  place_used =
-      let there = used_there _ _ _ _ within is.stopped in
-      record { settled = there.0; most = (few_words n g s words k is).0; full = λ going. eqb-true k.making.run.units n (there.1 going) }
+  place_used : HasUsed n k.run.units k.run.at
+  place_used = stopped_used n g.how k.run.units k.run.steps k.run.at (few_words n g s input words k is).0 within is.stopped
 
-  place_made : k.making ≡ made g (begun s None 0 words) n
+  place_made : k ≡ made g (begun s input None 0 words) n
   place_made =
-      let from = begun s None 0 words in
-      let run = steps_run n g (unjournaled from) is.steps in
-      let here : k.making ≡ steps_making g from run.0 = ap (λ (j : Journaled). j.making) (sym is.reached) ∙ run.1 in
-      here ∙ sym (made_by g from run.0 n (made_is g from n refl refl) (subst (λ (l : Making). HasUsed n l.run) here place_used))
+      let from = begun s input None 0 words in
+      let run = journaled_run n g from k is in
+      run.1 ∙ sym (made_by g from run.0 n (made_is g from n refl refl) (subst (λ (l : Making). HasUsed n l.run.units l.run.at) run.1 place_used))
 
 -- ---- its journal
 
 ending_is : (h : Happening) → ending_of h ≡ ending_shown (wild_end h) (lost_trap h)
 ending_is (Precisely Went) = refl
-ending_is (Precisely event) = refl
-ending_is moment = refl
+ending_is (Precisely (Barriered traffic pc regs)) = refl
+ending_is (Precisely (Overflowed at)) = refl
+ending_is (Precisely (Ends end)) = refl
+ending_is (Triggered value) = refl
+ending_is (Waited adds value bytes) = refl
+ending_is (Reported at) = refl
+ending_is (Lost pc mask) = refl
 
 module _ (options : RunOptions) (image : Image) (bytes : List ℕ) (ahead : ℕ → ℕ) where
   abbrev g : Program
@@ -74,31 +68,22 @@ module _ (options : RunOptions) (image : Image) (bytes : List ℕ) (ahead : ℕ 
   abbrev coming : List ℕ
   coming = first_words (most_words options.steps) ahead
 
-  all_taken : (k : Journaled) → IsJournaled options.steps g (unjournaled (begun (start g bytes) None 0 coming)) k
-      → bytes ≡ taken_by k ++ k.making.run.state.outside.input
-  all_taken k is =
-      let left = k.making.run.state.outside.input in
-      let fed = list_feeds g 0 (closed k.gathered) (unplayed (start g bytes)) (played_in k.making) [] left (journaled_lists options.steps g bytes coming k is) refl in
-      let input : k.input ≡ bytes = ap (λ (j : Journaled). j.input) (sym is.reached) ∙ input_stays options.steps g (unjournaled (begun (start g bytes) None 0 coming)) is.steps in
-      let taken : taken_by k ≡ fed.0 = ap (λ (l : List ℕ). taken_by (record k { input = l })) (input ∙ fed.1) ∙ taken_is fed.0 left in
-      fed.1 ∙ ap (λ (l : List ℕ). l ++ left) (sym taken)
-
-  place_journal : (k : Journaled) → IsJournaled options.steps g (unjournaled (begun (start g bytes) None 0 coming)) k → is_within (journal_at options.complete k) ≡ true
-      → (kept : Kept) → IsJournalOf options image bytes (journal_at options.complete k) (record (answer_wild (Some bytes) (shown_making false k.making)) { kept = kept })
+  place_journal : (k : Making) → IsJournaled options.steps g (begun (start g) bytes None 0 coming) k → is_within (journal_at options.complete k) ≡ true
+      → (kept : Kept) → IsJournalOf options image bytes (journal_at options.complete k) (record (answer_wild (Some bytes) (shown_making false k)) { kept = kept })
   place_journal k is within kept =
       let lists = journaled_lists options.steps g bytes coming k is in
       record {
-        end = wild_end k.making.run.last;
-        lost = lost_trap k.making.run.last;
-        drawn = k.making.count % 2 ^ 64;
-        left = k.making.run.state.outside.input;
-        played = played_over [] (played_in k.making);
-        reports = reports_of (closed k.gathered);
-        ending = ending_is k.making.run.last;
+        end = wild_end k.run.at.happened;
+        lost = lost_trap k.run.at.happened;
+        drawn = k.count % 2 ^ 64;
+        left = k.run.left;
+        played = played_over [] (played_in k);
+        reports = reports_of (items_of k.run.steps);
+        ending = ending_is k.run.at.happened;
         status = refl;
         line = refl;
         output = refl;
-        taken = all_taken k is;
+        taken = sym (took options.steps image options.complete bytes coming k is);
         rest = refl;
         completion = refl;
         listed = listed_taken options.steps image options.complete bytes coming k is lists;
@@ -126,8 +111,8 @@ module _ (options : RunOptions) (image : Image) (bytes : List ℕ) (ahead : ℕ 
       → IsRecorded options.steps g bytes ahead p → (kept : Kept)
       → IsJournalOf options image bytes p (record (answer_wild (Some bytes) s) { kept = kept })
   run_journal force s p restarts may has kept =
-      let made_there = place_made options.steps g (start g bytes) coming has.place has.stops has.within in
-      let shown : shown_making false has.place.making ≡ s = ap (shown_making false) made_there ∙ sym (shows_made force s restarts may) in
+      let made_there = place_made options.steps g (start g) bytes coming has.place has.stops has.within in
+      let shown : shown_making false has.place ≡ s = ap (shown_making false) made_there ∙ sym (shows_made force s restarts may) in
       subst (λ (q : Parts). IsJournalOf options image bytes q (record (answer_wild (Some bytes) s) { kept = kept })) (sym has.is)
       (subst (λ (t : ShownWild). IsJournalOf options image bytes (journal_at options.complete has.place) (record (answer_wild (Some bytes) t) { kept = kept })) shown
       (place_journal has.place has.stops has.within kept))

@@ -5,8 +5,7 @@ use Rattle.alpha_request.specs.Origin.{Origin}
 use Rattle.alpha_request.specs.declared.options.RunOptions.{RunOptions}
 use Rattle.alpha_request.specs.Commands.Run as run_words
 use Rattle.alpha_seq.specs.Start.{start}
-use Rattle.alpha_seq.specs.Run.{sequential}
-use Rattle.alpha_seq.specs.Inputs.{IsUnread}
+use Rattle.alpha_seq.specs.Run.{after, sequential, ReadNothing}
 use Rattle.alpha_cmd.specs.declared.status.Status.{Status}
 use Rattle.alpha_cmd.specs.AlikeByAnswers.{HasWords, IsChecked}
 use Rattle.alpha_cmd.specs.Answer.{Answer}
@@ -18,10 +17,11 @@ use Rattle.alpha_cmd.specs.Image.{ImageOf}
 use Rattle.alpha_cmd.specs.Outcome.{goes}
 use Rattle.alpha_cmd.specs.RunAnswer.{program_by, answer_shown}
 
--- None of the steps that are asked for looks at the input: none is a system call that asks for a good read. The run over no
--- input tells that of every run, since up to the first such call they are the same.
+-- None of the steps that are asked for reads: none is a system call that asks for a good read. The run over no input tells that
+-- of every run, since up to the first such call they are the same.
 abbrev pub ReadsNothing : RunOptions → Parts → Type 0
-ReadsNothing options image = IsUnread (program_by options image) (start (program_by options image) []) options.steps
+ReadsNothing options image =
+    ReadNothing (after (program_by options image) (start (program_by options image)) [] options.steps).events
 
 -- The status, the output and the notes of the sequential run over no input, and the input as it is.
 abbrev pub answer_unread : RunOptions → Parts → Option (List ℕ) → Answer

@@ -4,7 +4,8 @@ use Rattle.alpha_io.specs.Files.{Files}
 use Rattle.alpha_image.specs.Parts.{Parts as Image}
 use Rattle.alpha_request.specs.declared.options.RunOptions.{RunOptions}
 use Rattle.alpha_seq.specs.declared.end.End.{End}
-use Rattle.alpha_seq.specs.Run.{notes_of}
+use Rattle.alpha_seq.specs.Run.{notes}
+use Rattle.alpha_imprecise.specs.Run.{seen}
 use Rattle.alpha_imprecise.specs.Made.{LostTrap}
 use Rattle.alpha_replay.specs.declared.ending.Ending.{Ending}
 use Rattle.alpha_replay.specs.declared.ending.Ending.TheVariants as endings
@@ -42,7 +43,7 @@ pub record IsJournalOf (options : RunOptions) (image : Image) (input : List ℕ)
   pub rest : a.left ≡ Some left
   pub completion : p.completion ≡ options.complete
   pub listed : listed (program_by image p) p.input p.items ≡ Ok played
-  pub notes : a.trace ≡ notes_of false played.run.trace
+  pub notes : a.trace ≡ notes false (seen played.run.steps)
   pub replayed : replayed image p ≡ Ok (record { units = played.run.units; reports = reports })
 
 -- what is kept with an answer: nothing, or as OUT the spelling of the journal of the run that has it

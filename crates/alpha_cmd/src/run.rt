@@ -55,8 +55,7 @@ fn run_machine<H: Shelf, S: Source, K: Sink, N: Sink>(
     devices: &mut Devices<H, S, K, N>,
 ) -> Result<Decision, Failed>
     requires how { machine.old.how ≡ options.complete }
-    requires start { (bytes : List ℕ) → state_of machine.old bytes []
-        ≡ start (program_of machine.old) bytes }
+    requires start { state_of machine.old ≡ start (program_of machine.old) }
     requires mode { IsTrue machine.old.kernel.user }
     ensures { Does H.Shelf S.Source K.Sink N.Sink (runs.on options machine.old.image) result devices.old devices.new }
 {

@@ -28,8 +28,8 @@ use Rattle.alpha_debug.proofs.Steps.{walk-grows}
 
 -- ---- what is written stays
 
-going-grows : (g : Setting) (wanted : Until) (most : ℕ) (s : Session) (end : Option End) → Grows (text_of s) (text_of (if_going end s (walk g.program wanted s.points most s.state)))
-going-grows g wanted most s None = walk-grows g.program wanted s.points most s.state
+going-grows : (g : Setting) (wanted : Until) (most : ℕ) (s : Session) (end : Option End) → Grows (text_of s) (text_of (if_going end s (walk g.program wanted s.points most s.state s.text)))
+going-grows g wanted most s None = walk-grows g.program wanted s.points most s.state s.text
 going-grows g wanted most s (Some end) = Grows-same (text_of s)
 
 saying_where-grows : (s : Session) → Grows (text_of s) (text_of (saying_where s))
@@ -79,22 +79,6 @@ module _ {K : Type 0} (written : K → Option (List ℕ)) (faults : K → ℕ) (
 
 -- ---- commands
 
--- what a command says doesn't depend on what was written
-shown-same : (g : Setting) (command : Command) (m : Machine) (text : List ℕ) → shown g command (state_of m [] text) ≡ shown g command (state_of m [] [])
-shown-same g Nothing m text = refl
-shown-same g (Step n) m text = refl
-shown-same g Go m text = refl
-shown-same g Barrier m text = refl
-shown-same g (Break at) m text = refl
-shown-same g (Clear at) m text = refl
-shown-same g Quit m text = refl
-shown-same g Registers m text = refl
-shown-same g (Memory at count) m text = refl
-shown-same g (Listing at count) m text = refl
-shown-same g Shadow m text = refl
-shown-same g Log m text = refl
-shown-same g Unknown m text = refl
-
 answer-shown : (g : Setting) (command : Command) (s : Session) → is_shown command ≡ true → answer g command s ≡ saying s (shown g command s.state)
 answer-shown g Nothing s e = absurd cc
 answer-shown g (Step n) s e = absurd cc
@@ -113,13 +97,13 @@ answer-shown g Unknown s e = refl
 -- ---- the start
 
 pub IsOpened-made : (image : Parts) (machine : Machine) (points : ArrayVec ℕ) (block : List ℕ) (verdict : Option Broken) → block ≡ [] → program_of machine ≡ record { image = image; how = Wrap }
-    → state_of machine [] [] ≡ start (program_of machine) [] → machine.kernel ≡ new_kernel → points.items ≡ [] → IsVerdict image.words verdict
+    → state_of machine ≡ start (program_of machine) → machine.kernel ≡ new_kernel → points.items ≡ [] → IsVerdict image.words verdict
     → IsOpened image (record { machine = machine; verdict = verdict; watcher = record { until = until.Spent; points = points; block = block }; end = None })
 IsOpened-made image machine points block verdict empty program starts kernel none verdict_is = record {
   block = empty;
   setting = record { program = program; verdict = verdict_is };
   start =
-      ap (λ (st : State). record { state = st; points = points.items; end = None; over = false }) starts
-      ∙ ap (λ (l : List ℕ). record { state = start (program_of machine) []; points = l; end = None; over = false }) none;
+      ap (λ (st : State). record { state = st; text = []; points = points.items; end = None; over = false }) starts
+      ∙ ap (λ (l : List ℕ). record { state = start (program_of machine); text = []; points = l; end = None; over = false }) none;
   mode = ap (λ (k : KernelState). k.user) kernel;
 }

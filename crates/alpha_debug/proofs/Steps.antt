@@ -1,8 +1,5 @@
 -- Steps of the machine over an empty input, which a run makes, are a walk of the definition.
-use Rattle.std.proofs.Common.{◌≡◌, ◌∙◌, ◌+◌, ◌≤◌, ◌||◌, ℕ, zero, suc, Bool, true, false, cond, List, [], ◌∷◌, ◌++◌, Option, None, Some, refl, sym, ap, subst, append_assoc, append-nil, arith}
-use Rattle.std.specs.Prelude.{⊤}
-use Rattle.std.specs.List.{flat_map}
-use Rattle.std.proofs.lemmas.Grind.{flat_map-append}
+use Rattle.std.proofs.Common.{◌≡◌, ◌∙◌, ◌+◌, ◌≤◌, ◌||◌, ℕ, zero, suc, Bool, true, false, cond, List, [], ◌∷◌, ◌++◌, length, take, drop, Option, None, Some, refl, sym, ap, subst, append_assoc, append-nil, arith}
 use Rattle.alpha_io.specs.Sunk.{Sunk, Partly, HasFailed}
 use Rattle.alpha_io.proofs.Sinks.{Partly-more}
 use Rattle.alpha_pal.specs.declared.fault.Fault.{Fault}
@@ -11,64 +8,67 @@ use Rattle.alpha_pal.specs.declared.pal_end.Passed.{Passed}
 use Rattle.alpha_seq.specs.declared.machine.Machine.{Machine}
 use Rattle.alpha_seq.specs.declared.end.End.{End}
 use Rattle.alpha_seq.specs.declared.event.Event.{Event as Seen}
-use Rattle.alpha_seq.specs.declared.event.Event.TheVariants as events
 use Rattle.alpha_seq.specs.State.{Program, State, Event, Went, Barriered, Overflowed, Ends, Stepped, stepped}
 use Rattle.alpha_seq.specs.Step.{step_from}
-use Rattle.alpha_seq.specs.Run.{end_of, is_over}
+use Rattle.alpha_seq.specs.Run.{asked, given, put, output, left_by, Fed, end_of, is_over}
 use Rattle.alpha_seq.specs.Machine.{program_of, state_of}
 use Rattle.alpha_seq.specs.Devices.{Drawn}
-use Rattle.alpha_seq.specs.Print.{Print, is_over as has_ended, found_by}
+use Rattle.alpha_seq.specs.Print.{Print, is_over as has_ended}
 use Rattle.alpha_seq.specs.Sequential.{seen_as, SeqGoes, SeqLeaves, one_unit}
 use Rattle.alpha_seq.specs.StepEffect.{Causes}
-use Rattle.alpha_seq.proofs.Growing.{after-begins}
 use Rattle.alpha_imprecise.specs.Telling.{Telling}
-use Rattle.alpha_run.specs.Row.{Row, AreGoing, bytes_of, units_of, Feeds, lines_by, seen_by, Unstopped}
+use Rattle.alpha_run.specs.Row.{Row, AreGoing, events_of, units_of, lines_by, seen_by, Unstopped}
 use Rattle.alpha_run.specs.Ran.{ends_at, RunsTo, IsCut}
-use Rattle.alpha_run.specs.SeqRun.{end_by}
-use Rattle.alpha_run.proofs.Rows.{Row-append}
+use Rattle.alpha_run.proofs.Rows.{Row-append, output-append}
+use Rattle.alpha_run.proofs.SeqRuns.{seen_last}
 use Rattle.alpha_debug.specs.declared.watcher.Until.{Until}
 use Rattle.alpha_debug.specs.declared.watcher.Watcher.{Watcher}
-use Rattle.alpha_debug.specs.Session.{is_reached, is_last, Walked, walk}
+use Rattle.alpha_debug.specs.Session.{is_barrier, is_reached, is_last, Walked, walk}
 use Rattle.alpha_debug.specs.Gathered.{Gathered}
-use Rattle.alpha_debug.specs.Watched.{event_of, watched_lines, watched_after, watched_stops, watches}
+use Rattle.alpha_debug.specs.Watched.{was_barrier, end_by, watched_lines, watched_after, watched_stops, watches}
 use Rattle.alpha_debug.specs.Effects.{Grows, Breaks, Walks, WalkBreaks}
 use Rattle.alpha_debug.proofs.Watching.{row-bytes, seen-kept}
 use Rattle.alpha_debug.proofs.Sinks.{Grows-same, Grows-trans, Breaks-more}
 
 -- ---- one step
 
-none-left : (taken rest : List ℕ) → [] ≡ taken ++ rest → rest ≡ []
-none-left [] rest e = sym e
-none-left (x ∷ taken) rest e = absurd cc
+nothing : (n : ℕ) (l : List ℕ) → l ≡ [] → take n l ≡ []
+nothing zero l none = refl
+nothing (suc n) l none = ap (take (suc n)) none
 
-event-seen : (happened : Event) (passed : Passed) → event_of (seen_as happened passed) ≡ happened
-event-seen Went passed = refl
-event-seen Barriered passed = refl
-event-seen (Overflowed at) passed = refl
-event-seen (Ends end) passed = refl
+no_more : (n : ℕ) (l : List ℕ) → l ≡ [] → drop n l ≡ []
+no_more zero l none = none
+no_more (suc n) l none = ap (drop (suc n)) none
+
+-- what an empty input feeds
+fed-none : (h : Event) (events : List Event) (rest : List ℕ) → Fed [] (h ∷ events) rest → (given h ≡ []) × Fed [] events rest
+fed-none h events rest fed =
+    (fed.0 ∙ nothing (asked h) [] refl, subst (λ (l : List ℕ). Fed l events rest) (no_more (length (given h)) [] refl) fed.1)
+
+barrier-seen : (happened : Event) (passed : Passed) → was_barrier (seen_as happened passed) ≡ is_barrier happened
+barrier-seen Went passed = refl
+barrier-seen (Barriered traffic pc regs) passed = refl
+barrier-seen (Overflowed at) passed = refl
+barrier-seen (Ends end) passed = refl
 
 over-seen : (happened : Event) (passed : Passed) → is_over happened ≡ has_ended (seen_as happened passed)
 over-seen Went passed = refl
-over-seen Barriered passed = refl
+over-seen (Barriered traffic pc regs) passed = refl
 over-seen (Overflowed at) passed = refl
 over-seen (Ends end) passed = refl
 
-end-seen : (event : Seen) → end_of (event_of event) ≡ end_by (Some event)
-end-seen (events.Barrier passed) = refl
-end-seen event = refl
+end-seen : (happened : Event) (passed : Passed) → end_of happened ≡ end_by (Some (seen_as happened passed))
+end-seen Went passed = refl
+end-seen (Barriered traffic pc regs) passed = refl
+end-seen (Overflowed at) passed = refl
+end-seen (Ends end) passed = refl
 
--- what the definition says of it, over an empty input
-step-is : (p : Print) (old new : Machine) → SeqGoes old p new → [] ≡ found_by p → (text : List ℕ)
-    → step_from (program_of old) (state_of old [] text) ≡ stepped (state_of new [] (text ++ p.bytes)) (event_of p.event)
-step-is p old new is found text =
-    ap (λ (l : List ℕ). step_from (program_of old) (state_of old l text)) found
-    ∙ (is.is text
-    ∙ (ap (λ (l : List ℕ). stepped (state_of new l (text ++ p.bytes)) is.happened) (none-left p.taken p.rest found)
-    ∙ ap (stepped (state_of new [] (text ++ p.bytes))) (sym (ap event_of is.event ∙ event-seen is.happened is.passed))))
-
-step-behind : (g : Program) (p : Print) (mid new : Machine) → program_of mid ≡ g → SeqGoes mid p new → [] ≡ found_by p → (text : List ℕ)
-    → step_from g (state_of mid [] text) ≡ stepped (state_of new [] (text ++ p.bytes)) (event_of p.event)
-step-behind g p mid new same is found text = ap (λ (h : Program). step_from h (state_of mid [] text)) (sym same) ∙ step-is p mid new is found text
+-- what the definition says of it, where it was given nothing
+step-behind : (g : Program) (p : Print) (mid new : Machine) → program_of mid ≡ g → (is : SeqGoes mid p new) → given is.happened ≡ []
+    → step_from g (state_of mid) [] ≡ stepped (state_of new) is.happened
+step-behind g p mid new same is none =
+    ap (λ (h : Program). step_from h (state_of mid) []) (sym same)
+    ∙ (ap (step_from (program_of mid) (state_of mid)) (sym none) ∙ is.is)
 
 or-comm : (a b : Bool) → (a || b) ≡ (b || a)
 or-comm true true = refl
@@ -77,111 +77,109 @@ or-comm false true = refl
 or-comm false false = refl
 
 -- the loop ends behind the step behind which a walk does
-last-is : (w : Watcher) (p : Print) (old new : Machine) → SeqGoes old p new
-    → is_last w.until w.points.items (event_of p.event) new.pc ≡ ends_at watches w p.event p.core
+last-is : (w : Watcher) (p : Print) (old new : Machine) → (is : SeqGoes old p new)
+    → is_last w.until w.points.items is.happened new.pc ≡ ends_at watches w p.event p.core
 last-is w p old new is =
-    let over : is_over (event_of p.event) ≡ has_ended p.event =
-    ap (λ (e : Seen). is_over (event_of e)) is.event
-    ∙ (ap is_over (event-seen is.happened is.passed) ∙ (over-seen is.happened is.passed ∙ ap has_ended (sym is.event))) in
-    ap (λ (b : Bool). b || is_reached w.until w.points.items (event_of p.event) new.pc) over
-    ∙ (ap (λ (m : Machine). has_ended p.event || is_reached w.until w.points.items (event_of p.event) m.pc) (sym is.core)
-    ∙ or-comm (has_ended p.event) (watched_stops w p.event p.core))
-
--- what a step has put stays
-step-grows : (g : Program) (s : State) → Grows s.outside.output (step_from g s).state.outside.output
-step-grows g s = let begins = after-begins g s 1 0 (omega arith) in record { bytes = begins.output.tail; is = begins.output.is }
+    let over : is_over is.happened ≡ has_ended p.event = over-seen is.happened is.passed ∙ ap has_ended (sym is.event) in
+    let barrier : is_barrier is.happened ≡ was_barrier p.event = sym (barrier-seen is.happened is.passed) ∙ ap was_barrier (sym is.event) in
+    ap (λ (b : Bool). b || is_reached w.until w.points.items (is_barrier is.happened) new.pc) over
+    ∙ (ap (λ (b : Bool). has_ended p.event || is_reached w.until w.points.items b new.pc) barrier
+    ∙ (ap (λ (m : Machine). has_ended p.event || is_reached w.until w.points.items (was_barrier p.event) m.pc) (sym is.core)
+    ∙ or-comm (has_ended p.event) (watched_stops w p.event p.core)))
 
 -- ---- more steps
 
-abbrev walk-by : Bool → Program → Until → List ℕ → ℕ → Stepped → Walked
-walk-by b g wanted points n t = cond b (record { state = t.state; end = end_of t.event }) (walk g wanted points n t.state)
+abbrev walk-by : Bool → Program → Until → List ℕ → ℕ → Stepped → List ℕ → Walked
+walk-by b g wanted points n t text =
+    cond b (record { state = t.state; text = text ++ put t.event; end = end_of t.event }) (walk g wanted points n t.state (text ++ put t.event))
 
-walk-none : (g : Program) (wanted : Until) (points : List ℕ) (s : State) → walk g wanted points 0 s ≡ record { state = s; end = None }
+walk-none : (g : Program) (wanted : Until) (points : List ℕ) (s : State) (text : List ℕ) → walk g wanted points 0 s text ≡ record { state = s; text = text; end = None }
 unfolding walk
-walk-none g wanted points s = refl
+walk-none g wanted points s text = refl
 
-walk-more : (g : Program) (wanted : Until) (points : List ℕ) (n : ℕ) (s : State)
-    → walk g wanted points (suc n) s ≡ walk-by (is_last wanted points (step_from g s).event (step_from g s).state.pc) g wanted points n (step_from g s)
+walk-more : (g : Program) (wanted : Until) (points : List ℕ) (n : ℕ) (s : State) (text : List ℕ)
+    → walk g wanted points (suc n) s text ≡ walk-by (is_last wanted points (step_from g s []).event (step_from g s []).state.pc) g wanted points n (step_from g s []) text
 unfolding walk
-walk-more g wanted points n s = refl
+walk-more g wanted points n s text = refl
 
 -- a walk whose first step is this
-walk-step : (g : Program) (wanted : Until) (points : List ℕ) (n : ℕ) (s : State) (t : Stepped) → step_from g s ≡ t
-    → walk g wanted points (suc n) s ≡ walk-by (is_last wanted points t.event t.state.pc) g wanted points n t
-walk-step g wanted points n s t e =
-    walk-more g wanted points n s ∙ ap (λ (u : Stepped). walk-by (is_last wanted points u.event u.state.pc) g wanted points n u) e
+walk-step : (g : Program) (wanted : Until) (points : List ℕ) (n : ℕ) (s : State) (text : List ℕ) (t : Stepped) → step_from g s [] ≡ t
+    → walk g wanted points (suc n) s text ≡ walk-by (is_last wanted points t.event t.state.pc) g wanted points n t text
+walk-step g wanted points n s text t e =
+    walk-more g wanted points n s text ∙ ap (λ (u : Stepped). walk-by (is_last wanted points u.event u.state.pc) g wanted points n u text) e
 
 -- ---- what is put stays
 
-by-grows : (b : Bool) (g : Program) (wanted : Until) (points : List ℕ) (n : ℕ) (t : Stepped)
-    → Grows t.state.outside.output (walk g wanted points n t.state).state.outside.output
-    → Grows t.state.outside.output (walk-by b g wanted points n t).state.outside.output
-by-grows true g wanted points n t more = Grows-same t.state.outside.output
-by-grows false g wanted points n t more = more
+by-grows : (b : Bool) (g : Program) (wanted : Until) (points : List ℕ) (n : ℕ) (t : Stepped) (text : List ℕ)
+    → Grows (text ++ put t.event) (walk g wanted points n t.state (text ++ put t.event)).text
+    → Grows (text ++ put t.event) (walk-by b g wanted points n t text).text
+by-grows true g wanted points n t text more = Grows-same (text ++ put t.event)
+by-grows false g wanted points n t text more = more
 
-pub walk-grows : (g : Program) (wanted : Until) (points : List ℕ) (n : ℕ) (s : State) → Grows s.outside.output (walk g wanted points n s).state.outside.output
-walk-grows g wanted points zero s =
-    subst (λ (w : Walked). Grows s.outside.output w.state.outside.output) (sym (walk-none g wanted points s)) (Grows-same s.outside.output)
-walk-grows g wanted points (suc n) s =
-    let t : Stepped = step_from g s in
-    subst (λ (w : Walked). Grows s.outside.output w.state.outside.output) (sym (walk-more g wanted points n s))
-    (Grows-trans s.outside.output t.state.outside.output (walk-by (is_last wanted points t.event t.state.pc) g wanted points n t).state.outside.output
-    (step-grows g s) (by-grows (is_last wanted points t.event t.state.pc) g wanted points n t (walk-grows g wanted points n t.state)))
+pub walk-grows : (g : Program) (wanted : Until) (points : List ℕ) (n : ℕ) (s : State) (text : List ℕ) → Grows text (walk g wanted points n s text).text
+walk-grows g wanted points zero s text =
+    subst (λ (w : Walked). Grows text w.text) (sym (walk-none g wanted points s text)) (Grows-same text)
+walk-grows g wanted points (suc n) s text =
+    let t : Stepped = step_from g s [] in
+    subst (λ (w : Walked). Grows text w.text) (sym (walk-more g wanted points n s text))
+    (Grows-trans text (text ++ put t.event) (walk-by (is_last wanted points t.event t.state.pc) g wanted points n t text).text
+    (record { bytes = put t.event; is = refl })
+    (by-grows (is_last wanted points t.event t.state.pc) g wanted points n t text (walk-grows g wanted points n t.state (text ++ put t.event))))
 
 -- what the first step has put stays
-first-grows : (g : Program) (wanted : Until) (points : List ℕ) (n : ℕ) (s : State)
-    → Grows (step_from g s).state.outside.output (walk g wanted points (suc n) s).state.outside.output
-first-grows g wanted points n s =
-    let t : Stepped = step_from g s in
-    subst (λ (w : Walked). Grows t.state.outside.output w.state.outside.output) (sym (walk-more g wanted points n s))
-    (by-grows (is_last wanted points t.event t.state.pc) g wanted points n t (walk-grows g wanted points n t.state))
+first-grows : (g : Program) (wanted : Until) (points : List ℕ) (n : ℕ) (s : State) (text : List ℕ) (t : Stepped) → step_from g s [] ≡ t
+    → Grows (text ++ put t.event) (walk g wanted points (suc n) s text).text
+first-grows g wanted points n s text t is =
+    subst (λ (w : Walked). Grows (text ++ put t.event) w.text) (sym (walk-step g wanted points n s text t is))
+    (by-grows (is_last wanted points t.event t.state.pc) g wanted points n t text (walk-grows g wanted points n t.state (text ++ put t.event)))
 
 -- ---- steps in a row
 
--- none of them found any input
-abbrev Starved : List Print → Type 0
-Starved [] = ⊤
-Starved (p ∷ ps) = ([] ≡ found_by p) × Starved ps
-
-starved : (ps : List Print) (last : Option (List ℕ)) → Feeds (Some []) ps last → Starved ps × (last ≡ Some [])
-starved [] last fed = (tt, fed)
-starved (p ∷ ps) last fed =
-    let more = starved ps last (subst (λ (l : List ℕ). Feeds (Some l) ps last) (none-left p.taken p.rest fed.0) fed.1) in
-    ((fed.0, more.0), more.1)
-
-starved-last : (ps : List Print) (p : Print) → Starved (ps ++ p ∷ []) → Starved ps × ([] ≡ found_by p)
-starved-last [] p all = (tt, all.0)
-starved-last (q ∷ ps) p all = let more = starved-last ps p all.1 in ((all.0, more.0), more.1)
-
-bytes-last : (ps : List Print) (p : Print) → flat_map bytes_of ps ++ p.bytes ≡ flat_map bytes_of (ps ++ p ∷ [])
-bytes-last ps p = ap (λ (l : List ℕ). flat_map bytes_of ps ++ l) (sym (append-nil p.bytes)) ∙ sym (flat_map-append bytes_of ps (p ∷ []))
+put-first : (ps : List Print) (p : Print) (old new : Machine) → (is : SeqGoes old p new) → output (events_of (p ∷ ps)) ≡ put is.happened ++ output (events_of ps)
+put-first ps p old new is = ap (λ (l : List Event). output (l ++ events_of ps)) is.seen
 
 -- the others of a walk go on from where these lead
 row-walks : (g : Program) (w : Watcher) (ps : List Print) (n : ℕ) (old mid : Machine) → program_of old ≡ g → Row SeqGoes old ps mid → AreGoing ps
-    → Unstopped watched_after watched_stops w ps → Starved ps → (text : List ℕ)
-    → walk g w.until w.points.items (units_of ps + n) (state_of old [] text) ≡ walk g w.until w.points.items n (state_of mid [] (text ++ flat_map bytes_of ps))
-row-walks g w [] n old mid same row going un none text =
+    → Unstopped watched_after watched_stops w ps → (rest : List ℕ) → Fed [] (events_of ps) rest → (text : List ℕ)
+    → walk g w.until w.points.items (units_of ps + n) (state_of old) text ≡ walk g w.until w.points.items n (state_of mid) (text ++ output (events_of ps))
+row-walks g w [] n old mid same row going un rest fed text =
     let all : 0 + n ≡ n = omega arith in
-    ap (λ (k : ℕ). walk g w.until w.points.items k (state_of old [] text)) all
-    ∙ (ap (λ (m : Machine). walk g w.until w.points.items n (state_of m [] text)) row
-    ∙ ap (λ (l : List ℕ). walk g w.until w.points.items n (state_of mid [] l)) (sym (append-nil text)))
-row-walks g w (p ∷ ps) n old mid same row going un none text =
+    ap (λ (k : ℕ). walk g w.until w.points.items k (state_of old) text) all
+    ∙ (ap (λ (m : Machine). walk g w.until w.points.items n (state_of m) text) row
+    ∙ ap (λ (l : List ℕ). walk g w.until w.points.items n (state_of mid) l) (sym (append-nil text)))
+row-walks g w (p ∷ ps) n old mid same row going un rest fed text =
     let next : Machine = row.0 in
     let is : SeqGoes old p next = row.1 in
+    let h = is.happened in
+    let none = fed-none h (events_of ps) rest (subst (λ (l : List Event). Fed [] (l ++ events_of ps) rest) is.seen fed) in
     let k : ℕ = units_of ps + n in
     let all : (p.units + units_of ps) + n ≡ suc k = omega (arith, is.units) in
-    let t : Stepped = stepped (state_of next [] (text ++ p.bytes)) (event_of p.event) in
-    let on : is_last w.until w.points.items (event_of p.event) next.pc ≡ false =
-    last-is w p old next is ∙ (ap (λ (b : Bool). b || has_ended p.event) un.0 ∙ going.0) in
-    ap (λ (j : ℕ). walk g w.until w.points.items j (state_of old [] text)) all
-    ∙ (walk-step g w.until w.points.items k (state_of old [] text) t (step-behind g p old next same is none.0 text)
-    ∙ (ap (λ (b : Bool). walk-by b g w.until w.points.items k t) on
-    ∙ (row-walks g (watched_after w p.event p.core) ps n next mid (is.program ∙ same) row.2 going.1 un.1 none.1 (text ++ p.bytes)
-    ∙ ap (λ (l : List ℕ). walk g w.until w.points.items n (state_of mid [] l)) (append_assoc text p.bytes (flat_map bytes_of ps)))))
+    let t : Stepped = stepped (state_of next) h in
+    let on : is_last w.until w.points.items h next.pc ≡ false = last-is w p old next is ∙ (ap (λ (b : Bool). b || has_ended p.event) un.0 ∙ going.0) in
+    ap (λ (j : ℕ). walk g w.until w.points.items j (state_of old) text) all
+    ∙ (walk-step g w.until w.points.items k (state_of old) text t (step-behind g p old next same is none.0)
+    ∙ (ap (λ (b : Bool). walk-by b g w.until w.points.items k t text) on
+    ∙ (row-walks g (watched_after w p.event p.core) ps n next mid (is.program ∙ same) row.2 going.1 un.1 rest none.1 (text ++ put h)
+    ∙ ap (λ (l : List ℕ). walk g w.until w.points.items n (state_of mid) l) (append_assoc text (put h) (output (events_of ps)) ∙ ap (λ (l : List ℕ). text ++ l) (sym (put-first ps p old next is))))))
 
 row-program : (ps : List Print) (old mid : Machine) → Row SeqGoes old ps mid → program_of mid ≡ program_of old
 row-program [] old mid row = ap program_of (sym row)
 row-program (p ∷ ps) old mid row = row-program ps row.0 mid row.2 ∙ row.1.program
+
+-- what steps and one more were fed, and what they put
+fed-front : (xs ys : List Event) (input rest : List ℕ) → Fed input (xs ++ ys) rest → (mid : List ℕ) × Fed input xs mid × Fed mid ys rest
+fed-front [] ys input rest fed = (input, refl, fed)
+fed-front (x ∷ xs) ys input rest fed =
+    let more = fed-front xs ys (left_by x input) rest fed.1 in (more.0, (fed.0, more.1), more.2)
+
+fed-empty : (events : List Event) (input rest : List ℕ) → input ≡ [] → Fed input events rest → rest ≡ []
+fed-empty [] input rest none fed = sym fed ∙ none
+fed-empty (h ∷ events) input rest none fed = fed-empty events (left_by h input) rest (no_more (length (given h)) input none) fed.1
+
+bytes-last : (ps : List Print) (p : Print) (mid new : Machine) → (is : SeqGoes mid p new) → output (events_of ps) ++ put is.happened ≡ output (events_of (ps ++ p ∷ []))
+bytes-last ps p mid new is =
+    ap (λ (l : List ℕ). output (events_of ps) ++ l) (sym (append-nil (put is.happened)) ∙ ap output (sym is.seen))
+    ∙ (sym (output-append (events_of ps) p.seen) ∙ ap output (sym (seen_last ps p)))
 
 -- what the sink got, and the block before it
 abbrev watched_by : Sunk → Watcher → Watcher → Gathered
@@ -198,18 +196,18 @@ module _ (w v : Watcher) (most left : ℕ) (old new : Machine) (before after : T
       let one = ran.1 in
       let ps = one.prints in
       let all : most ≡ units_of ps + 0 = omega (arith, one.used, ran.0) in
-      let none = starved ps input.new (subst (λ (l : Option (List ℕ)). Feeds l ps input.new) empty one.did.fed) in
+      let fed = one.did.fed [] empty in
       record {
-        bytes = flat_map bytes_of ps;
+        bytes = output (events_of ps);
         wrote = record {
           put = lines_by watched_after watched_lines w ps;
           puts = one.did.lines;
           whole = row-bytes w ps old new one.row ∙ ap (λ (u : Watcher). lines_by watched_after watched_lines w ps ++ u.block) (sym one.did.seen);
         };
         is = λ text.
-            ap (λ (k : ℕ). walk (program_of old) w.until w.points.items k (state_of old [] text)) all
-            ∙ (row-walks (program_of old) w ps 0 old new refl one.row one.going one.unstopped none.0 text
-            ∙ walk-none (program_of old) w.until w.points.items (state_of new [] (text ++ flat_map bytes_of ps)));
+            ap (λ (k : ℕ). walk (program_of old) w.until w.points.items k (state_of old) text) all
+            ∙ (row-walks (program_of old) w ps 0 old new refl one.row one.going one.unstopped fed.0 fed.1 text
+            ∙ walk-none (program_of old) w.until w.points.items (state_of new) (text ++ output (events_of ps)));
       }
 
   -- the last one was wanted, or the program ended behind it
@@ -219,28 +217,34 @@ module _ (w v : Watcher) (most left : ℕ) (old new : Machine) (before after : T
       let g = program_of old in
       let ps = one.prints in
       let p = one.print in
+      let h = one.is.happened in
       let qs = ps ++ p ∷ [] in
       let row : Row SeqGoes old qs new = Row-append SeqGoes ps (p ∷ []) old one.mid new one.row (new, one.is, refl) in
       let all : most ≡ units_of ps + suc left = omega (arith, one.used, one.is.units) in
-      let none = starved-last ps p (starved qs input.new (subst (λ (l : Option (List ℕ)). Feeds l qs input.new) empty one.did.fed)).0 in
-      let ends : is_last w.until w.points.items (event_of p.event) new.pc ≡ true =
+      let fed = one.did.fed [] empty in
+      let front = fed-front (events_of ps) p.seen [] fed.0 (subst (λ (l : List Event). Fed [] l fed.0) (seen_last ps p) fed.1) in
+      let none : front.0 ≡ [] = fed-empty (events_of ps) [] front.0 refl front.1 in
+      let gave = fed-none h [] fed.0 (subst (λ (l : List ℕ). Fed l (h ∷ []) fed.0) none (subst (λ (l : List Event). Fed front.0 l fed.0) one.is.seen front.2)) in
+      let ends : is_last w.until w.points.items h new.pc ≡ true =
       last-is w p one.mid new one.is ∙ (ap (λ (u : Watcher). ends_at watches u p.event p.core) (sym (seen-kept w ps)) ∙ one.ends) in
       record {
-        bytes = flat_map bytes_of qs;
+        bytes = output (events_of qs);
         wrote = record {
           put = lines_by watched_after watched_lines w qs;
           puts = one.did.lines;
           whole = row-bytes w qs old new row ∙ ap (λ (u : Watcher). lines_by watched_after watched_lines w qs ++ u.block) (sym one.did.seen);
         };
         is = λ text.
-            let front : List ℕ = text ++ flat_map bytes_of ps in
-            let t : Stepped = stepped (state_of new [] (front ++ p.bytes)) (event_of p.event) in
-            ap (λ (k : ℕ). walk g w.until w.points.items k (state_of old [] text)) all
-            ∙ (row-walks g w ps (suc left) old one.mid refl one.row one.going one.unstopped none.0 text
-            ∙ (walk-step g w.until w.points.items left (state_of one.mid [] front) t (step-behind g p one.mid new (row-program ps old one.mid one.row) one.is none.1 front)
-            ∙ (ap (λ (b : Bool). walk-by b g w.until w.points.items left t) ends
-            ∙ (ap (λ (l : List ℕ). record { state = state_of new [] l; end = end_of (event_of p.event) }) (append_assoc text (flat_map bytes_of ps) p.bytes ∙ ap (λ (l : List ℕ). text ++ l) (bytes-last ps p))
-            ∙ ap (λ (end : Option End). record { state = state_of new [] (text ++ flat_map bytes_of qs); end = end }) (end-seen p.event ∙ ap (λ (e : Seen). end_by (Some e)) one.event_is)))));
+            let before_it : List ℕ = text ++ output (events_of ps) in
+            let t : Stepped = stepped (state_of new) h in
+            ap (λ (k : ℕ). walk g w.until w.points.items k (state_of old) text) all
+            ∙ (row-walks g w ps (suc left) old one.mid refl one.row one.going one.unstopped front.0 front.1 text
+            ∙ (walk-step g w.until w.points.items left (state_of one.mid) before_it t (step-behind g p one.mid new (row-program ps old one.mid one.row) one.is gave.0)
+            ∙ (ap (λ (b : Bool). walk-by b g w.until w.points.items left t before_it) ends
+            ∙ (ap (λ (l : List ℕ). record { state = state_of new; text = l; end = end_of h })
+            (append_assoc text (output (events_of ps)) (put h) ∙ ap (λ (l : List ℕ). text ++ l) (bytes-last ps p one.mid new one.is))
+            ∙ ap (λ (end : Option End). record { state = state_of new; text = text ++ output (events_of qs); end = end })
+            (end-seen h one.is.passed ∙ ap (λ (e : Seen). end_by (Some e)) (sym one.is.event ∙ one.event_is))))));
       }
 
   pub walked : (last : Option Seen) → RunsTo last SeqGoes one_unit watches most left old new w v before after input out notes
@@ -274,25 +278,28 @@ walk_cut fault w waits most left old new before after input out notes empty a b 
     let s : Gathered = record { sink = notes; old = w.block; new = waits } in
     let row : Row SeqGoes old qs one.would = Row-append SeqGoes ps (p ∷ []) old one.mid one.would one.row (one.would, one.is, refl) in
     let all : most ≡ units_of ps + suc left = omega (arith, one.used, one.is.units) in
-    let none = starved ps one.did.left (subst (λ (l : Option (List ℕ)). Feeds l ps one.did.left) empty one.did.fed) in
+    let fed = one.did.fed [] empty in
+    let none : fed.0 ≡ [] = fed-empty (events_of ps) [] fed.0 refl fed.1 in
+    let last = one.did.would_feed fed.0 fed.2 in
+    let h = one.is.happened in
+    let gave = fed-none h [] last.0 (subst (λ (l : List ℕ). Fed l (h ∷ []) last.0) none (subst (λ (l : List Event). Fed fed.0 l last.0) one.is.seen last.1)) in
     let failed = failed-by fault input out notes a b c d one.cause in
     let lines = one.did.lines in
-    let part : Partly notes (w.block ++ flat_map bytes_of qs) =
+    let part : Partly notes (w.block ++ output (events_of qs)) =
     subst (Partly notes) (sym (row-bytes w qs old one.would row))
     (Partly-more notes (lines_by watched_after watched_lines w qs) (seen_by watched_after w qs).block
     (record {
       prefix = record { done = lines_by watched_after watched_lines w ps ++ lines.more; rest = lines.rest; whole = lines.whole; written = lines.written };
       later = failed.0;
     })) in
-    let here : State = state_of one.mid [] (text ++ flat_map bytes_of ps) in
-    let whole : walk g w.until w.points.items most (state_of old [] text) ≡ walk g w.until w.points.items (suc left) here =
-    ap (λ (k : ℕ). walk g w.until w.points.items k (state_of old [] text)) all
-    ∙ row-walks g w ps (suc left) old one.mid refl one.row one.going one.unstopped none.0 text in
-    let step : (step_from g here).state.outside.output ≡ text ++ flat_map bytes_of qs =
-    ap (λ (t : Stepped). t.state.outside.output)
-    (step-behind g p one.mid one.would (row-program ps old one.mid one.row) one.is (one.did.found [] none.1).0 (text ++ flat_map bytes_of ps))
-    ∙ (append_assoc text (flat_map bytes_of ps) p.bytes ∙ ap (λ (l : List ℕ). text ++ l) (bytes-last ps p)) in
-    subst (λ (u : Walked). Breaks s text u.state.outside.output) (sym whole)
-    (Breaks-more s text (step_from g here).state.outside.output (walk g w.until w.points.items (suc left) here).state.outside.output
-    (record { bytes = flat_map bytes_of qs; is = step; stops = record { part = part; failed = failed.1 } })
-    (first-grows g w.until w.points.items left here))
+    let here : List ℕ = text ++ output (events_of ps) in
+    let t : Stepped = stepped (state_of one.would) h in
+    let whole : walk g w.until w.points.items most (state_of old) text ≡ walk g w.until w.points.items (suc left) (state_of one.mid) here =
+    ap (λ (k : ℕ). walk g w.until w.points.items k (state_of old) text) all
+    ∙ row-walks g w ps (suc left) old one.mid refl one.row one.going one.unstopped fed.0 fed.1 text in
+    let step : here ++ put h ≡ text ++ output (events_of qs) =
+    append_assoc text (output (events_of ps)) (put h) ∙ ap (λ (l : List ℕ). text ++ l) (bytes-last ps p one.mid one.would one.is) in
+    subst (λ (u : Walked). Breaks s text u.text) (sym whole)
+    (Breaks-more s text (here ++ put h) (walk g w.until w.points.items (suc left) (state_of one.mid) here).text
+    (record { bytes = output (events_of qs); is = step; stops = record { part = part; failed = failed.1 } })
+    (first-grows g w.until w.points.items left (state_of one.mid) here t (step-behind g p one.mid one.would (row-program ps old one.mid one.row) one.is gave.0)))

@@ -2,7 +2,6 @@
 use Rattle.std.specs.Prelude.{◌==◌}
 use Rattle.std.proofs.lemmas.Bool.{ne_eqb}
 use Rattle.std.proofs.Common.{◌≡◌, ◌∙◌, ◌≤◌, ◌⊎◌, inl, inr, ⊎_elim, ℕ, Bool, true, false, cond, List, [], ◌∷◌, ◌++◌, length, refl, sym, ap, subst, append-nil, arith}
-use Rattle.std.specs.List.{flat_map}
 use Rattle.alpha_mem.specs.Block.{Block, shapes, within}
 use Rattle.alpha_mem.specs.Intent.{Load}
 use Rattle.alpha_mem.specs.Memory.{bytes_at}
@@ -10,10 +9,11 @@ use Rattle.alpha_pal.specs.declared.pal_end.Passed.TheVariants as passes
 use Rattle.alpha_seq.specs.declared.machine.Machine.{Machine}
 use Rattle.alpha_seq.specs.declared.event.Event.{Event as Seen}
 use Rattle.alpha_seq.specs.declared.event.Event.TheVariants as events
-use Rattle.alpha_seq.specs.State.{Went}
+use Rattle.alpha_seq.specs.Run.{taken, output}
 use Rattle.alpha_seq.specs.Print.{Print, HasPassed}
 use Rattle.alpha_seq.specs.Sequential.{SeqGoes}
-use Rattle.alpha_run.specs.Row.{Row, AreWent, bytes_of, lines_by, seen_by, Unstopped}
+use Rattle.alpha_run.specs.Row.{Row, AreWent, events_of, lines_by, seen_by, Unstopped}
+use Rattle.alpha_run.proofs.Rows.{output-append}
 use Rattle.alpha_run.specs.Ran.{PassesOver}
 use Rattle.alpha_debug.specs.declared.watcher.Until.{Until}
 use Rattle.alpha_debug.specs.declared.watcher.Until.TheVariants as until
@@ -49,12 +49,13 @@ passed-all waits event mem taken bytes h = none-put waits bytes h.1
 
 -- and so of steps in a row
 pub row-bytes : (w : Watcher) (ps : List Print) (old new : Machine) → Row SeqGoes old ps new
-    → w.block ++ flat_map bytes_of ps ≡ lines_by watched_after watched_lines w ps ++ (seen_by watched_after w ps).block
+    → w.block ++ output (events_of ps) ≡ lines_by watched_after watched_lines w ps ++ (seen_by watched_after w ps).block
 row-bytes w [] old new row = append-nil w.block
 row-bytes w (p ∷ ps) old new row =
     let v = watched_after w p.event p.core in
-    both-whole w.block v.block (seen_by watched_after v ps).block (watched_lines w p.event p.core) (lines_by watched_after watched_lines v ps) p.bytes (flat_map bytes_of ps)
-    (passed-all w.block p.event p.core.memory p.taken p.bytes row.1.passes) (row-bytes v ps row.0 new row.2)
+    ap (λ (l : List ℕ). w.block ++ l) (output-append p.seen (events_of ps))
+    ∙ both-whole w.block v.block (seen_by watched_after v ps).block (watched_lines w p.event p.core) (lines_by watched_after watched_lines v ps) (output p.seen) (output (events_of ps))
+    (passed-all w.block p.event p.core.memory (taken p.seen) (output p.seen) row.1.passes) (row-bytes v ps row.0 new row.2)
 
 -- it is as before but for what waits
 pub seen-kept : (w : Watcher) (ps : List Print) → seen_by watched_after w ps ≡ record w { block = (seen_by watched_after w ps).block }
@@ -63,24 +64,24 @@ seen-kept w (p ∷ ps) = seen-kept (watched_after w p.event p.core) ps
 
 -- ---- steps that only went on
 
-went-over : (w : Watcher) (left : List ℕ) (ps : List Print) → AreWent left ps
+went-over : (w : Watcher) (ps : List Print) → AreWent ps
     → (seen_by watched_after w ps ≡ w) × (lines_by watched_after watched_lines w ps ≡ [])
-went-over w left [] went = (refl, refl)
-went-over w left (p ∷ ps) went =
+went-over w [] went = (refl, refl)
+went-over w (p ∷ ps) went =
     let one : watched_after w p.event p.core ≡ w = ap (λ (e : Seen). watched_after w e p.core) went.0.event in
-    let more = went-over w left ps went.1 in (
+    let more = went-over w ps went.1 in (
       ap (λ (v : Watcher). seen_by watched_after v ps) one ∙ more.0,
       ap (λ (e : Seen). watched_lines w e p.core ++ lines_by watched_after watched_lines (watched_after w p.event p.core) ps) went.0.event
           ∙ (ap (λ (v : Watcher). lines_by watched_after watched_lines v ps) one ∙ more.1),
     )
 
-went-unstopped : (w : Watcher) (left : List ℕ) (ps : List Print) → AreWent left ps → ((pc : ℕ) → is_reached w.until w.points.items Went pc ≡ false)
+went-unstopped : (w : Watcher) (ps : List Print) → AreWent ps → ((pc : ℕ) → is_reached w.until w.points.items false pc ≡ false)
     → Unstopped watched_after watched_stops w ps
-went-unstopped w left [] went calm = tt
-went-unstopped w left (p ∷ ps) went calm =
+went-unstopped w [] went calm = tt
+went-unstopped w (p ∷ ps) went calm =
     let one : watched_after w p.event p.core ≡ w = ap (λ (e : Seen). watched_after w e p.core) went.0.event in (
       ap (λ (e : Seen). watched_stops w e p.core) went.0.event ∙ calm p.core.pc,
-      subst (λ (v : Watcher). Unstopped watched_after watched_stops v ps) (sym one) (went-unstopped w left ps went.1 calm),
+      subst (λ (v : Watcher). Unstopped watched_after watched_stops v ps) (sym one) (went-unstopped w ps went.1 calm),
     )
 
 none-unstopped : (w : Watcher) (ps : List Print) → length ps ≡ 0 → Unstopped watched_after watched_stops w ps
@@ -88,7 +89,7 @@ none-unstopped w [] e = tt
 none-unstopped w (p ∷ ps) e = absurd (omega arith)
 
 -- none is passed over where one may be wanted
-calm-by : (wanted : Until) (points : List ℕ) (n : ℕ) → n ≤ room_for wanted points → (n ≡ 0) ⊎ ((pc : ℕ) → is_reached wanted points Went pc ≡ false)
+calm-by : (wanted : Until) (points : List ℕ) (n : ℕ) → n ≤ room_for wanted points → (n ≡ 0) ⊎ ((pc : ℕ) → is_reached wanted points false pc ≡ false)
 calm-by until.Spent points n low = inr (λ pc. refl)
 calm-by until.Breakpoint [] n low = inr (λ pc. refl)
 calm-by until.Breakpoint (at ∷ points) n low =
@@ -98,10 +99,10 @@ calm-by until.Breakpoint (at ∷ points) n low =
 calm-by until.Barrier points n low = inr (λ pc. refl)
 
 pub watcher_passes : (w : Watcher) (n : ℕ) → n ≤ watched_room w → PassesOver watches n w w
-watcher_passes w n low = λ left ps went size.
-    let over = went-over w left ps went in (
+watcher_passes w n low = λ ps went size.
+    let over = went-over w ps went in (
       sym over.0,
       over.1,
       ⊎_elim (λ (none : n ≡ 0). none-unstopped w ps (size ∙ none))
-          (λ (calm : (pc : ℕ) → is_reached w.until w.points.items Went pc ≡ false). went-unstopped w left ps went calm) (calm-by w.until w.points.items n low),
+          (λ (calm : (pc : ℕ) → is_reached w.until w.points.items false pc ≡ false). went-unstopped w ps went calm) (calm-by w.until w.points.items n low),
     )

@@ -32,25 +32,25 @@ pub record Breaks (s : Gathered) (front text : List ℕ) : Type 0 where
   pub is : text ≡ front ++ bytes
   pub stops : Stops s bytes
 
--- ---- a machine over an empty input
+-- ---- a machine with no input
 
 -- the steps of the definition
 pub record Walks (wanted : Until) (points : List ℕ) (most : ℕ) (end : Option End) (old new : Machine) (out : Gathered) : Type 0 where
   pub bytes : List ℕ
   pub wrote : Gathers out bytes
   pub is : (text : List ℕ)
-      → walk (program_of old) wanted points most (state_of old [] text)
-      ≡ record { state = state_of new [] (text ++ bytes); end = end }
+      → walk (program_of old) wanted points most (state_of old) text
+      ≡ record { state = state_of new; text = text ++ bytes; end = end }
 
 abbrev pub WalkBreaks : Until → List ℕ → ℕ → Machine → Gathered → Type 0
 WalkBreaks wanted points most old out = (text : List ℕ)
-    → Breaks out text (walk (program_of old) wanted points most (state_of old [] text)).state.outside.output
+    → Breaks out text (walk (program_of old) wanted points most (state_of old) text).text
 
 -- ---- a session
 
 -- how a session stands that has written a text
 abbrev pub session_of : Debugger → List ℕ → Session
-session_of d text = record { state = state_of d.machine [] text; points = d.watcher.points.items; end = d.end; over = false }
+session_of d text = record { state = state_of d.machine; text = text; points = d.watcher.points.items; end = d.end; over = false }
 
 abbrev pub setting_of : Debugger → Setting
 setting_of d = record { program = program_of d.machine; verdict = d.verdict }

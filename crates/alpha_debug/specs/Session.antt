@@ -2,7 +2,6 @@
 use Rattle.std.specs.Prelude.{◌≡◌, ℕ, zero, suc, Bool, true, false, ◌==◌, ◌||◌, not, if◌then◌else◌, List, [], ◌∷◌, ◌++◌, length, codes, Option, Some, None}
 use Rattle.std.specs.List.{list_any, filter}
 use Rattle.alpha_words.specs.declared.Completion.TheVariants.{Wrap}
-use Rattle.alpha_pal.specs.Call.{outside}
 use Rattle.alpha_image.specs.Parts.{Parts, place_of}
 use Rattle.alpha_shadow.specs.declared.broken.Broken.{Broken}
 use Rattle.alpha_shadow.specs.Broken.{IsAccepted}
@@ -11,7 +10,7 @@ use Rattle.alpha_seq.specs.declared.end.End.{End}
 use Rattle.alpha_seq.specs.State.{Program, State, Event, Went, Barriered, Overflowed, Ends}
 use Rattle.alpha_seq.specs.Step.{step_from}
 use Rattle.alpha_seq.specs.Start.{start}
-use Rattle.alpha_seq.specs.Run.{end_of, is_over}
+use Rattle.alpha_seq.specs.Run.{put, end_of, is_over}
 use Rattle.alpha_seq.specs.Notes.{register_lines}
 use Rattle.alpha_debug.specs.declared.command.Command.{Command}
 use Rattle.alpha_debug.specs.declared.command.Command.TheVariants.{Nothing, Step, Go, Barrier, Break, Clear, Registers, Memory, Listing, Shadow, Log, Quit}
@@ -25,10 +24,11 @@ pub record Setting : Type 0 where
   pub program : Program
   pub verdict : Option Broken
 
--- How a session stands: the state of the program, whose input is empty and whose output is all that the session has
--- written; the breakpoints; how the program ended, if it has; and whether `quit` came.
+-- How a session stands: the state of the program, whose input is empty; all that the session and the program have written;
+-- the breakpoints; how the program ended, if it has; and whether `quit` came.
 pub record Session : Type 0 where
   pub state : State
+  pub text : List ℕ
   pub points : List ℕ
   pub end : Option End
   pub over : Bool
@@ -47,20 +47,16 @@ pub record IsSetting (image : Parts) (g : Setting) : Type 0 where
 
 -- the program stands at its start, over an empty input
 abbrev pub opened : Setting → Session
-opened g = record { state = start g.program []; points = []; end = None; over = false }
+opened g = record { state = start g.program; text = []; points = []; end = None; over = false }
 
 -- ---- what is written
 
 -- all that a session has written
 abbrev pub text_of : Session → List ℕ
-text_of s = s.state.outside.output
-
--- a state behind whose output some bytes are written
-abbrev pub putting : State → List ℕ → State
-putting s bytes = record s { outside = outside s.outside.unique s.outside.input (s.outside.output ++ bytes) }
+text_of s = s.text
 
 abbrev pub saying : Session → List ℕ → Session
-saying s bytes = record s { state = putting s.state bytes }
+saying s bytes = record s { text = s.text ++ bytes }
 
 -- ---- steps
 
@@ -69,34 +65,35 @@ has_point points at = list_any (λ point. point == at) points
 
 abbrev pub is_barrier : Event → Bool
 is_barrier Went = false
-is_barrier Barriered = true
+is_barrier (Barriered traffic pc regs) = true
 is_barrier (Overflowed at) = false
 is_barrier (Ends end) = false
 
--- whether a step is the last one that is made, by how it went and the PC behind it
-abbrev pub is_reached : Until → List ℕ → Event → ℕ → Bool
-is_reached until.Spent points event pc = false
-is_reached until.Breakpoint points event pc = has_point points pc
-is_reached until.Barrier points event pc = is_barrier event
+-- whether a step is the last one that is made, by whether it was a barrier and the PC behind it
+abbrev pub is_reached : Until → List ℕ → Bool → ℕ → Bool
+is_reached until.Spent points barrier pc = false
+is_reached until.Breakpoint points barrier pc = has_point points pc
+is_reached until.Barrier points barrier pc = barrier
 
 abbrev pub is_last : Until → List ℕ → Event → ℕ → Bool
-is_last wanted points event pc = is_over event || is_reached wanted points event pc
+is_last wanted points event pc = is_over event || is_reached wanted points (is_barrier event) pc
 
--- where some steps lead, and how the program ended, if it has
+-- where some steps lead, what is written then, and how the program ended, if it has
 pub record Walked : Type 0 where
   pub state : State
+  pub text : List ℕ
   pub end : Option End
 
--- at most n steps, fewer where the program ends or the wanted step came
-unfoldable pub walk : Program → Until → List ℕ → ℕ → State → Walked
-walk g wanted points zero s = record { state = s; end = None }
-walk g wanted points (suc n) s =
-    let t = step_from g s in
-    if is_last wanted points t.event t.state.pc then record { state = t.state; end = end_of t.event }
-    else walk g wanted points n t.state
+-- at most n steps with no input, behind a text, fewer where the program ends or the wanted step came
+unfoldable pub walk : Program → Until → List ℕ → ℕ → State → List ℕ → Walked
+walk g wanted points zero s text = record { state = s; text = text; end = None }
+walk g wanted points (suc n) s text =
+    let t = step_from g s [] in
+    if is_last wanted points t.event t.state.pc then record { state = t.state; text = text ++ put t.event; end = end_of t.event }
+    else walk g wanted points n t.state (text ++ put t.event)
 
 abbrev pub walking : Session → Walked → Session
-walking s w = record s { state = w.state; end = w.end }
+walking s w = record s { state = w.state; text = w.text; end = w.end }
 
 -- a program that has ended makes no step
 abbrev pub if_going : Option End → Session → Walked → Session
@@ -108,7 +105,7 @@ abbrev pub saying_where : Session → Session
 saying_where s = saying s (where_line s.end s.state.pc)
 
 abbrev pub going : Setting → Until → ℕ → Session → Session
-going g wanted most s = if_going s.end s (walk g.program wanted s.points most s.state)
+going g wanted most s = if_going s.end s (walk g.program wanted s.points most s.state s.text)
 
 abbrev pub travel : Setting → Until → ℕ → Session → Session
 travel g wanted most s = saying_where (going g wanted most s)

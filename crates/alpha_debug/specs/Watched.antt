@@ -1,5 +1,5 @@
 -- What a watcher makes of each step of a walk.
-use Rattle.std.specs.Prelude.{ℕ, ◌-◌, ◌^◌, ◌==◌, Bool, if◌then◌else◌, List, [], length}
+use Rattle.std.specs.Prelude.{ℕ, ◌-◌, ◌^◌, ◌==◌, Bool, true, false, if◌then◌else◌, List, [], length, Option, Some, None}
 use Rattle.alpha_mem.specs.Block.{Block, shapes, within}
 use Rattle.alpha_mem.specs.Intent.{Load}
 use Rattle.alpha_mem.specs.Memory.{bytes_at}
@@ -7,7 +7,7 @@ use Rattle.alpha_pal.specs.declared.pal_end.Passed.TheVariants.{Put}
 use Rattle.alpha_seq.specs.declared.machine.Machine.{Machine}
 use Rattle.alpha_seq.specs.declared.event.Event.{Event as Seen}
 use Rattle.alpha_seq.specs.declared.event.Event.TheVariants as events
-use Rattle.alpha_seq.specs.State.{Event, Went, Barriered, Overflowed, Ends}
+use Rattle.alpha_seq.specs.declared.end.End.{End}
 use Rattle.alpha_run.specs.Ran.{Watching, watching}
 use Rattle.alpha_debug.specs.declared.watcher.Until.{Until}
 use Rattle.alpha_debug.specs.declared.watcher.Until.TheVariants as until
@@ -17,12 +17,16 @@ use Rattle.alpha_debug.specs.Session.{is_reached}
 
 -- ---- a step
 
--- what a step of the definition came to, by how the machine says that it went: it says no other event
-abbrev pub event_of : Seen → Event
-event_of (events.Barrier passed) = Barriered
-event_of (events.Overflowed at) = Overflowed at
-event_of (events.Ended end) = Ends end
-event_of event = Went
+-- whether it was a barrier, by how the machine says that it went
+abbrev pub was_barrier : Seen → Bool
+was_barrier (events.Barrier passed) = true
+was_barrier event = false
+
+-- how the program ended, by the last step
+abbrev pub end_by : Option Seen → Option End
+end_by None = None
+end_by (Some (events.Ended end)) = Some end
+end_by (Some _) = None
 
 -- What is put behind a step, where what the step put doesn't fit behind what waits. It stands in memory behind the step.
 abbrev pub put_behind : List ℕ → Seen → List Block → List ℕ
@@ -46,7 +50,7 @@ watched_after w event m = record w { block = waits_behind w.block event m.memory
 
 -- whether the step is the one that is wanted
 abbrev pub watched_stops : Watcher → Seen → Machine → Bool
-watched_stops w event m = is_reached w.until w.points.items (event_of event) m.pc
+watched_stops w event m = is_reached w.until w.points.items (was_barrier event) m.pc
 
 abbrev pub all_steps : ℕ
 all_steps = 2 ^ 64 - 1

@@ -148,9 +148,9 @@ impl Debugger {
     fn show<K: Sink>(&mut self, command: Command, out: &mut K) -> Result<(), Failed>
         requires { IsTrue (is_shown command) }
         ensures ok { OnOk result (Gathers (spoken K.Sink out.old self.old out.new self.new)
-            (shown (setting_of self.old) command (state_of self.old.machine [] []))) }
+            (shown (setting_of self.old) command (state_of self.old.machine))) }
         ensures refused { OnErr result (Stops (spoken K.Sink out.old self.old out.new self.new)
-            (shown (setting_of self.old) command (state_of self.old.machine [] []))) }
+            (shown (setting_of self.old) command (state_of self.old.machine))) }
         ensures same { self.new ≡ with_block self.old self.new.watcher.block }
     {
         let machine = &self.machine;

@@ -2,8 +2,8 @@
 
 ghost use Rattle.std.specs.Prelude.{◌≡◌, IsTrue, IfOk, OnOk, OnErr};
 ghost use Rattle.alpha_seq.specs.Machine.{Stays};
-ghost use Rattle.alpha_run.specs.SeqRun.{end_by};
 ghost use Rattle.alpha_debug.specs.Gathered.{gathered};
+ghost use Rattle.alpha_debug.specs.Watched.{end_by};
 ghost use Rattle.alpha_debug.specs.Effects.{Walks, WalkBreaks};
 
 use crate::input::NoInput;

@@ -4,7 +4,7 @@ ghost use Rattle.std.specs.Prelude.{◌≡◌, OnOk, OnErr};
 ghost use Rattle.alpha_io.specs.Sunk.{sunk, Puts};
 ghost use Rattle.alpha_debug.specs.Gathered.{CutShort};
 ghost use Rattle.alpha_debug.specs.Session.{is_reached};
-ghost use Rattle.alpha_debug.specs.Watched.{event_of, put_behind, waits_behind};
+ghost use Rattle.alpha_debug.specs.Watched.{was_barrier, put_behind, waits_behind};
 
 use crate::block::Block;
 use crate::breakpoints::{Points, has_point};
@@ -72,7 +72,7 @@ impl Observer for Watcher {
 // Whether the wanted step came.
 #[inline(always)]
 fn is_reached(until: Until, points: &[u64], event: &Event, pc: u64) -> bool
-    ensures { result ≡ is_reached until points.now (event_of event.now) pc }
+    ensures { result ≡ is_reached until points.now (was_barrier event.now) pc }
 {
     match until {
         Until::Spent => false,

@@ -4,12 +4,12 @@ use Rattle.std.proofs.Common.{◌≡◌, ◌<◌, ◌||◌, not, ℕ, Bool, true
 use Rattle.std.proofs.lemmas.Bool.Decides.{nat_tests}
 use Rattle.alpha_table.specs.Class.{Class}
 use Rattle.alpha_seq.specs.declared.machine.Machine.{Machine}
-use Rattle.alpha_seq.specs.Machine.{class_here}
+use Rattle.alpha_seq.specs.Machine.{state_of, class_here}
 use Rattle.alpha_imprecise.specs.declared.pending.Pending.{Pending}
 use Rattle.alpha_imprecise.specs.Moment.{Choice}
 use Rattle.alpha_imprecise.specs.Step.{triggers, can_wait}
 use Rattle.alpha_imprecise.specs.Chosen.{reporting, triggering, must_report}
-use Rattle.alpha_imprecise.specs.Wild.{wild_state, bare, WaitsAt}
+use Rattle.alpha_imprecise.specs.Wild.{wild_state, WaitsAt}
 use Rattle.alpha_imprecise.specs.Picks.{Pick, Unasked, ValueAsked, PickAsked, choice_by, Picked, asked}
 use Rattle.alpha_imprecise.specs.WildEffect.{Chose}
 
@@ -17,14 +17,14 @@ use Rattle.alpha_imprecise.specs.WildEffect.{Chose}
 nat_le-small : (n : ℕ) → n < 1024 → nat_le 1024 n ≡ false
 nat_le-small n small = grind (arith, nat_tests)
 
-may_wait : (m : Machine) (class : Class) (n : ℕ) → WaitsAt m class → n < 1024 → must_report (class_here m) (bare m) n ≡ false
+may_wait : (m : Machine) (class : Class) (n : ℕ) → WaitsAt m class → n < 1024 → must_report (class_here m) (state_of m) n ≡ false
 may_wait m class n here small =
-    ap (λ (o : Option Class). not (can_wait o (bare m)) || nat_le 1024 n) here.here
+    ap (λ (o : Option Class). not (can_wait o (state_of m)) || nat_le 1024 n) here.here
     ∙ (ap (λ (b : Bool). not b || nat_le 1024 n) here.waits ∙ nat_le-small n small)
 
 module _ {P : Type 0} (picks : P → Pick → P → Type 0) (values : P → ℕ → P → Type 0) (m : Machine) (p : Option Pending) where
   -- with nothing pending, at a word that doesn't overflow, nothing is asked
-  pub exact-chose : (who : P) (does : Option Pending → Choice → Type 0) → p ≡ None → triggers (class_here m) (bare m) ≡ false
+  pub exact-chose : (who : P) (does : Option Pending → Choice → Type 0) → p ≡ None → triggers (class_here m) (state_of m) ≡ false
       → does None (reporting 0).choice → Chose picks values (wild_state m p) who who (does p)
   exact-chose who does calm exact did =
       let c = (reporting 0).choice in
@@ -36,7 +36,7 @@ module _ {P : Type 0} (picks : P → Pick → P → Type 0) (values : P → ℕ 
       }
 
   -- at a word that overflows, a value
-  pub value-chose : (value : ℕ) (before after : P) (does : Choice → Type 0) → p ≡ None → triggers (class_here m) (bare m) ≡ true
+  pub value-chose : (value : ℕ) (before after : P) (does : Choice → Type 0) → p ≡ None → triggers (class_here m) (state_of m) ≡ true
       → values before value after → does (triggering value).choice → Chose picks values (wild_state m p) before after does
   value-chose value before after does calm overflows answered did =
       let c = (triggering value).choice in
@@ -48,7 +48,7 @@ module _ {P : Type 0} (picks : P → Pick → P → Type 0) (values : P → ℕ 
       }
 
   -- while a trap is pending nothing is asked where a report is forced
-  pub forced-chose : (trap : Pending) (who : P) (does : Choice → Type 0) → p ≡ Some trap → must_report (class_here m) (bare m) trap.waited ≡ true
+  pub forced-chose : (trap : Pending) (who : P) (does : Choice → Type 0) → p ≡ Some trap → must_report (class_here m) (state_of m) trap.waited ≡ true
       → does (reporting 0).choice → Chose picks values (wild_state m p) who who does
   forced-chose trap who does some must did =
       let c = (reporting 0).choice in

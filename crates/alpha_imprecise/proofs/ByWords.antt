@@ -14,36 +14,36 @@ use Rattle.alpha_imprecise.specs.Moment.{Choice}
 use Rattle.alpha_imprecise.specs.Step.{triggers}
 use Rattle.alpha_imprecise.specs.Chosen.{Draw, first_word, reporting, triggering, executing, must_report, draw_at, draw}
 use Rattle.alpha_imprecise.specs.Telling.{Telling, telling, Moves}
-use Rattle.alpha_imprecise.specs.Wild.{WildState, wild_state, trap_of, trap_in, waited_in, bare}
+use Rattle.alpha_imprecise.specs.Wild.{WildState, wild_state, trap_of, trap_in, waited_in}
 use Rattle.alpha_imprecise.specs.Picks.{Unasked, ValueAsked, PickAsked, choice_by, Picked, ReadsPick, Reports, Waits, reads_pick, reads_value, asked}
 use Rattle.alpha_imprecise.specs.WildEffect.{GoesBy, WildGoes, WildMakes, WildBreaks, MakesBy, BreaksBy}
-use Rattle.alpha_imprecise.proofs.Choosing.{triggers-told, must_report-told, Moves-none}
+use Rattle.alpha_imprecise.proofs.Choosing.{Moves-none}
 
 -- a choice is the one that these words draw, by which a chooser went on
-record Draws (w : WildState) (choice : Choice) (before after : Telling) : Type 0 where
+record DrawsOne (w : WildState) (choice : Choice) (before after : Telling) : Type 0 where
   words : List ℕ
   drew : Moves before after words
-  draws : (coming input output : List ℕ)
-      → draw (program_of w.machine) (state_of w.machine input output) (trap_in w.pending) (waited_in w.pending) (words ++ coming)
+  draws : (coming : List ℕ)
+      → draw (program_of w.machine) (state_of w.machine) (trap_in w.pending) (waited_in w.pending) (words ++ coming)
       ≡ record { choice = choice; count = length words }
 
 -- ---- with nothing pending
 
 none_draws : {C : Type 0} (ahead : C → Option (ℕ → ℕ)) (drawn : C → Option ℕ) (m : Machine) (choice : Choice) (before after : C)
-    → (b : Bool) → triggers (class_here m) (bare m) ≡ b → Picked (reads_pick ahead drawn) (reads_value ahead drawn) (cond b ValueAsked Unasked) choice before after
-    → Draws (wild_state m None) choice (telling ahead drawn before) (telling ahead drawn after)
+    → (b : Bool) → triggers (class_here m) (state_of m) ≡ b → Picked (reads_pick ahead drawn) (reads_value ahead drawn) (cond b ValueAsked Unasked) choice before after
+    → DrawsOne (wild_state m None) choice (telling ahead drawn before) (telling ahead drawn after)
 none_draws ahead drawn m choice before after true e picked = record {
   words = picked.0 ∷ [];
   drew = picked.2;
-  draws = λ coming input output.
-      ap (λ (b : Bool). cond b (triggering picked.0) (reporting 0)) (triggers-told (class_here m) m input output ∙ e)
+  draws = λ coming.
+      ap (λ (b : Bool). cond b (triggering picked.0) (reporting 0)) e
       ∙ ap (λ (c : Choice). let d : Draw = record { choice = c; count = 1 } in d) (sym picked.1);
 }
 none_draws ahead drawn m choice before after false e picked = record {
   words = [];
   drew = subst (λ c. Moves (telling ahead drawn before) (telling ahead drawn c) []) (sym picked.1) (Moves-none (telling ahead drawn before));
-  draws = λ coming input output.
-      ap (λ (b : Bool). cond b (triggering (first_word coming)) (reporting 0)) (triggers-told (class_here m) m input output ∙ e)
+  draws = λ coming.
+      ap (λ (b : Bool). cond b (triggering (first_word coming)) (reporting 0)) e
       ∙ ap (λ (c : Choice). let d : Draw = record { choice = c; count = 0 } in d) (sym picked.0);
 }
 
@@ -53,38 +53,38 @@ none_draws ahead drawn m choice before after false e picked = record {
 abbrev drawn_where : Bool → List ℕ → Draw
 drawn_where b words = cond b (reporting 0) (cond (first_word words % 4 == 0) (reporting 1) (executing (first_word words) (first_word (drop 1 words))))
 
-forced : (m : Machine) (trap : Pending) (b : Bool) → must_report (class_here m) (bare m) trap.waited ≡ b → (input output words : List ℕ)
-    → draw_at (class_here m) (state_of m input output) (Some (trap_of trap)) trap.waited words ≡ drawn_where b words
-forced m trap b e input output words = ap (λ (t : Bool). drawn_where t words) (must_report-told (class_here m) m input output trap.waited ∙ e)
+forced : (m : Machine) (trap : Pending) (b : Bool) → must_report (class_here m) (state_of m) trap.waited ≡ b → (words : List ℕ)
+    → draw_at (class_here m) (state_of m) (Some (trap_of trap)) trap.waited words ≡ drawn_where b words
+forced m trap b e words = ap (λ (t : Bool). drawn_where t words) e
 
 pick_draws : (m : Machine) (trap : Pending) (choice : Choice) (pick : Option Wait) (before after : Telling)
-    → must_report (class_here m) (bare m) trap.waited ≡ false → choice ≡ choice_by pick → ReadsPick before after pick
-    → Draws (wild_state m (Some trap)) choice before after
+    → must_report (class_here m) (state_of m) trap.waited ≡ false → choice ≡ choice_by pick → ReadsPick before after pick
+    → DrawsOne (wild_state m (Some trap)) choice before after
 pick_draws m trap choice pick before after e by (Reports c is_report none drew) = record {
   words = c ∷ [];
   drew = drew;
-  draws = λ coming input output.
-      forced m trap false e input output (c ∷ coming)
+  draws = λ coming.
+      forced m trap false e (c ∷ coming)
       ∙ (ap (λ (b : Bool). cond b (reporting 1) (executing c (first_word coming))) is_report
       ∙ ap (λ (x : Choice). let d : Draw = record { choice = x; count = 1 } in d) (sym (by ∙ ap choice_by none)));
 }
 pick_draws m trap choice pick before after e by (Waits c value goes_on some drew) = record {
   words = c ∷ value ∷ [];
   drew = drew;
-  draws = λ coming input output.
-      forced m trap false e input output (c ∷ value ∷ coming)
+  draws = λ coming.
+      forced m trap false e (c ∷ value ∷ coming)
       ∙ (ap (λ (b : Bool). cond b (reporting 1) (executing c value)) goes_on
       ∙ ap (λ (x : Choice). let d : Draw = record { choice = x; count = 2 } in d) (sym (by ∙ ap choice_by some)));
 }
 
 trap_draws : {C : Type 0} (ahead : C → Option (ℕ → ℕ)) (drawn : C → Option ℕ) (m : Machine) (trap : Pending) (choice : Choice) (before after : C)
-    → (b : Bool) → must_report (class_here m) (bare m) trap.waited ≡ b → Picked (reads_pick ahead drawn) (reads_value ahead drawn) (cond b Unasked PickAsked) choice before after
-    → Draws (wild_state m (Some trap)) choice (telling ahead drawn before) (telling ahead drawn after)
+    → (b : Bool) → must_report (class_here m) (state_of m) trap.waited ≡ b → Picked (reads_pick ahead drawn) (reads_value ahead drawn) (cond b Unasked PickAsked) choice before after
+    → DrawsOne (wild_state m (Some trap)) choice (telling ahead drawn before) (telling ahead drawn after)
 trap_draws ahead drawn m trap choice before after true e picked = record {
   words = [];
   drew = subst (λ c. Moves (telling ahead drawn before) (telling ahead drawn c) []) (sym picked.1) (Moves-none (telling ahead drawn before));
-  draws = λ coming input output.
-      forced m trap true e input output coming ∙ ap (λ (c : Choice). let d : Draw = record { choice = c; count = 0 } in d) (sym picked.0);
+  draws = λ coming.
+      forced m trap true e coming ∙ ap (λ (c : Choice). let d : Draw = record { choice = c; count = 0 } in d) (sym picked.0);
 }
 trap_draws ahead drawn m trap choice before after false e picked =
     pick_draws m trap choice picked.0 (telling ahead drawn before) (telling ahead drawn after) e picked.1 picked.2
@@ -93,19 +93,20 @@ trap_draws ahead drawn m trap choice before after false e picked =
 
 picked_draws : {C : Type 0} (ahead : C → Option (ℕ → ℕ)) (drawn : C → Option ℕ) (m : Machine) (p : Option Pending) (choice : Choice) (before after : C)
     → Picked (reads_pick ahead drawn) (reads_value ahead drawn) (asked (wild_state m p)) choice before after
-    → Draws (wild_state m p) choice (telling ahead drawn before) (telling ahead drawn after)
-picked_draws ahead drawn m None choice before after picked = none_draws ahead drawn m choice before after (triggers (class_here m) (bare m)) refl picked
+    → DrawsOne (wild_state m p) choice (telling ahead drawn before) (telling ahead drawn after)
+picked_draws ahead drawn m None choice before after picked = none_draws ahead drawn m choice before after (triggers (class_here m) (state_of m)) refl picked
 picked_draws ahead drawn m (Some trap) choice before after picked =
-    trap_draws ahead drawn m trap choice before after (must_report (class_here m) (bare m) trap.waited) refl picked
+    trap_draws ahead drawn m trap choice before after (must_report (class_here m) (state_of m) trap.waited) refl picked
 
 -- the step of the definition by the choice, with these words
-with_words : (choice : Choice) (old new : WildState) (p : Print) (before after : Telling) → GoesBy choice old p new → (d : Draws old choice before after)
+with_words : (choice : Choice) (old new : WildState) (p : Print) (before after : Telling) → GoesBy choice old p new → (d : DrawsOne old choice before after)
     → WildGoes old (record p { words = d.words }) new
 with_words choice old new p before after by d = record {
   choice = choice;
   by = record {
     happened = by.happened;
     passed = by.passed;
+    seen = by.seen;
     event = by.event;
     units = by.units;
     core = by.core;
@@ -115,7 +116,7 @@ with_words choice old new p before after by d = record {
     kernel = by.kernel;
     program = by.program;
   };
-  draws = λ coming output. d.draws coming (p.taken ++ p.rest) output;
+  draws = d.draws;
 }
 
 pub words-make : {C : Type 0} (ahead : C → Option (ℕ → ℕ)) (drawn : C → Option ℕ) (event : Seen) (old new : WildState) (before after : C) (input : Drawn) (out : Sunk)
@@ -131,7 +132,7 @@ words-make ahead drawn event old new before after input out made =
       event_is = did.event_is;
       core_is = did.core_is;
       drew = d.drew;
-      found = did.found;
+      fed = did.fed;
       same = did.same;
       wrote = did.wrote;
     }
@@ -149,7 +150,8 @@ words-break ahead drawn fault old new before after input out broken =
       units = did.units;
       core_is = did.core_is;
       drew = d.drew;
-      found = did.found;
+      fed = did.fed;
+      left = did.left;
       wrote = did.wrote;
       behind = did.behind;
       cause = did.cause;

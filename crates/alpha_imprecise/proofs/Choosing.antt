@@ -1,6 +1,6 @@
 -- Steps by a choice, by what the code of a step did.
-use Rattle.std.specs.Prelude.{◌==◌, ◌&&◌, bit_or, nat_le, unwrap_or}
-use Rattle.std.proofs.Common.{◌≡◌, ◌+◌, ◌%◌, ◌^◌, ◌||◌, not, ℕ, Bool, true, false, cond, List, [], Option, None, Some, refl, sym, ap, ◌∙◌, arith, zero-add}
+use Rattle.std.specs.Prelude.{◌==◌, ◌&&◌, bit_or, unwrap_or}
+use Rattle.std.proofs.Common.{◌≡◌, ◌+◌, ◌%◌, ◌^◌, not, ℕ, Bool, true, false, cond, List, [], Option, None, Some, refl, sym, ap, ◌∙◌, arith, zero-add}
 use Rattle.alpha_words.specs.declared.PalCall.{PalCall}
 use Rattle.alpha_table.specs.Class.{Class, operate, trigger, address, load, store, load_locked, store_conditional, branch, jump, barrier, idle}
 use Rattle.alpha_words.specs.Regs.{reg, put}
@@ -19,35 +19,23 @@ use Rattle.alpha_seq.specs.declared.event.Wait.{Wait}
 use Rattle.alpha_seq.specs.declared.end.End.TheVariants.{Exit, Signal, Fetch, Access, Align, Overflow}
 use Rattle.alpha_seq.specs.State.{Program, State, Event, Went, Barriered, Overflowed, Ends, Stepped, stepped}
 use Rattle.alpha_seq.specs.Step.{next_pc, step, unless, returned, went, ended, setting, logging, overflowed}
+use Rattle.alpha_seq.specs.Run.{given}
 use Rattle.alpha_seq.specs.Machine.{program_of, state_of, class_here, kernel_left}
 use Rattle.alpha_seq.specs.Devices.{Drawn}
-use Rattle.alpha_seq.specs.Print.{Print, found_by}
+use Rattle.alpha_seq.specs.Print.{Print}
 use Rattle.alpha_seq.specs.StepEffect.{Makes, Breaks}
 use Rattle.alpha_seq.specs.Sequential.{SeqGoes, SeqMakes, SeqBreaks, no_words}
 use Rattle.alpha_seq.specs.Executed.{GoesOn}
 use Rattle.alpha_seq.proofs.Executing.{GoesOn-kernel}
 use Rattle.alpha_imprecise.specs.declared.pending.Pending.{Pending}
 use Rattle.alpha_imprecise.specs.Moment.{Trap, with_register, Happening, Precisely, Triggered, Waited, moment}
-use Rattle.alpha_imprecise.specs.Step.{triggers, triggered, destination, adds_here, precisely, can_wait, report, waited, wild_at}
-use Rattle.alpha_imprecise.specs.Wild.{mask_after, wild_state, trap_of, trap_in, waited_in, bare, OverflowsAt, WaitsAt, Spoils}
-use Rattle.alpha_imprecise.specs.Chosen.{reporting, triggering, must_report, waited_after}
+use Rattle.alpha_imprecise.specs.Step.{triggers, triggered, destination, adds_here, precisely, report, waited, wild_at}
+use Rattle.alpha_imprecise.specs.Wild.{mask_after, wild_state, trap_of, trap_in, waited_in, OverflowsAt, WaitsAt, Spoils}
+use Rattle.alpha_imprecise.specs.Chosen.{reporting, triggering, waited_after}
 use Rattle.alpha_imprecise.specs.Telling.{Telling, Goes, Counts, Moves}
 use Rattle.alpha_imprecise.specs.Report.{Reports}
 use Rattle.alpha_imprecise.specs.Picks.{choice_by}
 use Rattle.alpha_imprecise.specs.WildEffect.{IsKernelBy, GoesBy, wild_uses, wild_core, WildLeaves, StepsBy, WildGoesOn}
-
--- ---- no test of a step looks at the devices
-
-pub triggers-told : (o : Option Class) (m : Machine) (input output : List ℕ) → triggers o (state_of m input output) ≡ triggers o (bare m)
-triggers-told (Some (operate op ra src rc)) m input output = refl
-triggers-told o m input output = refl
-
-pub can_wait-told : (o : Option Class) (m : Machine) (input output : List ℕ) → can_wait o (state_of m input output) ≡ can_wait o (bare m)
-can_wait-told (Some (operate op ra src rc)) m input output = refl
-can_wait-told o m input output = refl
-
-pub must_report-told : (o : Option Class) (m : Machine) (input output : List ℕ) (n : ℕ) → must_report o (state_of m input output) n ≡ must_report o (bare m) n
-must_report-told o m input output n = ap (λ (b : Bool). not b || nat_le 1024 n) (can_wait-told o m input output)
 
 -- ---- a chooser that stays
 
@@ -67,7 +55,7 @@ Moves-none t = record { fit = λ k d below. absurd (omega arith); went = goes_no
 -- no overflow, nor the end at one
 abbrev pub is_quiet : Event → Bool
 is_quiet Went = true
-is_quiet Barriered = true
+is_quiet (Barriered traffic pc regs) = true
 is_quiet (Overflowed at) = false
 is_quiet (Ends (Overflow pc)) = false
 is_quiet (Ends (Exit value)) = true
@@ -82,62 +70,59 @@ quiet-unless (Some faults.Align) addr s after = refl
 quiet-unless (Some faults.Region) addr s after = refl
 
 quiet-returned : (function : PalCall) (c : Called) (s : State) → is_quiet (returned function c s).event ≡ true
-quiet-returned function (goes regs mem outside) s = refl
+quiet-returned function (goes regs mem unique traffic) s = refl
 quiet-returned function (exits v) s = refl
 quiet-returned function (signals code) s = refl
 
 -- a word that doesn't overflow is not said to
-pub quiet : (g : Program) (o : Option Class) (s : State) → triggers o s ≡ false → is_quiet (step g o s).event ≡ true
-quiet g None s e = refl
-quiet g (Some (operate op ra src rc)) s e = refl
-quiet g (Some (trigger op ra src rc)) s e = rw e refl
-quiet g (Some (address op ra rb disp)) s e = refl
-quiet g (Some (load extension at ra)) s e = quiet-unless _ _ s _
-quiet g (Some (store at ra)) s e = quiet-unless _ _ s _
-quiet g (Some (load_locked extension at ra)) s e = quiet-unless _ _ s _
-quiet g (Some (store_conditional at ra)) s e = quiet-unless _ _ s _
-quiet g (Some (branch condition ra disp)) s e = refl
-quiet g (Some (jump ra rb)) s e = refl
-quiet g (Some (barrier None)) s e = refl
-quiet g (Some (barrier (Some function))) s e = quiet-returned function _ s
-quiet g (Some idle) s e = refl
-
-exact_here : (m : Machine) (input output : List ℕ) → triggers (class_here m) (bare m) ≡ false → triggers (class_here m) (state_of m input output) ≡ false
-exact_here m input output e = triggers-told (class_here m) m input output ∙ e
+pub quiet : (g : Program) (o : Option Class) (s : State) (input : List ℕ) → triggers o s ≡ false → is_quiet (step g o s input).event ≡ true
+quiet g None s input e = refl
+quiet g (Some (operate op ra src rc)) s input e = refl
+quiet g (Some (trigger op ra src rc)) s input e = rw e refl
+quiet g (Some (address op ra rb disp)) s input e = refl
+quiet g (Some (load extension at ra)) s input e = quiet-unless _ _ s _
+quiet g (Some (store at ra)) s input e = quiet-unless _ _ s _
+quiet g (Some (load_locked extension at ra)) s input e = quiet-unless _ _ s _
+quiet g (Some (store_conditional at ra)) s input e = quiet-unless _ _ s _
+quiet g (Some (branch condition ra disp)) s input e = refl
+quiet g (Some (jump ra rb)) s input e = refl
+quiet g (Some (barrier None)) s input e = refl
+quiet g (Some (barrier (Some function))) s input e = quiet-returned function _ s
+quiet g (Some idle) s input e = refl
 
 -- a word that overflows doesn't only go on
 abbrev goes_so : Event → Bool
 goes_so Went = true
-goes_so Barriered = false
+goes_so (Barriered traffic pc regs) = false
 goes_so (Overflowed at) = false
 goes_so (Ends end) = false
 
-loud : (g : Program) (o : Option Class) (s : State) → triggers o s ≡ true → goes_so (step g o s).event ≡ false
-loud g None s e = cc
-loud g (Some (operate op ra src rc)) s e = cc
-loud g (Some (trigger op ra src rc)) s e =
+loud : (g : Program) (o : Option Class) (s : State) (input : List ℕ) → triggers o s ≡ true → goes_so (step g o s input).event ≡ false
+loud g None s input e = cc
+loud g (Some (operate op ra src rc)) s input e = cc
+loud g (Some (trigger op ra src rc)) s input e =
     let value = completed_of op (reg s.regs ra) (source_value s.regs src) g.how in
     ap (λ (b : Bool). goes_so (cond b (overflowed g.how s rc value) (went (setting s rc value))).event) e ∙ by (stops g.how)
   where
     by : (b : Bool) → goes_so (cond b (ended s (Overflow s.pc)) (stepped (logging s rc (completed_of op (reg s.regs ra) (source_value s.regs src) g.how)) (Overflowed s.pc))).event ≡ false
     by true = refl
     by false = refl
-loud g (Some (address op ra rb disp)) s e = cc
-loud g o s e = cc
+loud g (Some (address op ra rb disp)) s input e = cc
+loud g o s input e = cc
 
-pub goes_exact : (old new : Machine) → GoesOn old new → triggers (class_here old) (bare old) ≡ false
-goes_exact old new h = by (triggers (class_here old) (bare old)) refl
+pub goes_exact : (old new : Machine) → GoesOn old new → triggers (class_here old) (state_of old) ≡ false
+goes_exact old new h = by (triggers (class_here old) (state_of old)) refl
   where
-    by : (b : Bool) → triggers (class_here old) (bare old) ≡ b → b ≡ false
+    by : (b : Bool) → triggers (class_here old) (state_of old) ≡ b → b ≡ false
     by false e = refl
     by true e =
-        let no = loud (program_of old) (class_here old) (bare old) e in
-        let yes : goes_so (step (program_of old) (class_here old) (bare old)).event ≡ true =
-        ap (λ (o : Option Class). goes_so (step (program_of old) o (bare old)).event) h.here ∙ ap (λ (t : Stepped). goes_so t.event) (h.does.is [] []) in
+        let no = loud (program_of old) (class_here old) (state_of old) [] e in
+        let yes : goes_so (step (program_of old) (class_here old) (state_of old) []).event ≡ true =
+        ap (λ (o : Option Class). goes_so (step (program_of old) o (state_of old) []).event) h.here ∙ ap (λ (t : Stepped). goes_so t.event) (h.does.is []) in
         absurd cc
 
 -- the step of the sequential machine at a word that doesn't overflow is the one at which nothing is chosen
-precise-goes : (old new : Machine) (p : Print) → triggers (class_here old) (bare old) ≡ false → SeqGoes old p new
+precise-goes : (old new : Machine) (p : Print) → triggers (class_here old) (state_of old) ≡ false → SeqGoes old p new
     → GoesBy (reporting 0).choice (wild_state old None) p (wild_state new None)
 precise-goes old new p exact did =
     let g = program_of old in
@@ -145,20 +130,19 @@ precise-goes old new p exact did =
     record {
       happened = Precisely did.happened;
       passed = did.passed;
+      seen = did.seen;
       event = did.event;
       units = did.units;
       core = did.core;
-      is = λ output.
-          let s = state_of old (found_by p) output in
-          ap (λ (b : Bool). cond b (triggered g o s (reporting 0).choice) (precisely (step g o s))) (exact_here old (found_by p) output exact)
-          ∙ ap precisely (did.is output);
+      is = ap (λ (b : Bool). cond b (triggered g o (state_of old) (reporting 0).choice) (precisely (step g o (state_of old) (given did.happened)))) exact
+          ∙ ap precisely did.is;
       passes = did.passes;
       waited = refl;
       kernel = did.kernel;
       program = did.program;
     }
 
-pub precise-makes : (event : Seen) (old new : Machine) (input : Drawn) (out : Sunk) → triggers (class_here old) (bare old) ≡ false
+pub precise-makes : (event : Seen) (old new : Machine) (input : Drawn) (out : Sunk) → triggers (class_here old) (state_of old) ≡ false
     → SeqMakes event old new input out → Makes (GoesBy (reporting 0).choice) wild_uses wild_core no_words event (wild_state old None) (wild_state new None) input out
 precise-makes event old new input out exact made = record {
   print = made.print;
@@ -167,12 +151,12 @@ precise-makes event old new input out exact made = record {
   event_is = made.event_is;
   core_is = made.core_is;
   drew = made.drew;
-  found = made.found;
+  fed = made.fed;
   same = made.same;
   wrote = made.wrote;
 }
 
-pub precise-breaks : (fault : Fault) (old new : Machine) (input : Drawn) (out : Sunk) → triggers (class_here old) (bare old) ≡ false
+pub precise-breaks : (fault : Fault) (old new : Machine) (input : Drawn) (out : Sunk) → triggers (class_here old) (state_of old) ≡ false
     → SeqBreaks fault old new input out
     → Breaks (GoesBy (reporting 0).choice) wild_uses wild_core WildLeaves no_words fault (wild_state old None) (wild_state new None) input out
 precise-breaks fault old new input out exact breaks = record {
@@ -182,7 +166,8 @@ precise-breaks fault old new input out exact breaks = record {
   units = breaks.units;
   core_is = breaks.core_is;
   drew = breaks.drew;
-  found = breaks.found;
+  fed = breaks.fed;
+  left = breaks.left;
   wrote = breaks.wrote;
   behind = record { calm = refl; still = refl; machine = breaks.behind };
   cause = breaks.cause;
@@ -198,10 +183,8 @@ goes-steps old new h =
       calm = refl;
       exact = exact;
       step = record {
-        is = λ input output.
-            let s = state_of old input output in
-            ap (λ (b : Bool). cond b (triggered g o s (reporting 0).choice) (precisely (step g o s))) (exact_here old input output exact)
-            ∙ ap precisely (ap (λ (p : Option Class). step g p s) h.here ∙ h.does.is input output);
+        is = ap (λ (b : Bool). cond b (triggered g o (state_of old) (reporting 0).choice) (precisely (step g o (state_of old) []))) exact
+            ∙ ap precisely (ap (λ (p : Option Class). step g p (state_of old) []) h.here ∙ h.does.is []);
         waited = refl;
         kernel = GoesOn-kernel old new h;
         program = h.does.program;
@@ -230,22 +213,22 @@ abbrev triggered_machine : Machine → ℕ → ℕ → Machine
 triggered_machine m rc value = record m { regs = put m.regs rc value; pc = (m.pc + 4) % 2 ^ 64 }
 
 pub trigger-steps : (m new : Machine) (place rc value mask : ℕ) → OverflowsAt m place rc → new ≡ triggered_machine m rc value → mask ≡ with_register 0 rc
-    → StepsBy Triggered (triggering value).choice (wild_state m None) (wild_state new (Some (record { trigger = place; mask = mask; waited = 0 })))
+    → StepsBy (Triggered value) (triggering value).choice (wild_state m None) (wild_state new (Some (record { trigger = place; mask = mask; waited = 0 })))
 trigger-steps m new place rc value mask here is_new is_mask =
     let g = program_of m in
     let o = class_here m in
     let there : Option Trap = Some (record { place = place; mask = with_register 0 rc }) in
     record {
-      is = λ input output.
-          let s = state_of m input output in
+      is =
+          let s = state_of m in
           let c = (triggering value).choice in
-          ap (λ (b : Bool). cond b (triggered g o s c) (precisely (step g o s))) (triggers-told o m input output ∙ here.overflows)
-          ∙ (ap (λ (d : ℕ). moment (setting s d value) (Some (record { place = unwrap_or (place_of m.image m.pc) 0; mask = with_register 0 d })) Triggered) here.into
-          ∙ (ap (λ (p : Option ℕ). moment (setting s rc value) (Some (record { place = unwrap_or p 0; mask = with_register 0 rc })) Triggered) here.at
-          ∙ (ap (λ (x : Machine). moment (state_of x input output) there Triggered) (sym is_new)
-          ∙ ap (λ (n : ℕ). moment (state_of new input output) (Some (record { place = place; mask = n })) Triggered) (sym is_mask))));
+          ap (λ (b : Bool). cond b (triggered g o s c) (precisely (step g o s []))) here.overflows
+          ∙ (ap (λ (d : ℕ). moment (setting s d value) (Some (record { place = unwrap_or (place_of m.image m.pc) 0; mask = with_register 0 d })) (Triggered value)) here.into
+          ∙ (ap (λ (p : Option ℕ). moment (setting s rc value) (Some (record { place = unwrap_or p 0; mask = with_register 0 rc })) (Triggered value)) here.at
+          ∙ (ap (λ (x : Machine). moment (state_of x) there (Triggered value)) (sym is_new)
+          ∙ ap (λ (n : ℕ). moment (state_of new) (Some (record { place = place; mask = n })) (Triggered value)) (sym is_mask))));
       waited = refl;
-      kernel = ap (λ (x : Machine). x.kernel) is_new ∙ sym (kernel-triggers o (bare m) (next_pc (bare m)) m.regs m.kernel here.overflows);
+      kernel = ap (λ (x : Machine). x.kernel) is_new ∙ sym (kernel-triggers o (state_of m) (next_pc (state_of m)) m.regs m.kernel here.overflows);
       program = ap program_of is_new;
     }
 
@@ -262,19 +245,19 @@ mask-added o mask true = by (destination o == 31) refl
 
 pub wait-steps : (m new : Machine) (trap : Pending) (class : Class) (w : Wait) (mask waited' : ℕ) → WaitsAt m class → Spoils class w.value m new
     → mask ≡ mask_after (Some class) trap.mask (w.adds && adds_here (Some class)) → waited' ≡ trap.waited + 1
-    → StepsBy Waited (choice_by (Some w)) (wild_state m (Some trap)) (wild_state new (Some (record { trigger = trap.trigger; mask = mask; waited = waited' })))
+    → StepsBy (Waited (w.adds && adds_here (Some class)) w.value w.value) (choice_by (Some w)) (wild_state m (Some trap)) (wild_state new (Some (record { trigger = trap.trigger; mask = mask; waited = waited' })))
 wait-steps m new trap class w mask waited' here spoils is_mask is_waited =
     let g = program_of m in
     let t = trap_of trap in
     let c = choice_by (Some w) in
     record {
-      is = λ input output.
-          let s = state_of m input output in
-          let can : can_wait (Some class) s ≡ true = can_wait-told (Some class) m input output ∙ here.waits in
-          ap (λ (x : Option Class). wild_at g x s (Some t) c) here.here
-          ∙ (ap (λ (b : Bool). cond (not b) (report g s t) (waited (Some class) s t c)) can
-          ∙ (ap (λ (x : State). moment x (Some (record t { mask = mask_after (Some class) trap.mask w.adds })) Waited) (spoils.is input output c refl refl)
-          ∙ ap (λ (n : ℕ). moment (state_of new input output) (Some (record { place = trap.trigger; mask = n })) Waited) (sym (is_mask ∙ mask-added (Some class) trap.mask w.adds))));
+      is =
+          let s = state_of m in
+          let h = Waited (w.adds && adds_here (Some class)) w.value w.value in
+          ap (λ (x : Option Class). wild_at g x s (Some t) c []) here.here
+          ∙ (ap (λ (b : Bool). cond (not b) (report g s t) (waited (Some class) s t c)) here.waits
+          ∙ (ap (λ (x : State). moment x (Some (record t { mask = mask_after (Some class) trap.mask w.adds })) h) (spoils.is c refl refl)
+          ∙ ap (λ (n : ℕ). moment (state_of new) (Some (record { place = trap.trigger; mask = n })) h) (sym (is_mask ∙ mask-added (Some class) trap.mask w.adds))));
       waited = is_waited;
       kernel = spoils.kernel;
       program = spoils.program;
@@ -287,7 +270,7 @@ pub report-steps : (happened : Happening) (m new : Machine) (trap : Pending) (le
     → IsKernelBy happened (wild_state m (Some trap)) (wild_state new left)
     → StepsBy happened (reporting 0).choice (wild_state m (Some trap)) (wild_state new left)
 report-steps happened m new trap left reports counted kernel = record {
-  is = λ input output. reports.is input output;
+  is = reports.is;
   waited = counted;
   kernel = kernel;
   program = reports.program;

@@ -1,16 +1,16 @@
--- How many words a run by coming words draws at most.
-use Rattle.std.proofs.Common.{◌≡◌, ◌<◌, ◌≤◌, ◌+◌, ◌-◌, ◌*◌, ◌%◌, ◌||◌, ℕ, zero, suc, Bool, true, false, cond, leb, eqb, not, List, Option, Some, None, is_none, drop, refl, sym, ap, subst, ◌∙◌, ⊎_elim, arith}
-use Rattle.std.proofs.lemmas.Bool.{leb-false, cases_Bool, or_parts}
+-- How many words steps draw at most.
+use Rattle.std.proofs.Common.{◌≡◌, ◌<◌, ◌≤◌, ◌+◌, ◌-◌, ◌*◌, ◌%◌, ℕ, zero, suc, Bool, true, false, cond, leb, eqb, not, List, [], ◌∷◌, ◌++◌, length, drop, Option, Some, None, refl, sym, ap, subst, ◌∙◌, arith, append-nil, length-append, length-drop}
+use Rattle.std.proofs.lemmas.Bool.{leb-false, or_parts}
 use Rattle.alpha_table.specs.Class.{Class}
 use Rattle.alpha_seq.specs.State.{Program, State}
-use Rattle.alpha_seq.specs.Step.{next_class}
-use Rattle.alpha_imprecise.specs.Moment.{Trap, Happening}
-use Rattle.alpha_imprecise.specs.Step.{triggers, can_wait}
-use Rattle.alpha_imprecise.specs.Run.{finished}
-use Rattle.alpha_imprecise.specs.Chosen.{most_waited, first_word, reporting, triggering, executing, must_report, draw_at, draw, chosen, waited_after}
-use Rattle.alpha_imprecise.specs.Made.{Making, advance_making, is_settled, settled_within, settled, made, most_words}
+use Rattle.alpha_seq.specs.Step.{next_class, step}
+use Rattle.alpha_imprecise.specs.Moment.{Trap, Happening, Moment}
+use Rattle.alpha_imprecise.specs.Step.{triggers, triggered, precisely, can_wait}
+use Rattle.alpha_imprecise.specs.Run.{finished, given_to, next_wild, RunsWild, unit_of, units}
+use Rattle.alpha_imprecise.specs.Chosen.{most_waited, first_word, Draw, reporting, triggering, executing, must_report, draw_at, draw, chosen, waited_after, Draws}
+use Rattle.alpha_imprecise.specs.Made.{most_words}
 use Rattle.alpha_imprecise.proofs.Making.{Settles, none, over, longer, chosen_settles}
-use Rattle.alpha_imprecise.proofs.Settling.{stepped_making, advance-going, advance-over, stays_settled, none_settled, over_settled, Open, opened, none_of, fresh, made_is}
+use Rattle.alpha_imprecise.proofs.Saying.{said_by}
 
 -- ---- one step
 
@@ -44,80 +44,155 @@ one_word o s n words = by (triggers o s)
     by true = omega arith
     by false = omega arith
 
--- ---- until nothing is pending
+-- ---- steps in a row
+
+-- how many words they draw of these
+abbrev pub drawn : Program → Moment → ℕ → List ℕ → List Happening → ℕ
+drawn g a waited words [] = 0
+drawn g a waited words (h ∷ hs) =
+    let n = (draw g a.state a.pending waited words).count in n + drawn g (next_wild g a h) (waited_after h waited) (drop n words) hs
+
+-- What was drawn is no more than the units draw; while a trap is pending, not even with the words for which it may still wait.
+data Low (a : Moment) (waited count used : ℕ) : Type 0 where
+  ended : finished a.happened ≡ true → count ≤ 2049 * used → Low a waited count used
+  calm : a.pending ≡ None → count ≤ 2049 * used → Low a waited count used
+  waits : (t : Trap) → a.pending ≡ Some t → waited ≤ most_waited → count + 2 * (most_waited - waited) ≤ 2049 * used → Low a waited count used
+
+low_most : (a : Moment) (waited count used : ℕ) → Low a waited count used → count ≤ 2049 * used
+low_most a waited count used (ended e low) = low
+low_most a waited count used (calm e low) = low
+low_most a waited count used (waits t e below low) = omega (arith, low)
+
+-- whatever is pending, if it may still wait as long
+low_by : (a : Moment) (waited count used : ℕ) → waited ≤ most_waited → count + 2 * (most_waited - waited) ≤ 2049 * used → Low a waited count used
+low_by a waited count used below low = by a.pending refl
+  where
+    by : (p : Option Trap) → a.pending ≡ p → Low a waited count used
+    by None e = calm e (omega (arith, low))
+    by (Some t) e = waits t e below low
 
 module _ (g : Program) where
-  pub pending_two : (k : Making) → Open k → (stepped_making g k).count ≤ k.count + 2
-  pending_two k h =
-      let two = two_words (next_class g k.run.state.pc) k.run.state h.t k.waited k.words in
-      let same = ap (λ (p : Option Trap). (draw g k.run.state p k.waited k.words).count) h.pending in
-      omega arith
-
-  pub pending_most : (k : Making) → Open k → k.waited ≤ most_waited → (stepped_making g k).count ≤ k.count + 2 * (most_waited - k.waited)
-  pending_most k h low =
-      let two = two_most (next_class g k.run.state.pc) k.run.state h.t k.waited k.words low in
-      let same = ap (λ (p : Option Trap). (draw g k.run.state p k.waited k.words).count) h.pending in
-      omega arith
-
-  pub settles : (k : Making) → Open k → Settles k.waited (chosen g k.run.state k.run.pending k.waited k.words)
-  settles k h = subst (λ (p : Option Trap). Settles k.waited (chosen g k.run.state p k.waited k.words)) (sym h.pending) (chosen_settles g k.run.state h.t k.waited k.words)
-
-  stays : (fuel most : ℕ) (k : Making) → is_settled k ≡ true → k.count ≤ most → (settled_within fuel g k).count ≤ most
-  stays fuel most k e low = subst (λ (l : Making). l.count ≤ most) (sym (stays_settled fuel g k e)) low
-
-  -- a pending trap draws two words for each word that it may still wait for
-  within : (fuel : ℕ) (k : Making) → k.waited ≤ most_waited → (settled_within fuel g k).count ≤ k.count + 2 * (most_waited - k.waited)
-  within zero k low = omega arith
-  within (suc fuel) k low =
-      ⊎_elim
-      (λ (e : is_settled k ≡ true). stays (suc fuel) (k.count + 2 * (most_waited - k.waited)) k e (omega arith))
-      (λ (e : is_settled k ≡ false).
-      let h = opened k e in
-      let most = k.count + 2 * (most_waited - k.waited) in
-      subst (λ (l : Making). l.count ≤ most) (sym (ap (λ b. cond b k (settled_within fuel g (advance_making g k))) e))
-      (subst (λ (l : Making). (settled_within fuel g l).count ≤ most) (sym (advance-going g k h.going))
-      (more k h low (subst (λ (l : Making). l.waited ≤ most_waited → (settled_within fuel g l).count ≤ l.count + 2 * (most_waited - l.waited)) (advance-going g k h.going) (within fuel (advance_making g k))) (settles k h))))
-      (cases_Bool (is_settled k))
+  -- a step with nothing pending begins to count
+  fresh : (s : State) (waited : ℕ) (words input : List ℕ) → waited_after (chosen g s None waited words input).happened waited ≡ 0
+  fresh s waited words input = by (triggers (next_class g s.pc) s)
     where
-      more : (k : Making) → Open k → k.waited ≤ most_waited
-          → ((stepped_making g k).waited ≤ most_waited → (settled_within fuel g (stepped_making g k)).count ≤ (stepped_making g k).count + 2 * (most_waited - (stepped_making g k).waited))
-          → Settles k.waited (chosen g k.run.state k.run.pending k.waited k.words)
-          → (settled_within fuel g (stepped_making g k)).count ≤ k.count + 2 * (most_waited - k.waited)
-      more k h low rest (none e) = stays fuel (k.count + 2 * (most_waited - k.waited)) (stepped_making g k) (none_settled (stepped_making g k) e) (pending_most k h low)
-      more k h low rest (over e) = stays fuel (k.count + 2 * (most_waited - k.waited)) (stepped_making g k) (over_settled (stepped_making g k) e) (pending_most k h low)
-      more k h low rest (longer e below) =
-          let waits : (stepped_making g k).waited ≡ k.waited + 1 = ap (λ (x : Happening). waited_after x k.waited) e in
-          let two = pending_two k h in
-          let later = rest (omega arith) in
-          omega arith
+      by : (b : Bool) → waited_after (cond b (triggered g (next_class g s.pc) s (draw g s None waited words).choice) (precisely (step g (next_class g s.pc) s input))).happened waited ≡ 0
+      by true = refl
+      by false = refl
 
-  -- ---- runs of so many units
+  low_more : (s : State) (p : Option Trap) (happened : Happening) (waited count used : ℕ) (words input : List ℕ) → finished happened ≡ false
+      → Low (record { state = s; pending = p; happened = happened }) waited count used
+      → let m = chosen g s p waited words input in
+      Low m (waited_after m.happened waited) (count + (draw g s p waited words).count) (used + unit_of p)
+  low_more s None happened waited count used words input going low =
+      let one = one_word (next_class g s.pc) s waited words in
+      let start = fresh s waited words input in
+      let least = low_most _ waited count used low in
+      low_by _ _ _ _ (omega arith) (omega arith)
+  low_more s (Some t) happened waited count used words input going (ended e low) = absurd (let no : true ≡ false = sym e ∙ going in cc)
+  low_more s (Some t) happened waited count used words input going (calm e low) = absurd cc
+  low_more s (Some t) happened waited count used words input going (waits u e below low) = by (chosen_settles g s t waited words input)
+    where
+      m : Moment
+      m = chosen g s (Some t) waited words input
 
-  unit_draws : (n : ℕ) (k : Making) → k.run.pending ≡ None → finished k.run.last ≡ false → k.count ≤ n
-      → (settled g (stepped_making g k)).count ≤ n + 2049
-  unit_draws n k calm going low =
-      let new = fresh g k calm in
-      let one = one_word (next_class g k.run.state.pc) k.run.state k.waited k.words in
-      let same = ap (λ (p : Option Trap). (draw g k.run.state p k.waited k.words).count) calm in
-      let later = within (most_waited + 1) (stepped_making g k) (omega arith) in
+      by : Settles waited m → Low m (waited_after m.happened waited) (count + (draw g s (Some t) waited words).count) (used + 0)
+      by (none q) = let most = two_most (next_class g s.pc) s t waited words below in calm q (omega arith)
+      by (over q) = let most = two_most (next_class g s.pc) s t waited words below in ended q (omega arith)
+      by (longer adds value bytes q less) =
+          let two = two_words (next_class g s.pc) s t waited words in
+          let more : waited_after m.happened waited ≡ waited + 1 = ap (λ (x : Happening). waited_after x waited) q in
+          low_by _ _ _ _ (omega arith) (omega arith)
+
+  all_low : (hs : List Happening) (a b : Moment) (waited count used : ℕ) (words rest : List ℕ) → RunsWild g a hs b → Draws g a waited words hs rest → Low a waited count used
+      → count + drawn g a waited words hs ≤ 2049 * (used + units g a hs)
+  all_low [] a b waited count used words rest run draws low = let most = low_most a waited count used low in omega arith
+  all_low (h ∷ hs) a b waited count used words rest run draws low =
+      let d = draw g a.state a.pending waited words in
+      let m : Moment = chosen g a.state a.pending waited words (given_to h) in
+      let same : next_wild g a h ≡ m = said_by g a d.choice h draws.0 in
+      let more = low_more a.state a.pending a.happened waited count used words (given_to h) run.0 low in
+      let here = subst (λ (n : Moment). Low n (waited_after h waited) (count + d.count) (used + unit_of a.pending)) (sym same)
+      (subst (λ (x : Happening). Low m (waited_after x waited) (count + d.count) (used + unit_of a.pending)) draws.0 more) in
+      let all = all_low hs (next_wild g a h) b (waited_after h waited) (count + d.count) (used + unit_of a.pending) (drop d.count words) rest run.2 draws.1 here in
       omega arith
 
-  more_draws : (n : ℕ) (k : Making) → is_settled k ≡ true → k.count ≤ n → (settled g (advance_making g k)).count ≤ n + 2049
-  more_draws n k done low = by (finished k.run.last) refl
-    where
-      by : (b : Bool) → finished k.run.last ≡ b → (settled g (advance_making g k)).count ≤ n + 2049
-      by true e =
-          subst (λ (l : Making). (settled g l).count ≤ n + 2049) (sym (advance-over g k e))
-          (stays (most_waited + 1) (n + 2049) k done (omega arith))
-      by false e =
-          let calm : k.run.pending ≡ None = none_of k.run.pending (ap (λ b. b || is_none k.run.pending) (sym e) ∙ done) in
-          subst (λ (l : Making). (settled g l).count ≤ n + 2049) (sym (advance-going g k e)) (unit_draws n k calm e low)
+  -- from a moment with nothing pending steps draw no more than their units do
+  pub draws_most : (hs : List Happening) (a b : Moment) (waited : ℕ) (words rest : List ℕ) → a.pending ≡ None → RunsWild g a hs b → Draws g a waited words hs rest
+      → drawn g a waited words hs ≤ most_words (units g a hs)
+  draws_most hs a b waited words rest nothing run draws =
+      let all = all_low hs a b waited 0 0 words rest run draws (calm nothing (omega arith)) in omega arith
 
-  pub made_draws : (k : Making) (n : ℕ) → k.run.pending ≡ None → k.run.units ≡ 0 → k.count ≡ 0 → (made g k n).count ≤ most_words n
-  made_draws k zero calm units start =
-      stays (most_waited + 1) (most_words 0) k (none_settled k calm) (omega arith)
-  made_draws k (suc n) calm units start =
-      let before = made_draws k n calm units start in
-      let more = more_draws (most_words n) (made g k n) (made_is g k n calm units).settled before in
-      let one : most_words n + 2049 ≡ most_words (suc n) = omega arith in
-      subst (λ m. (made g k (suc n)).count ≤ m) one more
+  -- what is left is behind as many words
+  draws_left : (hs : List Happening) (a : Moment) (waited : ℕ) (words rest : List ℕ) → Draws g a waited words hs rest → length rest ≡ length words - drawn g a waited words hs
+  draws_left [] a waited words rest draws = let same = ap (λ (l : List ℕ). length l) draws in omega arith
+  draws_left (h ∷ hs) a waited words rest draws =
+      let n = (draw g a.state a.pending waited words).count in
+      let rest_left = draws_left hs (next_wild g a h) (waited_after h waited) (drop n words) rest draws.1 in
+      omega (arith, length-drop n words)
+
+  -- these words draw steps whatever comes behind them: there are no more of them than the units draw
+  pub words_most : (hs : List Happening) (a b : Moment) (waited : ℕ) (words : List ℕ) → a.pending ≡ None → RunsWild g a hs b
+      → ((coming : List ℕ) → Draws g a waited (words ++ coming) hs coming) → length words ≤ most_words (units g a hs)
+  words_most hs a b waited words nothing run draws =
+      let one = draws_left hs a waited (words ++ 0 ∷ []) (0 ∷ []) (draws (0 ∷ [])) in
+      let most = draws_most hs a b waited (words ++ 0 ∷ []) (0 ∷ []) nothing run (draws (0 ∷ [])) in
+      let size = length-append words (0 ∷ []) in
+      omega arith
+
+  -- ---- words that are all that steps draw
+
+  -- behind the last one come zeros, so that these lists are the same words
+  abbrev SameWords : List ℕ → List ℕ → Type 0
+  SameWords l m = (i : ℕ) → first_word (drop i l) ≡ first_word (drop i m)
+
+  drop_none : (i : ℕ) → first_word (drop i []) ≡ 0
+  drop_none zero = refl
+  drop_none (suc i) = refl
+
+  one_zero : (l : List ℕ) → SameWords (l ++ 0 ∷ []) l
+  one_zero [] zero = refl
+  one_zero [] (suc i) = drop_none i
+  one_zero (x ∷ l) zero = refl
+  one_zero (x ∷ l) (suc i) = one_zero l i
+
+  drop_empty : (k : ℕ) → let none : List ℕ = [] in drop k none ≡ none
+  drop_empty zero = refl
+  drop_empty (suc k) = refl
+
+  drop_twice : (n i : ℕ) (l : List ℕ) → drop i (drop n l) ≡ drop (n + i) l
+  drop_twice zero i l = ap (λ k. drop k l) (let e : i ≡ 0 + i = omega arith in e)
+  drop_twice (suc n) i [] = drop_empty i ∙ sym (drop_empty (suc n + i))
+  drop_twice (suc n) i (x ∷ l) = drop_twice n i l ∙ ap (λ k. drop k (x ∷ l)) (let e : suc (n + i) ≡ suc n + i = omega arith in e)
+
+  same_behind : (n : ℕ) (l m : List ℕ) → SameWords l m → SameWords (drop n l) (drop n m)
+  same_behind n l m same = λ i. ap first_word (drop_twice n i l) ∙ (same (n + i) ∙ ap first_word (sym (drop_twice n i m)))
+
+  same_draw : (o : Option Class) (s : State) (p : Option Trap) (n : ℕ) (l m : List ℕ) → SameWords l m → draw_at o s p n l ≡ draw_at o s p n m
+  same_draw o s None n l m same = ap (λ a. cond (triggers o s) (triggering a) (reporting 0)) (same 0)
+  same_draw o s (Some t) n l m same =
+      ap (λ a. cond (must_report o s n) (reporting 0) (cond (eqb (a % 4) 0) (reporting 1) (executing a (first_word (drop 1 l))))) (same 0)
+      ∙ ap (λ b. cond (must_report o s n) (reporting 0) (cond (eqb (first_word m % 4) 0) (reporting 1) (executing (first_word m) b))) (same 1)
+
+  same_drawn : (hs : List Happening) (a : Moment) (waited : ℕ) (l m : List ℕ) → SameWords l m → drawn g a waited l hs ≡ drawn g a waited m hs
+  same_drawn [] a waited l m same = refl
+  same_drawn (h ∷ hs) a waited l m same =
+      let one = ap (λ (d : Draw). d.count) (same_draw (next_class g a.state.pc) a.state a.pending waited l m same) in
+      let n = (draw g a.state a.pending waited m).count in
+      ap (λ k. k + drawn g (next_wild g a h) (waited_after h waited) (drop k l) hs) one
+      ∙ ap (λ k. n + k) (same_drawn hs (next_wild g a h) (waited_after h waited) (drop n l) (drop n m) (same_behind n l m same))
+
+  -- steps that these words choose, whatever comes behind them, draw them all
+  words_some : (hs : List Happening) (a : Moment) (waited : ℕ) (words : List ℕ) (x : ℕ) (coming : List ℕ) → ((more : List ℕ) → Draws g a waited (words ++ more) hs more)
+      → drawn g a waited (words ++ x ∷ coming) hs ≡ length words
+  words_some hs a waited words x coming draws =
+      let left = draws_left hs a waited (words ++ x ∷ coming) (x ∷ coming) (draws (x ∷ coming)) in
+      let size = length-append words (x ∷ coming) in
+      omega arith
+
+  pub words_all : (hs : List Happening) (a : Moment) (waited : ℕ) (words coming : List ℕ) → ((more : List ℕ) → Draws g a waited (words ++ more) hs more)
+      → drawn g a waited (words ++ coming) hs ≡ length words
+  words_all hs a waited words [] draws =
+      same_drawn hs a waited (words ++ []) (words ++ 0 ∷ []) (λ i. ap (λ l. first_word (drop i l)) (append-nil words) ∙ sym (one_zero words i))
+      ∙ words_some hs a waited words 0 [] draws
+  words_all hs a waited words (x ∷ coming) draws = words_some hs a waited words x coming draws

@@ -26,6 +26,7 @@ use Rattle.alpha_seq.specs.State.{Program}
 use Rattle.alpha_seq.specs.Start.{start_memory, start_regs, start}
 use Rattle.alpha_seq.specs.Run.{log}
 use Rattle.alpha_trap.specs.Scan.{fits, greatest_below}
+use Rattle.alpha_imprecise.specs.Run.{seen as seen_in}
 use Rattle.alpha_imprecise.specs.Made.{Making, begun, made, LostTrap, wild_end, lost_trap}
 
 -- words at 65,536 with a stack of 16 bytes and no segment
@@ -55,9 +56,9 @@ record Seen : Type 0 where
 
 abbrev seen : Making → Seen
 seen k = record {
-  end = wild_end k.run.last;
-  lost = lost_trap k.run.last;
-  logged = log k.run.trace;
+  end = wild_end k.run.at.happened;
+  lost = lost_trap k.run.at.happened;
+  logged = log (seen_in k.run.steps);
   units = k.run.units;
   drawn = k.count;
 }
@@ -65,7 +66,7 @@ seen k = record {
 -- the run by these words, over an empty input
 unfoldable run : Completion → ℕ → List ℕ → List ℕ → Seen
 unfolding int_wrap digits number reg put class_at class_in pairwise is_taken register_of address_of high_address_of access_address result_of overflow_of completed_of fault_of each_within bytes_at write_bytes call longword place_of start_memory start_regs fits greatest_below
-run how n code words = let g = program code how in seen (made g (begun (start g []) None 0 words) n)
+run how n code words = let g = program code how in seen (made g (begun (start g) [] None 0 words) n)
 
 abbrev exits : ℕ → List ℕ → ℕ → ℕ → Seen
 exits value logged units drawn =

@@ -1,18 +1,25 @@
 -- A run from a fresh machine, and the words that it is told.
 use Rattle.std.proofs.Common.{◌≡◌, ◌∙◌, ◌≤◌, ◌<◌, ℕ, zero, suc, List, [], ◌∷◌, ◌++◌, length, slice_index, Option, None, Some, refl, ap, subst, arith}
-use Rattle.alpha_seq.specs.State.{State}
+use Rattle.alpha_seq.specs.State.{State, Went}
 use Rattle.alpha_seq.specs.Start.{start}
 use Rattle.alpha_seq.specs.Machine.{program_of, state_of}
 use Rattle.alpha_imprecise.specs.declared.pending.Pending.{Pending}
+use Rattle.alpha_imprecise.specs.Moment.{Precisely, moment}
+use Rattle.alpha_imprecise.specs.Run.{begins_wild}
 use Rattle.alpha_imprecise.specs.Made.{begun, first_words}
 use Rattle.alpha_imprecise.specs.Telling.{Telling, Goes, Moves}
-use Rattle.alpha_imprecise.specs.Wild.{WildState, trap_in, waited_in, begun_at, IsFresh}
+use Rattle.alpha_imprecise.specs.Wild.{WildState, trap_in, waited_in, moment_of, begun_at, IsFresh}
 
 -- no step was made from a fresh machine
-pub begun_fresh : (w : WildState) (bytes words : List ℕ) → IsFresh w → begun_at w bytes [] words ≡ begun (start (program_of w.machine) bytes) None 0 words
+pub moment_fresh : (w : WildState) → IsFresh w → moment_of w (Precisely Went) ≡ begins_wild (start (program_of w.machine))
+moment_fresh w fresh =
+    ap (λ (p : Option Pending). moment (state_of w.machine) (trap_in p) (Precisely Went)) fresh.calm
+    ∙ ap (λ (s : State). moment s None (Precisely Went)) fresh.start
+
+pub begun_fresh : (w : WildState) (bytes words : List ℕ) → IsFresh w → begun_at w bytes words ≡ begun (start (program_of w.machine)) bytes None 0 words
 begun_fresh w bytes words fresh =
-    ap (λ (p : Option Pending). begun (state_of w.machine bytes []) (trap_in p) (waited_in p) words) fresh.calm
-    ∙ ap (λ (s : State). begun s None 0 words) (fresh.start bytes)
+    ap (λ (p : Option Pending). begun (state_of w.machine) bytes (trap_in p) (waited_in p) words) fresh.calm
+    ∙ ap (λ (s : State). begun s bytes None 0 words) fresh.start
 
 -- ---- words that are told
 

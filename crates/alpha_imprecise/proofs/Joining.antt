@@ -1,24 +1,25 @@
 -- Steps that leave their devices alone, and a chooser that goes on twice.
 use Rattle.std.specs.Prelude.{slice_index, slice_index_or}
-use Rattle.std.proofs.Common.{◌≡◌, ◌<◌, ◌+◌, ◌^◌, ℕ, zero, suc, List, [], ◌∷◌, length, Option, None, Some, refl, sym, ap, subst, ◌∙◌, arith, append-nil}
-use Rattle.alpha_io.specs.Sunk.{Sunk}
+use Rattle.std.proofs.Common.{◌≡◌, ◌<◌, ◌+◌, ◌^◌, ℕ, zero, suc, List, [], ◌∷◌, ◌++◌, length, take, drop, Option, None, Some, refl, sym, ap, subst, ◌∙◌, arith}
+use Rattle.alpha_io.specs.Sunk.{Sunk, Puts}
 use Rattle.alpha_io.proofs.Sinks.{Puts-none}
 use Rattle.alpha_mem.specs.Block.{Block}
 use Rattle.alpha_pal.specs.declared.pal_end.Passed.TheVariants.{Nothing}
-use Rattle.alpha_pal.proofs.Serving.{rest_of, Takes-nothing}
-use Rattle.alpha_seq.specs.State.{Overflowed}
-use Rattle.alpha_seq.specs.Machine.{state_of, class_here}
+use Rattle.alpha_pal.specs.Call.{Traffic, asked_in, given_in, put_in}
+use Rattle.alpha_seq.specs.State.{Went, Barriered, Overflowed, Ends}
+use Rattle.alpha_seq.specs.Run.{taken, output, Fed}
+use Rattle.alpha_seq.specs.Machine.{program_of, state_of}
 use Rattle.alpha_seq.specs.Devices.{Drawn}
 use Rattle.alpha_seq.specs.Print.{HasPassed}
 use Rattle.alpha_seq.specs.StepEffect.{Makes}
 use Rattle.alpha_seq.specs.Sequential.{no_words}
 use Rattle.alpha_seq.specs.declared.event.Event.{Event as Seen}
-use Rattle.alpha_seq.proofs.RunSteps.{Takes-told}
-use Rattle.alpha_imprecise.specs.Moment.{Choice, Happening, Precisely, moment}
-use Rattle.alpha_imprecise.specs.Run.{unit_of}
+use Rattle.alpha_imprecise.specs.Moment.{Choice, Happening, Precisely, Triggered, Waited, Reported, Lost}
+use Rattle.alpha_imprecise.specs.Step.{wild}
+use Rattle.alpha_imprecise.specs.Run.{seen_of, given_to, unit_of}
 use Rattle.alpha_imprecise.specs.Telling.{Telling, Goes, Counts, Moves}
 use Rattle.alpha_imprecise.specs.Wild.{WildState, trap_in}
-use Rattle.alpha_imprecise.specs.WildEffect.{shown_as, GoesBy, wild_uses, wild_core, StepsAs}
+use Rattle.alpha_imprecise.specs.WildEffect.{shown_as, IsStill, GoesBy, wild_uses, wild_core, StepsAs}
 
 -- a device that is left alone
 abbrev pub resting : Option (List ℕ) → ℕ → Drawn
@@ -27,29 +28,62 @@ resting left faults = record { old = left; new = left; before = faults; now = fa
 abbrev pub idle_sink : Option (List ℕ) → ℕ → Sunk
 idle_sink written count = record { old = written; new = written; before = count; now = count }
 
--- a step that passes nothing says so
-passes-nothing : (w : WildState) (choice : Choice) (happened : Happening) (mem : List Block)
-    → HasPassed (shown_as (class_here w.machine) choice Nothing happened) mem [] []
-passes-nothing w choice (Precisely (Overflowed at)) mem = (refl, refl)
-passes-nothing w choice happened mem = (refl, refl)
+-- nothing is taken or put in such a step, and its answer says so
+still-given : (h : Happening) → IsStill h → given_to h ≡ []
+still-given (Precisely event) still = ap given_in still
+still-given (Triggered value) still = refl
+still-given (Waited adds value bytes) still = refl
+still-given (Reported at) still = refl
+still-given (Lost pc mask) still = refl
+
+still-taken : (h : Happening) → IsStill h → taken (seen_of h) ≡ []
+still-taken (Precisely event) still = ap (λ (t : Traffic). given_in t ++ []) still
+still-taken (Triggered value) still = refl
+still-taken (Waited adds value bytes) still = refl
+still-taken (Reported at) still = refl
+still-taken (Lost pc mask) still = refl
+
+still-output : (h : Happening) → IsStill h → output (seen_of h) ≡ []
+still-output (Precisely event) still = ap (λ (t : Traffic). put_in t ++ []) still
+still-output (Triggered value) still = refl
+still-output (Waited adds value bytes) still = refl
+still-output (Reported at) still = refl
+still-output (Lost pc mask) still = refl
+
+still-fed : (h : Happening) (input : List ℕ) → IsStill h → Fed input (seen_of h) input
+still-fed (Precisely event) input still =
+    subst (λ (t : Traffic). (given_in t ≡ take (asked_in t) input) × (drop (length (given_in t)) input ≡ input)) (sym still) (refl, refl)
+still-fed (Triggered value) input still = refl
+still-fed (Waited adds value bytes) input still = refl
+still-fed (Reported at) input still = (refl, refl)
+still-fed (Lost pc mask) input still = refl
+
+passes-nothing : (happened : Happening) (mem : List Block) → HasPassed (shown_as Nothing happened) mem [] []
+passes-nothing (Precisely Went) mem = (refl, refl)
+passes-nothing (Precisely (Barriered traffic pc regs)) mem = (refl, refl)
+passes-nothing (Precisely (Overflowed at)) mem = (refl, refl)
+passes-nothing (Precisely (Ends end)) mem = (refl, refl)
+passes-nothing happened mem = (refl, refl)
 
 -- a step that leaves the input and the output alone
 pub alone : (event : Seen) (old new : WildState) (choice : Choice) (left written : Option (List ℕ)) (faults count : ℕ)
     → StepsAs event old new choice → Makes (GoesBy choice) wild_uses wild_core no_words event old new (resting left faults) (idle_sink written count)
 alone event old new choice left written faults count s =
     let steps = s.steps in
-    let rest = rest_of left left in
+    let h = s.happened in
     record {
-      print = record { units = unit_of (trap_in old.pending); words = []; taken = []; rest = rest; bytes = []; event = event; core = new.machine };
+      print = record { units = unit_of (trap_in old.pending); words = []; seen = seen_of h; event = event; core = new.machine };
       is = record {
-        happened = s.happened;
+        happened = h;
         passed = Nothing;
+        seen = refl;
         event = s.event_is;
         units = refl;
         core = refl;
-        is = λ output.
-            steps.is rest output ∙ ap (λ (l : List ℕ). moment (state_of new.machine rest l) (trap_in new.pending) s.happened) (sym (append-nil output));
-        passes = subst (λ (e : Seen). HasPassed e new.machine.memory [] []) (sym s.event_is) (passes-nothing old choice s.happened new.machine.memory);
+        is = ap (wild (program_of old.machine) (state_of old.machine) (trap_in old.pending) choice) (still-given h s.still) ∙ steps.is;
+        passes = subst (λ (e : Seen). HasPassed e new.machine.memory (taken (seen_of h)) (output (seen_of h))) (sym s.event_is)
+            (subst (λ l. HasPassed (shown_as Nothing h) new.machine.memory l (output (seen_of h))) (sym (still-taken h s.still))
+            (subst (λ l. HasPassed (shown_as Nothing h) new.machine.memory [] l) (sym (still-output h s.still)) (passes-nothing h new.machine.memory)));
         waited = steps.waited;
         kernel = steps.kernel;
         program = steps.program;
@@ -58,9 +92,9 @@ alone event old new choice left written faults count s =
       event_is = refl;
       core_is = refl;
       drew = refl;
-      found = λ l is. Takes-told left left [] rest l is (Takes-nothing left);
+      fed = λ bytes tells. (bytes, still-fed h bytes s.still, tells);
       same = refl;
-      wrote = Puts-none written count;
+      wrote = subst (Puts (idle_sink written count)) (sym (still-output h s.still)) (Puts-none written count);
     }
 
 -- ---- two words

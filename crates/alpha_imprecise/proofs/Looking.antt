@@ -1,5 +1,5 @@
 -- What the word at the PC would do, by the classes of words.
-use Rattle.std.proofs.Common.{◌≡◌, ℕ, Bool, true, false, cond, Option, None, Some, refl, sym, ap, ◌∙◌}
+use Rattle.std.proofs.Common.{◌≡◌, ℕ, Bool, true, false, cond, [], Option, None, Some, refl, sym, ap, ◌∙◌}
 use Rattle.std.specs.Option.{option_map, option_and_then}
 use Rattle.std.specs.Prelude.{is_none}
 use Rattle.alpha_words.specs.declared.Completion.{Completion}
@@ -21,10 +21,10 @@ use Rattle.alpha_seq.specs.declared.machine.Machine.{Machine}
 use Rattle.alpha_seq.specs.State.{Program, State, Stepped}
 use Rattle.alpha_seq.specs.Step.{step, unless, overflowed, accessed}
 use Rattle.alpha_seq.specs.Next.{next_insn, next_by, next_of, by_class, by_event}
-use Rattle.alpha_seq.specs.Machine.{program_of, class_here}
+use Rattle.alpha_seq.specs.Machine.{program_of, state_of, class_here}
 use Rattle.alpha_seq.proofs.Executing.{class_here-insn}
 use Rattle.alpha_imprecise.specs.Step.{triggers, can_wait}
-use Rattle.alpha_imprecise.specs.Wild.{bare, WaitsAt}
+use Rattle.alpha_imprecise.specs.Wild.{WaitsAt}
 
 -- the instruction that can be executed while a trap waits, by what a precise step would do
 abbrev pub waiting : Next → Option Form
@@ -52,7 +52,7 @@ waiting-unless None addr s after i = refl
 waiting-unless (Some Align) addr s after i = refl
 waiting-unless (Some Region) addr s after i = refl
 
-waiting-class : (g : Program) (class : Class) (i : Form) (s : State) → waiting (by_class class i (step g (Some class) s).event) ≡ if_it (can_wait (Some class) s) i
+waiting-class : (g : Program) (class : Class) (i : Form) (s : State) → waiting (by_class class i (step g (Some class) s []).event) ≡ if_it (can_wait (Some class) s) i
 waiting-class g (operate op ra src rc) i s = refl
 waiting-class g (trigger op ra src rc) i s =
     waiting-trap (overflow_of op (reg s.regs ra) (source_value s.regs src)) _ _ i (waiting-overflowed g.how s rc _ i) refl
@@ -68,40 +68,40 @@ waiting-class g idle i s = refl
 
 -- by the instruction at the PC
 abbrev waiting_insn : Machine → Option Form → Option Form
-waiting_insn m x = option_and_then (λ i. if_it (can_wait (Some (class_of i)) (bare m)) i) x
+waiting_insn m x = option_and_then (λ i. if_it (can_wait (Some (class_of i)) (state_of m)) i) x
 
-waiting-by : (m : Machine) (x : Option Form) → waiting (next_by (program_of m) x (bare m)) ≡ waiting_insn m x
+waiting-by : (m : Machine) (x : Option Form) → waiting (next_by (program_of m) x (state_of m) []) ≡ waiting_insn m x
 waiting-by m None = refl
-waiting-by m (Some i) = waiting-class (program_of m) (class_of i) i (bare m)
+waiting-by m (Some i) = waiting-class (program_of m) (class_of i) i (state_of m)
 
-pub waiting-next : (m : Machine) → waiting (next_of (program_of m) (bare m)) ≡ waiting_insn m (next_insn (program_of m) m.pc)
+pub waiting-next : (m : Machine) → waiting (next_of (program_of m) (state_of m) []) ≡ waiting_insn m (next_insn (program_of m) m.pc)
 waiting-next m = waiting-by m (next_insn (program_of m) m.pc)
 
-some_by : (m : Machine) (i insn : Form) (b : Bool) → class_here m ≡ Some (class_of i) → can_wait (Some (class_of i)) (bare m) ≡ b → if_it b i ≡ Some insn → WaitsAt m (class_of insn)
+some_by : (m : Machine) (i insn : Form) (b : Bool) → class_here m ≡ Some (class_of i) → can_wait (Some (class_of i)) (state_of m) ≡ b → if_it b i ≡ Some insn → WaitsAt m (class_of insn)
 some_by m i insn true here waits e =
     let same : i ≡ insn = cc in
-    record { here = here ∙ ap (λ (j : Form). Some (class_of j)) same; waits = sym (ap (λ (j : Form). can_wait (Some (class_of j)) (bare m)) same) ∙ waits }
+    record { here = here ∙ ap (λ (j : Form). Some (class_of j)) same; waits = sym (ap (λ (j : Form). can_wait (Some (class_of j)) (state_of m)) same) ∙ waits }
 some_by m i insn false here waits e = absurd cc
 
 some_insn : (m : Machine) (x : Option Form) (insn : Form) → class_here m ≡ option_map class_of x → waiting_insn m x ≡ Some insn → WaitsAt m (class_of insn)
 some_insn m None insn here e = absurd cc
-some_insn m (Some i) insn here e = some_by m i insn (can_wait (Some (class_of i)) (bare m)) here refl e
+some_insn m (Some i) insn here e = some_by m i insn (can_wait (Some (class_of i)) (state_of m)) here refl e
 
-none_by : (m : Machine) (i : Form) (b : Bool) → can_wait (Some (class_of i)) (bare m) ≡ b → if_it b i ≡ None → can_wait (Some (class_of i)) (bare m) ≡ false
+none_by : (m : Machine) (i : Form) (b : Bool) → can_wait (Some (class_of i)) (state_of m) ≡ b → if_it b i ≡ None → can_wait (Some (class_of i)) (state_of m) ≡ false
 none_by m i true waits e = absurd cc
 none_by m i false waits e = waits
 
-none_insn : (m : Machine) (x : Option Form) → class_here m ≡ option_map class_of x → waiting_insn m x ≡ None → can_wait (class_here m) (bare m) ≡ false
-none_insn m None here e = ap (λ class. can_wait class (bare m)) here
-none_insn m (Some i) here e = ap (λ class. can_wait class (bare m)) here ∙ none_by m i (can_wait (Some (class_of i)) (bare m)) refl e
+none_insn : (m : Machine) (x : Option Form) → class_here m ≡ option_map class_of x → waiting_insn m x ≡ None → can_wait (class_here m) (state_of m) ≡ false
+none_insn m None here e = ap (λ class. can_wait class (state_of m)) here
+none_insn m (Some i) here e = ap (λ class. can_wait class (state_of m)) here ∙ none_by m i (can_wait (Some (class_of i)) (state_of m)) refl e
 
 -- a word that a precise step wouldn't end at is one that can be executed while a trap waits
-pub waits-found : (m : Machine) (n : Next) (insn : Form) → n ≡ next_of (program_of m) (bare m) → waiting n ≡ Some insn → WaitsAt m (class_of insn)
+pub waits-found : (m : Machine) (n : Next) (insn : Form) → n ≡ next_of (program_of m) (state_of m) [] → waiting n ≡ Some insn → WaitsAt m (class_of insn)
 waits-found m n insn is some = some_insn m _ insn (class_here-insn m _ refl) (sym (ap waiting is ∙ waiting-next m) ∙ some)
 
-pub waits-none : (m : Machine) (n : Next) → n ≡ next_of (program_of m) (bare m) → waiting n ≡ None → can_wait (class_here m) (bare m) ≡ false
+pub waits-none : (m : Machine) (n : Next) → n ≡ next_of (program_of m) (state_of m) [] → waiting n ≡ None → can_wait (class_here m) (state_of m) ≡ false
 waits-none m n is none = none_insn m _ (class_here-insn m _ refl) (sym (ap waiting is ∙ waiting-next m) ∙ none)
 
 -- the word at the PC, by its class
-pub triggers-here : (m : Machine) (insn : Option Form) (b : Bool) → insn ≡ next_insn (program_of m) m.pc → triggers (option_map class_of insn) (bare m) ≡ b → triggers (class_here m) (bare m) ≡ b
-triggers-here m insn b is e = ap (λ class. triggers class (bare m)) (class_here-insn m insn is) ∙ e
+pub triggers-here : (m : Machine) (insn : Option Form) (b : Bool) → insn ≡ next_insn (program_of m) m.pc → triggers (option_map class_of insn) (state_of m) ≡ b → triggers (class_here m) (state_of m) ≡ b
+triggers-here m insn b is e = ap (λ class. triggers class (state_of m)) (class_here-insn m insn is) ∙ e

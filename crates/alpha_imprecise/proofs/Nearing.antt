@@ -69,7 +69,7 @@ module _ (g : Program) where
   pub pending_takes : (k : Making) (n : ℕ) → IsWithin (most_waited + 1 + most_steps n) g k (made g k n)
   pending_takes k n = made_takes (most_waited + 1) k (settles (most_waited + 1) k) n
 
-  pub calm_takes : (k : Making) (n : ℕ) → k.run.pending ≡ None → IsWithin (most_steps n) g k (made g k n)
+  pub calm_takes : (k : Making) (n : ℕ) → k.run.at.pending ≡ None → IsWithin (most_steps n) g k (made g k n)
   calm_takes k n calm =
       let start = subst (IsWithin 0 g k) (sym (stays_settled (most_waited + 1) g k (none_settled k calm))) (none_more 0 k) in
       let same : 0 + most_steps n ≡ most_steps n = omega arith in
@@ -77,15 +77,15 @@ module _ (g : Program) where
 
   -- ---- one step
 
-  pub comes_nearer : (k : Making) → finished k.run.last ≡ false → Nearer k (advance_making g k)
-  comes_nearer k going = subst (Nearer k) (sym (advance-going g k going)) (by k.run.pending refl)
+  pub comes_nearer : (k : Making) → finished k.run.at.happened ≡ false → Nearer k (advance_making g k)
+  comes_nearer k going = subst (Nearer k) (sym (advance-going g k going)) (by k.run.at.pending refl)
     where
-      waits : Settles k.waited (chosen g k.run.state k.run.pending k.waited k.words) → Nearer k (stepped_making g k)
+      waits : Settles k.waited (chosen g k.run.at.state k.run.at.pending k.waited k.words k.run.left) → Nearer k (stepped_making g k)
       waits (none e) = Settled e
       waits (over e) = Finished e
-      waits (longer e low) = Waiting low (ap (λ (x : Happening). waited_after x k.waited) e)
+      waits (longer adds value bytes e low) = Waiting low (ap (λ (x : Happening). waited_after x k.waited) e)
 
-      by : (p : Option Trap) → k.run.pending ≡ p → Nearer k (stepped_making g k)
+      by : (p : Option Trap) → k.run.at.pending ≡ p → Nearer k (stepped_making g k)
       by None e = Used (ap (λ (p : Option Trap). k.run.units + unit_of p) e)
       by (Some t) e =
-          waits (subst (λ (p : Option Trap). Settles k.waited (chosen g k.run.state p k.waited k.words)) (sym e) (chosen_settles g k.run.state t k.waited k.words))
+          waits (subst (λ (p : Option Trap). Settles k.waited (chosen g k.run.at.state p k.waited k.words k.run.left)) (sym e) (chosen_settles g k.run.at.state t k.waited k.words k.run.left))

@@ -95,10 +95,9 @@ landed_by : (m : Machine) (t : Trap) (h : Handled) (b : Bool) → stops m.how �
 landed_by m t h true stopping found =
     let same = sym (stop_at m.image m.how m.regs found.at stopping) ∙ found.is in
     record {
-      is = λ input output.
-          ap (report_at (program_of m) (state_of m input output) t) found.scans
-          ∙ (ap (λ (b : Bool). cond b (stopped m (state_of m input output) found.at) (moment (completed (program_of m) (state_of m input output) found.at) None (Reported (address_at m.image found.at)))) stopping
-          ∙ ap (λ (x : Handled). moment (state_of (record m { regs = x.regs; pc = x.pc }) input output) None (Precisely (Ends (ends.Overflow x.pc)))) same);
+      is = ap (report_at (program_of m) (state_of m) t) found.scans
+          ∙ (ap (λ (b : Bool). cond b (stopped m (state_of m) found.at) (moment (completed (program_of m) (state_of m) found.at) None (Reported (address_at m.image found.at)))) stopping
+          ∙ ap (λ (x : Handled). moment (state_of (record m { regs = x.regs; pc = x.pc })) None (Precisely (Ends (ends.Overflow x.pc)))) same);
       program = refl;
       memory = refl;
       kernel = refl;
@@ -107,11 +106,10 @@ landed_by m t h false going found =
     let same = sym (goes_at m.image m.how m.regs found.at going) ∙ found.is in
     let back : address_at m.image found.at + 4 - 4 ≡ address_at m.image found.at = omega arith in
     record {
-      is = λ input output.
-          ap (report_at (program_of m) (state_of m input output) t) found.scans
-          ∙ (ap (λ (b : Bool). cond b (stopped m (state_of m input output) found.at) (moment (completed (program_of m) (state_of m input output) found.at) None (Reported (address_at m.image found.at)))) going
-          ∙ (ap (λ (n : ℕ). moment (record (completed (program_of m) (state_of m input output) found.at) { logged = n }) None (Reported n)) (sym back)
-          ∙ ap (λ (x : Handled). moment (state_of (record m { regs = x.regs; pc = x.pc; lock = None; overflows = (m.overflows + 1) % 2 ^ 64; last = x.pc - 4 }) input output) None (Reported (x.pc - 4))) same));
+      is = ap (report_at (program_of m) (state_of m) t) found.scans
+          ∙ (ap (λ (b : Bool). cond b (stopped m (state_of m) found.at) (moment (completed (program_of m) (state_of m) found.at) None (Reported (address_at m.image found.at)))) going
+          ∙ (ap (λ (n : ℕ). moment (record (completed (program_of m) (state_of m) found.at) { logged = n }) None (Reported n)) (sym back)
+          ∙ ap (λ (x : Handled). moment (state_of (record m { regs = x.regs; pc = x.pc; lock = None; overflows = (m.overflows + 1) % 2 ^ 64; last = x.pc - 4 })) None (Reported (x.pc - 4))) same));
       program = refl;
       memory = refl;
       kernel = refl;
@@ -127,10 +125,10 @@ landed_as : (m new : Machine) (trap : Pending) (pc : ℕ) (b : Bool) → Reports
     → StepsAs (answer_at b pc) (wild_state m (Some trap)) (wild_state new None) (reporting 0).choice
 landed_as m new trap pc true reports =
     let h = landing_at true pc in
-    record { happened = h; event_is = refl; steps = report-steps h m new trap None reports refl reports.kernel }
+    record { happened = h; event_is = refl; still = refl; steps = report-steps h m new trap None reports refl reports.kernel }
 landed_as m new trap pc false reports =
     let h = landing_at false pc in
-    record { happened = h; event_is = refl; steps = report-steps h m new trap None reports refl reports.kernel }
+    record { happened = h; event_is = refl; still = tt; steps = report-steps h m new trap None reports refl reports.kernel }
 
 -- the report, by what the handler and the code behind it did
 pub landed-handled : (m mid new : Machine) (trap : Pending) (pc : ℕ) (answer : Event)
@@ -158,12 +156,12 @@ lost-handled m new trap lost none is_lost is_new =
     let behind = record m { kernel = returned_kernel m.pc m.regs } in
     let h = IsLost m.pc t.mask in
     let reports : Reports h (Some t) t m behind = record {
-      is = λ input output. ap (report_at (program_of m) (state_of m input output) t) none;
+      is = ap (report_at (program_of m) (state_of m) t) none;
       program = refl;
       memory = refl;
       kernel = refl;
     } in
     let steps : StepsAs (events.Lost m.pc t.mask) (wild_state m (Some trap)) (wild_state behind (Some trap)) (reporting 0).choice =
-    record { happened = h; event_is = refl; steps = report-steps h m behind trap (Some trap) reports refl refl } in
+    record { happened = h; event_is = refl; still = tt; steps = report-steps h m behind trap (Some trap) reports refl refl } in
     subst (λ (l : Lost). StepsAs (events.Lost l.trap_pc l.mask) (wild_state m (Some trap)) (wild_state new (Some trap)) (reporting 0).choice) (sym is_lost)
     (subst (λ (x : Machine). StepsAs (events.Lost m.pc t.mask) (wild_state m (Some trap)) (wild_state x (Some trap)) (reporting 0).choice) (sym is_new) steps)

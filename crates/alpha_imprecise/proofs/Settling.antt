@@ -1,6 +1,6 @@
 -- Runs that coming words make use all their units, or are over before, and nothing is pending at their end.
 use Rattle.std.proofs.Common.{◌≡◌, ◌<◌, ◌≤◌, ◌+◌, ◌||◌, ℕ, zero, suc, Bool, true, false, cond, Option, Some, None, is_none, refl, sym, ap, subst, ◌∙◌, ⊎_elim, arith, add-one}
-use Rattle.std.proofs.lemmas.Bool.{cases_Bool}
+use Rattle.std.proofs.lemmas.Bool.{cases_Bool, cases_lt}
 use Rattle.alpha_seq.specs.State.{Program}
 use Rattle.alpha_seq.specs.Step.{next_class, step}
 use Rattle.alpha_imprecise.specs.Moment.{Trap, Happening}
@@ -14,12 +14,12 @@ use Rattle.alpha_imprecise.proofs.Making.{Settles, none, over, longer, chosen_se
 -- one step more of a run that isn't over
 abbrev pub stepped_making : Program → Making → Making
 stepped_making g k =
-    extended_making k (draw g k.run.state k.run.pending k.waited k.words) (chosen g k.run.state k.run.pending k.waited k.words)
+    extended_making k (draw g k.run.at.state k.run.at.pending k.waited k.words) (chosen g k.run.at.state k.run.at.pending k.waited k.words k.run.left)
 
-pub advance-going : (g : Program) (k : Making) → finished k.run.last ≡ false → advance_making g k ≡ stepped_making g k
+pub advance-going : (g : Program) (k : Making) → finished k.run.at.happened ≡ false → advance_making g k ≡ stepped_making g k
 advance-going g k e = ap (λ b. cond b k (stepped_making g k)) e
 
-pub advance-over : (g : Program) (k : Making) → finished k.run.last ≡ true → advance_making g k ≡ k
+pub advance-over : (g : Program) (k : Making) → finished k.run.at.happened ≡ true → advance_making g k ≡ k
 advance-over g k e = ap (λ b. cond b k (stepped_making g k)) e
 
 -- what is settled stays
@@ -32,26 +32,26 @@ record SettledAt (n : ℕ) (k : Making) : Type 0 where
   done : is_settled k ≡ true
   units : k.run.units ≡ n
 
-pub none_settled : (k : Making) → k.run.pending ≡ None → is_settled k ≡ true
-none_settled k e = by (finished k.run.last) (ap is_none e)
+pub none_settled : (k : Making) → k.run.at.pending ≡ None → is_settled k ≡ true
+none_settled k e = by (finished k.run.at.happened) (ap is_none e)
   where
-    by : (b : Bool) → is_none k.run.pending ≡ true → (b || is_none k.run.pending) ≡ true
+    by : (b : Bool) → is_none k.run.at.pending ≡ true → (b || is_none k.run.at.pending) ≡ true
     by true f = refl
     by false f = f
 
-pub over_settled : (k : Making) → finished k.run.last ≡ true → is_settled k ≡ true
-over_settled k e = ap (λ b. b || is_none k.run.pending) e
+pub over_settled : (k : Making) → finished k.run.at.happened ≡ true → is_settled k ≡ true
+over_settled k e = ap (λ b. b || is_none k.run.at.pending) e
 
 -- what isn't settled has a trap pending, and goes on
 pub record Open (k : Making) : Type 0 where
   pub t : Trap
-  pub pending : k.run.pending ≡ Some t
-  pub going : finished k.run.last ≡ false
+  pub pending : k.run.at.pending ≡ Some t
+  pub going : finished k.run.at.happened ≡ false
 
 pub opened : (k : Making) → is_settled k ≡ false → Open k
-opened k e = by (finished k.run.last) (k.run.pending) refl refl e
+opened k e = by (finished k.run.at.happened) (k.run.at.pending) refl refl e
   where
-    by : (b : Bool) (p : Option Trap) → finished k.run.last ≡ b → k.run.pending ≡ p → (b || is_none p) ≡ false → Open k
+    by : (b : Bool) (p : Option Trap) → finished k.run.at.happened ≡ b → k.run.at.pending ≡ p → (b || is_none p) ≡ false → Open k
     by true p f q e = cc
     by false None f q e = cc
     by false (Some t) f q e = record { t = t; pending = q; going = f }
@@ -65,9 +65,9 @@ module _ (g : Program) where
   stepped_units : (k : Making) → Open k → (stepped_making g k).run.units ≡ k.run.units
   stepped_units k h = ap (λ (p : Option Trap). k.run.units + unit_of p) h.pending ∙ (let same : k.run.units + 0 ≡ k.run.units = omega arith in same)
 
-  stepped_settles : (k : Making) → Open k → Settles k.waited (chosen g k.run.state k.run.pending k.waited k.words)
+  stepped_settles : (k : Making) → Open k → Settles k.waited (chosen g k.run.at.state k.run.at.pending k.waited k.words k.run.left)
   stepped_settles k h =
-      subst (λ (p : Option Trap). Settles k.waited (chosen g k.run.state p k.waited k.words)) (sym h.pending) (chosen_settles g k.run.state h.t k.waited k.words)
+      subst (λ (p : Option Trap). Settles k.waited (chosen g k.run.at.state p k.waited k.words k.run.left)) (sym h.pending) (chosen_settles g k.run.at.state h.t k.waited k.words k.run.left)
 
   already : (fuel n : ℕ) (k : Making) → is_settled k ≡ true → k.run.units ≡ n → SettledAt n (settled_within fuel g k)
   already fuel n k e units = subst (λ (l : Making). SettledAt n l) (sym (stays_settled fuel g k e)) (record { done = e; units = units })
@@ -77,10 +77,10 @@ module _ (g : Program) where
       → SettledAt k.run.units (settled_within fuel g (stepped_making g k))
   one_more fuel k h more rest = by (stepped_settles k h)
     where
-      by : Settles k.waited (chosen g k.run.state k.run.pending k.waited k.words) → SettledAt k.run.units (settled_within fuel g (stepped_making g k))
+      by : Settles k.waited (chosen g k.run.at.state k.run.at.pending k.waited k.words k.run.left) → SettledAt k.run.units (settled_within fuel g (stepped_making g k))
       by (none e) = already fuel k.run.units (stepped_making g k) (none_settled (stepped_making g k) e) (stepped_units k h)
       by (over e) = already fuel k.run.units (stepped_making g k) (over_settled (stepped_making g k) e) (stepped_units k h)
-      by (longer e low) =
+      by (longer adds value bytes e low) =
           let count : (stepped_making g k).waited ≡ k.waited + 1 = ap (λ (x : Happening). waited_after x k.waited) e in
           subst (λ n. SettledAt n (settled_within fuel g (stepped_making g k))) (stepped_units k h) (rest (omega arith) (omega arith))
 
@@ -102,47 +102,73 @@ module _ (g : Program) where
   -- ---- runs of so many units
 
   -- a step with nothing pending begins to count
-  pub fresh : (k : Making) → k.run.pending ≡ None → (stepped_making g k).waited ≡ 0
+  pub fresh : (k : Making) → k.run.at.pending ≡ None → (stepped_making g k).waited ≡ 0
   fresh k e =
-      ap (λ (p : Option Trap). waited_after (chosen g k.run.state p k.waited k.words).happened k.waited) e
-      ∙ by (triggers (next_class g k.run.state.pc) k.run.state)
+      ap (λ (p : Option Trap). waited_after (chosen g k.run.at.state p k.waited k.words k.run.left).happened k.waited) e
+      ∙ by (triggers (next_class g k.run.at.state.pc) k.run.at.state)
     where
-      by : (b : Bool) → waited_after (cond b (triggered g (next_class g k.run.state.pc) k.run.state (draw g k.run.state None k.waited k.words).choice) (precisely (step g (next_class g k.run.state.pc) k.run.state))).happened k.waited ≡ 0
+      by : (b : Bool) → waited_after (cond b (triggered g (next_class g k.run.at.state.pc) k.run.at.state (draw g k.run.at.state None k.waited k.words).choice) (precisely (step g (next_class g k.run.at.state.pc) k.run.at.state k.run.left))).happened k.waited ≡ 0
       by true = refl
       by false = refl
 
-  made_start : (k : Making) → k.run.pending ≡ None → k.run.units ≡ 0 → HasUsed 0 (made g k 0).run
+  made_start : (k : Making) → k.run.at.pending ≡ None → k.run.units ≡ 0 → HasUsed 0 (made g k 0).run.units (made g k 0).run.at
   made_start k e units =
       let a = already (most_waited + 1) 0 k (none_settled k e) units in
       record { settled = a.done; most = (let n = a.units in omega arith); full = λ going. a.units }
 
-  made_more : (n : ℕ) (k : Making) → HasUsed n k.run → HasUsed (suc n) (settled g (advance_making g k)).run
-  made_more n k h = by (finished k.run.last) refl
+  made_more : (n : ℕ) (k : Making) → HasUsed n k.run.units k.run.at → HasUsed (suc n) (settled g (advance_making g k)).run.units (settled g (advance_making g k)).run.at
+  made_more n k h = by (finished k.run.at.happened) refl
     where
-      by : (b : Bool) → finished k.run.last ≡ b → HasUsed (suc n) (settled g (advance_making g k)).run
+      by : (b : Bool) → finished k.run.at.happened ≡ b → HasUsed (suc n) (settled g (advance_making g k)).run.units (settled g (advance_making g k)).run.at
       by true e =
-          subst (λ (l : Making). HasUsed (suc n) (settled g l).run) (sym (advance-over g k e))
-          (subst (λ (l : Making). HasUsed (suc n) l.run) (sym (stays_settled (most_waited + 1) g k h.settled))
+          subst (λ (l : Making). HasUsed (suc n) (settled g l).run.units (settled g l).run.at) (sym (advance-over g k e))
+          (subst (λ (l : Making). HasUsed (suc n) l.run.units l.run.at) (sym (stays_settled (most_waited + 1) g k h.settled))
           (record { settled = h.settled; most = (let m = h.most in omega arith); full = λ going. let f = sym going ∙ e in cc }))
       by false e =
-          let pending : k.run.pending ≡ None = none_of k.run.pending (ap (λ b. b || is_none k.run.pending) (sym e) ∙ h.settled) in
+          let pending : k.run.at.pending ≡ None = none_of k.run.at.pending (ap (λ b. b || is_none k.run.at.pending) (sym e) ∙ h.settled) in
           let new = fresh k pending in
           let units : (stepped_making g k).run.units ≡ suc n =
           ap (λ (p : Option Trap). k.run.units + unit_of p) pending ∙ (add-one k.run.units ∙ ap (λ m. suc m) (h.full e)) in
           let a = enough (most_waited + 1) (stepped_making g k) (omega arith) (omega arith) in
-          subst (λ (l : Making). HasUsed (suc n) (settled g l).run) (sym (advance-going g k e))
+          subst (λ (l : Making). HasUsed (suc n) (settled g l).run.units (settled g l).run.at) (sym (advance-going g k e))
           (record { settled = a.done; most = (let m = a.units in omega arith); full = λ going. a.units ∙ units })
 
-  made_on : (k : Making) (n : ℕ) → HasUsed 0 (made g k 0).run → HasUsed n (made g k n).run
+  made_on : (k : Making) (n : ℕ) → HasUsed 0 (made g k 0).run.units (made g k 0).run.at → HasUsed n (made g k n).run.units (made g k n).run.at
   made_on k zero start = start
   made_on k (suc n) start = made_more n (made g k n) (made_on k n start)
 
-  pub made_is : (k : Making) (n : ℕ) → k.run.pending ≡ None → k.run.units ≡ 0 → HasUsed n (made g k n).run
+  pub made_is : (k : Making) (n : ℕ) → k.run.at.pending ≡ None → k.run.units ≡ 0 → HasUsed n (made g k n).run.units (made g k n).run.at
   made_is k n e units = made_on k n (made_start k e units)
 
   -- also where a trap is pending, which has waited for no more words than it may
-  pub made_from : (k : Making) (n : ℕ) → k.waited ≤ most_waited → k.run.units ≡ 0 → HasUsed n (made g k n).run
+  pub made_from : (k : Making) (n : ℕ) → k.waited ≤ most_waited → k.run.units ≡ 0 → HasUsed n (made g k n).run.units (made g k n).run.at
   made_from k n low units =
       let a = enough (most_waited + 1) k low (omega arith) in
       let used : k.run.units ≡ 0 = units in
       made_on k n (record { settled = a.done; most = (let m = a.units in omega arith); full = λ going. a.units ∙ used })
+
+  -- and where it has waited for more, it is reported at once
+  at_once : (fuel : ℕ) (k : Making) → most_waited < k.waited → SettledAt k.run.units (settled_within (suc fuel) g k)
+  at_once fuel k late =
+      ⊎_elim
+      (λ (e : is_settled k ≡ true). already (suc fuel) k.run.units k e refl)
+      (λ (e : is_settled k ≡ false).
+      let h = opened k e in
+      subst (λ (l : Making). SettledAt k.run.units l) (sym (ap (λ b. cond b k (settled_within fuel g (advance_making g k))) e ∙ ap (settled_within fuel g) (advance-going g k h.going)))
+      (by h (stepped_settles k h)))
+      (cases_Bool (is_settled k))
+    where
+      by : Open k → Settles k.waited (chosen g k.run.at.state k.run.at.pending k.waited k.words k.run.left) → SettledAt k.run.units (settled_within fuel g (stepped_making g k))
+      by h (none e) = already fuel k.run.units (stepped_making g k) (none_settled (stepped_making g k) e) (stepped_units k h)
+      by h (over e) = already fuel k.run.units (stepped_making g k) (over_settled (stepped_making g k) e) (stepped_units k h)
+      by h (longer adds value bytes e low) = absurd (omega (arith, late, low))
+
+  pub made_any : (k : Making) (n : ℕ) → k.run.units ≡ 0 → HasUsed n (made g k n).run.units (made g k n).run.at
+  made_any k n units =
+      ⊎_elim
+      (λ (late : most_waited < k.waited).
+      let a = at_once most_waited k late in
+      let used : k.run.units ≡ 0 = units in
+      made_on k n (record { settled = a.done; most = (let m = a.units in omega arith); full = λ going. a.units ∙ used }))
+      (λ (low : k.waited ≤ most_waited). made_from k n low units)
+      (cases_lt most_waited k.waited)

@@ -1,128 +1,177 @@
--- A run by coming words of a program that can be restarted shows what the sequential run shows.
-use Rattle.std.proofs.Common.{◌≡◌, ◌≢◌, ◌<◌, ◌||◌, ℕ, zero, suc, Bool, true, false, cond, [], None, is_none, refl, sym, ap, subst, ◌∙◌, arith, add-one}
+-- A run of a program that can be restarted shows what the sequential run over the same input shows.
+use Rattle.std.proofs.Common.{◌≡◌, ◌≢◌, ◌||◌, ℕ, Bool, true, false, List, length, None, is_none, refl, sym, ap, subst, ◌∙◌, ⊎_elim, arith}
+use Rattle.std.proofs.lemmas.Bool.{cases_Bool}
 use Rattle.alpha_image.specs.Parts.{Parts}
-use Rattle.alpha_pal.specs.Call.{Outside}
-use Rattle.alpha_seq.specs.declared.end.End.{End}
-use Rattle.alpha_seq.specs.State.{Program, State, Event, Went, Barriered, Overflowed, Ends}
+use Rattle.alpha_seq.specs.State.{Program, State, Event, Went, Barriered, Overflowed, Ends, Stepped}
 use Rattle.alpha_seq.specs.Start.{start}
-use Rattle.alpha_seq.specs.Step.{step_from}
-use Rattle.alpha_seq.specs.Run.{Run, after, is_over, end_of, extended_by, notes_of, shown}
-use Rattle.alpha_seq.proofs.Running.{after-over, after-steps}
-use Rattle.alpha_imprecise.specs.Moment.{Happening, Precisely, Triggered, Waited, Reported, Lost}
-use Rattle.alpha_imprecise.specs.Run.{WildRun, finished, started_wild, run_wild}
+use Rattle.alpha_seq.specs.Run.{Run, begins, after, is_over, end_of, output, notes, shown, Runs}
+use Rattle.alpha_seq.specs.Fronts.{HasMade}
+use Rattle.alpha_seq.proofs.Running.{after-over}
+use Rattle.alpha_seq.proofs.Sequence.{fed-after}
+use Rattle.alpha_imprecise.specs.Moment.{Happening, Precisely, Triggered, Waited, Reported, Lost, Moment}
+use Rattle.alpha_imprecise.specs.Run.{finished, seen, begins_wild, RunsWild, units, WildRun, RunsOver}
 use Rattle.alpha_imprecise.specs.Used.{HasUsed}
 use Rattle.alpha_imprecise.specs.Made.{Making, begun, made, wild_end, lost_trap, shown_making}
-use Rattle.alpha_imprecise.specs.Restart.{SameSoFar, Agrees, IsRestartable}
+use Rattle.alpha_imprecise.specs.Restart.{Follows, Agrees, IsRestartable}
 use Rattle.alpha_imprecise.specs.Shown.{SameRun, ChoicesAlike, ShowsSame, RunsAlike}
-use Rattle.alpha_imprecise.proofs.Making.{ran_made}
+use Rattle.alpha_imprecise.proofs.Drawn.{made-over}
+use Rattle.alpha_imprecise.proofs.Seeing.{waits, all_counted, calm_run, last_of, run_last, seen_last, unended}
 use Rattle.alpha_imprecise.proofs.Settling.{none_of, made_is}
-
--- ---- what a run that goes on shows
 
 no_end : (event : Event) → is_over event ≡ false → end_of event ≡ None
 no_end Went e = refl
-no_end Barriered e = refl
+no_end (Barriered traffic pc regs) e = refl
 no_end (Overflowed at) e = refl
 no_end (Ends end) e = cc
 
-no_wild_end : (h : Happening) → finished h ≡ false → wild_end h ≡ None
-no_wild_end (Precisely event) e = no_end event e
-no_wild_end Triggered e = refl
-no_wild_end Waited e = refl
-no_wild_end (Reported at) e = refl
-no_wild_end (Lost pc mask) e = cc
+some_end : (event : Event) → is_over event ≡ true → end_of event ≡ None → ⊥
+some_end Went over e = cc
+some_end (Barriered traffic pc regs) over e = cc
+some_end (Overflowed at) over e = cc
+some_end (Ends end) over e = cc
 
 no_lost : (h : Happening) → ((pc mask : ℕ) → h ≢ Lost pc mask) → lost_trap h ≡ None
 no_lost (Precisely event) n = refl
-no_lost Triggered n = refl
-no_lost Waited n = refl
+no_lost (Triggered value) n = refl
+no_lost (Waited adds value bytes) n = refl
 no_lost (Reported at) n = refl
 no_lost (Lost pc mask) n = absurd (n pc mask refl)
 
--- a run that is over has an end
-pub record Ended (h : Happening) : Type 0 where
-  pub e : End
-  pub is : h ≡ Precisely (Ends e)
+-- ---- whatever it is given
 
-ended_by : (event : Event) → is_over event ≡ true → Ended (Precisely event)
-ended_by Went e = cc
-ended_by Barriered e = cc
-ended_by (Overflowed at) e = cc
-ended_by (Ends end) e = record { e = end; is = refl }
+-- The precise run with the events that were seen of steps, which has made as many steps as they used units, or is over.
+pub record SameFree (n : ℕ) (g : Program) (s : State) (steps : List Happening) (w : Moment) : Type 0 where
+  pub last : Stepped
+  pub runs : Runs g (begins s) (seen steps) last
+  pub made : HasMade n (seen steps) last
+  pub end : wild_end w.happened ≡ end_of last.event
+  pub lost : lost_trap w.happened ≡ None
+  pub count : units g (begins_wild s) steps ≡ length (seen steps)
+  pub unique : last.state.unique ≡ w.state.unique
+  pub over : finished w.happened ≡ true → is_over last.event ≡ true
 
-ended : (h : Happening) → finished h ≡ true → ((pc mask : ℕ) → h ≢ Lost pc mask) → Ended h
-ended (Precisely event) e n = ended_by event e
-ended Triggered e n = cc
-ended Waited e n = cc
-ended (Reported at) e n = cc
-ended (Lost pc mask) e n = absurd (n pc mask refl)
-
--- a run that ended at its last step, and not before, has made all its steps
-last_steps : (g : Program) (s : State) (n : ℕ) → is_over (after g s n).last ≡ true → ((k : ℕ) → k < n → is_over (after g s k).last ≡ false) → (after g s n).steps ≡ n
-last_steps g s zero over first = refl
-last_steps g s (suc n) over first =
-    let before = first n (omega arith) in
-    let r : Run = after g s n in
-    ap (λ b. (cond b r (extended_by r (step_from g r.state))).steps) before ∙ (add-one (after g s n).steps ∙ ap (λ k. suc k) (after-steps g s n before))
-
--- ---- both runs
-
-module _ (g : Program) (s : State) (n : ℕ) (w : WildRun) (h : Agrees g s w) (m : HasUsed n w) where
-  going_same : finished w.last ≡ false → SameRun (after g s n) w
-  going_same going =
-      let pending : w.pending ≡ None = none_of w.pending (ap (λ b. b || is_none w.pending) (sym going) ∙ m.settled) in
-      let units = m.full going in
-      let same = subst (λ j. SameSoFar (after g s j) w) units (h.running going pending) in
-      record {
-        end = no_wild_end w.last going ∙ sym (no_end (after g s n).last same.goes);
-        lost = no_lost w.last h.found;
-        steps = units ∙ sym (after-steps g s n same.goes);
-        outside = sym same.outside;
-        trace = sym same.trace;
-      }
-
-  over_same : finished w.last ≡ true → SameRun (after g s n) w
-  over_same over =
-      let e = ended w.last over h.found in
-      let stop = h.stopped e.e e.is in
-      let same = stop.same in
-      let there : is_over (after g s w.units).last ≡ true = ap is_over same.last in
-      subst (λ (r : Run). SameRun r w) (sym (after-over g s n w.units m.most there))
-      (record {
-        end = ap wild_end e.is ∙ sym (ap end_of same.last);
-        lost = no_lost w.last h.found;
-        steps = sym (last_steps g s w.units there stop.first);
-        outside = sym same.outside;
-        trace = sym same.trace;
-      })
-
-  same_run : SameRun (after g s n) w
-  same_run = by (finished w.last) refl
+module _ (n : ℕ) (g : Program) (s : State) (steps : List Happening) (w : Moment) (runs : RunsWild g (begins_wild s) steps w) (h : Agrees g s (seen steps) w)
+    (used : HasUsed n (units g (begins_wild s) steps) w) where
+  -- nothing is pending at its end
+  calm : w.pending ≡ None
+  calm = by w.happened refl
     where
-      by : (b : Bool) → finished w.last ≡ b → SameRun (after g s n) w
-      by true e = over_same e
-      by false e = going_same e
+      going : finished w.happened ≡ false → w.pending ≡ None
+      going e = none_of w.pending (ap (λ b. b || is_none w.pending) (sym e) ∙ used.settled)
+
+      by : (x : Happening) → w.happened ≡ x → w.pending ≡ None
+      by (Precisely event) e = calm_run g steps (begins_wild s) w (λ event e. refl) runs event e
+      by (Triggered value) e = going (ap finished e)
+      by (Waited adds value bytes) e = going (ap finished e)
+      by (Reported at) e = going (ap finished e)
+      by (Lost pc mask) e = absurd (h.found pc mask e)
+
+  abbrev follows : Follows g s (seen steps) w
+  follows = h.follows calm
+
+  count : units g (begins_wild s) steps ≡ length (seen steps)
+  count = let all = all_counted g steps (begins_wild s) w runs in let none : waits w.pending ≡ 0 = ap waits calm in omega (arith, all, none)
+
+  last_is : follows.last.event ≡ last_of Went (seen steps)
+  last_is = run_last g (seen steps) (begins s) follows.last follows.runs
+
+  last_precise : (event : Event) → w.happened ≡ Precisely event → follows.last.event ≡ event
+  last_precise event e =
+      last_is ∙ seen_last g steps (begins_wild s) w event Went (λ f. let k : Precisely Went ≡ Precisely event = f in cc) runs e
+
+  last_goes : finished w.happened ≡ false → is_over follows.last.event ≡ false
+  last_goes going = ap is_over last_is ∙ unended g steps (begins_wild s) w Went refl runs going
+
+  last_over : finished w.happened ≡ true → is_over follows.last.event ≡ true
+  last_over e = by w.happened refl
+    where
+      by : (x : Happening) → w.happened ≡ x → is_over follows.last.event ≡ true
+      by (Precisely event) f = ap is_over (last_precise event f) ∙ (ap finished (sym f) ∙ e)
+      by (Triggered value) f = absurd (let no : true ≡ false = sym e ∙ ap finished f in cc)
+      by (Waited adds value bytes) f = absurd (let no : true ≡ false = sym e ∙ ap finished f in cc)
+      by (Reported at) f = absurd (let no : true ≡ false = sym e ∙ ap finished f in cc)
+      by (Lost pc mask) f = absurd (h.found pc mask f)
+
+  same_end : wild_end w.happened ≡ end_of follows.last.event
+  same_end = by w.happened refl
+    where
+      by : (x : Happening) → w.happened ≡ x → wild_end x ≡ end_of follows.last.event
+      by (Precisely event) e = sym (ap end_of (last_precise event e))
+      by (Triggered value) e = sym (no_end follows.last.event (last_goes (ap finished e)))
+      by (Waited adds value bytes) e = sym (no_end follows.last.event (last_goes (ap finished e)))
+      by (Reported at) e = sym (no_end follows.last.event (last_goes (ap finished e)))
+      by (Lost pc mask) e = absurd (h.found pc mask e)
+
+  full : end_of follows.last.event ≡ None → length (seen steps) ≡ n
+  full none =
+      ⊎_elim
+      (λ (over : finished w.happened ≡ true). absurd (some_end follows.last.event (last_over over) none))
+      (λ (going : finished w.happened ≡ false). sym count ∙ used.full going)
+      (cases_Bool (finished w.happened))
+
+  pub same_free : SameFree n g s steps w
+  same_free = record {
+    last = follows.last;
+    runs = follows.runs;
+    made = record { most = omega (arith, count, used.most); full = full };
+    end = same_end;
+    lost = no_lost w.happened h.found;
+    count = count;
+    unique = follows.unique;
+    over = last_over;
+  }
+
+-- ---- over an input
+
+module _ (g : Program) (s : State) (input : List ℕ) (n : ℕ) (w : WildRun) (over : RunsOver g s input w) (same : SameFree n g s w.steps w.at) (used : HasUsed n w.units w.at) where
+  -- the precise run of as many steps
+  abbrev here : Run
+  here = record { at = same.last; events = seen w.steps; left = w.left }
+
+  run_is : after g s input n ≡ here
+  run_is =
+      let there : after g s input (length (seen w.steps)) ≡ here = fed-after g s (seen w.steps) same.last input w.left same.runs over.fed in
+      ⊎_elim
+      (λ (e : finished w.at.happened ≡ true).
+      after-over g s input n (length (seen w.steps)) same.made.most (ap (λ (r : Run). is_over r.at.event) there ∙ same.over e) ∙ there)
+      (λ (e : finished w.at.happened ≡ false).
+      let all : n ≡ length (seen w.steps) = omega (arith, used.full e, over.used, same.count) in
+      ap (after g s input) all ∙ there)
+      (cases_Bool (finished w.at.happened))
+
+  same_run : SameRun (after g s input n) w
+  same_run = subst (λ (r : Run). SameRun r w) (sym run_is) (record {
+    end = same.end;
+    lost = same.lost;
+    steps = omega (arith, over.used, same.count);
+    events = refl;
+    unique = sym same.unique;
+    left = refl;
+  })
+
+-- of a program that can be restarted
+run_alike : (g : Program) (input : List ℕ) (n : ℕ) (w : WildRun) → IsRestartable g.image → RunsOver g (start g) input w → HasUsed n w.units w.at → SameRun (after g (start g) input n) w
+run_alike g input n w h over used =
+    let units_used : HasUsed n (units g (begins_wild (start g)) w.steps) w.at = subst (λ k. HasUsed n k w.at) (sym over.used) used in
+    same_run g (start g) input n w over (same_free n g (start g) w.steps w.at over.runs (h g.how w.steps w.at over.runs) units_used) used
 
 pub choices_alike : (image : Parts) → IsRestartable image → ChoicesAlike image
-choices_alike image h = λ how input choices n used.
-    let g : Program = record { image = image; how = how } in
-    same_run g (start g input) n (run_wild g choices (started_wild (start g input))) (h how input choices) used
+choices_alike image h = λ how input w n over used. run_alike (record { image = image; how = how }) input n w h over used
 
 shows : (watch : Bool) (r : Run) (k : Making) → SameRun r k.run → ShowsSame (shown watch r) (shown_making watch k)
 shows watch r k h = record {
   end = h.end;
   lost = h.lost;
   steps = h.steps;
-  output = ap (λ (o : Outside). o.output) h.outside;
-  left = ap (λ (o : Outside). o.input) h.outside;
-  notes = ap (notes_of watch) h.trace;
+  output = ap output h.events;
+  left = h.left;
+  notes = ap (notes watch) h.events;
 }
 
 pub runs_alike : (image : Parts) → IsRestartable image → RunsAlike image
 runs_alike image h = λ how input words n watch.
     let g : Program = record { image = image; how = how } in
-    let s = start g input in
-    let k = made g (begun s None 0 words) n in
-    let ran = ran_made g s (begun s None 0 words) n (record { choices = []; run = refl }) in
-    shows watch (after g s n) k
-    (same_run g s n k.run (subst (λ (w : WildRun). Agrees g s w) ran.run (h how input ran.choices)) (made_is g (begun s None 0 words) n refl refl))
+    let from = begun (start g) input None 0 words in
+    let k = made g from n in
+    let over = (made-over g (start g) input words n).0 in
+    shows watch (after g (start g) input n) k (run_alike g input n k.run h over (made_is g from n refl refl))

@@ -1,10 +1,11 @@
 -- The choices that are made by words of 64 bits: a word draws no choice, one word or two.
-use Rattle.std.specs.Prelude.{ℕ, ◌+◌, ◌/◌, ◌%◌, Bool, true, false, ◌==◌, not, ◌||◌, nat_le, if◌then◌else◌, List, [], ◌∷◌, drop, Option, Some, None}
+use Rattle.std.specs.Prelude.{◌≡◌, ℕ, ◌+◌, ◌/◌, ◌%◌, Bool, true, false, ◌==◌, not, ◌||◌, nat_le, if◌then◌else◌, List, [], ◌∷◌, drop, Option, Some, None}
 use Rattle.alpha_table.specs.Class.{Class}
 use Rattle.alpha_seq.specs.State.{Program, State}
 use Rattle.alpha_seq.specs.Step.{next_class}
 use Rattle.alpha_imprecise.specs.Moment.{Trap, Choice, Happening, Precisely, Triggered, Waited, Reported, Lost, Moment}
 use Rattle.alpha_imprecise.specs.Step.{triggers, can_wait, wild}
+use Rattle.alpha_imprecise.specs.Run.{given_to, next_wild}
 
 -- the first of the coming words; behind the last one come zeros
 abbrev pub first_word : List ℕ → ℕ
@@ -49,14 +50,26 @@ draw_at o s (Some t) waited words =
 abbrev pub draw : Program → State → Option Trap → ℕ → List ℕ → Draw
 draw g s pending waited words = draw_at (next_class g s.pc) s pending waited words
 
--- the step that coming words choose
-abbrev pub chosen : Program → State → Option Trap → ℕ → List ℕ → Moment
-chosen g s pending waited words = wild g s pending (draw g s pending waited words).choice
+-- the step that coming words choose, where this is what there is to be read
+abbrev pub chosen : Program → State → Option Trap → ℕ → List ℕ → List ℕ → Moment
+chosen g s pending waited words input = wild g s pending (draw g s pending waited words).choice input
 
 -- how many words were executed since the trigger, after a step; a lost trap leaves the number
 abbrev pub waited_after : Happening → ℕ → ℕ
 waited_after (Precisely event) n = 0
-waited_after Triggered n = 0
-waited_after Waited n = n + 1
+waited_after (Triggered value) n = 0
+waited_after (Waited adds value bytes) n = n + 1
 waited_after (Reported at) n = 0
 waited_after (Lost pc mask) n = n
+
+-- and how many after steps
+abbrev pub waits_behind : List Happening → ℕ → ℕ
+waits_behind [] n = n
+waits_behind (h ∷ hs) n = waits_behind hs (waited_after h n)
+
+-- these words, one behind another, choose each of the steps, and these are left
+abbrev pub Draws : Program → Moment → ℕ → List ℕ → List Happening → List ℕ → Type 0
+Draws g a waited words [] rest = words ≡ rest
+Draws g a waited words (h ∷ hs) rest =
+    ((chosen g a.state a.pending waited words (given_to h)).happened ≡ h)
+    × Draws g (next_wild g a h) (waited_after h waited) (drop (draw g a.state a.pending waited words).count words) hs rest

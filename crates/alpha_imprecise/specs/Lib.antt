@@ -13,4 +13,4 @@ pub mod Report
 pub mod Picks
 pub mod WildEffect
 pub mod WildRushed
-pub mod Free
+pub mod Fronts

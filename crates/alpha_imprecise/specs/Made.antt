@@ -1,11 +1,11 @@
--- The runs that coming words make.
-use Rattle.std.specs.Prelude.{◌≡◌, ◌<◌, ◌≤◌, ℕ, zero, suc, ◌+◌, ◌*◌, Bool, true, ◌||◌, if◌then◌else◌, List, [], ◌∷◌, drop, Option, Some, None, is_none}
+-- The runs that coming words make over an input.
+use Rattle.std.specs.Prelude.{◌≡◌, ◌<◌, ◌≤◌, ℕ, zero, suc, ◌+◌, ◌*◌, Bool, true, ◌||◌, if◌then◌else◌, List, [], ◌∷◌, ◌++◌, length, drop, Option, Some, None, is_none}
 use Rattle.alpha_seq.specs.declared.end.End.{End}
-use Rattle.alpha_seq.specs.State.{Program, State}
+use Rattle.alpha_seq.specs.State.{Program, State, Went}
 use Rattle.alpha_seq.specs.Start.{start}
-use Rattle.alpha_seq.specs.Run.{end_of, notes_of}
-use Rattle.alpha_imprecise.specs.Moment.{Trap, Happening, Precisely, Triggered, Waited, Reported, Lost, Moment}
-use Rattle.alpha_imprecise.specs.Run.{WildRun, finished, resumed, extended_wild}
+use Rattle.alpha_seq.specs.Run.{end_of, output, notes}
+use Rattle.alpha_imprecise.specs.Moment.{Trap, Happening, Precisely, Triggered, Waited, Reported, Lost, Moment, moment}
+use Rattle.alpha_imprecise.specs.Run.{WildRun, finished, given_to, seen, unit_of}
 use Rattle.alpha_imprecise.specs.Chosen.{most_waited, Draw, draw, chosen, waited_after}
 
 -- a run, how many words were executed since the trigger of its pending trap, the words still to come, and how many were
@@ -17,8 +17,21 @@ pub record Making : Type 0 where
   pub count : ℕ
 
 -- no step was made yet
-abbrev pub begun : State → Option Trap → ℕ → List ℕ → Making
-begun s pending waited words = record { run = resumed s pending; waited = waited; words = words; count = 0 }
+abbrev pub begun : State → List ℕ → Option Trap → ℕ → List ℕ → Making
+begun s input pending waited words = record {
+  run = record { at = moment s pending (Precisely Went); steps = []; left = input; units = 0 };
+  waited = waited;
+  words = words;
+  count = 0;
+}
+
+abbrev pub extended_wild : WildRun → Moment → WildRun
+extended_wild w m = record {
+  at = m;
+  steps = w.steps ++ m.happened ∷ [];
+  left = drop (length (given_to m.happened)) w.left;
+  units = w.units + unit_of w.at.pending;
+}
 
 abbrev pub extended_making : Making → Draw → Moment → Making
 extended_making k d m = record {
@@ -31,9 +44,9 @@ extended_making k d m = record {
 -- one step more; a run that is over stays
 abbrev pub advance_making : Program → Making → Making
 advance_making g k =
-    if finished k.run.last then k else
-    extended_making k (draw g k.run.state k.run.pending k.waited k.words)
-    (chosen g k.run.state k.run.pending k.waited k.words)
+    if finished k.run.at.happened then k else
+    extended_making k (draw g k.run.at.state k.run.at.pending k.waited k.words)
+    (chosen g k.run.at.state k.run.at.pending k.waited k.words k.run.left)
 
 -- so many steps more
 abbrev pub steps_making : Program → Making → ℕ → Making
@@ -42,7 +55,7 @@ steps_making g k (suc n) = advance_making g (steps_making g k n)
 
 -- nothing is pending, or the run is over
 abbrev pub is_settled : Making → Bool
-is_settled k = finished k.run.last || is_none k.run.pending
+is_settled k = finished k.run.at.happened || is_none k.run.at.pending
 
 -- steps until nothing is pending or the run is over, so many at most
 abbrev pub settled_within : ℕ → Program → Making → Making
@@ -77,16 +90,16 @@ pub record IsWithin (most : ℕ) (g : Program) (from to : Making) : Type 0 where
 pub data Nearer (old new : Making) : Type 0 where
   Used : new.run.units ≡ old.run.units + 1 → Nearer old new
   Waiting : old.waited < most_waited → new.waited ≡ old.waited + 1 → Nearer old new
-  Settled : new.run.pending ≡ None → Nearer old new
-  Finished : finished new.run.last ≡ true → Nearer old new
+  Settled : new.run.at.pending ≡ None → Nearer old new
+  Finished : finished new.run.at.happened ≡ true → Nearer old new
 
 -- ---- what such a run shows
 
 -- how the program ended, if it has
 abbrev pub wild_end : Happening → Option End
 wild_end (Precisely event) = end_of event
-wild_end Triggered = None
-wild_end Waited = None
+wild_end (Triggered value) = None
+wild_end (Waited adds value bytes) = None
 wild_end (Reported at) = None
 wild_end (Lost pc mask) = None
 
@@ -97,8 +110,8 @@ pub record LostTrap : Type 0 where
 
 abbrev pub lost_trap : Happening → Option LostTrap
 lost_trap (Precisely event) = None
-lost_trap Triggered = None
-lost_trap Waited = None
+lost_trap (Triggered value) = None
+lost_trap (Waited adds value bytes) = None
 lost_trap (Reported at) = None
 lost_trap (Lost pc mask) = Some (record { pc = pc; mask = mask })
 
@@ -115,18 +128,18 @@ pub record ShownWild : Type 0 where
 
 abbrev pub shown_making : Bool → Making → ShownWild
 shown_making watch k = record {
-  end = wild_end k.run.last;
-  lost = lost_trap k.run.last;
+  end = wild_end k.run.at.happened;
+  lost = lost_trap k.run.at.happened;
   units = k.run.units;
-  output = k.run.state.outside.output;
-  left = k.run.state.outside.input;
-  notes = notes_of watch k.run.trace;
+  output = output (seen k.run.steps);
+  left = k.run.left;
+  notes = notes watch (seen k.run.steps);
   drawn = k.count;
 }
 
 -- the run of so many units from the start, over an input, by coming words
 abbrev pub imprecise : Program → List ℕ → List ℕ → ℕ → Bool → ShownWild
-imprecise g input words n watch = shown_making watch (made g (begun (start g input) None 0 words) n)
+imprecise g input words n watch = shown_making watch (made g (begun (start g) input None 0 words) n)
 
 -- ---- where the coming words are told
 

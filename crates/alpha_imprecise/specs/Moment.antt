@@ -20,13 +20,14 @@ pub record Choice : Type 0 where
   pub bytes : ℕ
   pub adds : Bool
 
--- How a step went. With nothing pending it is a precise step with its event, or it triggered a trap. While a trap is
--- pending its word was executed and the trap waited; or the trap was reported, and the trigger's address logged; or it
--- was lost, with the PC and the mask of its report. A report that stops the program is the end of the program.
+-- How a step went. With nothing pending it is a precise step with its event, or it triggered a trap, and its destination got
+-- this value. While a trap is pending its word was executed and the trap waited: whether it added to the mask, the value of
+-- its destination and the bytes that it stored; or the trap was reported, and the trigger's address logged; or it was lost,
+-- with the PC and the mask of its report. A report that stops the program is the end of the program.
 pub data Happening : Type 0 where
   Precisely : (event : Event) → Happening
-  Triggered : Happening
-  Waited : Happening
+  Triggered : (value : ℕ) → Happening
+  Waited : (adds : Bool) (value bytes : ℕ) → Happening
   Reported : (at : ℕ) → Happening
   Lost : (pc mask : ℕ) → Happening
 

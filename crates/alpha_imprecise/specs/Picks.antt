@@ -3,12 +3,12 @@ use Rattle.std.specs.Prelude.{◌≡◌, ℕ, ◌/◌, ◌%◌, ◌==◌, true, 
 use Rattle.alpha_table.specs.Class.{Class}
 use Rattle.alpha_seq.specs.declared.event.Wait.{Wait}
 use Rattle.alpha_seq.specs.State.{State}
-use Rattle.alpha_seq.specs.Machine.{class_here}
+use Rattle.alpha_seq.specs.Machine.{state_of, class_here}
 use Rattle.alpha_imprecise.specs.Moment.{Trap, Choice}
 use Rattle.alpha_imprecise.specs.Step.{triggers}
 use Rattle.alpha_imprecise.specs.Chosen.{reporting, triggering, must_report}
 use Rattle.alpha_imprecise.specs.Telling.{Telling, telling, Moves}
-use Rattle.alpha_imprecise.specs.Wild.{WildState, trap_in, waited_in, bare}
+use Rattle.alpha_imprecise.specs.Wild.{WildState, trap_in, waited_in}
 
 -- by which the pending trap waits for the word or, at none, is reported
 abbrev pub Pick : Type 0
@@ -26,7 +26,7 @@ asked_at o s None waited = if triggers o s then ValueAsked else Unasked
 asked_at o s (Some t) waited = if must_report o s waited then Unasked else PickAsked
 
 abbrev pub asked : WildState → Asked
-asked w = asked_at (class_here w.machine) (bare w.machine) (trap_in w.pending) (waited_in w.pending)
+asked w = asked_at (class_here w.machine) (state_of w.machine) (trap_in w.pending) (waited_in w.pending)
 
 -- the choice by a pick
 abbrev pub choice_by : Pick → Choice

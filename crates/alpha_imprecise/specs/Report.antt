@@ -1,5 +1,5 @@
 -- What a report left, by how it went.
-use Rattle.std.specs.Prelude.{◌≡◌, ℕ, ◌+◌, ◌-◌, ◌%◌, ◌^◌, Bool, true, false, List, Option, None}
+use Rattle.std.specs.Prelude.{◌≡◌, ℕ, ◌+◌, ◌-◌, ◌%◌, ◌^◌, Bool, true, false, Option, None}
 use Rattle.alpha_seq.specs.declared.end.End.TheVariants as ends
 use Rattle.alpha_seq.specs.declared.event.Event.{Event}
 use Rattle.alpha_seq.specs.declared.event.Event.TheVariants as events
@@ -26,10 +26,9 @@ abbrev pub machine_at : Bool → Machine → ℕ → Machine
 machine_at true m pc = record m { pc = pc }
 machine_at false m pc = record m { pc = pc; lock = None; overflows = (m.overflows + 1) % 2 ^ 64; last = pc - 4 }
 
--- The report of the definition, at each input and output, which it leaves; the frame is that of the state as it is then.
+-- The report of the definition; the frame is that of the state as it is then.
 pub record Reports (happened : Happening) (left : Option Trap) (trap : Trap) (old new : Machine) : Type 0 where
-  pub is : (input output : List ℕ)
-      → report (program_of old) (state_of old input output) trap ≡ moment (state_of new input output) left happened
+  pub is : report (program_of old) (state_of old) trap ≡ moment (state_of new) left happened
   pub program : program_of new ≡ program_of old
   pub memory : new.memory ≡ old.memory
   pub kernel : new.kernel ≡ returned_kernel new.pc new.regs

@@ -1,30 +1,30 @@
--- When an imprecise run shows what the precise run shows.
-use Rattle.std.specs.Prelude.{◌≡◌, ℕ, Bool, List, None}
+-- When an imprecise run over an input shows what the precise run over it shows.
+use Rattle.std.specs.Prelude.{◌≡◌, ℕ, Bool, List, length, None}
 use Rattle.alpha_words.specs.declared.Completion.{Completion}
 use Rattle.alpha_image.specs.Parts.{Parts}
 use Rattle.alpha_seq.specs.State.{Program}
 use Rattle.alpha_seq.specs.Start.{start}
 use Rattle.alpha_seq.specs.Run.{Run, Shown, end_of, after, sequential}
-use Rattle.alpha_imprecise.specs.Moment.{Choice}
-use Rattle.alpha_imprecise.specs.Run.{WildRun, started_wild, run_wild}
+use Rattle.alpha_imprecise.specs.Run.{seen, WildRun, RunsOver}
 use Rattle.alpha_imprecise.specs.Used.{HasUsed}
 use Rattle.alpha_imprecise.specs.Made.{ShownWild, wild_end, lost_trap, imprecise}
 
 -- ---- whatever is chosen
 
--- Both runs have the same end, if any, number of steps, output, input left and trace, and no trap was lost.
+-- Both runs have the same end, if any, number of steps, events, unique value and input left, and no trap was lost.
 pub record SameRun (r : Run) (w : WildRun) : Type 0 where
-  pub end : wild_end w.last ≡ end_of r.last
-  pub lost : lost_trap w.last ≡ None
-  pub steps : w.units ≡ r.steps
-  pub outside : w.state.outside ≡ r.state.outside
-  pub trace : w.trace ≡ r.trace
+  pub end : wild_end w.at.happened ≡ end_of r.at.event
+  pub lost : lost_trap w.at.happened ≡ None
+  pub steps : w.units ≡ length r.events
+  pub events : seen w.steps ≡ r.events
+  pub unique : w.at.state.unique ≡ r.at.state.unique
+  pub left : w.left ≡ r.left
 
--- every run by choices that has used so many units is the precise run of as many steps
+-- every run that has used so many units is the precise run of as many steps
 abbrev pub ChoicesAlike : Parts → Type 0
-ChoicesAlike image = (how : Completion) (input : List ℕ) (choices : List Choice) (n : ℕ)
+ChoicesAlike image = (how : Completion) (input : List ℕ) (w : WildRun) (n : ℕ)
     → let g : Program = record { image = image; how = how } in
-    let w = run_wild g choices (started_wild (start g input)) in HasUsed n w → SameRun (after g (start g input) n) w
+    RunsOver g (start g) input w → HasUsed n w.units w.at → SameRun (after g (start g) input n) w
 
 -- ---- by coming words
 

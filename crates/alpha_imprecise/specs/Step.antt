@@ -1,5 +1,5 @@
 -- The imprecise step: a trap may be reported late, and until then what the machine writes may be anything.
-use Rattle.std.specs.Prelude.{ℕ, ◌+◌, ◌*◌, ◌/◌, ◌%◌, ◌^◌, ◌==◌, Bool, true, false, not, ◌||◌, if◌then◌else◌, List, Option, Some, None, is_none, unwrap_or}
+use Rattle.std.specs.Prelude.{ℕ, ◌+◌, ◌*◌, ◌/◌, ◌%◌, ◌^◌, ◌==◌, Bool, true, false, not, ◌||◌, ◌&&◌, if◌then◌else◌, List, Option, Some, None, is_none, unwrap_or}
 use Rattle.std.specs.Option.{option_map_or}
 use Rattle.alpha_words.specs.Digits.{low_bytes}
 use Rattle.alpha_words.specs.Regs.{reg, put}
@@ -39,7 +39,7 @@ adds_here o = not (destination o == 31)
 abbrev pub triggered : Program → Option Class → State → Choice → Moment
 triggered g o s c =
     moment (setting s (destination o) c.value)
-    (Some (record { place = unwrap_or (place_of g.image s.pc) 0; mask = with_register 0 (destination o) })) Triggered
+    (Some (record { place = unwrap_or (place_of g.image s.pc) 0; mask = with_register 0 (destination o) })) (Triggered c.value)
 
 -- a precise step
 abbrev pub precisely : Stepped → Moment
@@ -117,15 +117,15 @@ spoilt o s c = s
 -- a word that may trap adds its destination to the mask, if the machine chooses so
 abbrev pub waited : Option Class → State → Trap → Choice → Moment
 waited o s t c =
-    moment (spoilt o s c) (Some (record t { mask = (if c.adds then with_register t.mask (destination o) else t.mask) })) Waited
+    moment (spoilt o s c) (Some (record t { mask = (if c.adds then with_register t.mask (destination o) else t.mask) })) (Waited (c.adds && adds_here o) c.value c.bytes)
 
 -- ---- the step
 
--- the step at a word of this class
-abbrev pub wild_at : Program → Option Class → State → Option Trap → Choice → Moment
-wild_at g o s None c = if triggers o s then triggered g o s c else precisely (step g o s)
-wild_at g o s (Some t) c = if c.report || not (can_wait o s) then report g s t else waited o s t c
+-- the step at a word of this class, where this is what there is to be read
+abbrev pub wild_at : Program → Option Class → State → Option Trap → Choice → List ℕ → Moment
+wild_at g o s None c input = if triggers o s then triggered g o s c else precisely (step g o s input)
+wild_at g o s (Some t) c input = if c.report || not (can_wait o s) then report g s t else waited o s t c
 
 -- the step from a state
-abbrev pub wild : Program → State → Option Trap → Choice → Moment
-wild g s pending c = wild_at g (next_class g s.pc) s pending c
+abbrev pub wild : Program → State → Option Trap → Choice → List ℕ → Moment
+wild g s pending c input = wild_at g (next_class g s.pc) s pending c input

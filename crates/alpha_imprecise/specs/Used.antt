@@ -1,9 +1,10 @@
 -- How many units a run has used.
 use Rattle.std.specs.Prelude.{◌≡◌, ◌≤◌, ◌||◌, ℕ, true, false, is_none}
-use Rattle.alpha_imprecise.specs.Run.{WildRun, finished}
+use Rattle.alpha_imprecise.specs.Moment.{Moment}
+use Rattle.alpha_imprecise.specs.Run.{finished}
 
--- A run has used so many units with nothing pending, or it is over before.
-pub record HasUsed (n : ℕ) (w : WildRun) : Type 0 where
-  pub settled : (finished w.last || is_none w.pending) ≡ true
-  pub most : w.units ≤ n
-  pub full : finished w.last ≡ false → w.units ≡ n
+-- A run to here, which used these units, has used so many with nothing pending, or it is over before.
+pub record HasUsed (n units : ℕ) (w : Moment) : Type 0 where
+  pub settled : (finished w.happened || is_none w.pending) ≡ true
+  pub most : units ≤ n
+  pub full : finished w.happened ≡ false → units ≡ n

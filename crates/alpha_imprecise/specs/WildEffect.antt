@@ -1,54 +1,52 @@
 -- What the machine's step did, by its answer.
-use Rattle.std.specs.Prelude.{◌≡◌, ℕ, suc, ◌-◌, ◌&&◌, false, List, ◌++◌, length, Option, None, Some}
+use Rattle.std.specs.Prelude.{◌≡◌, ⊤, ℕ, suc, ◌-◌, false, List, [], ◌++◌, length, Option, None, Some}
 use Rattle.alpha_io.specs.Sunk.{Sunk}
 use Rattle.alpha_pal.specs.declared.pal_end.Passed.{Passed}
 use Rattle.alpha_pal.specs.declared.pal_end.Passed.TheVariants.{Nothing}
-use Rattle.alpha_table.specs.Class.{Class}
+use Rattle.alpha_pal.specs.Call.{Silent}
 use Rattle.alpha_seq.specs.declared.machine.Machine.{Machine}
 use Rattle.alpha_seq.specs.declared.event.Event.{Event as Seen}
 use Rattle.alpha_seq.specs.declared.event.Event.TheVariants as events
 use Rattle.alpha_pal.specs.declared.fault.Fault.{Fault}
 use Rattle.alpha_seq.specs.State.{Went}
 use Rattle.alpha_seq.specs.Machine.{program_of, state_of, class_here}
+use Rattle.alpha_seq.specs.Run.{traffic_of, taken, output}
 use Rattle.alpha_seq.specs.Devices.{Drawn}
-use Rattle.alpha_seq.specs.Print.{Print, HasPassed, found_by}
+use Rattle.alpha_seq.specs.Print.{Print, HasPassed}
 use Rattle.alpha_seq.specs.StepEffect.{Makes, Breaks}
 use Rattle.alpha_seq.specs.Sequential.{seen_as, SeqLeaves, no_words}
 use Rattle.alpha_imprecise.specs.declared.pending.Pending.{Pending}
-use Rattle.alpha_imprecise.specs.Moment.{Choice, Happening, Precisely, Triggered, Waited, Reported, Lost, moment}
-use Rattle.alpha_imprecise.specs.Step.{triggers, adds_here, wild}
-use Rattle.alpha_imprecise.specs.Run.{unit_of}
+use Rattle.alpha_imprecise.specs.Moment.{Choice, Happening, Precisely, Triggered, Waited, Reported, Lost}
+use Rattle.alpha_imprecise.specs.Step.{triggers, wild}
+use Rattle.alpha_imprecise.specs.Run.{seen_of, given_to, unit_of}
 use Rattle.alpha_imprecise.specs.Chosen.{most_waited, reporting, draw, waited_after}
 use Rattle.alpha_imprecise.specs.Telling.{Telling, Moves}
-use Rattle.alpha_imprecise.specs.Wild.{WildState, trap_in, waited_in, bare}
-use Rattle.alpha_imprecise.specs.Free.{kernel_by}
+use Rattle.alpha_imprecise.specs.Wild.{WildState, trap_in, waited_in, moment_of, kernel_by}
 use Rattle.alpha_imprecise.specs.Picks.{Pick, Picked, asked}
 
--- How a step went at a word of this class, by this choice, as its answer says it. A word that executes while a trap is
--- pending is said to add to the mask only where it may.
-abbrev pub shown_as : Option Class → Choice → Passed → Happening → Seen
-shown_as o choice passed (Precisely event) = seen_as event passed
-shown_as o choice passed Triggered = events.Triggered choice.value
-shown_as o choice passed Waited = events.Waited (record { adds = choice.adds && adds_here o; value = choice.value })
-shown_as o choice passed (Reported at) = events.Reported at
-shown_as o choice passed (Lost pc mask) = events.Lost pc mask
+-- How a step went, as its answer says it.
+abbrev pub shown_as : Passed → Happening → Seen
+shown_as passed (Precisely event) = seen_as event passed
+shown_as passed (Triggered value) = events.Triggered value
+shown_as passed (Waited adds value bytes) = events.Waited (record { adds = adds; value = value })
+shown_as passed (Reported at) = events.Reported at
+shown_as passed (Lost pc mask) = events.Lost pc mask
 
 -- the kernel after a step from one state to another
 abbrev pub IsKernelBy : Happening → WildState → WildState → Type 0
 IsKernelBy happened old new = new.machine.kernel
-    ≡ kernel_by (trap_in old.pending) (class_here old.machine) (bare old.machine) (bare new.machine) happened old.machine.kernel
+    ≡ kernel_by (trap_in old.pending) (class_here old.machine) (state_of old.machine) (state_of new.machine) happened old.machine.kernel
 
--- the step of the definition by this choice, at the input that it found and at each output
+-- the step of the definition by this choice, where what it was given is there to be read
 pub record GoesBy (choice : Choice) (old : WildState) (p : Print) (new : WildState) : Type 0 where
   pub happened : Happening
   pub passed : Passed
-  pub event : p.event ≡ shown_as (class_here old.machine) choice passed happened
+  pub seen : p.seen ≡ seen_of happened
+  pub event : p.event ≡ shown_as passed happened
   pub units : p.units ≡ unit_of (trap_in old.pending)
   pub core : p.core ≡ new.machine
-  pub is : (output : List ℕ)
-      → wild (program_of old.machine) (state_of old.machine (found_by p) output) (trap_in old.pending) choice
-      ≡ moment (state_of new.machine p.rest (output ++ p.bytes)) (trap_in new.pending) happened
-  pub passes : HasPassed p.event p.core.memory p.taken p.bytes
+  pub is : wild (program_of old.machine) (state_of old.machine) (trap_in old.pending) choice (given_to happened) ≡ moment_of new happened
+  pub passes : HasPassed p.event p.core.memory (taken p.seen) (output p.seen)
   pub waited : waited_in new.pending ≡ waited_after happened (waited_in old.pending)
   pub kernel : IsKernelBy happened old new
   pub program : program_of new.machine ≡ program_of old.machine
@@ -57,8 +55,8 @@ pub record GoesBy (choice : Choice) (old : WildState) (p : Print) (new : WildSta
 pub record WildGoes (old : WildState) (p : Print) (new : WildState) : Type 0 where
   pub choice : Choice
   pub by : GoesBy choice old p new
-  pub draws : (coming output : List ℕ)
-      → draw (program_of old.machine) (state_of old.machine (found_by p) output) (trap_in old.pending) (waited_in old.pending) (p.words ++ coming)
+  pub draws : (coming : List ℕ)
+      → draw (program_of old.machine) (state_of old.machine) (trap_in old.pending) (waited_in old.pending) (p.words ++ coming)
       ≡ record { choice = choice; count = length p.words }
 
 -- the units that the next step uses, how many steps without one may follow, and the registers, memory and PC
@@ -111,25 +109,29 @@ BreaksBy picks values fault old new before after input out =
 
 -- ---- steps that leave the input and the output alone
 
--- the step by this choice, at each input and output
+-- nothing passes in a step that went so
+abbrev pub IsStill : Happening → Type 0
+IsStill (Precisely event) = traffic_of event ≡ Silent
+IsStill happened = ⊤
+
+-- the step by this choice
 pub record StepsBy (happened : Happening) (choice : Choice) (old new : WildState) : Type 0 where
-  pub is : (input output : List ℕ)
-      → wild (program_of old.machine) (state_of old.machine input output) (trap_in old.pending) choice
-      ≡ moment (state_of new.machine input output) (trap_in new.pending) happened
+  pub is : wild (program_of old.machine) (state_of old.machine) (trap_in old.pending) choice [] ≡ moment_of new happened
   pub waited : waited_in new.pending ≡ waited_after happened (waited_in old.pending)
   pub kernel : IsKernelBy happened old new
   pub program : program_of new.machine ≡ program_of old.machine
 
--- such a step, with its answer
+-- such a step, with its answer; nothing passed in it
 pub record StepsAs (event : Seen) (old new : WildState) (choice : Choice) : Type 0 where
   pub happened : Happening
-  pub event_is : event ≡ shown_as (class_here old.machine) choice Nothing happened
+  pub event_is : event ≡ shown_as Nothing happened
+  pub still : IsStill happened
   pub steps : StepsBy happened choice old new
 
 -- ---- a step that only goes on
 
--- With nothing pending, at a word that doesn't overflow, the step only went on, at each input and output, which it leaves.
+-- With nothing pending, at a word that doesn't overflow, the step only went on.
 pub record WildGoesOn (old new : WildState) : Type 0 where
   pub calm : old.pending ≡ None
-  pub exact : triggers (class_here old.machine) (bare old.machine) ≡ false
+  pub exact : triggers (class_here old.machine) (state_of old.machine) ≡ false
   pub step : StepsBy (Precisely Went) (reporting 0).choice old new

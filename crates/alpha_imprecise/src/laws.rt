@@ -1,34 +1,41 @@
-ghost use Rattle.std.specs.Prelude.{◌≡◌, ◌≤◌, ◌+◌, ℕ, List, None, false};
+ghost use Rattle.std.specs.Prelude.{◌≡◌, ◌≤◌, ◌+◌, ◌++◌, ℕ, List, length, None, false};
 ghost use Rattle.alpha_seq.specs.State.{Program, State};
-ghost use Rattle.alpha_imprecise.specs.Run.{finished};
+ghost use Rattle.alpha_imprecise.specs.Moment.{Happening, Moment};
+ghost use Rattle.alpha_imprecise.specs.Run.{begins_wild, finished, RunsWild, units, WildRun, RunsOver};
 ghost use Rattle.alpha_imprecise.specs.Used.{HasUsed};
-ghost use Rattle.alpha_imprecise.specs.Chosen.{most_waited};
-ghost use Rattle.alpha_imprecise.specs.Made.{Making, begun, advance_making, steps_making, made, most_steps, most_words, IsWithin, Nearer};
-ghost use Rattle.alpha_imprecise.specs.Free.{run_making_over, lefts_making};
+ghost use Rattle.alpha_imprecise.specs.Chosen.{most_waited, Draws};
+ghost use Rattle.alpha_imprecise.specs.Made.{Making, begun, advance_making, made, most_steps, most_words, IsWithin, Nearer};
 
-/// The laws of runs that coming words make: a run of so many units, with nothing pending at the beginning, uses them
-/// or is over before, with nothing pending at its end, takes 1,026 steps a unit at most, and draws 2,049 words a unit
-/// at most. What is pending at the beginning takes 1,025 steps more. That is so because each step uses a unit, or
-/// executes one word more while a trap is pending, or reports the trap, or is the last.
+/// The laws of runs that coming words make over an input: a run of so many units, with nothing pending at the
+/// beginning, uses them or is over before, with nothing pending at its end, takes 1,026 steps a unit at most, and draws
+/// 2,049 words a unit at most. What is pending at the beginning takes 1,025 steps more. That is so because each step
+/// uses a unit, or executes one word more while a trap is pending, or reports the trap, or is the last.
 pub fn laws_of_chosen_runs()
-    ensures used { (g : Program) (s : State) (words : List ℕ) (n : ℕ)
-        → HasUsed n (made g (begun s None 0 words) n).run }
-    ensures steps { (g : Program) (s : State) (words : List ℕ) (n : ℕ)
-        → let from = begun s None 0 words in IsWithin (most_steps n) g from (made g from n) }
-    ensures words { (g : Program) (s : State) (words : List ℕ) (n : ℕ)
-        → (made g (begun s None 0 words) n).count ≤ most_words n }
+    ensures used { (g : Program) (s : State) (input words : List ℕ) (n : ℕ)
+        → let w = (made g (begun s input None 0 words) n).run in HasUsed n w.units w.at }
+    ensures steps { (g : Program) (s : State) (input words : List ℕ) (n : ℕ)
+        → let from = begun s input None 0 words in IsWithin (most_steps n) g from (made g from n) }
+    ensures words { (g : Program) (s : State) (input words : List ℕ) (n : ℕ)
+        → (made g (begun s input None 0 words) n).count ≤ most_words n }
     ensures pending { (g : Program) (from : Making) (n : ℕ)
         → IsWithin (most_waited + 1 + most_steps n) g from (made g from n) }
-    ensures nearer { (g : Program) (from : Making) → finished from.run.last ≡ false
+    ensures nearer { (g : Program) (from : Making) → finished from.run.at.happened ≡ false
         → Nearer from (advance_making g from) }
 {}
 
-/// The laws of runs in which each step finds an input of its own. The run over one input is such a run, in which each
-/// step finds what is left of it. A run with nothing pending at the beginning draws 2,049 words a unit at most.
+/// The laws of runs whatever their steps are given: the run that words make over an input is a list of steps that these
+/// words choose and the input feeds, and each such list that has used its units is the run that they make. Words that
+/// choose the steps of a run with nothing pending at the beginning, whatever comes behind them, are 2,049 a unit at
+/// most.
 pub fn laws_of_free_runs()
-    ensures told { (g : Program) (k : Making) (n : ℕ)
-        → run_making_over g (lefts_making g k n) k ≡ steps_making g k n }
-    ensures words { (g : Program) (s : State) (words : List ℕ) (inputs : List (List ℕ))
-        → let k = run_making_over g inputs (begun s None 0 words) in
-        k.count ≤ most_words k.run.units }
+    ensures told { (g : Program) (s : State) (input words : List ℕ) (n : ℕ)
+        → let k = made g (begun s input None 0 words) n in
+        RunsOver g s input k.run × Draws g (begins_wild s) 0 words k.run.steps k.words }
+    ensures made { (g : Program) (s : State) (input words rest : List ℕ) (n : ℕ) (w : WildRun)
+        → RunsOver g s input w → Draws g (begins_wild s) 0 words w.steps rest
+        → HasUsed n w.units w.at → (made g (begun s input None 0 words) n).run ≡ w }
+    ensures words { (g : Program) (s : State) (words : List ℕ) (steps : List Happening)
+        (at : Moment) → RunsWild g (begins_wild s) steps at
+        → ((coming : List ℕ) → Draws g (begins_wild s) 0 (words ++ coming) steps coming)
+        → length words ≤ most_words (units g (begins_wild s) steps) }
 {}

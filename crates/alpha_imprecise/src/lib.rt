@@ -7,17 +7,16 @@
 //! - A [`Chooser`] answers the words of 64 bits by which a step chooses: [`ListChooser`] has them from bytes,
 //!   [`PcgChooser`] from a seeded generator. A [`CountingChooser`] counts the words of another one. It picks by them.
 //! - [`laws_of_chosen_runs`]: a run by such words uses its units or is over before, takes 1,026 steps a unit at most,
-//!   and draws 2,049 words a unit at most. [`laws_of_free_runs`]: how runs in which each step finds an input of its own
-//!   stand to the run over one input.
+//!   and draws 2,049 words a unit at most. [`laws_of_free_runs`]: how runs whose steps are given anything stand to
+//!   the run over one input.
 //!
 //! `specs/Moment.antt` has what the machine is at a moment and what it is free to choose, `specs/Step.antt` the step,
-//! `specs/Run.antt` the runs, `specs/Chosen.antt` the choices that are made by words of 64 bits, `specs/Made.antt`
-//! the runs that coming words make, `specs/Free.antt` the runs in which each step finds an input of its own, as over
-//! a source that tells nothing, `specs/Restart.antt` what it means that a program can be restarted after each trap,
-//! and `specs/Shown.antt` what such a program's runs show. `specs/WildEffect.antt` says what the code's step did
-//! against that, for choosers and devices that may tell nothing, `specs/Picks.antt` what a step asks of who chooses,
-//! `specs/Telling.antt` how a chooser goes on, and `specs/WildRushed.antt` what steps are that only go on behind one
-//! another.
+//! `specs/Run.antt` the runs, `specs/Chosen.antt` the choices that are made by words of 64 bits, `specs/Made.antt` the
+//! runs that coming words make over an input, `specs/Fronts.antt` what is told of a run that a device's fault cut
+//! short, `specs/Restart.antt` what it means that a program can be restarted after each trap, and `specs/Shown.antt`
+//! what such a program's runs show. `specs/WildEffect.antt` says what the code's step did against that, for choosers
+//! and devices that may tell nothing, `specs/Picks.antt` what a step asks of who chooses, `specs/Telling.antt` how a
+//! chooser goes on, and `specs/WildRushed.antt` what steps are that only go on behind one another.
 //!
 //! `src/wild.rt` is the machine and `src/pending.rt` its pending trap; `src/step.rt` has the step by what it is,
 //! `src/picks.rt` who chooses in it, and how a chooser does by its words,

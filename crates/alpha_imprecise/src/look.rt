@@ -3,9 +3,9 @@
 ghost use Rattle.std.specs.Prelude.{◌≡◌, true, false, IfSome, IfNone, Some};
 ghost use Rattle.alpha_table.specs.ClassOf.{class_of};
 ghost use Rattle.alpha_seq.specs.Next.{next_insn};
-ghost use Rattle.alpha_seq.specs.Machine.{program_of, class_here};
+ghost use Rattle.alpha_seq.specs.Machine.{program_of, class_here, state_of};
 ghost use Rattle.alpha_imprecise.specs.Step.{triggers, destination, can_wait};
-ghost use Rattle.alpha_imprecise.specs.Wild.{bare, OverflowsAt, WaitsAt};
+ghost use Rattle.alpha_imprecise.specs.Wild.{OverflowsAt, WaitsAt};
 
 use alpha_seq::{Machine, Next};
 use alpha_table::{Form, Insn};
@@ -26,7 +26,7 @@ pub(crate) struct Overflow {
 pub(crate) fn overflow_of(machine: &Machine, insn: &Insn) -> Option<Overflow>
     requires { Some insn.now ≡ next_insn (program_of machine.now) machine.now.pc }
     ensures found { IfSome result (λ o. OverflowsAt machine.now o.place o.rc) }
-    ensures none { IfNone result (triggers (class_here machine.now) (bare machine.now) ≡ false) }
+    ensures none { IfNone result (triggers (class_here machine.now) (state_of machine.now) ≡ false) }
 {
     let rc = overflowing(machine, insn)?;
     let place = machine.image.place_of(machine.pc)?;
@@ -38,10 +38,10 @@ pub(crate) fn overflow_of(machine: &Machine, insn: &Insn) -> Option<Overflow>
 // instruction.
 #[inline(always)]
 fn overflowing(machine: &Machine, insn: &Insn) -> Option<Reg>
-    ensures found { IfSome result (λ rc. triggers (Some (class_of insn.now)) (bare machine.now)
+    ensures found { IfSome result (λ rc. triggers (Some (class_of insn.now)) (state_of machine.now)
         ≡ true) }
     ensures into { IfSome result (λ rc. destination (Some (class_of insn.now)) ≡ rc) }
-    ensures none { IfNone result (triggers (Some (class_of insn.now)) (bare machine.now) ≡ false) }
+    ensures none { IfNone result (triggers (Some (class_of insn.now)) (state_of machine.now) ≡ false) }
 {
     let Form::Operate { op, ra, src, rc } = insn.form() else {
         return None;
@@ -60,7 +60,7 @@ fn overflowing(machine: &Machine, insn: &Insn) -> Option<Reg>
 #[inline(never)]
 pub(crate) fn waits_here(machine: &Machine) -> Option<Insn>
     ensures found { IfSome result (λ insn. WaitsAt machine.now (class_of insn)) }
-    ensures none { IfNone result (can_wait (class_here machine.now) (bare machine.now) ≡ false) }
+    ensures none { IfNone result (can_wait (class_here machine.now) (state_of machine.now) ≡ false) }
 {
     match machine.next() {
         Next::Plain(insn) | Next::Overflows(insn) => Some(insn),

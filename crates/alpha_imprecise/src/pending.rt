@@ -1,8 +1,8 @@
 ghost use Rattle.std.specs.Prelude.{◌≡◌, ◌<◌, true, IfSome, IfNone};
 ghost use Rattle.alpha_table.specs.ClassOf.{class_of};
-ghost use Rattle.alpha_seq.specs.Machine.{class_here};
+ghost use Rattle.alpha_seq.specs.Machine.{class_here, state_of};
 ghost use Rattle.alpha_imprecise.specs.Chosen.{must_report};
-ghost use Rattle.alpha_imprecise.specs.Wild.{bare, WaitsAt};
+ghost use Rattle.alpha_imprecise.specs.Wild.{WaitsAt};
 
 use crate::look::waits_here;
 use alpha_seq::Machine;
@@ -30,7 +30,7 @@ impl Pending {
     pub(crate) fn waiting_insn(&self, machine: &Machine) -> Option<Insn>
         ensures found { IfSome result (λ insn. WaitsAt machine.now (class_of insn)) }
         ensures few { IfSome result (λ insn. self.now.waited < 1024) }
-        ensures none { IfNone result (must_report (class_here machine.now) (bare machine.now)
+        ensures none { IfNone result (must_report (class_here machine.now) (state_of machine.now)
             self.now.waited ≡ true) }
     {
         if self.waited < MOST_WAITED {

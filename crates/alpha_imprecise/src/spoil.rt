@@ -6,8 +6,9 @@ ghost use Rattle.alpha_table.specs.ClassOf.{class_of};
 ghost use Rattle.alpha_table.specs.declared.form.Form.TheVariants.{Mem};
 ghost use Rattle.alpha_table.specs.Rows.{branch_row};
 ghost use Rattle.alpha_seq.specs.Executed.{IsSized};
+ghost use Rattle.alpha_seq.specs.Machine.{state_of};
 ghost use Rattle.alpha_imprecise.specs.Step.{can_wait};
-ghost use Rattle.alpha_imprecise.specs.Wild.{bare, Spoils};
+ghost use Rattle.alpha_imprecise.specs.Wild.{Spoils};
 
 use alpha_seq::{Machine, branch_target, memory_access, size};
 use alpha_table::{BranchOp, Extension, Form, Insn, MemAccess, MemOp, MemRole};
@@ -18,7 +19,7 @@ use alpha_words::Reg;
 /// and the bytes that it stores.
 #[inline(never)]
 pub(crate) fn spoil(machine: &mut Machine, insn: &Insn, value: u64)
-    requires { can_wait (Some (class_of insn.now)) (bare machine.old) ≡ true }
+    requires { can_wait (Some (class_of insn.now)) (state_of machine.old) ≡ true }
     ensures { Spoils (class_of insn.now) value machine.old machine.new }
 {
     match insn.form() {
@@ -32,7 +33,7 @@ pub(crate) fn spoil(machine: &mut Machine, insn: &Insn, value: u64)
 }
 
 fn memory_word(machine: &mut Machine, op: MemOp, ra: Reg, rb: Reg, disp: i16, value: u64)
-    requires { can_wait (Some (class_of (Mem op ra rb disp))) (bare machine.old) ≡ true }
+    requires { can_wait (Some (class_of (Mem op ra rb disp))) (state_of machine.old) ≡ true }
     ensures { Spoils (class_of (Mem op ra rb disp)) value machine.old machine.new }
 {
     let at = memory_access(op, rb, disp);
@@ -48,7 +49,7 @@ fn memory_word(machine: &mut Machine, op: MemOp, ra: Reg, rb: Reg, disp: i16, va
 
 fn store(machine: &mut Machine, at: &MemAccess, ra: Reg, value: u64)
     requires size { IsSized at.now.bytes }
-    requires good { can_wait (Some (store at.now ra)) (bare machine.old) ≡ true }
+    requires good { can_wait (Some (store at.now ra)) (state_of machine.old) ≡ true }
     ensures { Spoils (store at.now ra) value machine.old machine.new }
 {
     let addr = machine.accessed(at);
@@ -66,7 +67,7 @@ fn load_locked(machine: &mut Machine, extension: Extension, at: &MemAccess, ra: 
 
 fn store_conditional(machine: &mut Machine, at: &MemAccess, ra: Reg, value: u64)
     requires size { IsSized at.now.bytes }
-    requires good { can_wait (Some (store_conditional at.now ra)) (bare machine.old) ≡ true }
+    requires good { can_wait (Some (store_conditional at.now ra)) (state_of machine.old) ≡ true }
     ensures { Spoils (store_conditional at.now ra) value machine.old machine.new }
 {
     let addr = machine.accessed(at);

@@ -4,13 +4,13 @@ ghost use Rattle.std.specs.Prelude.{◌≡◌, ◌<◌, ◌≤◌, false, IfSome
 ghost use Rattle.alpha_io.specs.Sunk.{sunk};
 ghost use Rattle.alpha_table.specs.ClassOf.{class_of};
 ghost use Rattle.alpha_seq.specs.Next.{next_insn};
-ghost use Rattle.alpha_seq.specs.Machine.{class_here, program_of};
+ghost use Rattle.alpha_seq.specs.Machine.{class_here, program_of, state_of};
 ghost use Rattle.alpha_seq.specs.Devices.{drawn};
 ghost use Rattle.alpha_imprecise.specs.Chosen.{reporting, triggering};
 ghost use Rattle.alpha_imprecise.specs.Moment.{Triggered, with_register};
 ghost use Rattle.alpha_imprecise.specs.Step.{triggers, destination, adds_here};
 ghost use Rattle.alpha_imprecise.specs.Picks.{choice_by};
-ghost use Rattle.alpha_imprecise.specs.Wild.{mask_after, bare, wild_state, OverflowsAt, WaitsAt};
+ghost use Rattle.alpha_imprecise.specs.Wild.{mask_after, wild_state, OverflowsAt, WaitsAt};
 ghost use Rattle.alpha_imprecise.specs.WildEffect.{GoesBy, wild_uses, wild_core, WildLeaves, MakesBy, BreaksBy, Chose, StepsBy, StepsAs};
 ghost use Rattle.alpha_seq.specs.StepEffect.{Makes, Breaks};
 ghost use Rattle.alpha_seq.specs.Sequential.{no_words};
@@ -130,7 +130,7 @@ fn precise<S: Source, K: Sink>(
 ) -> Result<Event, Fault>
     requires user { IsTrue machine.old.kernel.user }
     requires here { insn ≡ next_insn (program_of machine.old) machine.old.pc }
-    requires exact { triggers (class_here machine.old) (bare machine.old) ≡ false }
+    requires exact { triggers (class_here machine.old) (state_of machine.old) ≡ false }
     ensures made { IfOk result (λ event.
         Makes (GoesBy (reporting 0).choice) wild_uses wild_core no_words event
         (wild_state machine.old None) (wild_state machine.new None)
@@ -152,7 +152,7 @@ fn precise<S: Source, K: Sink>(
 fn trigger(machine: &mut Machine, pending: &mut Option<Pending>, overflow: &Overflow, value: u64)
     requires none { pending.old ≡ None }
     requires overflows { OverflowsAt machine.old overflow.now.place overflow.now.rc }
-    ensures step { StepsBy Triggered (triggering value).choice
+    ensures step { StepsBy (Triggered value) (triggering value).choice
         (wild_state machine.old pending.old) (wild_state machine.new pending.new) }
     ensures user { machine.new.kernel ≡ machine.old.kernel }
     ensures bound { IfSome pending.new (λ p. p.waited ≤ 1024) }

@@ -1,5 +1,5 @@
 -- The cases of a PAL call.
-use Rattle.std.proofs.Common.{◌≡◌, ℕ, List, [], ◌++◌, length, Option, Result, Ok, Err, refl, sym, ap, subst, ◌∙◌, arith, append-nil}
+use Rattle.std.proofs.Common.{◌≡◌, ℕ, List, [], length, Option, Result, Ok, Err, refl, sym, ap, subst, ◌∙◌, arith}
 use Rattle.std.proofs.lemmas.Grind.{elements}
 use Rattle.std.proofs.KnownBytes.{Appends-nil}
 use Rattle.alpha_words.specs.declared.PalCall.{PalCall}
@@ -15,27 +15,22 @@ use Rattle.alpha_pal.specs.declared.serve.SystemCall.{SystemCall}
 use Rattle.alpha_pal.specs.declared.serve.Answer.{Answer}
 use Rattle.alpha_pal.specs.declared.serve.Answer.TheVariants.{Read, Wrote, Error, Exit}
 use Rattle.alpha_pal.specs.Kernel.{KernelState, entered, entry_regs}
-use Rattle.alpha_pal.specs.Call.{Outside, outside, goes, signals, call}
+use Rattle.alpha_pal.specs.Call.{Silent, given_in, goes, signals, call}
 use Rattle.alpha_pal.specs.Serve.{system_call_of, after_serve}
 use Rattle.alpha_pal.specs.CallEffect.{ServeEffect, CallEffect, GoesOn, InputCause, SinkCause, seen, end_of, regs_after}
-use Rattle.alpha_pal.proofs.Serving.{rest_of, Takes-nothing}
+use Rattle.alpha_pal.proofs.Serving.{Reads-silent}
 use Rattle.alpha_pal.proofs.Callsys.{callsys-does}
 
 -- a call that leaves memory and devices alone
 GoesOn-quiet : (function : PalCall) (regs regs' : List ℕ) (mem : List Block) (unique unique' : ℕ)
     (left written : Option (List ℕ))
-    → ((input output : List ℕ)
-    → call function regs mem (outside unique input output) ≡ goes regs' mem (outside unique' input output))
+    → call function regs mem unique [] ≡ goes regs' mem unique' Silent
     → GoesOn function Nothing (seen regs mem unique left written) (seen regs' mem unique' left written)
 GoesOn-quiet function regs regs' mem unique unique' left written does = record {
-  taken = [];
-  rest = rest_of left left;
-  bytes = [];
-  took = Takes-nothing left;
+  traffic = Silent;
+  is = does;
+  fed = Reads-silent left;
   wrote = Appends-nil written;
-  is = λ output.
-      does (rest_of left left) output
-      ∙ ap (λ l. goes regs' mem (outside unique' (rest_of left left) l)) (sym (append-nil output));
   passes = (refl, refl);
 }
 
@@ -43,39 +38,39 @@ pub imb_goes_on : (regs : List ℕ) (mem : List Block) (unique : ℕ) (left writ
     → GoesOn Imb Nothing (seen regs mem unique left written) (seen regs mem unique left written)
 unfolding call
 imb_goes_on regs mem unique left written =
-    GoesOn-quiet Imb regs regs mem unique unique left written (λ input output. refl)
+    GoesOn-quiet Imb regs regs mem unique unique left written refl
 
-rdunique-does : (regs : List ℕ) (mem : List Block) (o : Outside) → call Rdunique regs mem o ≡ goes (put regs 0 o.unique) mem o
+rdunique-does : (regs : List ℕ) (mem : List Block) (unique : ℕ) → call Rdunique regs mem unique [] ≡ goes (put regs 0 unique) mem unique Silent
 unfolding call
-rdunique-does regs mem o = refl
+rdunique-does regs mem unique = refl
 
 pub rdunique_goes_on : (regs regs' : List ℕ) (mem : List Block) (unique : ℕ) (left written : Option (List ℕ))
     → regs' ≡ put regs 0 unique
     → GoesOn Rdunique Nothing (seen regs mem unique left written) (seen regs' mem unique left written)
 rdunique_goes_on regs regs' mem unique left written set =
-    GoesOn-quiet Rdunique regs regs' mem unique unique left written (λ input output. rdunique-does regs mem (outside unique input output) ∙ ap (λ l. goes l mem (outside unique input output)) (sym set))
+    GoesOn-quiet Rdunique regs regs' mem unique unique left written (rdunique-does regs mem unique ∙ ap (λ l. goes l mem unique Silent) (sym set))
 
-wrunique-does : (regs : List ℕ) (mem : List Block) (o : Outside) → call Wrunique regs mem o ≡ goes regs mem (outside (reg regs 16) o.input o.output)
+wrunique-does : (regs : List ℕ) (mem : List Block) (unique : ℕ) → call Wrunique regs mem unique [] ≡ goes regs mem (reg regs 16) Silent
 unfolding call
-wrunique-does regs mem o = refl
+wrunique-does regs mem unique = refl
 
 pub wrunique_goes_on : (regs : List ℕ) (mem : List Block) (unique unique' : ℕ) (left written : Option (List ℕ))
     → unique' ≡ reg regs 16
     → GoesOn Wrunique Nothing (seen regs mem unique left written) (seen regs mem unique' left written)
 wrunique_goes_on regs mem unique unique' left written set =
-    GoesOn-quiet Wrunique regs regs mem unique unique' left written (λ input output. wrunique-does regs mem (outside unique input output) ∙ ap (λ n. goes regs mem (outside n input output)) (sym set))
+    GoesOn-quiet Wrunique regs regs mem unique unique' left written (wrunique-does regs mem unique ∙ ap (λ n. goes regs mem n Silent) (sym set))
 
-pub bpt_signals : (regs : List ℕ) (mem : List Block) (o : Outside) → call Bpt regs mem o ≡ signals 0
+pub bpt_signals : (regs : List ℕ) (mem : List Block) (unique : ℕ) (input : List ℕ) → call Bpt regs mem unique input ≡ signals 0
 unfolding call
-bpt_signals regs mem o = refl
+bpt_signals regs mem unique input = refl
 
-pub bugchk_signals : (regs : List ℕ) (mem : List Block) (o : Outside) → call Bugchk regs mem o ≡ signals 1
+pub bugchk_signals : (regs : List ℕ) (mem : List Block) (unique : ℕ) (input : List ℕ) → call Bugchk regs mem unique input ≡ signals 1
 unfolding call
-bugchk_signals regs mem o = refl
+bugchk_signals regs mem unique input = refl
 
-pub gentrap_signals : (regs : List ℕ) (mem : List Block) (o : Outside) → call Gentrap regs mem o ≡ signals 2
+pub gentrap_signals : (regs : List ℕ) (mem : List Block) (unique : ℕ) (input : List ℕ) → call Gentrap regs mem unique input ≡ signals 2
 unfolding call
-gentrap_signals regs mem o = refl
+gentrap_signals regs mem unique input = refl
 
 -- ---- system calls
 
@@ -105,43 +100,31 @@ served_effect : (served : Result Answer Fault) (regs regs' : List ℕ) (mem mem'
     → CallEffect Callsys (end_of (system_call_of regs) served) (seen regs mem unique left written)
     (seen regs' mem' unique left' written')
 served_effect (Ok (Read n)) regs regs' mem mem' unique left left' written written' h set = record {
-  taken = h.taken;
-  rest = h.rest;
-  bytes = h.bytes;
-  took = h.took;
+  traffic = h.traffic;
+  is = callsys-does regs mem unique (given_in h.traffic)
+      ∙ (ap (after_serve regs unique) h.is ∙ ap (λ l. goes l mem' unique h.traffic) (sym set));
+  fed = h.fed;
   wrote = h.wrote;
-  is = λ output.
-      callsys-does regs mem (outside unique (h.taken ++ h.rest) output)
-      ∙ (ap (after_serve regs) (h.is unique output)
-      ∙ ap (λ l. goes l mem' (outside unique h.rest (output ++ h.bytes))) (sym set));
   passes = h.passes;
 }
 served_effect (Ok (Wrote n)) regs regs' mem mem' unique left left' written written' h set = record {
-  taken = h.taken;
-  rest = h.rest;
-  bytes = h.bytes;
-  took = h.took;
+  traffic = h.traffic;
+  is = callsys-does regs mem unique (given_in h.traffic)
+      ∙ (ap (after_serve regs unique) h.is ∙ ap (λ l. goes l mem' unique h.traffic) (sym set));
+  fed = h.fed;
   wrote = h.wrote;
-  is = λ output.
-      callsys-does regs mem (outside unique (h.taken ++ h.rest) output)
-      ∙ (ap (after_serve regs) (h.is unique output)
-      ∙ ap (λ l. goes l mem' (outside unique h.rest (output ++ h.bytes))) (sym set));
   passes = h.passes;
 }
 served_effect (Ok (Error n)) regs regs' mem mem' unique left left' written written' h set = record {
-  taken = h.taken;
-  rest = h.rest;
-  bytes = h.bytes;
-  took = h.took;
+  traffic = h.traffic;
+  is = callsys-does regs mem unique (given_in h.traffic)
+      ∙ (ap (after_serve regs unique) h.is ∙ ap (λ l. goes l mem' unique h.traffic) (sym set));
+  fed = h.fed;
   wrote = h.wrote;
-  is = λ output.
-      callsys-does regs mem (outside unique (h.taken ++ h.rest) output)
-      ∙ (ap (after_serve regs) (h.is unique output)
-      ∙ ap (λ l. goes l mem' (outside unique h.rest (output ++ h.bytes))) (sym set));
   passes = h.passes;
 }
 served_effect (Ok (Exit v)) regs regs' mem mem' unique left left' written written' h set =
-    (λ o. callsys-does regs mem o ∙ ap (after_serve regs) (h.0 o), same_seen regs regs' mem mem' unique left left' written written' set h.1 h.2 h.3)
+    (λ input. callsys-does regs mem unique input ∙ ap (after_serve regs unique) (h.0 input), same_seen regs regs' mem mem' unique left left' written written' set h.1 h.2 h.3)
 served_effect (Err Input) regs regs' mem mem' unique left left' written written' h set =
     (refl, h.0, same_seen regs regs' mem' mem' unique left' left' written written' set refl refl h.1)
 served_effect (Err Output) regs regs' mem mem' unique left left' written written' h set =

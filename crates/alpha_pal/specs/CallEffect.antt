@@ -1,5 +1,5 @@
 -- What the code of a call did, against the definition of the call, where devices may tell nothing.
-use Rattle.std.specs.Prelude.{◌≡◌, ⊤, ℕ, ◌<◌, ◌≤◌, true, IsTrue, List, ◌++◌, length, Option, Some, None, Result, Ok, Err}
+use Rattle.std.specs.Prelude.{◌≡◌, ⊤, ℕ, ◌<◌, ◌≤◌, true, IsTrue, List, ◌++◌, length, take, drop, Option, Some, None, Result, Ok, Err}
 use Rattle.std.specs.Io.KnownBytes.{Appends}
 use Rattle.alpha_words.specs.declared.PalCall.{PalCall}
 use Rattle.alpha_words.specs.declared.PalCall.TheVariants.{Callsys}
@@ -19,7 +19,7 @@ use Rattle.alpha_pal.specs.declared.pal_end.PalEnd.TheVariants.{Goes, Exit, Sign
 use Rattle.alpha_pal.specs.declared.pal_end.Passed.{Passed}
 use Rattle.alpha_pal.specs.declared.pal_end.Passed.TheVariants.{Nothing, Took, Put}
 use Rattle.alpha_pal.specs.Kernel.{KernelState, call_frame}
-use Rattle.alpha_pal.specs.Call.{Outside, outside, goes, exits, signals, call}
+use Rattle.alpha_pal.specs.Call.{Traffic, Silent, asked_in, given_in, put_in, goes, exits, signals, call}
 use Rattle.alpha_pal.specs.Serve.{read_call, write_call, input_descriptor, output_descriptor, served, serve, system_call_of, answered}
 use Rattle.alpha_pal.specs.Passed.{IsPassed}
 
@@ -28,6 +28,12 @@ abbrev pub Takes : Option (List ℕ) → Option (List ℕ) → List ℕ → List
 Takes None now taken rest = ⊤
 Takes (Some xs) now taken rest = (xs ≡ taken ++ rest) × (now ≡ Some rest)
 
+-- where the input is told, this was read of it, and what follows is left
+abbrev pub Reads : Option (List ℕ) → Traffic → Option (List ℕ) → Type 0
+Reads None traffic left = ⊤
+Reads (Some input) traffic left =
+    (given_in traffic ≡ take (asked_in traffic) input) × (left ≡ Some (drop (length (given_in traffic)) input))
+
 -- what an answer to a request says that it took or put
 abbrev pub passed_by : SystemCall → Answer → Passed
 passed_by r (Read n) = Took r.a1 n
@@ -35,19 +41,16 @@ passed_by r (Wrote n) = Put r.a1 n
 passed_by r (Error n) = Nothing
 passed_by r (Exits v) = Nothing
 
--- the answer and the memory are those of the definition, at an input of what was taken and the rest,
--- and what was put is the output's growth. Both stand in memory.
+-- The answer and the memory are those of the definition, where what was given is there to be read. What passed went through
+-- the devices, and stands in memory.
 pub record Serves
     (r : SystemCall) (answer : Answer) (mem mem' : List Block)
     (left left' written written' : Option (List ℕ)) : Type 0 where
-  pub taken : List ℕ
-  pub rest : List ℕ
-  pub bytes : List ℕ
-  pub took : Takes left left' taken rest
-  pub wrote : Appends written written' bytes
-  pub is : (unique : ℕ) (output : List ℕ)
-      → serve r mem (outside unique (taken ++ rest) output) ≡ served answer mem' (outside unique rest (output ++ bytes))
-  pub passes : IsPassed (passed_by r answer) mem' taken bytes
+  pub traffic : Traffic
+  pub is : serve r mem (given_in traffic) ≡ served answer mem' traffic
+  pub fed : Reads left traffic left'
+  pub wrote : Appends written written' (put_in traffic)
+  pub passes : IsPassed (passed_by r answer) mem' (given_in traffic) (put_in traffic)
 
 -- a good read whose source failed: the bytes taken so far are in memory, whose blocks lie apart, and fewer than were
 -- asked for
@@ -76,7 +79,7 @@ ServeEffect r (Ok (Read n)) mem mem' left left' written written' = Serves r (Rea
 ServeEffect r (Ok (Wrote n)) mem mem' left left' written written' = Serves r (Wrote n) mem mem' left left' written written'
 ServeEffect r (Ok (Error n)) mem mem' left left' written written' = Serves r (Error n) mem mem' left left' written written'
 ServeEffect r (Ok (Exits v)) mem mem' left left' written written' =
-    ((o : Outside) → serve r mem o ≡ served (Exits v) mem o) × (mem' ≡ mem) × (left' ≡ left) × (written' ≡ written)
+    ((input : List ℕ) → serve r mem input ≡ served (Exits v) mem Silent) × (mem' ≡ mem) × (left' ≡ left) × (written' ≡ written)
 ServeEffect r (Err Input) mem mem' left left' written written' = TakesPart r mem mem' left left' × (written' ≡ written)
 ServeEffect r (Err Output) mem mem' left left' written written' = PutsPart r mem written written' × (mem' ≡ mem) × (left' ≡ left)
 ServeEffect r (Err Notes) mem mem' left left' written written' = ⊥
@@ -105,34 +108,27 @@ pub record Seen : Type 0 where
 abbrev pub seen : List ℕ → List Block → ℕ → Option (List ℕ) → Option (List ℕ) → Seen
 seen regs mem unique left written = record { regs = regs; mem = mem; unique = unique; left = left; written = written }
 
--- registers, memory and unique value are those of the definition, at an input of what was taken and
--- the rest, and what was put is the output's growth. Both stand in memory where the call says so.
+-- Registers, memory and unique value are those of the definition, where what was given is there to be read. What passed went
+-- through the devices, and stands in memory where the call says so.
 pub record GoesOn (function : PalCall) (passed : Passed) (old new : Seen) : Type 0 where
-  pub taken : List ℕ
-  pub rest : List ℕ
-  pub bytes : List ℕ
-  pub took : Takes old.left new.left taken rest
-  pub wrote : Appends old.written new.written bytes
-  pub is : (output : List ℕ)
-      → call function old.regs old.mem (outside old.unique (taken ++ rest) output)
-      ≡ goes new.regs new.mem (outside new.unique rest (output ++ bytes))
-  pub passes : IsPassed passed new.mem taken bytes
+  pub traffic : Traffic
+  pub is : call function old.regs old.mem old.unique (given_in traffic) ≡ goes new.regs new.mem new.unique traffic
+  pub fed : Reads old.left traffic new.left
+  pub wrote : Appends old.written new.written (put_in traffic)
+  pub passes : IsPassed passed new.mem (given_in traffic) (put_in traffic)
 
--- the same where the input is told
+-- the same where the input is told: all of it is there to be read
 pub record GoesOnTold (function : PalCall) (old new : Seen) (left : List ℕ) : Type 0 where
-  pub rest : List ℕ
-  pub bytes : List ℕ
-  pub took : new.left ≡ Some rest
-  pub wrote : Appends old.written new.written bytes
-  pub is : (output : List ℕ)
-      → call function old.regs old.mem (outside old.unique left output)
-      ≡ goes new.regs new.mem (outside new.unique rest (output ++ bytes))
+  pub traffic : Traffic
+  pub is : call function old.regs old.mem old.unique left ≡ goes new.regs new.mem new.unique traffic
+  pub took : new.left ≡ Some (drop (length (given_in traffic)) left)
+  pub wrote : Appends old.written new.written (put_in traffic)
 
 -- a call's effect, by its end
 abbrev pub CallEffect : PalCall → Result PalEnd Fault → Seen → Seen → Type 0
 CallEffect function (Ok (Goes passed)) old new = GoesOn function passed old new
-CallEffect function (Ok (Exit v)) old new = ((o : Outside) → call function old.regs old.mem o ≡ exits v) × (new ≡ old)
-CallEffect function (Ok (Signal code)) old new = ((o : Outside) → call function old.regs old.mem o ≡ signals code) × (new ≡ old)
+CallEffect function (Ok (Exit v)) old new = ((input : List ℕ) → call function old.regs old.mem old.unique input ≡ exits v) × (new ≡ old)
+CallEffect function (Ok (Signal code)) old new = ((input : List ℕ) → call function old.regs old.mem old.unique input ≡ signals code) × (new ≡ old)
 CallEffect function (Err Input) old new =
     (function ≡ Callsys)
     × TakesPart (system_call_of old.regs) old.mem new.mem old.left new.left

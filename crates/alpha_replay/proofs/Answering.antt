@@ -1,6 +1,6 @@
 -- What a replay answers, by what the code found.
 use Rattle.std.specs.Prelude.{is_none}
-use Rattle.std.proofs.Common.{◌≡◌, ◌≢◌, ⊎_elim, ◌+◌, ℕ, Bool, true, false, eqb, List, [], ◌∷◌, ◌++◌, length, Option, Some, None, Result, Ok, Err, refl, sym, ap, ◌∙◌}
+use Rattle.std.proofs.Common.{◌≡◌, ◌≢◌, ⊎_elim, ◌+◌, ◌&&◌, ◌||◌, ℕ, Bool, true, false, eqb, List, [], ◌∷◌, ◌++◌, length, Option, Some, None, Result, Ok, Err, refl, sym, ap, ◌∙◌}
 use Rattle.std.specs.Option.{option_map}
 use Rattle.std.proofs.Math.Seq.{drop-length}
 use Rattle.std.proofs.lemmas.Bool.{eq-eqb}
@@ -11,10 +11,11 @@ use Rattle.alpha_image.specs.FirstOf.{unless, first_of}
 use Rattle.alpha_image.specs.Parts.{Parts as Image}
 use Rattle.alpha_seq.specs.State.{Program, State, Went}
 use Rattle.alpha_seq.specs.Start.{start}
-use Rattle.alpha_seq.specs.Run.{Mark}
+use Rattle.alpha_seq.specs.Run.{output}
 use Rattle.alpha_seq.specs.Machine.{program_of, state_of}
 use Rattle.alpha_imprecise.specs.declared.pending.Pending.{Pending}
-use Rattle.alpha_imprecise.specs.Moment.{Precisely}
+use Rattle.alpha_imprecise.specs.Moment.{Happening, Precisely, moment}
+use Rattle.alpha_imprecise.specs.Run.{seen, finished}
 use Rattle.alpha_imprecise.specs.Wild.{WildState, trap_in, waited_in}
 use Rattle.alpha_replay.specs.declared.item.Item.{Item}
 use Rattle.alpha_replay.specs.declared.replay_fault.ReplayFault.{ReplayFault}
@@ -24,53 +25,59 @@ use Rattle.alpha_replay.specs.Compared.{Sees, first_difference}
 use Rattle.alpha_replay.specs.Items.{units_of}
 use Rattle.alpha_replay.specs.Journal.{Parts, parts}
 use Rattle.alpha_replay.specs.Listed.{Played, listed_from, listed, unplayed}
-use Rattle.alpha_replay.specs.Events.{happened_of}
-use Rattle.alpha_replay.specs.Playing.{Begins, Place, place, first_stand, standing, Plays, StopsAt}
-use Rattle.alpha_replay.specs.Replay.{ends_by, reports_of, program_by, run_fault, answer_by, answered, replayed, Replays}
+use Rattle.alpha_replay.specs.Playing.{Begins, Place, place, first_stand, IsLast, standing, Plays, StopsAt}
+use Rattle.alpha_replay.specs.Replay.{ending_seen, same_ending, ends_as, ends_seen, reports_of, program_by, answer_by, answered, replayed, Replays}
 use Rattle.alpha_replay.proofs.Listing.{listed_units}
 
 -- ---- from the start
 
-abbrev stands : State → Option Pending → Played
-stands s pending = record {
-  run = record { units = 0; state = s; pending = trap_in pending; trace = []; last = Precisely Went };
+abbrev stands : State → Option Pending → List ℕ → Played
+stands s pending input = record {
+  run = record { at = moment s (trap_in pending) (Precisely Went); steps = []; left = input; units = 0 };
   waited = waited_in pending;
 }
 
-begun : (g : Program) (w : WildState) (input : List ℕ) → Begins g w → standing (place w input first_stand) 0 [] [] ≡ unplayed (start g input)
+begun : (g : Program) (w : WildState) (input : List ℕ) → Begins g w → standing (place w input first_stand) (Precisely Went) [] 0 ≡ unplayed (start g) input
 begun g w input h =
-    ap (λ (p : Option Pending). stands (state_of w.machine input []) p) h.fresh.calm
-    ∙ (ap (λ (s : State). stands s None) (h.fresh.start input)
-    ∙ ap (λ (f : Program). stands (start f input) None) h.program)
+    ap (λ (p : Option Pending). stands (state_of w.machine) p input) h.fresh.calm
+    ∙ (ap (λ (s : State). stands s None input) h.fresh.start
+    ∙ ap (λ (f : Program). stands (start f) None input) h.program)
+
+first_last : IsLast first_stand.last (Precisely Went)
+first_last = record { over = refl; ending = refl }
 
 -- the items lead to where the code stands
 pub record Stands (g : Program) (input : List ℕ) (items : List Item) (expected : List ℕ) (b : Place) : Type 0 where
   pub units : ℕ
-  pub marks : List Mark
-  pub output : List ℕ
-  pub is : listed g input items ≡ Ok (standing b units marks output)
-  pub sees : Sees expected b.stand.seen output
+  pub steps : List Happening
+  pub last : Happening
+  pub last_is : IsLast b.stand.last last
+  pub is : listed g input items ≡ Ok (standing b last steps units)
+  pub sees : Sees expected b.stand.seen (output (seen steps))
 
 pub stands_by : (g : Program) (w : WildState) (input : List ℕ) (items : List Item) (expected : List ℕ) (b : Place) → Begins g w
     → Plays expected items (length items) (place w input first_stand) b → Stands g input items expected b
-stands_by g w input items expected b h plays = record {
-  units = 0 + plays.used;
-  marks = [] ++ plays.marks;
-  output = [] ++ plays.bytes;
-  is =
-      ap (λ (p : Played). listed_from g 0 items p) (sym (begun g w input h))
-      ∙ (ap (λ (f : Program). listed_from f 0 items (standing (place w input first_stand) 0 [] [])) (sym h.program)
-      ∙ (plays.is 0 [] []
-      ∙ ap (λ (l : List Item). listed_from (program_of w.machine) (length items) l (standing b (0 + plays.used) ([] ++ plays.marks) ([] ++ plays.bytes))) (drop-length items)));
-  sees = plays.sees [] (λ more. refl);
-}
+stands_by g w input items expected b h plays =
+    let x = plays.is (Precisely Went) first_last [] 0 in
+    record {
+      units = 0 + plays.used;
+      steps = [] ++ plays.steps;
+      last = x.0;
+      last_is = x.1;
+      is =
+          ap (λ (p : Played). listed_from g 0 items p) (sym (begun g w input h))
+          ∙ (ap (λ (f : Program). listed_from f 0 items (standing (place w input first_stand) (Precisely Went) [] 0)) (sym h.program)
+          ∙ (x.2
+          ∙ ap (λ (l : List Item). listed_from (program_of w.machine) (length items) l (standing b x.0 ([] ++ plays.steps) (0 + plays.used))) (drop-length items)));
+      sees = plays.sees [] (λ more. refl);
+    }
 
 pub stops_by : (g : Program) (w : WildState) (input : List ℕ) (items : List Item) (n : ℕ) → Begins g w
     → StopsAt items n (place w input first_stand) → listed g input items ≡ Err n
 stops_by g w input items n h stops =
     ap (λ (p : Played). listed_from g 0 items p) (sym (begun g w input h))
-    ∙ (ap (λ (f : Program). listed_from f 0 items (standing (place w input first_stand) 0 [] [])) (sym h.program)
-    ∙ stops 0 [] [])
+    ∙ (ap (λ (f : Program). listed_from f 0 items (standing (place w input first_stand) (Precisely Went) [] 0)) (sym h.program)
+    ∙ stops (Precisely Went) first_last [] 0)
 
 -- ---- the answer
 
@@ -82,32 +89,43 @@ tests at ends left = first_of (option_map faults.Output at ∷ unless ends fault
 
 module _ (image : Image) (p : Parts) (b : Place) (h : Stands (program_by image p) p.input p.items p.output b) where
   abbrev here : Played
-  here = standing b h.units h.marks h.output
+  here = standing b h.last h.steps h.units
+
+  -- what it put
+  abbrev bytes : List ℕ
+  bytes = output (seen h.steps)
 
   abbrev at_end : Bool
-  at_end = ends_by p.ending (happened_of b.stand.last) (is_none (trap_in b.wild.pending))
+  at_end = ends_seen p.ending b.stand.last (is_none (trap_in b.wild.pending))
+
+  same_end : ends_as p.ending here.run ≡ at_end
+  same_end =
+      ap (λ (e : Ending). same_ending p.ending e && (finished h.last || is_none (trap_in b.wild.pending))) (sym h.last_is.ending)
+      ∙ ap (λ (o : Bool). same_ending p.ending (ending_seen b.stand.last) && (o || is_none (trap_in b.wild.pending))) (sym h.last_is.over)
 
   abbrev counts : Replayed
   counts = record { units = h.units; reports = reports_of p.items }
 
-  answer_is : (fault : Option ReplayFault) → run_fault p here.run ≡ fault → answer_by fault counts ≡ replayed image p
-  answer_is fault e = sym (ap (answered p) h.is ∙ ap (λ (o : Option ReplayFault). answer_by o counts) e)
+  answer_is : (fault : Option ReplayFault) → tests (first_difference 0 bytes p.output) at_end (length b.input) ≡ fault → answer_by fault counts ≡ replayed image p
+  answer_is fault e =
+      sym (ap (answered p) h.is
+      ∙ ap (λ (o : Option ReplayFault). answer_by o counts) (ap (λ (x : Bool). tests (first_difference 0 bytes p.output) x (length b.input)) same_end ∙ e))
 
-  pub output_fault : (at : ℕ) → first_difference 0 h.output p.output ≡ Some at → Err (faults.Output at) ≡ replayed image p
+  pub output_fault : (at : ℕ) → first_difference 0 (output (seen h.steps)) p.output ≡ Some at → Err (faults.Output at) ≡ replayed image p
   output_fault at e = answer_is (Some (faults.Output at)) (ap (λ (o : Option ℕ). tests o at_end (length b.input)) e)
 
-  pub end_fault : first_difference 0 h.output p.output ≡ None → at_end ≡ false → Err faults.End ≡ replayed image p
+  pub end_fault : first_difference 0 (output (seen h.steps)) p.output ≡ None → at_end ≡ false → Err faults.End ≡ replayed image p
   end_fault e f =
       answer_is (Some faults.End) (ap (λ (o : Option ℕ). tests o at_end (length b.input)) e ∙ ap (λ (c : Bool). tests None c (length b.input)) f)
 
-  pub input_fault : first_difference 0 h.output p.output ≡ None → at_end ≡ true → eqb (length b.input) 0 ≡ false → Err (faults.Input (length b.input)) ≡ replayed image p
+  pub input_fault : first_difference 0 (output (seen h.steps)) p.output ≡ None → at_end ≡ true → eqb (length b.input) 0 ≡ false → Err (faults.Input (length b.input)) ≡ replayed image p
   input_fault e f l =
       answer_is (Some (faults.Input (length b.input)))
       (ap (λ (o : Option ℕ). tests o at_end (length b.input)) e
       ∙ (ap (λ (c : Bool). tests None c (length b.input)) f
       ∙ ap (λ (c : Bool). first_of (None ∷ None ∷ unless c (faults.Input (length b.input)) ∷ [])) l))
 
-  pub no_fault : first_difference 0 h.output p.output ≡ None → at_end ≡ true → eqb (length b.input) 0 ≡ true
+  pub no_fault : first_difference 0 (output (seen h.steps)) p.output ≡ None → at_end ≡ true → eqb (length b.input) 0 ≡ true
       → Ok (record { units = units_of p.items; reports = reports_of p.items }) ≡ replayed image p
   no_fault e f l =
       ap (λ (k : ℕ). Ok (record { units = k; reports = reports_of p.items })) (sym (listed_units (program_by image p) p.input p.items here h.is))

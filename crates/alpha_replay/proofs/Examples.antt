@@ -25,6 +25,7 @@ use Rattle.alpha_seq.specs.State.{Program}
 use Rattle.alpha_seq.specs.Start.{start_memory, start_regs}
 use Rattle.alpha_seq.specs.Run.{log}
 use Rattle.alpha_trap.specs.Scan.{fits, greatest_below}
+use Rattle.alpha_imprecise.specs.Run.{seen as seen_in}
 use Rattle.alpha_imprecise.specs.Made.{wild_end}
 use Rattle.alpha_replay.specs.declared.item.Item.{Item}
 use Rattle.alpha_replay.specs.declared.item.Item.TheVariants.{Units, Trigger, Wait, Report}
@@ -55,7 +56,7 @@ record Seen : Type 0 where
   units : ℕ
 
 abbrev seen_of : Result Played ℕ → Result Seen ℕ
-seen_of (Ok p) = Ok (record { end = wild_end p.run.last; logged = log p.run.trace; units = p.run.units })
+seen_of (Ok p) = Ok (record { end = wild_end p.run.at.happened; logged = log (seen_in p.run.steps); units = p.run.units })
 seen_of (Err n) = Err n
 
 -- what items over an empty input lead to

@@ -1,5 +1,5 @@
 -- The journal of a run lists it over the input that it took, and so its replay is no refusal.
-use Rattle.std.proofs.Common.{◌≡◌, ◌+◌, ◌==◌, ◌&&◌, ◌||◌, not, ℕ, zero, suc, Bool, true, false, cond, List, [], ◌∷◌, ◌++◌, length, Option, Some, None, is_none, Ok, refl, sym, ap, subst, ◌∙◌}
+use Rattle.std.proofs.Common.{◌≡◌, ◌+◌, ◌-◌, take, arith, ◌==◌, ◌&&◌, ◌||◌, not, ℕ, Bool, true, false, cond, List, [], ◌∷◌, ◌++◌, length, Option, Some, None, is_none, Ok, refl, sym, ap, subst, ◌∙◌}
 use Rattle.std.proofs.lemmas.Bool.{eq-eqb}
 use Rattle.std.specs.Option.{option_map}
 use Rattle.alpha_words.specs.declared.Completion.{Completion}
@@ -7,30 +7,25 @@ use Rattle.alpha_image.specs.Parts.{Parts as Image}
 use Rattle.alpha_image.specs.FirstOf.{unless, first_of}
 use Rattle.alpha_seq.specs.State.{Program}
 use Rattle.alpha_seq.specs.Start.{start}
-use Rattle.alpha_imprecise.specs.Run.{WildRun, finished}
-use Rattle.alpha_imprecise.specs.Made.{begun}
+use Rattle.alpha_seq.specs.Run.{taken, output}
+use Rattle.alpha_seq.proofs.Fronts.{fed_all}
+use Rattle.alpha_imprecise.specs.Run.{seen, WildRun, finished, begins_wild}
+use Rattle.alpha_imprecise.specs.Made.{Making, begun}
+use Rattle.alpha_imprecise.proofs.Drawn.{IsMade, steps-made, begun-made}
 use Rattle.alpha_replay.specs.declared.ending.Ending.{Ending}
 use Rattle.alpha_replay.specs.declared.replay_fault.ReplayFault.TheVariants as faults
 use Rattle.alpha_replay.specs.declared.replaying.Replayed.{Replayed}
 use Rattle.alpha_replay.specs.Compared.{first_difference}
 use Rattle.alpha_replay.specs.Endings.{ending_kind, ending_first, ending_second}
 use Rattle.alpha_replay.specs.Journal.{Parts}
-use Rattle.alpha_replay.specs.Gathered.{closed}
-use Rattle.alpha_replay.specs.Journaled.{Journaled, unjournaled, taken_by, journal_at, is_within, has_stopped, journaled_more, steps_journaled, IsJournaled}
+use Rattle.alpha_replay.specs.Gathered.{no_moves, items_of}
+use Rattle.alpha_replay.specs.Journaled.{journal_at, is_within, IsJournaled}
 use Rattle.alpha_replay.specs.Listed.{played_over, unplayed, listed}
 use Rattle.alpha_replay.specs.Replay.{ending_of, same_ending, ends_as, reports_of, run_fault, answer_by, answered, replayed}
-use Rattle.alpha_replay.proofs.JournaledRuns.{played_in, Lists, lists_closed, steps_list}
+use Rattle.alpha_replay.proofs.JournaledRuns.{played_in, Lists, lists_closed, steps_list, journaled_run}
 use Rattle.alpha_replay.proofs.Feeding.{list_feeds}
-use Rattle.alpha_replay.proofs.Recording.{taken_is}
-
--- the input that there was at the beginning stays
-pub input_stays : (n : ℕ) (g : Program) (from : Journaled) (m : ℕ) → (steps_journaled n g from m).input ≡ from.input
-input_stays n g from zero = refl
-input_stays n g from (suc m) = by (has_stopped n g.how (steps_journaled n g from m)) ∙ input_stays n g from m
-  where
-    by : (b : Bool) → (cond b (steps_journaled n g from m) (journaled_more g (steps_journaled n g from m))).input ≡ (steps_journaled n g from m).input
-    by true = refl
-    by false = refl
+use Rattle.std.proofs.Math.Seq.{take-append_seam}
+use Rattle.std.proofs.lemmas.List.{length-append}
 
 -- ---- no fault of a replay
 
@@ -53,55 +48,69 @@ settled_by true false false e h k = cc
 settled_by false f c e h k = cc
 
 -- a run with the output and the end of its journal that has taken its whole input
-no_fault : (p : Parts) (w : WildRun) → w.state.outside.output ≡ p.output → p.ending ≡ ending_of w.last → (finished w.last || is_none w.pending) ≡ true
-    → w.state.outside.input ≡ [] → run_fault p w ≡ None
-no_fault p w output ending settled left =
-    let one : first_difference 0 w.state.outside.output p.output ≡ None =
-    ap (λ (l : List ℕ). first_difference 0 w.state.outside.output l) (sym output) ∙ no_difference 0 w.state.outside.output in
+no_fault : (p : Parts) (w : WildRun) → output (seen w.steps) ≡ p.output → p.ending ≡ ending_of w.at.happened → (finished w.at.happened || is_none w.at.pending) ≡ true
+    → w.left ≡ [] → run_fault p w ≡ None
+no_fault p w puts ending settled left =
+    let one : first_difference 0 (output (seen w.steps)) p.output ≡ None =
+    ap (λ (l : List ℕ). first_difference 0 (output (seen w.steps)) l) (sym puts) ∙ no_difference 0 (output (seen w.steps)) in
     let two : ends_as p.ending w ≡ true =
-    ap (λ (e : Ending). same_ending e (ending_of w.last) && (finished w.last || is_none w.pending)) ending
-    ∙ (ap (λ (b : Bool). b && (finished w.last || is_none w.pending)) (same_self (ending_of w.last)) ∙ settled) in
-    let three : length w.state.outside.input ≡ 0 = ap (λ (l : List ℕ). length l) left in
+    ap (λ (e : Ending). same_ending e (ending_of w.at.happened) && (finished w.at.happened || is_none w.at.pending)) ending
+    ∙ (ap (λ (b : Bool). b && (finished w.at.happened || is_none w.at.pending)) (same_self (ending_of w.at.happened)) ∙ settled) in
+    let three : length w.left ≡ 0 = ap (λ (l : List ℕ). length l) left in
     let last : ℕ → Bool → Bool → Option ℕ → _ = λ n b c d.
     first_of (option_map faults.Output d ∷ unless b faults.End ∷ unless c (faults.Input n) ∷ []) in
-    ap (last (length w.state.outside.input) (ends_as p.ending w) (length w.state.outside.input == 0)) one
-    ∙ (ap (λ (b : Bool). last (length w.state.outside.input) b (length w.state.outside.input == 0) None) two
-    ∙ ap (λ (b : Bool). last (length w.state.outside.input) true b None) (eq-eqb (length w.state.outside.input) 0 three))
+    ap (last (length w.left) (ends_as p.ending w) (length w.left == 0)) one
+    ∙ (ap (λ (b : Bool). last (length w.left) b (length w.left == 0) None) two
+    ∙ ap (λ (b : Bool). last (length w.left) true b None) (eq-eqb (length w.left) 0 three))
 
 -- ---- the journal of a run
 
 -- from the start, the items list the run
-pub journaled_lists : (n : ℕ) (g : Program) (input words : List ℕ) (k : Journaled) → IsJournaled n g (unjournaled (begun (start g input) None 0 words)) k
-    → listed g input (closed k.gathered) ≡ Ok (played_in k.making)
+pub journaled_lists : (n : ℕ) (g : Program) (input words : List ℕ) (k : Making) → IsJournaled n g (begun (start g) input None 0 words) k
+    → listed g input (items_of k.run.steps) ≡ Ok (played_in k)
 journaled_lists n g input words k is =
-    let from = unjournaled (begun (start g input) None 0 words) in
-    let none : Lists g (played_in from.making) from.gathered (played_in from.making) = record { mid = played_in from.making; listed = λ m. refl; ones = refl } in
-    let h = lists_closed g (played_in from.making) _ _ (steps_list n g from is.steps none) 0 in
-    subst (λ (x : Journaled). listed g input (closed x.gathered) ≡ Ok (played_in x.making)) is.reached h
+    let from = begun (start g) input None 0 words in
+    let none : Lists g (played_in from) no_moves (played_in from) = record { mid = played_in from; listed = λ m. refl; ones = refl } in
+    let h = lists_closed g (played_in from) _ _ (steps_list n g from is.steps none) 0 in
+    subst (λ (x : Making). listed g input (items_of x.run.steps) ≡ Ok (played_in x)) is.reached h
 
-module _ (n : ℕ) (image : Image) (how : Completion) (input words : List ℕ) (k : Journaled) where
+taken_is : (xs rest : List ℕ) → take (length (xs ++ rest) - length rest) (xs ++ rest) ≡ xs
+taken_is xs rest =
+    let size = length-append xs rest in
+    let front : length (xs ++ rest) - length rest ≡ length xs = omega arith in
+    ap (λ (n : ℕ). take n (xs ++ rest)) front ∙ take-append_seam xs rest
+
+same_front : (xs ys rest : List ℕ) → xs ++ rest ≡ ys ++ rest → xs ≡ ys
+same_front xs ys rest e = sym (taken_is xs rest) ∙ (ap (λ (l : List ℕ). take (length l - length rest) l) e ∙ taken_is ys rest)
+
+module _ (n : ℕ) (image : Image) (how : Completion) (input words : List ℕ) (k : Making) where
   abbrev g : Program
   g = record { image = image; how = how }
 
-  -- the items list the run over what it took
-  pub listed_taken : IsJournaled n g (unjournaled (begun (start g input) None 0 words)) k
-      → listed g input (closed k.gathered) ≡ Ok (record { run = k.making.run; waited = k.making.waited })
-      → listed g (taken_by k) (closed k.gathered) ≡ Ok (played_over [] (record { run = k.making.run; waited = k.making.waited }))
-  listed_taken is lists =
-      let left = k.making.run.state.outside.input in
-      let fed = list_feeds g 0 (closed k.gathered) (unplayed (start g input)) (record { run = k.making.run; waited = k.making.waited }) [] left lists refl in
-      let whole : k.input ≡ fed.0 ++ left = ap (λ (x : Journaled). x.input) (sym is.reached) ∙ (input_stays n g (unjournaled (begun (start g input) None 0 words)) is.steps ∙ fed.1) in
-      let taken : taken_by k ≡ fed.0 = ap (λ (l : List ℕ). taken_by (record k { input = l })) whole ∙ taken_is fed.0 left in
-      ap (λ (l : List ℕ). listed g l (closed k.gathered)) taken ∙ fed.2
+  -- what it took and what is left are the input
+  pub took : IsJournaled n g (begun (start g) input None 0 words) k → taken (seen k.run.steps) ++ k.run.left ≡ input
+  took is =
+      let from = begun (start g) input None 0 words in
+      let run = journaled_run n g from k is in
+      let made = subst (IsMade g (begins_wild (start g)) input words 0) (sym run.1) (steps-made g (begins_wild (start g)) input words 0 from run.0 (begun-made g (start g) input words None 0)) in
+      fed_all (seen k.run.steps) input k.run.left made.fed
 
-  pub journaled_replays : IsJournaled n g (unjournaled (begun (start g input) None 0 words)) k → is_within (journal_at how k) ≡ true
-      → listed g input (closed k.gathered) ≡ Ok (record { run = k.making.run; waited = k.making.waited })
-      → replayed image (journal_at how k) ≡ Ok (record { units = k.making.run.units; reports = reports_of (closed k.gathered) })
+  -- the items list the run over what it took
+  pub listed_taken : IsJournaled n g (begun (start g) input None 0 words) k → listed g input (items_of k.run.steps) ≡ Ok (played_in k)
+      → listed g (taken (seen k.run.steps)) (items_of k.run.steps) ≡ Ok (played_over [] (played_in k))
+  listed_taken is lists =
+      let fed = list_feeds g 0 (items_of k.run.steps) (unplayed (start g) input) (played_in k) [] k.run.left lists refl in
+      let same : taken (seen k.run.steps) ≡ fed.0 = same_front (taken (seen k.run.steps)) fed.0 k.run.left (took is ∙ fed.1) in
+      ap (λ (l : List ℕ). listed g l (items_of k.run.steps)) same ∙ fed.2
+
+  pub journaled_replays : IsJournaled n g (begun (start g) input None 0 words) k → is_within (journal_at how k) ≡ true
+      → listed g input (items_of k.run.steps) ≡ Ok (played_in k)
+      → replayed image (journal_at how k) ≡ Ok (record { units = k.run.units; reports = reports_of (items_of k.run.steps) })
   journaled_replays is within lists =
       let p = journal_at how k in
-      let q = played_over [] (record { run = k.making.run; waited = k.making.waited }) in
-      let r : Replayed = record { units = k.making.run.units; reports = reports_of (closed k.gathered) } in
+      let q = played_over [] (played_in k) in
+      let r : Replayed = record { units = k.run.units; reports = reports_of (items_of k.run.steps) } in
       ap (answered p) (listed_taken is lists)
       ∙ ap (λ o. answer_by o r)
       (no_fault p q.run refl refl
-      (settled_by (is_within (journal_at how k)) (finished k.making.run.last) (is_none k.making.run.pending) (k.making.run.units == n) within is.stopped) refl)
+      (settled_by (is_within (journal_at how k)) (finished k.run.at.happened) (is_none k.run.at.pending) (k.run.units == n) within is.stopped) refl)

@@ -1,70 +1,44 @@
 -- The items that are gathered of a run that words make list it.
-use Rattle.std.specs.Prelude.{bit_or}
-use Rattle.std.proofs.Common.{◌≡◌, ◌+◌, ◌==◌, ◌/◌, ◌%◌, ◌^◌, ◌&&◌, ◌||◌, not, ℕ, zero, suc, Bool, true, false, cond, eqb, List, [], ◌∷◌, ◌++◌, drop, Option, Some, None, Ok, refl, sym, ap, ◌∙◌, ◌<◌, ◌≤◌, ⊎_elim, arith, add-one}
+use Rattle.std.specs.Prelude.{nat_le}
+use Rattle.std.proofs.Common.{◌≡◌, ◌<◌, ◌≤◌, ◌+◌, ◌/◌, ◌%◌, ◌&&◌, ◌||◌, not, ℕ, zero, suc, Bool, true, false, cond, eqb, List, [], ◌∷◌, ◌++◌, drop, Option, Some, None, Ok, refl, sym, ap, subst, ◌∙◌, ⊎_elim, add-one, arith}
 use Rattle.std.proofs.lemmas.Bool.{cases_lt}
 use Rattle.std.proofs.Math.Nat.{eq-or-lt_of_le}
 use Rattle.std.specs.Option.{option_and_then}
-use Rattle.alpha_table.specs.Class.{Class, operate, trigger, address, load, store, load_locked, store_conditional, branch}
-use Rattle.alpha_seq.specs.State.{Program, State}
-use Rattle.alpha_seq.specs.Step.{matches, lock_block, next_class}
-use Rattle.alpha_imprecise.specs.Moment.{Trap, Choice, Waited, Moment, moment}
-use Rattle.alpha_imprecise.specs.Step.{triggers, destination, can_wait, report, spoilt_conditional, spoilt, wild_at, adds_here}
-use Rattle.alpha_imprecise.specs.Wild.{mask_after}
-use Rattle.alpha_imprecise.specs.Run.{finished}
-use Rattle.alpha_imprecise.specs.Chosen.{first_word, must_report, reporting, triggering, executing, draw_at, draw, chosen}
+use Rattle.alpha_table.specs.Class.{Class}
+use Rattle.alpha_values.specs.TrapOp.{stops}
+use Rattle.alpha_trap.specs.Scan.{scan}
+use Rattle.alpha_seq.specs.declared.end.End.TheVariants as ends
+use Rattle.alpha_seq.specs.State.{Program, State, Event, Went, Barriered, Overflowed, Ends}
+use Rattle.alpha_seq.specs.Step.{next_class, step}
+use Rattle.alpha_imprecise.specs.Moment.{Trap, Choice, Precisely, Reported, Moment, moment}
+use Rattle.alpha_imprecise.specs.Step.{triggers, triggered, precisely, address_at, completed, can_wait, report, waited, wild_at, wild, adds_here}
+use Rattle.alpha_imprecise.specs.Run.{finished, choice_of as choice_by}
+use Rattle.alpha_imprecise.specs.Chosen.{most_waited, first_word, must_report, reporting, triggering, executing, draw_at, draw, chosen}
 use Rattle.alpha_imprecise.specs.Made.{Making, advance_making, steps_making}
+use Rattle.alpha_imprecise.proofs.Choosing.{is_quiet, quiet}
+use Rattle.alpha_imprecise.proofs.Landed.{report_at}
+use Rattle.alpha_imprecise.proofs.Saying.{is_said}
 use Rattle.alpha_imprecise.proofs.Settling.{advance-going}
 use Rattle.alpha_replay.specs.declared.item.Item.{Item}
 use Rattle.alpha_replay.specs.declared.item.Item.TheVariants as items
 use Rattle.alpha_replay.specs.declared.moves.Move.{Move}
 use Rattle.alpha_replay.specs.declared.moves.Move.TheVariants.{One, Trips, Waits, Reports}
+use Rattle.alpha_replay.specs.Events.{move_of}
 use Rattle.alpha_replay.specs.Moves.{choice_of, may_add, suits}
 use Rattle.alpha_replay.specs.Listed.{Played, played_by, move, units, item, listed_then, listed_from}
-use Rattle.alpha_replay.specs.Gathered.{Gathered, closed_by, closed, with_item, gathered_by, noted_at, noted}
-use Rattle.alpha_replay.specs.Journaled.{Journaled, has_stopped, journaled_more, advance_journaled, steps_journaled, IsJournaled}
+use Rattle.alpha_replay.specs.Gathered.{Gathered, no_moves, closed_by, closed, with_item, gathered_by, gathered_from}
+use Rattle.alpha_replay.specs.Journaled.{has_stopped, advance_journaled, steps_journaled, IsJournaled}
+use Rattle.alpha_replay.proofs.Recording.{gathered-append}
 
 -- ---- the move that words make is possible, and is their step
 
--- a move suits the word, and its step is that of a choice
-record Suits (g : Program) (o : Option Class) (s : State) (p : Option Trap) (n : ℕ) (m : Move) (c : Choice) : Type 0 where
-  fits : suits o s p n m ≡ true
-  same : wild_at g o s p (choice_of m) ≡ wild_at g o s p c
-
--- a choice by its value, and by whether it adds
-abbrev waiting : ℕ → Bool → Choice
-waiting value adds = record { report = false; value = value; bytes = value; adds = adds }
-
--- the state after a word doesn't depend on what is added to the mask
-spoilt-any : (o : Option Class) (s : State) (value : ℕ) (a b : Bool) → spoilt o s (waiting value a) ≡ spoilt o s (waiting value b)
-spoilt-any None s value a b = refl
-spoilt-any (Some (operate op ra src rc)) s value a b = refl
-spoilt-any (Some (trigger op ra src rc)) s value a b = refl
-spoilt-any (Some (address op ra rb disp)) s value a b = refl
-spoilt-any (Some (load extension at ra)) s value a b = refl
-spoilt-any (Some (store at ra)) s value a b = refl
-spoilt-any (Some (load_locked extension at ra)) s value a b = refl
-spoilt-any (Some (store_conditional at ra)) s value a b = by (matches s.lock (lock_block at s))
-  where
-    by : (m : Bool) → spoilt_conditional m at ra s (waiting value a) ≡ spoilt_conditional m at ra s (waiting value b)
-    by true = refl
-    by false = refl
-spoilt-any (Some (branch (Some c) ra disp)) s value a b = refl
-spoilt-any o s value a b = refl
-
--- R31 is added to no mask
-mask-none : (o : Option Class) (mask : ℕ) (adds : Bool) → mask_after o mask (adds && adds_here o) ≡ mask_after o mask adds
-mask-none o mask false = refl
-mask-none o mask true = by (eqb (destination o) 31)
-  where
-    by : (b : Bool) → cond (not b) (cond b mask (bit_or mask (2 ^ destination o))) mask ≡ cond b mask (bit_or mask (2 ^ destination o))
-    by true = refl
-    by false = refl
-
-adds-none : (g : Program) (o : Option Class) (s : State) (t : Trap) (adds : Bool) (value : ℕ)
-    → wild_at g o s (Some t) (waiting value (adds && adds_here o)) ≡ wild_at g o s (Some t) (waiting value adds)
-adds-none g o s t adds value =
-    ap (λ (x : State). cond (not (can_wait o s)) (report g s t) (moment x (Some (record t { mask = mask_after o t.mask (adds && adds_here o) })) Waited)) (spoilt-any o s value (adds && adds_here o) adds)
-    ∙ ap (λ (x : ℕ). cond (not (can_wait o s)) (report g s t) (moment (spoilt o s (waiting value adds)) (Some (record t { mask = x })) Waited)) (mask-none o t.mask adds)
+-- The move that coming words make of a step. A trigger has its word as its value. A word that is executed while a trap is
+-- pending has the second of its two words as its value, and adds to the mask where the first one says so and the word may.
+abbrev noted_at : Option Class → State → Option Trap → ℕ → List ℕ → Move
+noted_at o s None waited words = cond (triggers o s) (Trips (first_word words)) One
+noted_at o s (Some t) waited words =
+    cond (must_report o s waited) Reports
+    (cond (eqb (first_word words % 4) 0) Reports (Waits (eqb (first_word words / 4 % 2) 1 && adds_here o) (first_word (drop 1 words))))
 
 may_so : (o : Option Class) (a : Bool) (value : ℕ) → may_add o (Waits (a && adds_here o) value) ≡ true
 may_so o false value = refl
@@ -74,43 +48,98 @@ may_so o true value = by (adds_here o) refl
     by true e = e
     by false e = refl
 
-suits_at : (g : Program) (o : Option Class) (s : State) (p : Option Trap) (n : ℕ) (words : List ℕ) → Suits g o s p n (noted_at o s p n words) (draw_at o s p n words).choice
-suits_at g o s None n words = by (triggers o s) refl
+suits_at : (o : Option Class) (s : State) (p : Option Trap) (n : ℕ) (words : List ℕ) → suits o s p n (noted_at o s p n words) ≡ true
+suits_at o s None n words = by (triggers o s) refl
   where
-    by : (b : Bool) → triggers o s ≡ b
-        → Suits g o s None n (cond b (Trips (first_word words)) One) (cond b (triggering (first_word words)) (reporting 0)).choice
-    by true e = record { fits = e; same = refl }
-    by false e = record { fits = ap (λ (b : Bool). not b) e; same = refl }
-suits_at g o s (Some t) n words = by (must_report o s n) refl
+    by : (b : Bool) → triggers o s ≡ b → suits o s None n (cond b (Trips (first_word words)) One) ≡ true
+    by true e = e
+    by false e = ap (λ (b : Bool). not b) e
+suits_at o s (Some t) n words = by (must_report o s n) refl
   where
     drawn : (b : Bool) → must_report o s n ≡ false
-        → Suits g o s (Some t) n (cond b Reports (Waits (first_word words / 4 % 2 == 1 && adds_here o) (first_word (drop 1 words)))) (cond b (reporting 1) (executing (first_word words) (first_word (drop 1 words)))).choice
-    drawn true e = record { fits = refl; same = refl }
-    drawn false e = record {
-      fits = ap (λ (x : Bool). x && not (must_report o s n)) (may_so o (first_word words / 4 % 2 == 1) (first_word (drop 1 words))) ∙ ap (λ (x : Bool). not x) e;
-      same = adds-none g o s t (first_word words / 4 % 2 == 1) (first_word (drop 1 words));
-    }
+        → suits o s (Some t) n (cond b Reports (Waits (eqb (first_word words / 4 % 2) 1 && adds_here o) (first_word (drop 1 words)))) ≡ true
+    drawn true e = refl
+    drawn false e = ap (λ (x : Bool). x && not (must_report o s n)) (may_so o (eqb (first_word words / 4 % 2) 1) (first_word (drop 1 words))) ∙ ap (λ (x : Bool). not x) e
 
     by : (b : Bool) → must_report o s n ≡ b
-        → Suits g o s (Some t) n
-        (cond b Reports (cond (eqb (first_word words % 4) 0) Reports (Waits (first_word words / 4 % 2 == 1 && adds_here o) (first_word (drop 1 words)))))
-        (cond b (reporting 0) (cond (eqb (first_word words % 4) 0) (reporting 1) (executing (first_word words) (first_word (drop 1 words))))).choice
-    by true e = record { fits = refl; same = refl }
+        → suits o s (Some t) n (cond b Reports (cond (eqb (first_word words % 4) 0) Reports (Waits (eqb (first_word words / 4 % 2) 1 && adds_here o) (first_word (drop 1 words))))) ≡ true
+    by true e = refl
     by false e = drawn (eqb (first_word words % 4) 0) e
+
+-- a step is of the move, and was chosen as the move chooses
+record IsMove (m : Move) (w : Moment) : Type 0 where
+  move : m ≡ move_of w.happened
+  choice : choice_of (move_of w.happened) ≡ choice_by w.happened
+
+quiet_move : (s : State) (event : Event) → is_quiet event ≡ true → IsMove One (moment s None (Precisely event))
+quiet_move s Went q = record { move = refl; choice = refl }
+quiet_move s (Barriered traffic pc regs) q = record { move = refl; choice = refl }
+quiet_move s (Overflowed at) q = cc
+quiet_move s (Ends (ends.Exit value)) q = record { move = refl; choice = refl }
+quiet_move s (Ends (ends.Signal code pc)) q = record { move = refl; choice = refl }
+quiet_move s (Ends (ends.Fetch pc)) q = record { move = refl; choice = refl }
+quiet_move s (Ends (ends.Access pc addr)) q = record { move = refl; choice = refl }
+quiet_move s (Ends (ends.Align pc addr)) q = record { move = refl; choice = refl }
+quiet_move s (Ends (ends.Overflow pc)) q = cc
+
+lands_move : (g : Program) (s : State) (at : ℕ) (b : Bool)
+    → IsMove Reports (cond b (moment (record s { pc = address_at g.image at }) None (Precisely (Ends (ends.Overflow (address_at g.image at)))))
+    (moment (completed g s at) None (Reported (address_at g.image at))))
+lands_move g s at true = record { move = refl; choice = refl }
+lands_move g s at false = record { move = refl; choice = refl }
+
+found_move : (g : Program) (s : State) (t : Trap) (found : Option ℕ) → IsMove Reports (report_at g s t found)
+found_move g s t None = record { move = refl; choice = refl }
+found_move g s t (Some at) = lands_move g s at (stops g.how)
+
+can : (a b : Bool) → (not a || b) ≡ false → a ≡ true
+can true b e = refl
+can false b e = sym e
+
+moved : (g : Program) (o : Option Class) (s : State) (p : Option Trap) (n : ℕ) (words input : List ℕ)
+    → IsMove (noted_at o s p n words) (wild_at g o s p (draw_at o s p n words).choice input)
+moved g o s None n words input = by (triggers o s) refl
+  where
+    by : (b : Bool) → triggers o s ≡ b
+        → IsMove (cond b (Trips (first_word words)) One) (cond b (triggered g o s (cond b (triggering (first_word words)) (reporting 0)).choice) (precisely (step g o s input)))
+    by true e = record { move = refl; choice = refl }
+    by false e = quiet_move (step g o s input).state (step g o s input).event (quiet g o s input e)
+moved g o s (Some t) n words input = by (must_report o s n) refl (eqb (first_word words % 4) 0)
+  where
+    by : (m : Bool) → must_report o s n ≡ m → (c : Bool)
+        → IsMove (cond m Reports (cond c Reports (Waits (eqb (first_word words / 4 % 2) 1 && adds_here o) (first_word (drop 1 words)))))
+        (wild_at g o s (Some t) (cond m (reporting 0) (cond c (reporting 1) (executing (first_word words) (first_word (drop 1 words))))).choice input)
+    by true e c = found_move g s t (scan g.image s.pc t.mask)
+    by false e true = found_move g s t (scan g.image s.pc t.mask)
+    by false e false =
+        subst (λ (b : Bool). IsMove (Waits (eqb (first_word words / 4 % 2) 1 && adds_here o) (first_word (drop 1 words)))
+        (cond (not b) (report g s t) (waited o s t (executing (first_word words) (first_word (drop 1 words))).choice)))
+        (sym (can (can_wait o s) (nat_le most_waited n) e)) (record { move = refl; choice = refl })
 
 -- a run that is made, as one that is played
 abbrev pub played_in : Making → Played
 played_in k = record { run = k.run; waited = k.waited }
 
-pub making_moves : (g : Program) (k : Making) → finished k.run.last ≡ false → move g (played_in k) (noted g k) ≡ Some (played_in (advance_making g k))
+-- the next step
+abbrev next_chosen : Program → Making → Moment
+next_chosen g k = chosen g k.run.at.state k.run.at.pending k.waited k.words k.run.left
+
+pub making_moves : (g : Program) (k : Making) → finished k.run.at.happened ≡ false
+    → move g (played_in k) (move_of (next_chosen g k).happened) ≡ Some (played_in (advance_making g k))
 making_moves g k going =
-    let o = next_class g k.run.state.pc in
-    let is = suits_at g o k.run.state k.run.pending k.waited k.words in
-    let d = draw g k.run.state k.run.pending k.waited k.words in
-    let m = chosen g k.run.state k.run.pending k.waited k.words in
-    ap (λ (b : Bool). cond (not b && suits o k.run.state k.run.pending k.waited (noted g k)) (Some (played_by (played_in k) (wild_at g o k.run.state k.run.pending (choice_of (noted g k))))) None) going
-    ∙ (ap (λ (b : Bool). cond b (Some (played_by (played_in k) (wild_at g o k.run.state k.run.pending (choice_of (noted g k))))) None) is.fits
-    ∙ (ap (λ (x : Moment). Some (played_by (played_in k) x)) is.same
+    let o = next_class g k.run.at.state.pc in
+    let a = k.run.at in
+    let d = draw g a.state a.pending k.waited k.words in
+    let m = next_chosen g k in
+    let is = moved g o a.state a.pending k.waited k.words k.run.left in
+    let fits : suits o a.state a.pending k.waited (move_of m.happened) ≡ true =
+    ap (λ (x : Move). suits o a.state a.pending k.waited x) (sym is.move) ∙ suits_at o a.state a.pending k.waited k.words in
+    let same : wild g a.state a.pending (choice_of (move_of m.happened)) k.run.left ≡ m =
+    ap (λ (c : Choice). wild g a.state a.pending c k.run.left) is.choice ∙ (is_said g a.state a.pending d.choice).again k.run.left in
+    let to : Played = played_by (played_in k) (wild g a.state a.pending (choice_of (move_of m.happened)) k.run.left) in
+    ap (λ (b : Bool). cond (not b && suits o a.state a.pending k.waited (move_of m.happened)) (Some to) None) going
+    ∙ (ap (λ (b : Bool). cond b (Some to) None) fits
+    ∙ (ap (λ (x : Moment). Some (played_by (played_in k) x)) same
     ∙ ap (λ (x : Making). Some (played_in x)) (sym (advance-going g k going))))
 
 -- ---- one item more
@@ -165,27 +194,32 @@ going_of false false c e = refl
 going_of false true c e = cc
 going_of true b c e = absurd cc
 
-module _ (n : ℕ) (g : Program) (from : Journaled) where
-  step_lists : (k : Journaled) → Lists g (played_in from.making) k.gathered (played_in k.making)
-      → Lists g (played_in from.making) (advance_journaled n g k).gathered (played_in (advance_journaled n g k).making)
+module _ (n : ℕ) (g : Program) (from : Making) where
+  step_lists : (k : Making) → Lists g (played_in from) (gathered_from no_moves k.run.steps) (played_in k)
+      → Lists g (played_in from) (gathered_from no_moves (advance_journaled n g k).run.steps) (played_in (advance_journaled n g k))
   step_lists k h = by (has_stopped n g.how k) refl
     where
-      by : (b : Bool) → has_stopped n g.how k ≡ b → Lists g (played_in from.making) (cond b k (journaled_more g k)).gathered (played_in (cond b k (journaled_more g k)).making)
+      by : (b : Bool) → has_stopped n g.how k ≡ b
+          → Lists g (played_in from) (gathered_from no_moves (cond b k (advance_making g k)).run.steps) (played_in (cond b k (advance_making g k)))
       by true e = h
       by false e =
-          lists_more g (played_in from.making) (played_in k.making) (played_in (advance_making g k.making)) k.gathered (noted g k.making) h
-          (making_moves g k.making (going_of _ _ _ e))
+          let going = going_of _ _ _ e in
+          let next = next_chosen g k in
+          let steps : (advance_making g k).run.steps ≡ k.run.steps ++ next.happened ∷ [] = ap (λ (j : Making). j.run.steps) (advance-going g k going) in
+          subst (λ (x : Gathered). Lists g (played_in from) x (played_in (advance_making g k)))
+          (sym (ap (gathered_from no_moves) steps ∙ gathered-append no_moves k.run.steps (next.happened ∷ [])))
+          (lists_more g (played_in from) (played_in k) (played_in (advance_making g k)) (gathered_from no_moves k.run.steps) (move_of next.happened) h (making_moves g k going))
 
-  pub steps_list : (steps : ℕ) → Lists g (played_in from.making) from.gathered (played_in from.making)
-      → Lists g (played_in from.making) (steps_journaled n g from steps).gathered (played_in (steps_journaled n g from steps).making)
+  pub steps_list : (steps : ℕ) → Lists g (played_in from) (gathered_from no_moves from.run.steps) (played_in from)
+      → Lists g (played_in from) (gathered_from no_moves (steps_journaled n g from steps).run.steps) (played_in (steps_journaled n g from steps))
   steps_list zero h = h
   steps_list (suc steps) h = step_lists (steps_journaled n g from steps) (steps_list steps h)
 
 -- ---- where such a run stops
 
-module _ (n : ℕ) (g : Program) (from : Journaled) where
-  stays_then : (a : ℕ) (k : Journaled) → has_stopped n g.how (steps_journaled n g from a) ≡ true → k ≡ steps_journaled n g from a → advance_journaled n g k ≡ steps_journaled n g from a
-  stays_then a k e same = ap (advance_journaled n g) same ∙ ap (λ (b : Bool). cond b (steps_journaled n g from a) (journaled_more g (steps_journaled n g from a))) e
+module _ (n : ℕ) (g : Program) (from : Making) where
+  stays_then : (a : ℕ) (k : Making) → has_stopped n g.how (steps_journaled n g from a) ≡ true → k ≡ steps_journaled n g from a → advance_journaled n g k ≡ steps_journaled n g from a
+  stays_then a k e same = ap (advance_journaled n g) same ∙ ap (λ (b : Bool). cond b (steps_journaled n g from a) (advance_making g (steps_journaled n g from a))) e
 
   pub stays_stopped : (a b : ℕ) → a ≤ b → has_stopped n g.how (steps_journaled n g from a) ≡ true → steps_journaled n g from b ≡ steps_journaled n g from a
   stays_stopped a zero low e = let same : 0 ≡ a = omega (arith, low) in ap (steps_journaled n g from) same
@@ -202,21 +236,21 @@ module _ (n : ℕ) (g : Program) (from : Journaled) where
       (λ (low : b ≤ a). stays_stopped b a low f)
       (cases_lt a b)
 
-  pub one_place : (k l : Journaled) → IsJournaled n g from k → IsJournaled n g from l → k ≡ l
+  pub one_place : (k l : Making) → IsJournaled n g from k → IsJournaled n g from l → k ≡ l
   one_place k l one two =
       sym one.reached
       ∙ (same_place one.steps two.steps (ap (has_stopped n g.how) one.reached ∙ one.stopped) (ap (has_stopped n g.how) two.reached ∙ two.stopped)
       ∙ two.reached)
 
   -- the steps are those of the run
-  pub steps_run : (steps : ℕ) → (m : ℕ) × ((steps_journaled n g from steps).making ≡ steps_making g from.making m)
+  pub steps_run : (steps : ℕ) → (m : ℕ) × (steps_journaled n g from steps ≡ steps_making g from m)
   steps_run zero = (0, refl)
   steps_run (suc steps) = by (has_stopped n g.how (steps_journaled n g from steps)) (steps_run steps)
     where
-      by : (b : Bool) → (m : ℕ) × ((steps_journaled n g from steps).making ≡ steps_making g from.making m)
-          → (m : ℕ) × ((cond b (steps_journaled n g from steps) (journaled_more g (steps_journaled n g from steps))).making ≡ steps_making g from.making m)
+      by : (b : Bool) → (m : ℕ) × (steps_journaled n g from steps ≡ steps_making g from m)
+          → (m : ℕ) × (cond b (steps_journaled n g from steps) (advance_making g (steps_journaled n g from steps)) ≡ steps_making g from m)
       by true h = h
       by false h = (suc h.0, ap (advance_making g) h.1)
 
-  pub journaled_run : (k : Journaled) → IsJournaled n g from k → (m : ℕ) × (k.making ≡ steps_making g from.making m)
-  journaled_run k is = let h = steps_run is.steps in (h.0, ap (λ (x : Journaled). x.making) (sym is.reached) ∙ h.1)
+  pub journaled_run : (k : Making) → IsJournaled n g from k → (m : ℕ) × (k ≡ steps_making g from m)
+  journaled_run k is = let h = steps_run is.steps in (h.0, sym is.reached ∙ h.1)

@@ -8,7 +8,7 @@ pub mod Journaling
 pub mod Taping
 pub mod Observing
 pub mod Stopping
-pub mod Untold
+pub mod Going
 pub mod Making
 pub mod Told
 pub mod Feeding

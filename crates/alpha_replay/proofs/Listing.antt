@@ -1,5 +1,5 @@
 -- What the items of a journal lead to.
-use Rattle.std.proofs.Common.{◌≡◌, ◌+◌, ◌&&◌, ◌||◌, not, ℕ, zero, suc, Bool, true, false, cond, eqb, List, [], ◌∷◌, ◌++◌, length, Option, Some, None, is_none, Result, Ok, Err, refl, sym, ap, subst, ◌∙◌, option_and_then, arith, add-one}
+use Rattle.std.proofs.Common.{◌≡◌, ◌+◌, ◌&&◌, ◌||◌, not, ℕ, zero, suc, Bool, true, false, cond, eqb, List, [], ◌∷◌, ◌++◌, length, Option, Some, None, is_none, Result, Ok, Err, refl, sym, ap, subst, append_assoc, append-nil, ◌∙◌, option_and_then, arith, add-one}
 use Rattle.std.proofs.lemmas.Bool.{eqb-true, and_parts}
 use Rattle.alpha_image.specs.Parts.{Parts as Image}
 use Rattle.alpha_image.specs.FirstOf.{unless}
@@ -9,16 +9,15 @@ use Rattle.alpha_table.specs.Class.{Class}
 use Rattle.alpha_seq.specs.State.{Program, State, Event, Went, Barriered, Overflowed, Ends}
 use Rattle.alpha_seq.specs.Start.{start}
 use Rattle.alpha_seq.specs.Step.{next_class}
-use Rattle.alpha_seq.specs.Run.{after, end_of}
-use Rattle.alpha_pal.specs.Call.{Outside}
-use Rattle.alpha_imprecise.specs.Moment.{Trap, Choice, Happening, Precisely, Triggered, Waited, Reported, Lost}
+use Rattle.alpha_seq.specs.Run.{output, Fed}
+use Rattle.alpha_seq.proofs.Sequence.{Fed-append}
+use Rattle.alpha_imprecise.specs.Moment.{Trap, Happening, Precisely, Triggered, Waited, Reported, Lost}
 use Rattle.alpha_imprecise.specs.Step.{wild}
-use Rattle.alpha_imprecise.specs.Run.{WildRun, finished, started_wild, unit_of, extended_wild, advance_wild, run_wild}
-use Rattle.alpha_imprecise.specs.Used.{HasUsed}
+use Rattle.alpha_imprecise.specs.Run.{seen, WildRun, RunsOver, RunsWild, begins_wild, finished, unit_of, units as units_by}
 use Rattle.alpha_imprecise.specs.Made.{wild_end, lost_trap}
 use Rattle.alpha_imprecise.specs.Restart.{IsRestartable}
-use Rattle.alpha_imprecise.specs.Shown.{SameRun}
 use Rattle.alpha_imprecise.proofs.Showing.{choices_alike}
+use Rattle.alpha_imprecise.proofs.Sequence.{seen-append, RunsWild-append, RunsWild-one, units-append, fed-one}
 use Rattle.alpha_replay.specs.declared.ending.Ending.{Ending}
 use Rattle.alpha_replay.specs.declared.ending.Ending.TheVariants as endings
 use Rattle.alpha_replay.specs.declared.item.Item.{Item}
@@ -34,14 +33,17 @@ use Rattle.alpha_replay.specs.Items.{item_units, units_of}
 use Rattle.alpha_replay.specs.Journal.{Parts}
 use Rattle.alpha_replay.specs.Moves.{choice_of, suits, fits, may_add}
 use Rattle.alpha_replay.specs.Listed.{Played, played_by, move, units, item, listed_then, listed_from, listed, unplayed}
-use Rattle.alpha_replay.specs.Replay.{ending_after, ending_of, same_ending, ends_as, reports_of, program_by, run_fault, answer_by, answered, replayed, IsRun, ending_at, IsSequential}
+use Rattle.alpha_replay.specs.Replay.{ending_of, same_ending, ends_as, reports_of, program_by, run_fault, answer_by, answered, replayed, IsRun, ending_at, IsSequential}
 
--- ---- the moves are choices
+-- ---- the moves are steps
 
--- some choices lead from one run to the other, and this many units are used
+-- steps lead from one run to the other, and this many units are used
 pub record Leads (g : Program) (n : ℕ) (from to : Played) : Type 0 where
-  pub choices : List Choice
-  pub is : run_wild g choices from.run ≡ to.run
+  pub steps : List Happening
+  pub runs : RunsWild g from.run.at steps to.run.at
+  pub all : to.run.steps ≡ from.run.steps ++ steps
+  pub fed : Fed from.run.left (seen steps) to.run.left
+  pub counted : to.run.units ≡ from.run.units + units_by g from.run.at steps
   pub used : to.run.units ≡ from.run.units + n
 
 -- a move that is made passes both tests
@@ -74,29 +76,34 @@ unit_is o s (Some t) n Reports e = refl
 
 move_leads : (g : Program) (m : Move) (p q : Played) → move g p m ≡ Some q → Leads g (move_units m) p q
 move_leads g m p q e =
-    let o = next_class g p.run.state.pc in
-    let t = wild g p.run.state p.run.pending (choice_of m) in
-    let did = made_by (finished p.run.last) (suits o p.run.state p.run.pending p.waited m) (played_by p t) q e in
-    let unit = unit_is o p.run.state p.run.pending p.waited m (second (may_add o m) (fits o p.run.state p.run.pending p.waited m) did.1.0) in
-    record {
-      choices = choice_of m ∷ [];
-      is = ap (λ (b : Bool). cond b p.run (extended_wild p.run t)) did.0 ∙ ap (λ (r : Played). r.run) did.1.1;
-      used = sym (ap (λ (r : Played). r.run.units) did.1.1) ∙ ap (λ (k : ℕ). p.run.units + k) unit;
-    }
-
-run_append : (g : Program) (cs ds : List Choice) (w : WildRun) → run_wild g (cs ++ ds) w ≡ run_wild g ds (run_wild g cs w)
-run_append g [] ds w = refl
-run_append g (c ∷ cs) ds w = run_append g cs ds (advance_wild g w c)
+    let a = p.run.at in
+    let o = next_class g a.state.pc in
+    let t = wild g a.state a.pending (choice_of m) p.run.left in
+    let h = t.happened in
+    let did = made_by (finished a.happened) (suits o a.state a.pending p.waited m) (played_by p t) q e in
+    let unit = unit_is o a.state a.pending p.waited m (second (may_add o m) (fits o a.state a.pending p.waited m) did.1.0) in
+    subst (λ (r : Played). Leads g (move_units m) p r) did.1.1 (record {
+      steps = h ∷ [];
+      runs = RunsWild-one g a (choice_of m) p.run.left did.0;
+      all = refl;
+      fed = fed-one g a (choice_of m) p.run.left;
+      counted = omega arith;
+      used = ap (λ (k : ℕ). p.run.units + k) unit;
+    })
 
 leads_then : (g : Program) (n k : ℕ) (p q r : Played) → Leads g n p q → Leads g k q r → Leads g (n + k) p r
 leads_then g n k p q r one two = record {
-  choices = one.choices ++ two.choices;
-  is = run_append g one.choices two.choices p.run ∙ (ap (λ (w : WildRun). run_wild g two.choices w) one.is ∙ two.is);
+  steps = one.steps ++ two.steps;
+  runs = RunsWild-append g one.steps two.steps p.run.at q.run.at r.run.at one.runs two.runs;
+  all = two.all ∙ (ap (λ (l : List Happening). l ++ two.steps) one.all ∙ append_assoc p.run.steps one.steps two.steps);
+  fed = subst (λ (l : List Event). Fed p.run.left l r.run.left) (sym (seen-append one.steps two.steps))
+      (Fed-append p.run.left q.run.left r.run.left (seen one.steps) (seen two.steps) one.fed two.fed);
+  counted = let both = units-append g one.steps two.steps p.run.at q.run.at one.runs in omega (arith, both, one.counted, two.counted);
   used = let a = one.used in let b = two.used in omega (arith, a, b);
 }
 
 leads_none : (g : Program) (p : Played) → Leads g 0 p p
-leads_none g p = record { choices = []; is = refl; used = omega arith }
+leads_none g p = record { steps = []; runs = refl; all = sym (append-nil p.run.steps); fed = refl; counted = omega arith; used = omega arith }
 
 units_lead : (g : Program) (n : ℕ) (p q : Played) → units g n p ≡ Some q → Leads g n p q
 units_lead g zero p q e = subst (λ (r : Played). Leads g 0 p r) (let same : p ≡ q = cc in same) (leads_none g p)
@@ -121,12 +128,17 @@ listed_leads g n (i ∷ items) p q e =
     by rest None f h = absurd cc
     by rest (Some r) f h = leads_then g (item_units i) (units_of items) p r q (item_leads g i p r f) (rest r h)
 
-pub listed_is : (g : Program) (input : List ℕ) (items : List Item) (q : Played) → listed g input items ≡ Ok q
-    → (choices : List Choice) × (run_wild g choices (started_wild (start g input)) ≡ q.run)
-listed_is g input items q e = let h = listed_leads g 0 items (unplayed (start g input)) q e in (h.choices, h.is)
+pub listed_is : (g : Program) (input : List ℕ) (items : List Item) (q : Played) → listed g input items ≡ Ok q → RunsOver g (start g) input q.run
+listed_is g input items q e =
+    let h = listed_leads g 0 items (unplayed (start g) input) q e in
+    record {
+      runs = subst (λ (l : List Happening). RunsWild g (begins_wild (start g)) l q.run.at) (sym h.all) h.runs;
+      fed = subst (λ (l : List Happening). Fed input (seen l) q.run.left) (sym h.all) h.fed;
+      used = ap (units_by g (begins_wild (start g))) h.all ∙ (let c = h.counted in omega (arith, c));
+    }
 
 pub listed_units : (g : Program) (input : List ℕ) (items : List Item) (q : Played) → listed g input items ≡ Ok q → q.run.units ≡ units_of items
-listed_units g input items q e = let h = listed_leads g 0 items (unplayed (start g input)) q e in let u = h.used in omega (arith, u)
+listed_units g input items q e = let h = listed_leads g 0 items (unplayed (start g) input) q e in let u = h.used in omega (arith, u)
 
 -- ---- an answer without a fault
 
@@ -172,22 +184,23 @@ same_is a b e =
 
 -- what no fault says
 record Faultless (p : Parts) (w : WildRun) : Type 0 where
-  output : w.state.outside.output ≡ p.output
-  ends : ending_of w.last ≡ p.ending
-  settled : (finished w.last || is_none w.pending) ≡ true
-  left : w.state.outside.input ≡ []
+  puts : output (seen w.steps) ≡ p.output
+  ends : ending_of w.at.happened ≡ p.ending
+  settled : (finished w.at.happened || is_none w.at.pending) ≡ true
+  left : w.left ≡ []
 
 faultless : (p : Parts) (w : WildRun) → run_fault p w ≡ None → Faultless p w
 faultless p w e =
-    let one = or_none (option_map faults.Output (first_difference 0 w.state.outside.output p.output)) _ e in
+    let bytes = output (seen w.steps) in
+    let one = or_none (option_map faults.Output (first_difference 0 bytes p.output)) _ e in
     let two = or_none (unless (ends_as p.ending w) faults.End) _ one.1 in
-    let three = or_none (unless (eqb (length w.state.outside.input) 0) (faults.Input (length w.state.outside.input))) None two.1 in
-    let end = and_parts (same_ending p.ending (ending_of w.last)) (finished w.last || is_none w.pending) (passes (ends_as p.ending w) faults.End two.0) in
+    let three = or_none (unless (eqb (length w.left) 0) (faults.Input (length w.left))) None two.1 in
+    let end = and_parts (same_ending p.ending (ending_of w.at.happened)) (finished w.at.happened || is_none w.at.pending) (passes (ends_as p.ending w) faults.End two.0) in
     record {
-      output = none_differs 0 w.state.outside.output p.output (map_none faults.Output (first_difference 0 w.state.outside.output p.output) one.0);
-      ends = same_is p.ending (ending_of w.last) end.0;
+      puts = none_differs 0 bytes p.output (map_none faults.Output (first_difference 0 bytes p.output) one.0);
+      ends = same_is p.ending (ending_of w.at.happened) end.0;
       settled = end.1;
-      left = no_bytes w.state.outside.input (passes (eqb (length w.state.outside.input) 0) (faults.Input (length w.state.outside.input)) three.0);
+      left = no_bytes w.left (passes (eqb (length w.left) 0) (faults.Input (length w.left)) three.0);
     }
 
 answer_ok : (o : Option ReplayFault) (a r : Replayed) → answer_by o a ≡ Ok r → (o ≡ None) × (a ≡ r)
@@ -203,43 +216,35 @@ replayed_is image p r e = by (listed (program_by image p) p.input p.items) refl 
         let answer = answer_ok (run_fault p q.run) (record { units = q.run.units; reports = reports_of p.items }) r h in
         let fine = faultless p q.run answer.0 in
         let same : q.run.units ≡ r.units = ap (λ (a : Replayed). a.units) answer.1 in
-        let run = listed_is (program_by image p) p.input p.items q f in
         record {
-          choices = run.0;
           run = q.run;
-          is = run.1;
+          over = listed_is (program_by image p) p.input p.items q f;
           ends = fine.ends;
           used = record { settled = fine.settled; most = omega (arith, same); full = λ going. same };
           units_are = same;
-          output = fine.output;
+          puts = fine.puts;
           left = fine.left;
         }
 
 -- ---- where the image can be restarted
 
-event_ends : (event : Event) → ending_at (end_of event) ≡ ending_after event
-event_ends Went = refl
-event_ends Barriered = refl
-event_ends (Overflowed at) = refl
-event_ends (Ends end) = refl
-
 ends_alike : (h : Happening) → lost_trap h ≡ None → ending_at (wild_end h) ≡ ending_of h
-ends_alike (Precisely event) e = event_ends event
-ends_alike Triggered e = refl
-ends_alike Waited e = refl
+ends_alike (Precisely Went) e = refl
+ends_alike (Precisely (Barriered traffic pc regs)) e = refl
+ends_alike (Precisely (Overflowed at)) e = refl
+ends_alike (Precisely (Ends end)) e = refl
+ends_alike (Triggered value) e = refl
+ends_alike (Waited adds value bytes) e = refl
 ends_alike (Reported at) e = refl
 ends_alike (Lost pc mask) e = absurd cc
 
 pub restarted_is : (image : Image) (p : Parts) (r : Replayed) → replayed image p ≡ Ok r → IsRestartable image → IsSequential image p r.units
 restarted_is image p r e h =
-    let g = program_by image p in
     let run = replayed_is image p r e in
-    let same : SameRun (after g (start g p.input) r.units) run.run =
-    subst (λ (w : WildRun). SameRun (after g (start g p.input) r.units) w) run.is
-    (choices_alike image h p.completion p.input run.choices r.units (subst (λ (w : WildRun). HasUsed r.units w) (sym run.is) run.used)) in
+    let same = choices_alike image h p.completion p.input run.run r.units run.over run.used in
     record {
-      ends = ap ending_at (sym same.end) ∙ (ends_alike run.run.last same.lost ∙ run.ends);
+      ends = ap ending_at (sym same.end) ∙ (ends_alike run.run.at.happened same.lost ∙ run.ends);
       steps = sym same.steps ∙ run.units_are;
-      output = ap (λ (o : Outside). o.output) (sym same.outside) ∙ run.output;
-      left = ap (λ (o : Outside). o.input) (sym same.outside) ∙ run.left;
+      output = ap output (sym same.events) ∙ run.puts;
+      left = sym same.left ∙ run.left;
     }

@@ -13,7 +13,7 @@ use Rattle.alpha_run.specs.Row.{AreWent, lines_by, seen_by, Unstopped}
 use Rattle.alpha_run.specs.Ran.{PassesOver}
 use Rattle.alpha_replay.specs.declared.item.Item.{Item}
 use Rattle.alpha_replay.specs.declared.recorder.Recorder.{Recorder}
-use Rattle.alpha_replay.specs.Events.{move_of, took_by, put_by}
+use Rattle.alpha_replay.specs.Events.{move_by, took_by, put_by}
 use Rattle.alpha_replay.specs.Items.{units_of}
 use Rattle.alpha_replay.specs.Gathered.{Gathered, closed, closed_by, gathered_by}
 use Rattle.alpha_replay.specs.Journal.{most_bytes, most_items, most_units}
@@ -33,7 +33,7 @@ kept_fits : (t : Taped) (event : Event) (m : Machine) → tape_fits (taped_by t 
 kept_fits t event m e =
     let took = took_by event m.memory in
     let put = put_by event m.memory in
-    let more = gathered_by t.gathered (move_of event) in
+    let more = gathered_by t.gathered (move_by event) in
     let parts = fit_parts (nat_le (length (t.taken ++ took)) most_bytes) (nat_le (length (t.put ++ put)) most_bytes) (has_room more) e in
     ap (λ (b : Bool). taped (cond b (t.taken ++ took) t.taken) (bytes_kept t.put put) (kept t.gathered more)) parts.0
     ∙ (ap (λ (b : Bool). taped (t.taken ++ took) (cond b (t.put ++ put) t.put) (kept t.gathered more)) parts.1
@@ -143,32 +143,32 @@ ones_fit t fit room =
 abbrev HasOnes : Taped → ℕ → Type 0
 HasOnes t most = (n : ℕ) → n ≤ most → has_room (with_ones t.gathered n) ≡ true
 
-went_fit : (found : List ℕ) (ps : List Print) (t : Taped) → AreWent found ps → tape_fits t ≡ true → HasOnes t (length ps) → AllFit t ps × (taped_over t ps ≡ taped_ones t (length ps))
-went_fit found [] t went fit room = (tt, ap (λ (n : ℕ). record t { gathered = record t.gathered { ones = n } }) (omega arith))
-went_fit found (p ∷ ps) t went fit room =
+went_fit : (ps : List Print) (t : Taped) → AreWent ps → tape_fits t ≡ true → HasOnes t (length ps) → AllFit t ps × (taped_over t ps ≡ taped_ones t (length ps))
+went_fit [] t went fit room = (tt, ap (λ (n : ℕ). record t { gathered = record t.gathered { ones = n } }) (omega arith))
+went_fit (p ∷ ps) t went fit room =
     let one = went_tape t p.event p.core went.0.event in
     let fits = ones_fit t fit (room 1 (omega arith)) in
     let more : HasOnes (taped_ones t 1) (length ps) = λ n low.
     let same : t.gathered.ones + (1 + n) ≡ t.gathered.ones + 1 + n = omega arith in
     subst (λ (k : ℕ). has_room (record t.gathered { ones = k }) ≡ true) same (room (1 + n) (omega arith)) in
-    let rest = went_fit found ps (taped_ones t 1) went.1 fits more in (
+    let rest = went_fit ps (taped_ones t 1) went.1 fits more in (
       (ap tape_fits one ∙ fits, subst (λ (x : Taped). AllFit x ps) (sym one) rest.0),
       ap (λ (x : Taped). taped_over x ps) one
           ∙ (rest.1 ∙ ap (λ (n : ℕ). record t { gathered = record t.gathered { ones = n } }) (let e : t.gathered.ones + 1 + length ps ≡ t.gathered.ones + suc (length ps) = omega arith in e)),
     )
 
-went_lines : (found : List ℕ) (ps : List Print) (r : Recorder) → AreWent found ps → lines_by recorded_after lines_recorded r ps ≡ []
-went_lines found [] r went = refl
-went_lines found (p ∷ ps) r went =
+went_lines : (ps : List Print) (r : Recorder) → AreWent ps → lines_by recorded_after lines_recorded r ps ≡ []
+went_lines [] r went = refl
+went_lines (p ∷ ps) r went =
     ap (λ (e : Event). noted false e p.core ++ lines_by recorded_after lines_recorded (recorded_after r p.event p.core) ps) went.0.event
-    ∙ went_lines found ps (recorded_after r p.event p.core) went.1
+    ∙ went_lines ps (recorded_after r p.event p.core) went.1
 
 pub passes_over : (r : Recorder) (n : ℕ) → tape_fits r.tape ≡ true → n ≤ room_left r → PassesOver recording n r (record { tape = taped_ones r.tape n; full = r.full })
-passes_over r n fit low = λ found ps went size.
+passes_over r n fit low = λ ps went size.
     let parts = fit_parts (nat_le (length r.tape.taken) most_bytes) (nat_le (length r.tape.put) most_bytes) (has_room r.tape.gathered) fit in
-    let all = went_fit found ps r.tape went fit (λ k less. has_ones r.tape parts.2 k (omega arith)) in
+    let all = went_fit ps r.tape went fit (λ k less. has_ones r.tape parts.2 k (omega arith)) in
     let seen = fit_unstopped r ps all.0 in (
       ap (λ (k : ℕ). record { tape = taped_ones r.tape k; full = r.full }) (sym size) ∙ (ap (λ (t : Taped). record { tape = t; full = r.full }) (sym all.1) ∙ sym seen.1),
-      went_lines found ps r went,
+      went_lines ps r went,
       seen.0,
     )

@@ -1,45 +1,46 @@
 -- A run that has a journal goes on to where it stops.
-use Rattle.std.proofs.Common.{◌≡◌, ◌<◌, ◌≤◌, ℕ, zero, suc, Bool, true, false, cond, sym, ap, subst, ◌∙◌, ⊎_elim, arith}
+use Rattle.std.proofs.Common.{◌≡◌, ◌<◌, ◌≤◌, ℕ, zero, suc, Bool, true, false, cond, [], sym, ap, subst, ◌∙◌, ⊎_elim, append-nil, arith}
 use Rattle.std.proofs.lemmas.Bool.{cases_lt}
 use Rattle.std.proofs.Math.Nat.{eq-or-lt_of_le}
 use Rattle.alpha_seq.specs.State.{Program}
 use Rattle.alpha_imprecise.specs.Made.{Making, advance_making}
-use Rattle.alpha_imprecise.proofs.Growing.{Begins, begins_same, begins_then, advance_begins}
-use Rattle.alpha_replay.specs.Journaled.{Journaled, has_stopped, journaled_more, advance_journaled, steps_journaled, IsJournaled}
+use Rattle.alpha_run.proofs.WildShown.{Begins, begins_then, advance_begins}
+use Rattle.alpha_replay.specs.Journaled.{has_stopped, advance_journaled, steps_journaled, IsJournaled}
 use Rattle.alpha_replay.proofs.JournaledRuns.{stays_stopped}
 
-module _ (n : ℕ) (g : Program) (from : Journaled) where
-  one_more : (k : Journaled) → Begins k.making (advance_journaled n g k).making
+begins_same : (k : Making) → Begins k k
+begins_same k = ([], sym (append-nil k.run.steps))
+
+module _ (n : ℕ) (g : Program) (from : Making) where
+  one_more : (k : Making) → Begins k (advance_journaled n g k)
   one_more k = by (has_stopped n g.how k)
     where
-      by : (b : Bool) → Begins k.making (cond b k (journaled_more g k)).making
-      by true = begins_same k.making
-      by false = advance_begins g k.making
+      by : (b : Bool) → Begins k (cond b k (advance_making g k))
+      by true = begins_same k
+      by false = advance_begins g k
 
-  steps_begin : (a b : ℕ) → a ≤ b → Begins (steps_journaled n g from a).making (steps_journaled n g from b).making
+  steps_begin : (a b : ℕ) → a ≤ b → Begins (steps_journaled n g from a) (steps_journaled n g from b)
   steps_begin a zero low =
       let same : a ≡ 0 = omega (arith, low) in
-      subst (λ (j : ℕ). Begins (steps_journaled n g from j).making from.making) (sym same) (begins_same from.making)
+      subst (λ (j : ℕ). Begins (steps_journaled n g from j) from) (sym same) (begins_same from)
   steps_begin a (suc b) low =
       ⊎_elim
-      (λ (same : a ≡ suc b). subst (λ (j : ℕ). Begins (steps_journaled n g from j).making (steps_journaled n g from (suc b)).making) (sym same) (begins_same (steps_journaled n g from (suc b)).making))
+      (λ (same : a ≡ suc b). subst (λ (j : ℕ). Begins (steps_journaled n g from j) (steps_journaled n g from (suc b))) (sym same) (begins_same (steps_journaled n g from (suc b))))
       (λ (below : a < suc b).
-      begins_then (steps_journaled n g from a).making (steps_journaled n g from b).making (steps_journaled n g from (suc b)).making
+      begins_then (steps_journaled n g from a) (steps_journaled n g from b) (steps_journaled n g from (suc b))
       (steps_begin a b (omega (arith, below))) (one_more (steps_journaled n g from b)))
       (eq-or-lt_of_le low)
 
-  pub next_journaled : (m : ℕ) → has_stopped n g.how (steps_journaled n g from m) ≡ false
-      → (steps_journaled n g from (suc m)).making ≡ advance_making g (steps_journaled n g from m).making
-  next_journaled m going =
-      ap (λ (b : Bool). (cond b (steps_journaled n g from m) (journaled_more g (steps_journaled n g from m))).making) going
+  pub next_journaled : (m : ℕ) → has_stopped n g.how (steps_journaled n g from m) ≡ false → steps_journaled n g from (suc m) ≡ advance_making g (steps_journaled n g from m)
+  next_journaled m going = ap (λ (b : Bool). cond b (steps_journaled n g from m) (advance_making g (steps_journaled n g from m))) going
 
-  pub goes_past : (m : ℕ) (k : Journaled) → has_stopped n g.how (steps_journaled n g from m) ≡ false → IsJournaled n g from k
-      → Begins (advance_making g (steps_journaled n g from m).making) k.making
+  pub goes_past : (m : ℕ) (k : Making) → has_stopped n g.how (steps_journaled n g from m) ≡ false → IsJournaled n g from k
+      → Begins (advance_making g (steps_journaled n g from m)) k
   goes_past m k going is =
       ⊎_elim
       (λ (below : m < is.steps).
-      subst (λ (j : Making). Begins j k.making) (next_journaled m going)
-      (subst (λ (l : Journaled). Begins (steps_journaled n g from (suc m)).making l.making) is.reached (steps_begin (suc m) is.steps (omega (arith, below)))))
+      subst (λ (j : Making). Begins j k) (next_journaled m going)
+      (subst (λ (l : Making). Begins (steps_journaled n g from (suc m)) l) is.reached (steps_begin (suc m) is.steps (omega (arith, below)))))
       (λ (low : is.steps ≤ m).
       let stopped : has_stopped n g.how (steps_journaled n g from is.steps) ≡ true = ap (has_stopped n g.how) is.reached ∙ is.stopped in
       absurd (let no : false ≡ true = sym going ∙ (ap (has_stopped n g.how) (stays_stopped n g from is.steps m low stopped) ∙ stopped) in cc))

@@ -4,6 +4,7 @@ use Rattle.alpha_io.specs.Sunk.{Sunk}
 use Rattle.alpha_pal.specs.declared.fault.Fault.{Fault}
 use Rattle.alpha_pal.specs.declared.fault.Fault.TheVariants.{Input, Output, Notes}
 use Rattle.alpha_seq.specs.declared.event.Event.{Event}
+use Rattle.alpha_seq.specs.Run.{Fed}
 use Rattle.alpha_seq.specs.Devices.{Drawn}
 use Rattle.alpha_seq.specs.StepEffect.{Causes}
 use Rattle.alpha_imprecise.specs.Moment.{Choice}
@@ -33,13 +34,12 @@ pub moved_by : (event : Event) (m : Move) (old new : WildState) (before after : 
 moved_by event m old new before after xs ys same made =
     let did = made.did in
     let given = chosen (asked old) made.choice before after made.picked ∙ ap (λ (x : Move). given_choice x (asked old)) same in
-    let found = did.found xs refl in
+    let fed = did.fed xs refl in
     record {
       print = did.print;
       is = subst (λ (c : Choice). GoesBy c old did.print new) given did.is;
       event_is = did.event_is;
-      found = found.0;
-      left_is = (let rest = found.1 in cc);
+      fed = subst (λ (l : List ℕ). Fed xs did.print.seen l) (let same : fed.0 ≡ ys = (let rest = fed.2 in cc) in same) fed.1;
     }
 
 -- no device fails

@@ -4,15 +4,14 @@ use Rattle.std.proofs.lemmas.Bool.{eq-eqb}
 use Rattle.std.proofs.Math.Nat.{eq-or-lt_of_le}
 use Rattle.alpha_seq.specs.State.{Program, State}
 use Rattle.alpha_imprecise.specs.Moment.{Trap}
-use Rattle.alpha_imprecise.specs.Run.{finished, unit_of}
+use Rattle.alpha_imprecise.specs.Run.{finished, begins_wild, unit_of}
 use Rattle.alpha_imprecise.specs.Used.{HasUsed}
 use Rattle.alpha_imprecise.specs.Made.{Making, begun, advance_making, steps_making, most_words}
-use Rattle.alpha_imprecise.specs.Free.{lefts_making}
-use Rattle.alpha_imprecise.proofs.FreeDrawing.{free_draws}
-use Rattle.alpha_imprecise.proofs.Freely.{told_making}
+use Rattle.alpha_imprecise.proofs.Drawing.{draws_most}
+use Rattle.alpha_imprecise.proofs.Drawn.{IsMade, steps-made, begun-made}
 use Rattle.alpha_imprecise.proofs.Nearing.{calm_takes}
 use Rattle.alpha_imprecise.proofs.Settling.{advance-going, made_is}
-use Rattle.alpha_replay.specs.Journaled.{Journaled, unjournaled, journal_at, is_within, has_stopped, journaled_more, steps_journaled, IsJournaled}
+use Rattle.alpha_replay.specs.Journaled.{journal_at, is_within, has_stopped, steps_journaled, IsJournaled}
 use Rattle.alpha_replay.proofs.JournaledRuns.{going_of, steps_run}
 use Rattle.alpha_replay.proofs.Shortened.{next_journaled}
 
@@ -24,10 +23,10 @@ stop_by true true c e h k = refl
 stop_by true false true e h k = k refl
 stop_by true false false e h k = cc
 
-used_stops : (n : ℕ) (g : Program) (k : Journaled) → HasUsed n k.making.run → has_stopped n g.how k ≡ true
+used_stops : (n : ℕ) (g : Program) (k : Making) → HasUsed n k.run.units k.run.at → has_stopped n g.how k ≡ true
 used_stops n g k used =
-    stop_by (is_within (journal_at g.how k)) (finished k.making.run.last) (is_none k.making.run.pending) (k.making.run.units == n) used.settled
-    (λ going. eq-eqb k.making.run.units n (used.full going))
+    stop_by (is_within (journal_at g.how k)) (finished k.run.at.happened) (is_none k.run.at.pending) (k.run.units == n) used.settled
+    (λ going. eq-eqb k.run.units n (used.full going))
 
 -- where nothing is pending and some units are left
 pub last_of : (a b c : Bool) → (a || (b || c)) ≡ false → c ≡ false
@@ -43,66 +42,66 @@ room n None units e low =
     (eq-or-lt_of_le low)
 room n (Some t) units e low = omega (arith, low)
 
-module _ (n : ℕ) (g : Program) (from : Journaled) where
+module _ (n : ℕ) (g : Program) (from : Making) where
   -- until it stops it makes the steps of the run
-  open_steps : (m : ℕ) → has_stopped n g.how (steps_journaled n g from m) ≡ false → (steps_journaled n g from m).making ≡ steps_making g from.making m
+  open_steps : (m : ℕ) → has_stopped n g.how (steps_journaled n g from m) ≡ false → steps_journaled n g from m ≡ steps_making g from m
   open_steps zero e = refl
   open_steps (suc m) e = by (λ h. open_steps m h) (has_stopped n g.how (steps_journaled n g from m)) refl
     where
-      by : (has_stopped n g.how (steps_journaled n g from m) ≡ false → (steps_journaled n g from m).making ≡ steps_making g from.making m)
-          → (b : Bool) → has_stopped n g.how (steps_journaled n g from m) ≡ b → (steps_journaled n g from (suc m)).making ≡ steps_making g from.making (suc m)
+      by : (has_stopped n g.how (steps_journaled n g from m) ≡ false → steps_journaled n g from m ≡ steps_making g from m)
+          → (b : Bool) → has_stopped n g.how (steps_journaled n g from m) ≡ b → steps_journaled n g from (suc m) ≡ steps_making g from (suc m)
       by before true stopped =
           let stays : steps_journaled n g from (suc m) ≡ steps_journaled n g from m =
-          ap (λ (b : Bool). cond b (steps_journaled n g from m) (journaled_more g (steps_journaled n g from m))) stopped in
+          ap (λ (b : Bool). cond b (steps_journaled n g from m) (advance_making g (steps_journaled n g from m))) stopped in
           absurd (let no : true ≡ false = sym stopped ∙ (ap (has_stopped n g.how) (sym stays) ∙ e) in cc)
       by before false going = next_journaled n g from m going ∙ ap (advance_making g) (before going)
 
-  stops_by : (m : ℕ) → HasUsed n (steps_making g from.making m).run → (k : Journaled) × IsJournaled n g from k
+  stops_by : (m : ℕ) → HasUsed n (steps_making g from m).run.units (steps_making g from m).run.at → (k : Making) × IsJournaled n g from k
   stops_by m used = by (has_stopped n g.how (steps_journaled n g from m)) refl
     where
-      by : (b : Bool) → has_stopped n g.how (steps_journaled n g from m) ≡ b → (k : Journaled) × IsJournaled n g from k
+      by : (b : Bool) → has_stopped n g.how (steps_journaled n g from m) ≡ b → (k : Making) × IsJournaled n g from k
       by true stopped = (steps_journaled n g from m, record { steps = m; reached = refl; stopped = stopped })
       by false going =
-          let there : HasUsed n (steps_journaled n g from m).making.run = subst (λ (k : Making). HasUsed n k.run) (sym (open_steps m going)) used in
+          let there = subst (λ (k : Making). HasUsed n k.run.units k.run.at) (sym (open_steps m going)) used in
           absurd (let no : true ≡ false = sym (used_stops n g (steps_journaled n g from m) there) ∙ going in cc)
 
   -- ---- it uses no more than its units
 
-  units_most : (m : ℕ) → from.making.run.units ≤ n → (steps_journaled n g from m).making.run.units ≤ n
+  units_most : (m : ℕ) → from.run.units ≤ n → (steps_journaled n g from m).run.units ≤ n
   units_most zero low = low
   units_most (suc m) low = by (units_most m low) (has_stopped n g.how (steps_journaled n g from m)) refl
     where
-      by : (steps_journaled n g from m).making.run.units ≤ n → (b : Bool) → has_stopped n g.how (steps_journaled n g from m) ≡ b → (steps_journaled n g from (suc m)).making.run.units ≤ n
+      by : (steps_journaled n g from m).run.units ≤ n → (b : Bool) → has_stopped n g.how (steps_journaled n g from m) ≡ b → (steps_journaled n g from (suc m)).run.units ≤ n
       by before true stopped =
-          subst (λ (k : Journaled). k.making.run.units ≤ n) (sym (ap (λ (b : Bool). cond b (steps_journaled n g from m) (journaled_more g (steps_journaled n g from m))) stopped)) before
+          subst (λ (k : Making). k.run.units ≤ n) (sym (ap (λ (b : Bool). cond b (steps_journaled n g from m) (advance_making g (steps_journaled n g from m))) stopped)) before
       by before false going =
-          let k = (steps_journaled n g from m).making in
-          let goes : finished k.run.last ≡ false = going_of _ _ _ going in
-          let more : (steps_journaled n g from (suc m)).making.run.units ≡ k.run.units + unit_of k.run.pending =
+          let k = steps_journaled n g from m in
+          let goes : finished k.run.at.happened ≡ false = going_of _ _ _ going in
+          let more : (steps_journaled n g from (suc m)).run.units ≡ k.run.units + unit_of k.run.at.pending =
           ap (λ (j : Making). j.run.units) (next_journaled n g from m going ∙ advance-going g k goes) in
-          subst (λ (u : ℕ). u ≤ n) (sym more) (room n k.run.pending k.run.units (last_of _ _ _ going) before)
+          subst (λ (u : ℕ). u ≤ n) (sym more) (room n k.run.at.pending k.run.units (last_of _ _ _ going) before)
 
 -- ---- from a state with nothing pending
 
 -- there is a place where the run stops
-pub some_place : (n : ℕ) (g : Program) (s : State) (words : List ℕ) → (k : Journaled) × IsJournaled n g (unjournaled (begun s None 0 words)) k
-some_place n g s words =
-    let from = begun s None 0 words in
+pub some_place : (n : ℕ) (g : Program) (s : State) (input words : List ℕ) → (k : Making) × IsJournaled n g (begun s input None 0 words) k
+some_place n g s input words =
+    let from = begun s input None 0 words in
     let within = calm_takes g from n refl in
-    stops_by n g (unjournaled from) within.steps (subst (λ (k : Making). HasUsed n k.run) (sym within.reached) (made_is g from n refl refl))
+    stops_by n g from within.steps (subst (λ (k : Making). HasUsed n k.run.units k.run.at) (sym within.reached) (made_is g from n refl refl))
 
 -- on its way there it has used no more than its units, and has drawn no more words than these
-pub few_steps : (n : ℕ) (g : Program) (s : State) (words : List ℕ) (m : ℕ)
-    → ((steps_journaled n g (unjournaled (begun s None 0 words)) m).making.run.units ≤ n) × ((steps_journaled n g (unjournaled (begun s None 0 words)) m).making.count ≤ most_words n)
-few_steps n g s words m =
-    let from = begun s None 0 words in
-    let k = (steps_journaled n g (unjournaled from) m).making in
-    let units : k.run.units ≤ n = units_most n g (unjournaled from) m (omega arith) in
-    let run = steps_run n g (unjournaled from) m in
-    let draws : k.count ≤ most_words k.run.units =
-    subst (λ (j : Making). j.count ≤ most_words j.run.units) (told_making g from run.0 ∙ sym run.1) (free_draws g s words (lefts_making g from run.0)) in
-    (units, omega (arith, draws, units))
+pub few_steps : (n : ℕ) (g : Program) (s : State) (input words : List ℕ) (m : ℕ)
+    → ((steps_journaled n g (begun s input None 0 words) m).run.units ≤ n) × ((steps_journaled n g (begun s input None 0 words) m).count ≤ most_words n)
+few_steps n g s input words m =
+    let from = begun s input None 0 words in
+    let k = steps_journaled n g from m in
+    let units : k.run.units ≤ n = units_most n g from m (omega arith) in
+    let run = steps_run n g from m in
+    let is = subst (IsMade g (begins_wild s) input words 0) (sym run.1) (steps-made g (begins_wild s) input words 0 from run.0 (begun-made g s input words None 0)) in
+    let draws = draws_most g k.run.steps (begins_wild s) k.run.at 0 words k.words refl is.runs is.draws in
+    (units, omega (arith, draws, is.count, is.used, units))
 
-pub few_words : (n : ℕ) (g : Program) (s : State) (words : List ℕ) (k : Journaled) → IsJournaled n g (unjournaled (begun s None 0 words)) k → (k.making.run.units ≤ n) × (k.making.count ≤ most_words n)
-few_words n g s words k is =
-    subst (λ (j : Journaled). (j.making.run.units ≤ n) × (j.making.count ≤ most_words n)) is.reached (few_steps n g s words is.steps)
+pub few_words : (n : ℕ) (g : Program) (s : State) (input words : List ℕ) (k : Making) → IsJournaled n g (begun s input None 0 words) k → (k.run.units ≤ n) × (k.count ≤ most_words n)
+few_words n g s input words k is =
+    subst (λ (j : Making). (j.run.units ≤ n) × (j.count ≤ most_words n)) is.reached (few_steps n g s input words is.steps)

@@ -1,4 +1,5 @@
--- What a journal has of a step, by how it went: its move, and the bytes that it took and put, which stand in memory behind it.
+-- What a journal has of a step: by the definition, and by how the code says that it went and by the memory behind it, in which
+-- the bytes stand that it took and put.
 use Rattle.std.specs.Prelude.{ℕ, if◌then◌else◌, List, []}
 use Rattle.alpha_mem.specs.Block.{Block, shapes, within}
 use Rattle.alpha_mem.specs.Intent.{Load}
@@ -7,33 +8,31 @@ use Rattle.alpha_pal.specs.declared.pal_end.Passed.TheVariants.{Took, Put}
 use Rattle.alpha_seq.specs.declared.end.End.TheVariants as ends
 use Rattle.alpha_seq.specs.declared.event.Event.{Event}
 use Rattle.alpha_seq.specs.declared.event.Event.TheVariants as events
-use Rattle.alpha_seq.specs.State.{Went, Barriered, Overflowed, Ends}
+use Rattle.alpha_seq.specs.State.{Ends}
 use Rattle.alpha_imprecise.specs.Moment.{Happening, Precisely, Triggered, Waited, Reported, Lost}
 use Rattle.alpha_replay.specs.declared.moves.Move.{Move}
 use Rattle.alpha_replay.specs.declared.moves.Move.TheVariants.{One, Trips, Waits, Reports}
 
 -- the move that a step was; only a report stops the program at an overflow
-abbrev pub move_of : Event → Move
-move_of events.Went = One
-move_of (events.Barrier passed) = One
-move_of (events.Overflowed at) = One
-move_of (events.Triggered value) = Trips value
-move_of (events.Waited w) = Waits w.adds w.value
-move_of (events.Reported at) = Reports
-move_of (events.Ended (ends.Overflow at)) = Reports
-move_of (events.Ended end) = One
-move_of (events.Lost pc mask) = Reports
+abbrev pub move_of : Happening → Move
+move_of (Precisely (Ends (ends.Overflow at))) = Reports
+move_of (Precisely event) = One
+move_of (Triggered value) = Trips value
+move_of (Waited adds value bytes) = Waits adds value
+move_of (Reported at) = Reports
+move_of (Lost pc mask) = Reports
 
--- how it went by the definition
-abbrev pub happened_of : Event → Happening
-happened_of events.Went = Precisely Went
-happened_of (events.Barrier passed) = Precisely Barriered
-happened_of (events.Overflowed at) = Precisely (Overflowed at)
-happened_of (events.Triggered value) = Triggered
-happened_of (events.Waited w) = Waited
-happened_of (events.Reported at) = Reported at
-happened_of (events.Ended end) = Precisely (Ends end)
-happened_of (events.Lost pc mask) = Lost pc mask
+-- by how the code says that it went
+abbrev pub move_by : Event → Move
+move_by events.Went = One
+move_by (events.Barrier passed) = One
+move_by (events.Overflowed at) = One
+move_by (events.Triggered value) = Trips value
+move_by (events.Waited w) = Waits w.adds w.value
+move_by (events.Reported at) = Reports
+move_by (events.Ended (ends.Overflow at)) = Reports
+move_by (events.Ended end) = One
+move_by (events.Lost pc mask) = Reports
 
 -- the bytes of a range, none where it doesn't lie within one region
 abbrev pub bytes_in : List Block → ℕ → ℕ → List ℕ

@@ -1,33 +1,24 @@
--- The journal of a run that coming words make.
-use Rattle.std.specs.Prelude.{◌≡◌, ℕ, zero, suc, ◌-◌, ◌==◌, Bool, true, not, ◌&&◌, ◌||◌, nat_le, is_none, if◌then◌else◌, List, length, take}
+-- The journal of a run, read off its steps, and where a run stops that has one.
+use Rattle.std.specs.Prelude.{◌≡◌, ⊤, ℕ, zero, suc, ◌+◌, ◌==◌, Bool, true, false, not, ◌&&◌, ◌||◌, nat_le, is_none, if◌then◌else◌, List, [], ◌∷◌, ◌++◌, length}
 use Rattle.alpha_words.specs.declared.Completion.{Completion}
 use Rattle.alpha_seq.specs.State.{Program}
-use Rattle.alpha_imprecise.specs.Run.{finished}
+use Rattle.alpha_seq.specs.Run.{taken, output}
+use Rattle.alpha_imprecise.specs.Moment.{Happening, Moment}
+use Rattle.alpha_imprecise.specs.Run.{seen, finished, next_wild, unit_of}
 use Rattle.alpha_imprecise.specs.Made.{Making, advance_making}
 use Rattle.alpha_replay.specs.Items.{units_of}
 use Rattle.alpha_replay.specs.Journal.{Parts, parts, most_bytes, most_items, most_units}
 use Rattle.alpha_replay.specs.Replay.{ending_of}
-use Rattle.alpha_replay.specs.Gathered.{Gathered, no_moves, closed, gathered_by, noted}
+use Rattle.alpha_replay.specs.Gathered.{items_of}
 
--- ---- the run and its items
+-- ---- the journal
 
--- a run, the items of its steps, and the input that there was at the beginning
-pub record Journaled : Type 0 where
-  pub making : Making
-  pub gathered : Gathered
-  pub input : List ℕ
+-- of these steps, the last of which went so
+abbrev pub journal_of : Completion → Happening → List Happening → Parts
+journal_of how last steps = parts how (ending_of last) (taken (seen steps)) (output (seen steps)) (items_of steps)
 
--- no step was made yet
-abbrev pub unjournaled : Making → Journaled
-unjournaled k = record { making = k; gathered = no_moves; input = k.run.state.outside.input }
-
--- the bytes that the run has taken
-abbrev pub taken_by : Journaled → List ℕ
-taken_by k = take (length k.input - length k.making.run.state.outside.input) k.input
-
-abbrev pub journal_at : Completion → Journaled → Parts
-journal_at how k =
-    parts how (ending_of k.making.run.last) (taken_by k) k.making.run.state.outside.output (closed k.gathered)
+abbrev pub journal_at : Completion → Making → Parts
+journal_at how k = journal_of how k.run.at.happened k.run.steps
 
 -- whether each of the four numbers is one that a journal may have
 abbrev pub is_within : Parts → Bool
@@ -35,26 +26,38 @@ is_within p =
     nat_le (length p.input) most_bytes && nat_le (length p.output) most_bytes
     && (nat_le (length p.items) most_items && nat_le (units_of p.items) most_units)
 
--- The run stops: it is over, its units are used with nothing pending, or its journal is past a limit.
-abbrev pub has_stopped : ℕ → Completion → Journaled → Bool
-has_stopped n how k =
-    not (is_within (journal_at how k))
-    || (finished k.making.run.last || (is_none k.making.run.pending && (k.making.run.units == n)))
+-- ---- where a run stops
 
-abbrev pub journaled_more : Program → Journaled → Journaled
-journaled_more g k = record k { making = advance_making g k.making; gathered = gathered_by k.gathered (noted g k.making) }
+-- Behind these steps, which used so many units and led here, a run of n units stops: it is over, its units are used with
+-- nothing pending, or its journal is past a limit.
+abbrev pub stops_at : ℕ → Completion → ℕ → List Happening → Moment → Bool
+stops_at n how used steps at =
+    not (is_within (journal_of how at.happened steps))
+    || (finished at.happened || (is_none at.pending && (used == n)))
+
+-- Behind so many units and these steps it doesn't stop before any of these.
+abbrev pub GoesOver : ℕ → Program → ℕ → List Happening → Moment → List Happening → Type 0
+GoesOver n g used before a [] = ⊤
+GoesOver n g used before a (h ∷ hs) =
+    (stops_at n g.how used before a ≡ false)
+    × GoesOver n g (used + unit_of a.pending) (before ++ h ∷ []) (next_wild g a h) hs
+
+-- ---- the run that coming words make
+
+abbrev pub has_stopped : ℕ → Completion → Making → Bool
+has_stopped n how k = stops_at n how k.run.units k.run.steps k.run.at
 
 -- one step more; a run that has stopped stays
-abbrev pub advance_journaled : ℕ → Program → Journaled → Journaled
-advance_journaled n g k = if has_stopped n g.how k then k else journaled_more g k
+abbrev pub advance_journaled : ℕ → Program → Making → Making
+advance_journaled n g k = if has_stopped n g.how k then k else advance_making g k
 
 -- so many steps more
-abbrev pub steps_journaled : ℕ → Program → Journaled → ℕ → Journaled
+abbrev pub steps_journaled : ℕ → Program → Making → ℕ → Making
 steps_journaled n g k zero = k
 steps_journaled n g k (suc steps) = advance_journaled n g (steps_journaled n g k steps)
 
 -- Some number of steps leads there, and there the run has stopped. There is one such place.
-pub record IsJournaled (n : ℕ) (g : Program) (from to : Journaled) : Type 0 where
+pub record IsJournaled (n : ℕ) (g : Program) (from to : Making) : Type 0 where
   pub steps : ℕ
   pub reached : steps_journaled n g from steps ≡ to
   pub stopped : has_stopped n g.how to ≡ true

@@ -15,7 +15,6 @@ pub mod Given
 pub mod Playing
 pub mod Gathered
 pub mod Journaled
-pub mod Recorded
 pub mod Taped
 pub mod Recorder
 pub mod JournalEnd

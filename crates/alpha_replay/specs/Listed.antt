@@ -6,9 +6,9 @@ use Rattle.alpha_seq.specs.Start.{start}
 use Rattle.alpha_seq.specs.Step.{next_class}
 use Rattle.alpha_imprecise.specs.Moment.{Moment}
 use Rattle.alpha_imprecise.specs.Step.{wild}
-use Rattle.alpha_imprecise.specs.Run.{WildRun, finished, started_wild, extended_wild}
+use Rattle.alpha_imprecise.specs.Run.{WildRun, finished, begins_wild}
 use Rattle.alpha_imprecise.specs.Chosen.{waited_after}
-use Rattle.alpha_imprecise.specs.Free.{wild_over}
+use Rattle.alpha_imprecise.specs.Made.{extended_wild}
 use Rattle.alpha_replay.specs.declared.item.Item.{Item}
 use Rattle.alpha_replay.specs.declared.item.Item.TheVariants.{Units, Trigger, Wait, Report}
 use Rattle.alpha_replay.specs.declared.moves.Move.{Move}
@@ -27,8 +27,8 @@ played_by p m = record { run = extended_wild p.run m; waited = waited_after m.ha
 -- One move: none where the run is over, or where the step isn't of this kind.
 abbrev pub move : Program → Played → Move → Option Played
 move g p m =
-    if not (finished p.run.last) && suits (next_class g p.run.state.pc) p.run.state p.run.pending p.waited m
-    then Some (played_by p (wild g p.run.state p.run.pending (choice_of m)))
+    if not (finished p.run.at.happened) && suits (next_class g p.run.at.state.pc) p.run.at.state p.run.at.pending p.waited m
+    then Some (played_by p (wild g p.run.at.state p.run.at.pending (choice_of m) p.run.left))
     else None
 
 -- so many steps with nothing pending that don't overflow
@@ -55,12 +55,12 @@ listed_from g n (i ∷ items) p = listed_then n (λ q. listed_from g (n + 1) ite
 
 -- the same over another input
 abbrev pub played_over : List ℕ → Played → Played
-played_over input p = record p { run = wild_over input p.run }
+played_over input p = record p { run = record p.run { left = input } }
 
 -- no step was made
-abbrev pub unplayed : State → Played
-unplayed s = record { run = started_wild s; waited = 0 }
+abbrev pub unplayed : State → List ℕ → Played
+unplayed s input = record { run = record { at = begins_wild s; steps = []; left = input; units = 0 }; waited = 0 }
 
 -- where items lead from the start, over an input, or the number of the first that is impossible
 abbrev pub listed : Program → List ℕ → List Item → Result Played ℕ
-listed g input items = listed_from g 0 items (unplayed (start g input))
+listed g input items = listed_from g 0 items (unplayed (start g) input)

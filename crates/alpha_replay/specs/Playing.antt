@@ -3,19 +3,21 @@ use Rattle.std.specs.Prelude.{◌≡◌, ◌≤◌, ℕ, ◌+◌, false, List, �
 use Rattle.alpha_seq.specs.declared.event.Event.{Event}
 use Rattle.alpha_seq.specs.declared.event.Event.TheVariants.{Went}
 use Rattle.alpha_seq.specs.State.{Program}
-use Rattle.alpha_seq.specs.Run.{Mark}
-use Rattle.alpha_seq.specs.Machine.{program_of, state_of}
-use Rattle.alpha_seq.specs.Print.{Print, found_by}
+use Rattle.alpha_seq.specs.Run.{output, Fed}
+use Rattle.alpha_seq.specs.Machine.{program_of}
+use Rattle.alpha_seq.specs.Print.{Print, is_over}
+use Rattle.alpha_imprecise.specs.Moment.{Happening}
+use Rattle.alpha_imprecise.specs.Run.{seen, finished}
 use Rattle.alpha_imprecise.specs.Picks.{asked}
-use Rattle.alpha_imprecise.specs.Wild.{WildState, trap_in, waited_in, IsFresh}
+use Rattle.alpha_imprecise.specs.Wild.{WildState, waited_in, moment_of, IsFresh}
 use Rattle.alpha_imprecise.specs.WildEffect.{GoesBy}
 use Rattle.alpha_replay.specs.declared.item.Item.{Item}
 use Rattle.alpha_replay.specs.declared.moves.Move.{Move}
 use Rattle.alpha_replay.specs.declared.play.Stand.{Stand}
 use Rattle.alpha_replay.specs.Compared.{Sees}
-use Rattle.alpha_replay.specs.Events.{happened_of}
 use Rattle.alpha_replay.specs.Given.{given_choice}
 use Rattle.alpha_replay.specs.Listed.{Played, listed_from}
+use Rattle.alpha_replay.specs.Replay.{ending_of, ending_seen}
 
 -- before the first step
 abbrev pub first_stand : Stand
@@ -38,52 +40,50 @@ place wild input stand = record { wild = wild; input = input; stand = stand }
 abbrev pub program_at : Place → Program
 program_at a = program_of a.wild.machine
 
--- the run of the definition that stands there, with these units, notes and output so far
-abbrev pub standing : Place → ℕ → List Mark → List ℕ → Played
-standing a units trace output = record {
-  run = record {
-    units = units;
-    state = state_of a.wild.machine a.input output;
-    pending = trap_in a.wild.pending;
-    trace = trace;
-    last = happened_of a.stand.last;
-  };
+-- how the last step went, as the code says it
+pub record IsLast (event : Event) (h : Happening) : Type 0 where
+  pub over : is_over event ≡ finished h
+  pub ending : ending_seen event ≡ ending_of h
+
+-- the run of the definition that stands there, with these steps and units so far, the last of which went so
+abbrev pub standing : Place → Happening → List Happening → ℕ → Played
+standing a h steps units = record {
+  run = record { at = moment_of a.wild h; steps = steps; left = a.input; units = units };
   waited = waited_in a.wild.pending;
 }
 
--- The code made this part of the definition's run, whatever units, notes and output there were before, and saw what it put.
+-- The code made this part of the definition's run, whatever steps there were before, and saw what it put.
 pub record Did (expected : List ℕ) (part : Program → Played → Option Played) (old new : Place) : Type 0 where
   pub used : ℕ
-  pub marks : List Mark
-  pub bytes : List ℕ
+  pub steps : List Happening
   pub program : program_at new ≡ program_at old
   pub fewer : length new.input ≤ length old.input
-  pub is : (units : ℕ) (trace : List Mark) (output : List ℕ)
-      → part (program_at old) (standing old units trace output)
-      ≡ Some (standing new (units + used) (trace ++ marks) (output ++ bytes))
-  pub sees : (output : List ℕ) → Sees expected old.stand.seen output → Sees expected new.stand.seen (output ++ bytes)
+  pub is : (h : Happening) → IsLast old.stand.last h → (before : List Happening) (units : ℕ)
+      → (last : Happening) × IsLast new.stand.last last
+      × (part (program_at old) (standing old h before units) ≡ Some (standing new last (before ++ steps) (units + used)))
+  pub sees : (put : List ℕ) → Sees expected old.stand.seen put → Sees expected new.stand.seen (put ++ output (seen steps))
 
 -- this part of the definition's run is impossible
 abbrev pub Fails : (Program → Played → Option Played) → Place → Type 0
-Fails part old = (units : ℕ) (trace : List Mark) (output : List ℕ)
-    → part (program_at old) (standing old units trace output) ≡ None
+Fails part old = (h : Happening) → IsLast old.stand.last h → (before : List Happening) (units : ℕ)
+    → part (program_at old) (standing old h before units) ≡ None
 
 -- the first items were played, so many
 pub record Plays (expected : List ℕ) (items : List Item) (count : ℕ) (old new : Place) : Type 0 where
   pub used : ℕ
-  pub marks : List Mark
-  pub bytes : List ℕ
+  pub steps : List Happening
   pub program : program_at new ≡ program_at old
   pub fewer : length new.input ≤ length old.input
-  pub is : (units : ℕ) (trace : List Mark) (output : List ℕ)
-      → listed_from (program_at old) 0 items (standing old units trace output)
-      ≡ listed_from (program_at old) count (drop count items) (standing new (units + used) (trace ++ marks) (output ++ bytes))
-  pub sees : (output : List ℕ) → Sees expected old.stand.seen output → Sees expected new.stand.seen (output ++ bytes)
+  pub is : (h : Happening) → IsLast old.stand.last h → (before : List Happening) (units : ℕ)
+      → (last : Happening) × IsLast new.stand.last last
+      × (listed_from (program_at old) 0 items (standing old h before units)
+      ≡ listed_from (program_at old) count (drop count items) (standing new last (before ++ steps) (units + used)))
+  pub sees : (put : List ℕ) → Sees expected old.stand.seen put → Sees expected new.stand.seen (put ++ output (seen steps))
 
 -- the item with this number is the first that is impossible
 abbrev pub StopsAt : List Item → ℕ → Place → Type 0
-StopsAt items n old = (units : ℕ) (trace : List Mark) (output : List ℕ)
-    → listed_from (program_at old) 0 items (standing old units trace output) ≡ Err n
+StopsAt items n old = (h : Happening) → IsLast old.stand.last h → (before : List Happening) (units : ℕ)
+    → listed_from (program_at old) 0 items (standing old h before units) ≡ Err n
 
 -- ---- one step
 
@@ -92,5 +92,4 @@ pub record Moved (m : Move) (event : Event) (old new : WildState) (input left : 
   pub print : Print
   pub is : GoesBy (given_choice m (asked old)) old print new
   pub event_is : print.event ≡ event
-  pub found : input ≡ found_by print
-  pub left_is : left ≡ print.rest
+  pub fed : Fed input print.seen left

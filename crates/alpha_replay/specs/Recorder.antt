@@ -10,10 +10,9 @@ use Rattle.alpha_replay.specs.declared.ending.Ending.TheVariants.{Spent}
 use Rattle.alpha_replay.specs.declared.journal_end.JournalEnd.{JournalEnd}
 use Rattle.alpha_replay.specs.declared.journal_end.JournalEnd.TheVariants as made
 use Rattle.alpha_replay.specs.declared.recorder.Recorder.{Recorder}
-use Rattle.alpha_replay.specs.Events.{happened_of}
 use Rattle.alpha_replay.specs.Gathered.{closed}
 use Rattle.alpha_replay.specs.Journal.{parts}
-use Rattle.alpha_replay.specs.Replay.{ending_of}
+use Rattle.alpha_replay.specs.Replay.{ending_seen}
 use Rattle.alpha_replay.specs.Taped.{taped_by, tape_fits, tape_after, room_of}
 
 -- the lines of overflows alone
@@ -38,7 +37,7 @@ recording = watching recorded_after lines_recorded is_past
 -- the ending that a journal has of a run with this last step
 abbrev pub last_ending : Option Event → Ending
 last_ending None = Spent
-last_ending (Some event) = ending_of (happened_of event)
+last_ending (Some event) = ending_seen event
 
 -- what was made of a run, by its last step
 abbrev pub outcome : Option Event → Completion → Recorder → JournalEnd

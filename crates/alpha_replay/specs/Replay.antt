@@ -5,11 +5,14 @@ use Rattle.alpha_image.specs.Parts.{Parts as Image}
 use Rattle.alpha_image.specs.FirstOf.{unless, first_of}
 use Rattle.alpha_seq.specs.declared.end.End.{End}
 use Rattle.alpha_seq.specs.declared.end.End.TheVariants as ends
-use Rattle.alpha_seq.specs.State.{Program, Event, Went, Barriered, Overflowed, Ends}
+use Rattle.alpha_seq.specs.State.{Program, Ends}
 use Rattle.alpha_seq.specs.Start.{start}
-use Rattle.alpha_seq.specs.Run.{sequential}
-use Rattle.alpha_imprecise.specs.Moment.{Choice, Happening, Precisely, Triggered, Waited, Reported, Lost}
-use Rattle.alpha_imprecise.specs.Run.{WildRun, finished, started_wild, run_wild}
+use Rattle.alpha_seq.specs.declared.event.Event.{Event as Seen}
+use Rattle.alpha_seq.specs.declared.event.Event.TheVariants as events
+use Rattle.alpha_seq.specs.Print.{is_over}
+use Rattle.alpha_seq.specs.Run.{output, sequential}
+use Rattle.alpha_imprecise.specs.Moment.{Happening, Precisely, Lost}
+use Rattle.alpha_imprecise.specs.Run.{seen, finished, WildRun, RunsOver}
 use Rattle.alpha_imprecise.specs.Used.{HasUsed}
 use Rattle.alpha_replay.specs.declared.ending.Ending.{Ending}
 use Rattle.alpha_replay.specs.declared.ending.Ending.TheVariants as endings
@@ -33,31 +36,29 @@ ending_by (ends.Access pc addr) = endings.Access pc addr
 ending_by (ends.Align pc addr) = endings.Align pc addr
 ending_by (ends.Overflow pc) = endings.Overflow pc
 
-abbrev pub ending_after : Event → Ending
-ending_after Went = endings.Spent
-ending_after Barriered = endings.Spent
-ending_after (Overflowed at) = endings.Spent
-ending_after (Ends end) = ending_by end
-
 -- by how the last step went
 abbrev pub ending_of : Happening → Ending
-ending_of (Precisely event) = ending_after event
-ending_of Triggered = endings.Spent
-ending_of Waited = endings.Spent
-ending_of (Reported at) = endings.Spent
+ending_of (Precisely (Ends end)) = ending_by end
 ending_of (Lost pc mask) = endings.Lost pc mask
+ending_of happened = endings.Spent
+
+-- by how the code says that it went
+abbrev pub ending_seen : Seen → Ending
+ending_seen (events.Ended end) = ending_by end
+ending_seen (events.Lost pc mask) = endings.Lost pc mask
+ending_seen event = endings.Spent
 
 abbrev pub same_ending : Ending → Ending → Bool
 same_ending a b =
     ending_kind a == ending_kind b && ending_first a == ending_first b && ending_second a == ending_second b
 
--- by how the last step went, and whether nothing is pending
-abbrev pub ends_by : Ending → Happening → Bool → Bool
-ends_by e h calm = same_ending e (ending_of h) && (finished h || calm)
-
 -- The run ends so. One that doesn't end has nothing pending.
 abbrev pub ends_as : Ending → WildRun → Bool
-ends_as e w = ends_by e w.last (is_none w.pending)
+ends_as e w = same_ending e (ending_of w.at.happened) && (finished w.at.happened || is_none w.at.pending)
+
+-- by how the code says that the last step went, and whether nothing is pending
+abbrev pub ends_seen : Ending → Seen → Bool → Bool
+ends_seen e event calm = same_ending e (ending_seen event) && (is_over event || calm)
 
 -- ---- the answer
 
@@ -79,9 +80,9 @@ program_by image p = record { image = image; how = p.completion }
 abbrev pub run_fault : Parts → WildRun → Option ReplayFault
 run_fault p w =
     first_of
-    (option_map faults.Output (first_difference 0 w.state.outside.output p.output)
+    (option_map faults.Output (first_difference 0 (output (seen w.steps)) p.output)
     ∷ unless (ends_as p.ending w) faults.End
-    ∷ unless (length w.state.outside.input == 0) (faults.Input (length w.state.outside.input))
+    ∷ unless (length w.left == 0) (faults.Input (length w.left))
     ∷ [])
 
 abbrev pub answer_by : Option ReplayFault → Replayed → Result Replayed ReplayFault
@@ -106,14 +107,13 @@ Replays result answer = result ≡ answer
 -- A row of imprecise steps of the image from the start, over the journal's input, that takes all of it, puts its output,
 -- ends as it says, and uses so many units. Where it doesn't end nothing is pending.
 pub record IsRun (image : Image) (p : Parts) (units : ℕ) : Type 0 where
-  pub choices : List Choice
   pub run : WildRun
-  pub is : run_wild (program_by image p) choices (started_wild (start (program_by image p) p.input)) ≡ run
-  pub ends : ending_of run.last ≡ p.ending
-  pub used : HasUsed units run
+  pub over : RunsOver (program_by image p) (start (program_by image p)) p.input run
+  pub ends : ending_of run.at.happened ≡ p.ending
+  pub used : HasUsed units run.units run.at
   pub units_are : run.units ≡ units
-  pub output : run.state.outside.output ≡ p.output
-  pub left : run.state.outside.input ≡ []
+  pub puts : output (seen run.steps) ≡ p.output
+  pub left : run.left ≡ []
 
 -- how a sequential run ends
 abbrev pub ending_at : Option End → Ending

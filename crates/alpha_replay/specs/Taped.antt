@@ -7,7 +7,7 @@ use Rattle.alpha_replay.specs.declared.item.Item.TheVariants.{Units}
 use Rattle.alpha_replay.specs.declared.tape.Tape.TheInside.{Inside}
 use Rattle.alpha_replay.specs.Items.{units_of, FitsItem, AreMerged}
 use Rattle.alpha_replay.specs.Journal.{most_bytes, most_items, most_units}
-use Rattle.alpha_replay.specs.Events.{move_of, took_by, put_by}
+use Rattle.alpha_replay.specs.Events.{move_by, took_by, put_by}
 use Rattle.alpha_replay.specs.Gathered.{Gathered, closed, gathered_by}
 
 -- the bytes taken, the bytes put, and the moves
@@ -32,7 +32,7 @@ tape_fits t = nat_le (length t.taken) most_bytes && nat_le (length t.put) most_b
 -- with what a step took, what it put and its move
 abbrev pub taped_by : Taped → Event → Machine → Taped
 taped_by t event m =
-    taped (t.taken ++ took_by event m.memory) (t.put ++ put_by event m.memory) (gathered_by t.gathered (move_of event))
+    taped (t.taken ++ took_by event m.memory) (t.put ++ put_by event m.memory) (gathered_by t.gathered (move_by event))
 
 -- bytes more, where they are no more than a journal may have
 abbrev pub bytes_kept : List ℕ → List ℕ → List ℕ
@@ -45,7 +45,7 @@ kept k more = if has_room more then more else k
 -- the same, but for what doesn't fit
 abbrev pub tape_after : Taped → Event → Machine → Taped
 tape_after t event m =
-    taped (bytes_kept t.taken (took_by event m.memory)) (bytes_kept t.put (put_by event m.memory)) (kept t.gathered (gathered_by t.gathered (move_of event)))
+    taped (bytes_kept t.taken (took_by event m.memory)) (bytes_kept t.put (put_by event m.memory)) (kept t.gathered (gathered_by t.gathered (move_by event)))
 
 -- so many more steps with nothing pending that don't overflow
 abbrev pub with_ones : Gathered → ℕ → Gathered

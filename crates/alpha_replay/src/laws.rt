@@ -1,13 +1,18 @@
 //! What holds of journals and bytes, whatever is read or written. The functions do nothing.
 
-ghost use Rattle.std.specs.Prelude.{◌≡◌, ◌≤◌, ◌++◌, ◌↔◌, ℕ, List, true, None, Ok, All};
+ghost use Rattle.std.specs.Prelude.{◌≡◌, ◌≤◌, ◌++◌, ◌↔◌, ℕ, List, true, Some, None, Ok, All};
+ghost use Rattle.alpha_io.specs.Sunk.{Sunk};
 ghost use Rattle.alpha_image.specs.Parts.{IsByte, Parts as Image};
+ghost use Rattle.alpha_seq.specs.Devices.{Drawn};
+ghost use Rattle.alpha_seq.specs.Run.{taken};
 ghost use Rattle.alpha_seq.specs.Start.{start};
 ghost use Rattle.alpha_seq.specs.State.{Program, State};
 ghost use Rattle.alpha_words.specs.declared.Completion.{Completion};
-ghost use Rattle.alpha_imprecise.specs.Moment.{Choice};
 ghost use Rattle.alpha_imprecise.specs.Restart.{IsRestartable};
-ghost use Rattle.alpha_imprecise.specs.Run.{run_wild, started_wild};
+ghost use Rattle.alpha_imprecise.specs.Moment.{Happening};
+ghost use Rattle.alpha_imprecise.specs.Run.{RunsOver, seen};
+ghost use Rattle.alpha_imprecise.specs.Telling.{Telling};
+ghost use Rattle.alpha_imprecise.specs.Wild.{WildState};
 ghost use Rattle.alpha_replay.specs.declared.item.Item.{Item};
 ghost use Rattle.alpha_replay.specs.declared.replaying.Replayed.{Replayed};
 ghost use Rattle.alpha_replay.specs.Items.{units_of};
@@ -16,9 +21,10 @@ ghost use Rattle.alpha_replay.specs.Replay.{reports_of, replayed, IsRun, IsSeque
 ghost use Rattle.alpha_replay.specs.Journal.{Parts, IsJournal, spelling};
 ghost use Rattle.alpha_replay.specs.Reading.{parts_of};
 ghost use Rattle.alpha_replay.specs.JournalFault.{first_fault};
-ghost use Rattle.alpha_replay.specs.Gathered.{closed};
-ghost use Rattle.alpha_replay.specs.Journaled.{Journaled, unjournaled, journal_at, is_within, IsJournaled};
-ghost use Rattle.alpha_imprecise.specs.Made.{begun, steps_making, most_words};
+ghost use Rattle.alpha_replay.specs.Gathered.{items_of};
+ghost use Rattle.alpha_replay.specs.Journaled.{journal_at, is_within, IsJournaled};
+ghost use Rattle.alpha_replay.specs.JournalEnd.{Stops, IsJournaledAt};
+ghost use Rattle.alpha_imprecise.specs.Made.{Making, begun, steps_making, most_words};
 
 /// Bytes have no first fault exactly where they are the spelling of a good journal, and then they are the
 /// spelling of one journal alone.
@@ -30,8 +36,8 @@ pub fn laws_of_journals()
     ensures read_back { (p : Parts) → IsJournal p → parts_of (spelling p) ≡ p }
 {}
 
-/// The items of a journal list steps of the imprecise machine: where they lead to a run, some choices lead
-/// to it too, and it has used as many units as the items say.
+/// The items of a journal list steps of the imprecise machine: where they lead to a run, it is one of these
+/// steps that the input feeds, and it has used as many units as the items say.
 ///
 /// So a journal that was replayed shows a row of such steps of the image from the start, over its input,
 /// that takes all of it, puts its output and ends as it says. If the image can be restarted, the
@@ -39,7 +45,7 @@ pub fn laws_of_journals()
 pub fn laws_of_replays()
     ensures listed { (g : Program) (input : List ℕ) (items : List Item) (q : Played)
         → listed g input items ≡ Ok q
-        → (choices : List Choice) × (run_wild g choices (started_wild (start g input)) ≡ q.run) }
+        → RunsOver g (start g) input q.run }
     ensures units { (g : Program) (input : List ℕ) (items : List Item) (q : Played)
         → listed g input items ≡ Ok q → q.run.units ≡ units_of items }
     ensures replayed { (image : Image) (p : Parts) (r : Replayed) → replayed image p ≡ Ok r
@@ -55,29 +61,36 @@ pub fn laws_of_replays()
 /// What items list over an input they list over its front that they took. So the items of such a run list it over
 /// the input that it has taken, which is that of its journal; and the replay of a journal that is within the limits
 /// is done, with the units and the reports of the run.
+///
+/// A run that was made over an input that is told stops where the run over that input does by its words, whatever comes
+/// behind them: with the same steps, which took a front of the input.
 pub fn laws_of_journaled_runs()
-    ensures some { (n : ℕ) (g : Program) (s : State) (words : List ℕ)
-        → (k : Journaled) × IsJournaled n g (unjournaled (begun s None 0 words)) k }
-    ensures few { (n : ℕ) (g : Program) (s : State) (words : List ℕ) (k : Journaled)
-        → IsJournaled n g (unjournaled (begun s None 0 words)) k
-        → (k.making.run.units ≤ n) × (k.making.count ≤ most_words n) }
-    ensures one { (n : ℕ) (g : Program) (from k l : Journaled)
+    ensures some { (n : ℕ) (g : Program) (s : State) (input words : List ℕ)
+        → (k : Making) × IsJournaled n g (begun s input None 0 words) k }
+    ensures few { (n : ℕ) (g : Program) (s : State) (input words : List ℕ) (k : Making)
+        → IsJournaled n g (begun s input None 0 words) k
+        → (k.run.units ≤ n) × (k.count ≤ most_words n) }
+    ensures one { (n : ℕ) (g : Program) (from k l : Making)
         → IsJournaled n g from k → IsJournaled n g from l → k ≡ l }
-    ensures runs { (n : ℕ) (g : Program) (from k : Journaled) → IsJournaled n g from k
-        → (steps : ℕ) × (k.making ≡ steps_making g from.making steps) }
-    ensures listed { (n : ℕ) (g : Program) (input words : List ℕ) (k : Journaled)
-        → IsJournaled n g (unjournaled (begun (start g input) None 0 words)) k
-        → listed g input (closed k.gathered)
-        ≡ Ok (record { run = k.making.run; waited = k.making.waited }) }
+    ensures runs { (n : ℕ) (g : Program) (from k : Making) → IsJournaled n g from k
+        → (steps : ℕ) × (k ≡ steps_making g from steps) }
+    ensures listed { (n : ℕ) (g : Program) (input words : List ℕ) (k : Making)
+        → IsJournaled n g (begun (start g) input None 0 words) k
+        → listed g input (items_of k.run.steps) ≡ Ok (record { run = k.run; waited = k.waited }) }
     ensures taken { (n : ℕ) (g : Program) (items : List Item) (p q : Played) (front rest : List ℕ)
-        → listed_from g n items p ≡ Ok q → q.run.state.outside.input ≡ front ++ rest
-        → (fed : List ℕ) × (p.run.state.outside.input ≡ fed ++ rest)
+        → listed_from g n items p ≡ Ok q → q.run.left ≡ front ++ rest
+        → (fed : List ℕ) × (p.run.left ≡ fed ++ rest)
         × (listed_from g n items (played_over fed p) ≡ Ok (played_over front q)) }
     ensures replayed { (n : ℕ) (image : Image) (how : Completion) (input words : List ℕ)
-        (k : Journaled)
+        (k : Making)
         → let g : Program = record { image = image; how = how } in
-        IsJournaled n g (unjournaled (begun (start g input) None 0 words)) k
+        IsJournaled n g (begun (start g) input None 0 words) k
         → is_within (journal_at how k) ≡ true
         → replayed image (journal_at how k)
-        ≡ Ok (record { units = k.making.run.units; reports = reports_of (closed k.gathered) }) }
+        ≡ Ok (record { units = k.run.units; reports = reports_of (items_of k.run.steps) }) }
+    ensures told { (n : ℕ) (last : Happening) (old new : WildState) (before after : Telling)
+        (input : Drawn) (out sink : Sunk) (s : Stops n last old new before after input out sink)
+        (bytes coming : List ℕ) → input.old ≡ Some bytes
+        → (k : Making) × IsJournaledAt n old bytes (s.ran.words ++ coming) k
+        × (k.run.steps ≡ s.ran.steps) × (bytes ≡ taken (seen k.run.steps) ++ k.run.left) }
 {}

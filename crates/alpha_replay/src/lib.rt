@@ -47,9 +47,8 @@
 //! list, or the first item that is impossible, and `specs/Replay.antt` what a replay answers, over the outputs of
 //! `specs/Compared.antt`. `specs/Events.antt` has the move of a step and its bytes, by its event, `specs/Given.antt` the
 //! choice that a move makes, `specs/Playing.antt` what the code did that plays items, and `specs/Stands.antt` how the last
-//! step went behind steps that only go on. `specs/Gathered.antt` has the items of the moves that words make,
-//! `specs/Journaled.antt` the journal of a run by them, which stops where it passes a limit, and `specs/Recorded.antt`
-//! that of a run in which each step finds an input of its own.
+//! step went behind steps that only go on. `specs/Gathered.antt` has the items of a list of steps, and
+//! `specs/Journaled.antt` the journal that is read off it, and where a run stops that has one.
 //!
 //! `src/make.rt` makes a run by the loop of `alpha_run`: `src/recorder.rt` is what looks at its steps there, and notes on
 //! the `src/tape.rt` the move of each and the bytes that it took and put (`specs/Taped.antt`, `specs/Recorder.antt`).

@@ -4,7 +4,7 @@ ghost use Rattle.std.specs.Prelude.{◌≡◌, ℕ, List, None, Some, false, IfO
 ghost use Rattle.alpha_io.specs.Sunk.{sunk};
 ghost use Rattle.alpha_seq.specs.Devices.{drawn};
 ghost use Rattle.alpha_seq.specs.Machine.{Stays, program_of};
-ghost use Rattle.alpha_imprecise.specs.Free.{NeverLoses};
+ghost use Rattle.alpha_imprecise.specs.Restart.{NeverLoses};
 ghost use Rattle.alpha_imprecise.specs.Telling.{telling};
 ghost use Rattle.alpha_imprecise.specs.Wild.{IsFresh};
 ghost use Rattle.alpha_imprecise.specs.WildEffect.{WildGoes, WildLeaves, wild_uses};
@@ -29,8 +29,8 @@ use std::alloc::Global;
 /// before it. All memory is taken before the first step.
 ///
 /// From a machine at the start and with nothing pending the items list the run, as [`crate::laws_of_journaled_runs`] says.
-/// Over a source that tells nothing the run is one in which each step finds some input of its own, and its journal has
-/// the moves, the bytes taken and the bytes put of just these steps.
+/// Over a source that tells nothing too its journal has the moves, the bytes taken and the bytes put of just the steps that
+/// were made.
 pub fn make_journal<C: Chooser, S: Source, K: Sink, N: Sink>(
     alloc: Global,
     wild: &mut Wild,

@@ -1,7 +1,7 @@
 //! The moves of a run.
 
 ghost use Rattle.std.specs.Prelude.{◌≡◌};
-ghost use Rattle.alpha_replay.specs.Events.{move_of};
+ghost use Rattle.alpha_replay.specs.Events.{move_by};
 
 use alpha_seq::{End, Event, Wait};
 
@@ -27,7 +27,7 @@ impl Move {
     /// The move that a step was, by how it went. Only a report stops the program at an overflow.
     #[inline(always)]
     pub(crate) fn of(event: &Event) -> Move
-        ensures { result ≡ move_of event.now }
+        ensures { result ≡ move_by event.now }
     {
         match *event {
             Event::Triggered(value) => Move::Trips(value),

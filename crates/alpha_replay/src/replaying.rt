@@ -8,9 +8,8 @@ ghost use Rattle.alpha_seq.specs.Machine.{program_of};
 ghost use Rattle.alpha_replay.specs.Endings.{FitsEnding};
 ghost use Rattle.alpha_replay.specs.Items.{units_of};
 ghost use Rattle.alpha_replay.specs.Journal.{most_items, parts};
-ghost use Rattle.alpha_replay.specs.Events.{happened_of};
 ghost use Rattle.alpha_replay.specs.Playing.{Begins};
-ghost use Rattle.alpha_replay.specs.Replay.{ending_by, ending_of, same_ending, ends_by, item_reports, reports_of, replayed, Replays};
+ghost use Rattle.alpha_replay.specs.Replay.{ending_by, ending_seen, same_ending, ends_seen, item_reports, reports_of, replayed, Replays};
 
 use crate::play::play_items;
 use crate::{Ending, Item, Journal, ReplayFault};
@@ -33,7 +32,7 @@ pub struct Replayed {
 impl Ending {
     // How a run ends, by its last step.
     pub(crate) fn of_event(event: &Event) -> Ending
-        ensures value { result ≡ ending_of (happened_of event.now) }
+        ensures value { result ≡ ending_seen event.now }
         ensures fits { FitsEnding result }
     {
         match *event {
@@ -90,7 +89,7 @@ impl Ending {
 
 // Whether a run ends so, by its last step and by whether nothing is pending.
 fn ends_as(ending: &Ending, last: &Event, calm: bool) -> bool
-    ensures { result ≡ ends_by ending.now (happened_of last.now) calm }
+    ensures { result ≡ ends_seen ending.now last.now calm }
 {
     let settled = last.is_over() || calm;
     ending.is_same(&Ending::of_event(last)) && settled

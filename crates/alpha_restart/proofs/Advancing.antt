@@ -69,7 +69,7 @@ module _ (code : List ℕ) (q e : ℕ) (s a : State) (h : Match code q e s a) wh
       ap (λ x. overflow_of op x (source_value a.regs src)) (same_ra op ra src rc is)
       ∙ ap (λ y. overflow_of op (reg s.regs ra) y) (same_src op ra src rc is)
 
-  module _ (g : Program) (less : q < e) where
+  module _ (g : Program) (input : List ℕ) (less : q < e) where
     -- the word sets a register to one value in both machines
     set_on : (o : Option Class) (r v w : ℕ) → class_at code q ≡ o → kind o ≢ Some kinds.Store → sets o ≡ but_zero (Some r) → w ≡ v
         → BothWent code (q + 1) e s a (went (setting s r v)) (went (setting a r w))
@@ -93,12 +93,12 @@ module _ (code : List ℕ) (q e : ℕ) (s a : State) (h : Match code q e s a) wh
             lock = h.lock;
             count = h.count;
             logged = h.logged;
-            outside = h.outside;
+            unique = h.unique;
           };
         }
 
     operate_on : (op : Op) (ra : ℕ) (src : Src) (rc : ℕ) → class_at code q ≡ Some (operate op ra src rc)
-        → BothWent code (q + 1) e s a (step g (Some (operate op ra src rc)) s) (step g (Some (operate op ra src rc)) a)
+        → BothWent code (q + 1) e s a (step g (Some (operate op ra src rc)) s input) (step g (Some (operate op ra src rc)) a input)
     operate_on op ra src rc is =
         let one = read_at (Some (operate op ra src rc)) ra is (λ low. counts_first ra _ low) in
         let two = source_at (Some (operate op ra src rc)) src is
@@ -110,7 +110,7 @@ module _ (code : List ℕ) (q e : ℕ) (s a : State) (h : Match code q e s a) wh
         (λ move. read_at (Some (operate op ra src rc)) rc is (λ low. counts_moved (is_move op) ra rc (source_registers src) move low))))
 
     address_on : (op : _) (ra rb : ℕ) (disp : _) → class_at code q ≡ Some (address op ra rb disp)
-        → BothWent code (q + 1) e s a (step g (Some (address op ra rb disp)) s) (step g (Some (address op ra rb disp)) a)
+        → BothWent code (q + 1) e s a (step g (Some (address op ra rb disp)) s input) (step g (Some (address op ra rb disp)) a input)
     address_on op ra rb disp is =
         set_on (Some (address op ra rb disp)) ra _ _ is (λ f. cc) refl
         (ap (λ x. computed op x disp) (read_at (Some (address op ra rb disp)) rb is (λ low. counts_first rb [] low)))
@@ -121,13 +121,13 @@ module _ (code : List ℕ) (q e : ℕ) (s a : State) (h : Match code q e s a) wh
     calm op x y rc z false f = refl
 
     trigger_on : (op : TrapOp) (ra : ℕ) (src : Src) (rc : ℕ) → class_at code q ≡ Some (trigger op ra src rc) → triggers (Some (trigger op ra src rc)) a ≡ false
-        → BothWent code (q + 1) e s a (step g (Some (trigger op ra src rc)) s) (step g (Some (trigger op ra src rc)) a)
+        → BothWent code (q + 1) e s a (step g (Some (trigger op ra src rc)) s input) (step g (Some (trigger op ra src rc)) a input)
     trigger_on op ra src rc is none =
         let there : triggers (Some (trigger op ra src rc)) s ≡ false = sym (same_trigger op ra src rc is) ∙ none in
         let plain = set_on (Some (trigger op ra src rc)) rc (completed_of op (reg s.regs ra) (source_value s.regs src) g.how) (completed_of op (reg a.regs ra) (source_value a.regs src) g.how) is (λ f. cc) refl
         (ap (λ x. completed_of op x (source_value a.regs src) g.how) (same_ra op ra src rc is)
         ∙ ap (λ y. completed_of op (reg s.regs ra) y g.how) (same_src op ra src rc is)) in
-        subst (λ x. BothWent code (q + 1) e s a x (step g (Some (trigger op ra src rc)) a)) (calm op (reg s.regs ra) (source_value s.regs src) rc s _ there)
+        subst (λ x. BothWent code (q + 1) e s a x (step g (Some (trigger op ra src rc)) a input)) (calm op (reg s.regs ra) (source_value s.regs src) rc s _ there)
         (subst (λ y. BothWent code (q + 1) e s a (went (setting s rc (completed_of op (reg s.regs ra) (source_value s.regs src) g.how))) y)
         (calm op (reg a.regs ra) (source_value a.regs src) rc a _ none) plain)
 
@@ -140,7 +140,7 @@ module _ (code : List ℕ) (q e : ℕ) (s a : State) (h : Match code q e s a) wh
     same_accessed o c is u = ap (λ v. access_address c v) (read_at o c.base is u)
 
     load_on : (extension : Extension) (c : MemAccess) (ra : ℕ) → class_at code q ≡ Some (load extension c ra)
-        → BothWent code (q + 1) e s a (step g (Some (load extension c ra)) s) (step g (Some (load extension c ra)) a)
+        → BothWent code (q + 1) e s a (step g (Some (load extension c ra)) s input) (step g (Some (load extension c ra)) a input)
     load_on extension c ra is =
         let accesses : access (class_at code q) ≡ Some c = ap access is in
         let kind_is : kind (class_at code q) ≡ Some kinds.Load = ap kind is in
@@ -153,7 +153,7 @@ module _ (code : List ℕ) (q e : ℕ) (s a : State) (h : Match code q e s a) wh
         ∙ (ap (λ n. filled extension (little (bytes_at a.mem n c.bytes))) where_too
         ∙ (ap (λ l. filled extension (little l)) (same_loaded code q e s.regs s.mem a.mem c h.memory less accesses kind_is)
         ∙ sym (loaded_is extension c s))) in
-        subst (λ x. BothWent code (q + 1) e s a x (step g (Some (load extension c ra)) a)) (granted _ (accessed c s) s (setting s ra (loaded extension c s)) fine)
+        subst (λ x. BothWent code (q + 1) e s a x (step g (Some (load extension c ra)) a input)) (granted _ (accessed c s) s (setting s ra (loaded extension c s)) fine)
         (subst (λ y. BothWent code (q + 1) e s a (went (setting s ra (loaded extension c s))) y)
         (granted _ (accessed c a) a (setting a ra (loaded extension c a)) fine_too)
         (set_on (Some (load extension c ra)) ra (loaded extension c s) (loaded extension c a) is (λ f. cc) refl value))
@@ -168,7 +168,7 @@ module _ (code : List ℕ) (q e : ℕ) (s a : State) (h : Match code q e s a) wh
     storing z c ra = record (onward z) { mem = written_memory c ra z }
 
     store_on : (c : MemAccess) (ra : ℕ) → class_at code q ≡ Some (store c ra)
-        → BothWent code (q + 1) e s a (step g (Some (store c ra)) s) (step g (Some (store c ra)) a)
+        → BothWent code (q + 1) e s a (step g (Some (store c ra)) s input) (step g (Some (store c ra)) a input)
     unfolding storing
     store_on c ra is =
         let accesses : access (class_at code q) ≡ Some c = ap access is in
@@ -194,13 +194,13 @@ module _ (code : List ℕ) (q e : ℕ) (s a : State) (h : Match code q e s a) wh
             lock = h.lock;
             count = h.count;
             logged = h.logged;
-            outside = h.outside;
+            unique = h.unique;
           };
         } in
-        subst (λ x. BothWent code (q + 1) e s a x (step g (Some (store c ra)) a)) (granted _ (accessed c s) s (storing s c ra) fine)
+        subst (λ x. BothWent code (q + 1) e s a x (step g (Some (store c ra)) a input)) (granted _ (accessed c s) s (storing s c ra) fine)
         (subst (λ y. BothWent code (q + 1) e s a (went (storing s c ra)) y) (granted _ (accessed c a) a (storing a c ra) fine_too) plain)
 
-    idle_on : class_at code q ≡ Some idle → BothWent code (q + 1) e s a (step g (Some idle) s) (step g (Some idle) a)
+    idle_on : class_at code q ≡ Some idle → BothWent code (q + 1) e s a (step g (Some idle) s input) (step g (Some idle) a input)
     idle_on is = record {
       precise = refl;
       actual = refl;
@@ -213,12 +213,12 @@ module _ (code : List ℕ) (q e : ℕ) (s a : State) (h : Match code q e s a) wh
         lock = h.lock;
         count = h.count;
         logged = h.logged;
-        outside = h.outside;
+        unique = h.unique;
       };
     }
 
     -- at each word that is steady
-    pub advances : (o : Option Class) → class_at code q ≡ o → is_steady o ≡ true → triggers o a ≡ false → BothWent code (q + 1) e s a (step g o s) (step g o a)
+    pub advances : (o : Option Class) → class_at code q ≡ o → is_steady o ≡ true → triggers o a ≡ false → BothWent code (q + 1) e s a (step g o s input) (step g o a input)
     advances None is steady none = cc
     advances (Some (operate op ra src rc)) is steady none = operate_on op ra src rc is
     advances (Some (trigger op ra src rc)) is steady none = trigger_on op ra src rc is none

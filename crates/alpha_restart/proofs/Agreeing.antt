@@ -1,124 +1,191 @@
--- Machines that are together agree, and so each accepted image can be restarted.
-use Rattle.std.proofs.Common.{◌≡◌, ◌≢◌, ℕ, false, Some, None, sym, ap, subst, ◌∙◌}
+-- The machines are together after every step, with just the events that were seen, and so each accepted image can be
+-- restarted.
+use Rattle.std.proofs.Common.{◌≡◌, ◌≢◌, ◌+◌, ℕ, true, false, List, [], ◌∷◌, ◌++◌, Option, Some, None, refl, sym, ap, subst, ◌∙◌, append_assoc, append-nil}
+use Rattle.alpha_pal.specs.Call.{Traffic}
 use Rattle.alpha_image.specs.Parts.{Parts, IsImage}
 use Rattle.alpha_shadow.specs.Broken.{IsAccepted}
 use Rattle.alpha_seq.specs.declared.end.End.{End}
 use Rattle.alpha_seq.specs.declared.end.End.TheVariants.{Overflow}
-use Rattle.alpha_seq.specs.State.{Program, State, Barriered, Ends}
+use Rattle.alpha_seq.specs.State.{Program, State, Event, Barriered, Ends, Stepped}
 use Rattle.alpha_seq.specs.Start.{start}
-use Rattle.alpha_seq.specs.Run.{after}
+use Rattle.alpha_seq.specs.Step.{step_from}
+use Rattle.alpha_seq.specs.Run.{begins, Runs, is_over}
+use Rattle.alpha_seq.proofs.Sequence.{Runs-append, Runs-one_more}
 use Rattle.alpha_trap.specs.Scan.{scan}
-use Rattle.alpha_imprecise.specs.Moment.{Trap, Happening, Precisely, Lost}
-use Rattle.alpha_imprecise.specs.Run.{WildRun, finished, started_wild, run_wild}
-use Rattle.alpha_imprecise.specs.Restart.{SameEnd, SameBarrier, SameSoFar, Agrees, RestartsFrom, IsRestartable}
+use Rattle.alpha_imprecise.specs.Moment.{Trap, Happening, Precisely, Lost, Moment}
+use Rattle.alpha_imprecise.specs.Step.{wild}
+use Rattle.alpha_imprecise.specs.Run.{seen_of, seen, finished, choice_of, given_to, begins_wild, next_wild, RunsWild}
+use Rattle.alpha_imprecise.specs.Restart.{Follows, Agrees, RestartsFrom, IsRestartable}
+use Rattle.alpha_imprecise.proofs.Sequence.{seen-append}
 use Rattle.alpha_restart.specs.Safe.{IsSafe}
-use Rattle.alpha_restart.specs.Invariant.{Trail, Exact, Stopped, Together, exact, synced, window, stopping, stopped}
+use Rattle.alpha_restart.specs.Invariant.{IsReady, Trail, Together, exact, synced, window, stopping, stopped}
 use Rattle.alpha_restart.proofs.Safety.{safe}
 use Rattle.alpha_restart.proofs.Places.{trail_scan}
-use Rattle.alpha_restart.proofs.Following.{Follows, follows_all, follows_start}
 use Rattle.alpha_restart.proofs.Starting.{ready_start}
+use Rattle.alpha_restart.proofs.Together.{from_same}
+use Rattle.alpha_restart.proofs.Syncing.{from_synced}
+use Rattle.alpha_restart.proofs.Reporting.{from_window, from_stopping}
 
--- a run that goes on has no trap that was lost, and no end
-not_lost : (h : Happening) (pc mask : ℕ) → finished h ≡ false → h ≢ Lost pc mask
-not_lost h pc mask going e = let over = ap finished e in cc
+-- The precise run of as many steps as units were used. While a trap is pending its last event is one that wasn't seen yet.
+record Followed (g : Program) (s : State) (hs : List Happening) (w : Moment) : Type 0 where
+  events : List Event
+  last : Stepped
+  runs : Runs g (begins s) events last
+  together : Together g last w
+  none : w.pending ≡ None → events ≡ seen hs
+  some : (t : Trap) → w.pending ≡ Some t → events ≡ seen hs ++ last.event ∷ []
 
-not_ended : (h : Happening) (e : End) → finished h ≡ false → h ≢ Precisely (Ends e)
-not_ended h e going is = let over = ap finished is in cc
+-- what was seen of the last step: the precise machine's last event, or nothing while a trap is pending
+shown : (g : Program) (r : Stepped) (w : Moment) → Together g r w
+    → (w.pending ≡ None → seen_of w.happened ≡ r.event ∷ []) × ((t : Trap) → w.pending ≡ Some t → seen_of w.happened ≡ [])
+shown g r w (exact x) = (λ none. ap seen_of x.last, λ t some. let k = sym x.pending ∙ some in cc)
+shown g r w (synced x) = (λ none. x.shows, λ t some. let k = sym x.pending ∙ some in cc)
+shown g r w (window x) = (λ none. (let k = sym x.trail.pending ∙ none in cc), λ t some. x.trail.silent)
+shown g r w (stopping x) = (λ none. (let k = sym x.trail.pending ∙ none in cc), λ t some. x.trail.silent)
+shown g r w (stopped x) = (λ none. ap seen_of x.last_too ∙ ap (λ (e : Event). e ∷ []) (sym x.last), λ t some. let k = sym x.pending ∙ some in cc)
 
-module _ (g : Program) (good : IsImage g.image) (safety : IsSafe g.image.words) (s : State) (w : WildRun) (h : Follows g s w) where
-  found : (pc mask : ℕ) → w.last ≢ Lost pc mask
-  found pc mask e = by h.together
-    where
-      by : Together g (after g s w.units) w → ⊥
-      by (exact x) = let f = sym x.last ∙ e in cc
-      by (synced x) = not_lost w.last pc mask x.going_too e
-      by (window x) = not_lost w.last pc mask x.trail.going e
-      by (stopping x) = not_lost w.last pc mask x.trail.going e
-      by (stopped x) = let f = sym x.last_too ∙ e in cc
+module _ (g : Program) (good : IsImage g.image) (safety : IsSafe g.image.words) (s : State) where
+  module _ (hs : List Happening) (w : Moment) (h : Happening) (f : Followed g s hs w) (going : finished w.happened ≡ false) (same : (next_wild g w h).happened ≡ h) where
+    abbrev to : Moment
+    to = next_wild g w h
 
-  trail_scanned : (place at : ℕ) (t : Trap) → Trail g place at w → w.pending ≡ Some t → scan g.image w.state.pc t.mask ≡ Some t.place
-  trail_scanned place at t x e =
-      let same : record { place = place; mask = x.mask } ≡ t = let f = sym x.pending ∙ e in cc in
-      subst (λ (u : Trap). scan g.image w.state.pc u.mask ≡ Some u.place) same (trail_scan g place at w good safety x)
+    seen_more : seen (hs ++ h ∷ []) ≡ seen hs ++ seen_of to.happened
+    seen_more = seen-append hs (h ∷ []) ∙ (ap (λ l. seen hs ++ l) (append-nil (seen_of h)) ∙ ap (λ (x : Happening). seen hs ++ seen_of x) (sym same))
 
-  scanned : (t : Trap) → w.pending ≡ Some t → scan g.image w.state.pc t.mask ≡ Some t.place
-  scanned t e = by h.together
-    where
-      by : Together g (after g s w.units) w → scan g.image w.state.pc t.mask ≡ Some t.place
-      by (exact x) = let f = sym x.pending ∙ e in cc
-      by (synced x) = let f = sym x.pending ∙ e in cc
-      by (window x) = trail_scanned x.place x.at t x.trail e
-      by (stopping x) = trail_scanned x.place x.at t x.trail e
-      by (stopped x) = let f = sym x.pending ∙ e in cc
+    -- both made a step, with nothing pending before it
+    unit_more : w.pending ≡ None → is_over f.last.event ≡ false → Together g (step_from g f.last.state (given_to h)) to → Followed g s (hs ++ h ∷ []) to
+    unit_more calm goes joined =
+        let t : Stepped = step_from g f.last.state (given_to h) in
+        let show = shown g t to joined in
+        record {
+          events = f.events ++ t.event ∷ [];
+          last = t;
+          runs = Runs-append g f.events (t.event ∷ []) (begins s) f.last t f.runs (Runs-one_more g f.last (given_to h) goes);
+          together = joined;
+          none = λ none. ap (λ l. l ++ t.event ∷ []) (f.none calm) ∙ (ap (λ l. seen hs ++ l) (sym (show.0 none)) ∙ sym seen_more);
+          some = λ u some. ap (λ l. l ++ t.event ∷ [])
+              (f.none calm ∙ (sym (append-nil (seen hs)) ∙ (ap (λ l. seen hs ++ l) (sym (show.1 u some)) ∙ sym seen_more)));
+        }
 
-  barrier : w.last ≡ Precisely Barriered → SameBarrier (after g s w.units) w
-  barrier e = by h.together
-    where
-      by : Together g (after g s w.units) w → SameBarrier (after g s w.units) w
-      by (exact x) = record { last = (let f = sym x.last ∙ e in cc); state = sym x.state; trace = sym x.trace }
-      by (synced x) = absurd (x.no_barrier e)
-      by (window x) = absurd (x.trail.no_barrier e)
-      by (stopping x) = absurd (x.trail.no_barrier e)
-      by (stopped x) = let f = sym x.last_too ∙ e in cc
+    -- the precise machine stood still, with a trap pending in the other one
+    held_more : (u : Trap) → w.pending ≡ Some u → Together g f.last to → Followed g s (hs ++ h ∷ []) to
+    held_more u pending joined =
+        let show = shown g f.last to joined in
+        record {
+          events = f.events;
+          last = f.last;
+          runs = f.runs;
+          together = joined;
+          none = λ none. f.some u pending ∙ (ap (λ l. seen hs ++ l) (sym (show.0 none)) ∙ sym seen_more);
+          some = λ v some. f.some u pending
+              ∙ ap (λ l. l ++ f.last.event ∷ []) (sym (append-nil (seen hs)) ∙ (ap (λ l. seen hs ++ l) (sym (show.1 v some)) ∙ sym seen_more));
+        }
 
-  same_end : (e : End) → w.last ≡ Precisely (Ends e) → SameEnd e (after g s w.units) w
-  same_end e is = by h.together
-    where
-      at_exact : Exact (after g s w.units) w → SameEnd e (after g s w.units) w
-      at_exact x = record {
-        last = (let f = sym x.last ∙ is in cc);
-        pc = ap (λ (t : State). t.pc) (sym x.state);
-        outside = ap (λ (t : State). t.outside) (sym x.state);
-        trace = sym x.trace;
-        state = λ n. sym x.state;
-      }
+    follow : Followed g s (hs ++ h ∷ []) to
+    follow = by f.together
+      where
+        calmly : w.pending ≡ None → is_over f.last.event ≡ false → Together g (step_from g f.last.state (given_to h)) (wild g w.state None (choice_of h) (given_to h))
+            → Followed g s (hs ++ h ∷ []) to
+        calmly calm goes joined =
+            unit_more calm goes (subst (λ (o : Option Trap). Together g (step_from g f.last.state (given_to h)) (wild g w.state o (choice_of h) (given_to h))) (sym calm) joined)
 
-      at_stopped : Stopped (after g s w.units) w → SameEnd e (after g s w.units) w
-      at_stopped x =
-          let same : e ≡ Overflow x.at = let f = sym x.last_too ∙ is in cc in
-          record {
-            last = x.last ∙ ap Ends (sym same);
-            pc = sym x.pc;
-            outside = sym x.outside;
-            trace = sym x.trace;
-            state = λ n. absurd (n x.at same);
-          }
+        by : Together g f.last w → Followed g s (hs ++ h ∷ []) to
+        by (exact x) =
+            calmly x.pending (sym (ap finished x.last) ∙ going)
+            (subst (λ (y : State). Together g (step_from g f.last.state (given_to h)) (wild g y None (choice_of h) (given_to h))) (sym x.state)
+            (from_same g good safety f.last.state (choice_of h) (given_to h) x.ready))
+        by (synced x) = calmly x.pending x.going (from_synced g good safety f.last w (choice_of h) (given_to h) x)
+        by (window x) = held_more (record { place = x.place; mask = x.trail.mask }) x.trail.pending (from_window g good safety f.last w (choice_of h) (given_to h) x)
+        by (stopping x) = held_more (record { place = x.place; mask = x.trail.mask }) x.trail.pending (from_stopping g good safety f.last w (choice_of h) (given_to h) x)
+        by (stopped x) = absurd (let over : true ≡ false = ap finished (sym x.last_too) ∙ going in cc)
 
-      by : Together g (after g s w.units) w → SameEnd e (after g s w.units) w
-      by (exact x) = at_exact x
-      by (synced x) = absurd (not_ended w.last e x.going_too is)
-      by (window x) = absurd (not_ended w.last e x.trail.going is)
-      by (stopping x) = absurd (not_ended w.last e x.trail.going is)
-      by (stopped x) = at_stopped x
+  follow_all : (rest hs : List Happening) (m b : Moment) → Followed g s hs m → RunsWild g m rest b → Followed g s (hs ++ rest) b
+  follow_all [] hs m b f run = subst (λ l. Followed g s l b) (sym (append-nil hs)) (subst (λ (x : Moment). Followed g s hs x) run f)
+  follow_all (h ∷ rest) hs m b f run =
+      subst (λ l. Followed g s l b) (append_assoc hs (h ∷ []) rest)
+      (follow_all rest (hs ++ h ∷ []) (next_wild g m h) b (follow hs m h f run.0 run.1) run.2)
 
-  running : finished w.last ≡ false → w.pending ≡ None → SameSoFar (after g s w.units) w
-  running going none = by h.together
-    where
-      by : Together g (after g s w.units) w → SameSoFar (after g s w.units) w
-      by (exact x) = record {
-        goes = sym (ap finished x.last) ∙ going;
-        trace = sym x.trace;
-        outside = ap (λ (t : State). t.outside) (sym x.state);
-      }
-      by (synced x) = record { goes = x.going; trace = sym x.trace; outside = sym x.matched.outside }
-      by (window x) = let f = sym x.trail.pending ∙ none in cc
-      by (stopping x) = let f = sym x.trail.pending ∙ none in cc
-      by (stopped x) = let f = sym going ∙ ap finished x.last_too in cc
-
-  pub agrees : Agrees g s w
-  agrees = record {
-    found = found;
-    scanned = scanned;
-    barrier = barrier;
-    stopped = λ e is. record { same = same_end e is; first = h.early };
-    running = running;
+  begin : IsReady s → Followed g s [] (begins_wild s)
+  begin ready = record {
+    events = [];
+    last = begins s;
+    runs = refl;
+    together = exact (record { pending = refl; state = refl; last = refl; ready = ready });
+    none = λ none. refl;
+    some = λ t some. cc;
   }
 
--- from a state that is ready, whatever is chosen
-pub restarts_from : (g : Program) (s : State) → IsImage g.image → IsSafe g.image.words → Follows g s (started_wild s) → RestartsFrom g s
-restarts_from g s good safety h = λ choices. agrees g good safety s (run_wild g choices (started_wild s)) (follows_all g good safety s choices (started_wild s) h)
+  -- ---- they agree
+
+  not_lost : (h : Happening) (pc mask : ℕ) → finished h ≡ false → h ≢ Lost pc mask
+  not_lost h pc mask going e = let over = ap finished e in cc
+
+  not_ended : (h : Happening) (e : End) → finished h ≡ false → h ≢ Precisely (Ends e)
+  not_ended h e going is = let over = ap finished is in cc
+
+  module _ (hs : List Happening) (w : Moment) (f : Followed g s hs w) where
+    found : (pc mask : ℕ) → w.happened ≢ Lost pc mask
+    found pc mask e = by f.together
+      where
+        by : Together g f.last w → ⊥
+        by (exact x) = let k = sym x.last ∙ e in cc
+        by (synced x) = not_lost w.happened pc mask x.going_too e
+        by (window x) = not_lost w.happened pc mask x.trail.going e
+        by (stopping x) = not_lost w.happened pc mask x.trail.going e
+        by (stopped x) = let k = sym x.last_too ∙ e in cc
+
+    trail_scanned : (place at : ℕ) (t : Trap) → Trail g place at w → w.pending ≡ Some t → scan g.image w.state.pc t.mask ≡ Some t.place
+    trail_scanned place at t x e =
+        let same : record { place = place; mask = x.mask } ≡ t = let k = sym x.pending ∙ e in cc in
+        subst (λ (u : Trap). scan g.image w.state.pc u.mask ≡ Some u.place) same (trail_scan g place at w good safety x)
+
+    scanned : (t : Trap) → w.pending ≡ Some t → scan g.image w.state.pc t.mask ≡ Some t.place
+    scanned t e = by f.together
+      where
+        by : Together g f.last w → scan g.image w.state.pc t.mask ≡ Some t.place
+        by (exact x) = let k = sym x.pending ∙ e in cc
+        by (synced x) = let k = sym x.pending ∙ e in cc
+        by (window x) = trail_scanned x.place x.at t x.trail e
+        by (stopping x) = trail_scanned x.place x.at t x.trail e
+        by (stopped x) = let k = sym x.pending ∙ e in cc
+
+    follows : w.pending ≡ None → Follows g s (seen hs) w
+    follows none = by f.together
+      where
+        all : f.last.state.unique ≡ w.state.unique
+            → ((traffic : Traffic) (pc : ℕ) (regs : List ℕ) → w.happened ≡ Precisely (Barriered traffic pc regs) → f.last.state ≡ w.state)
+            → ((e : End) → w.happened ≡ Precisely (Ends e) → f.last.state.pc ≡ w.state.pc)
+            → ((e : End) → w.happened ≡ Precisely (Ends e) → ((at : ℕ) → e ≢ Overflow at) → f.last.state ≡ w.state) → Follows g s (seen hs) w
+        all unique at_barrier at_stop at_end = record {
+          last = f.last;
+          runs = subst (λ l. Runs g (begins s) l f.last) (f.none none) f.runs;
+          unique = unique;
+          barrier = at_barrier;
+          stopped = at_stop;
+          ended = at_end;
+        }
+
+        by : Together g f.last w → Follows g s (seen hs) w
+        by (exact x) =
+            let e = sym x.state in
+            all (ap (λ (y : State). y.unique) e) (λ traffic pc regs is. e) (λ end is. ap (λ (y : State). y.pc) e) (λ end is n. e)
+        by (synced x) =
+            all (sym x.matched.unique) (λ traffic pc regs is. absurd (x.no_barrier traffic pc regs is)) (λ end is. sym x.pc_too)
+            (λ end is n. absurd (not_ended w.happened end x.going_too is))
+        by (window x) = let k = sym x.trail.pending ∙ none in cc
+        by (stopping x) = let k = sym x.trail.pending ∙ none in cc
+        by (stopped x) =
+            all (sym x.unique) (λ traffic pc regs is. let k = sym x.last_too ∙ is in cc) (λ end is. sym x.pc)
+            (λ end is n. absurd (n x.at (let k : Precisely (Ends (Overflow x.at)) ≡ Precisely (Ends end) = sym x.last_too ∙ is in cc)))
+
+    agrees : Agrees g s (seen hs) w
+    agrees = record { found = found; scanned = scanned; follows = follows }
+
+  -- from a state that is ready
+  pub restarts_from : IsReady s → RestartsFrom g s
+  restarts_from ready = λ steps w run. agrees steps w (follow_all steps [] (begins_wild s) w (begin ready) run)
 
 pub accepted_restarts : (image : Parts) → IsImage image → IsAccepted image.words → IsRestartable image
-accepted_restarts image good accepted = λ how input.
+accepted_restarts image good accepted = λ how.
     let g : Program = record { image = image; how = how } in
-    restarts_from g (start g input) good (safe image.words accepted) (follows_start g good (safe image.words accepted) (start g input) (ready_start g input good))
+    restarts_from g good (safe image.words accepted) (start g) (ready_start g good)

@@ -29,7 +29,7 @@ use Rattle.alpha_mem.specs.Intent.{Load, Store}
 use Rattle.alpha_mem.specs.Block.{Block, shapes, within}
 use Rattle.alpha_mem.specs.Fault.{fault_of}
 use Rattle.alpha_mem.specs.Memory.{bytes_at, write_bytes}
-use Rattle.alpha_pal.specs.Call.{Outside, outside, Called, exits, answers, read, write, callsys, call}
+use Rattle.alpha_pal.specs.Call.{Traffic, Silent, Called, exits, answers, read, write, callsys, call}
 use Rattle.alpha_seq.specs.declared.end.End.{End}
 use Rattle.alpha_seq.specs.declared.end.End.TheVariants as ends
 use Rattle.alpha_seq.specs.State.{Program, State, Overflowed, Stepped, stepped}
@@ -75,60 +75,62 @@ either_called : (s : State) (r : ℕ) (b : Bool) (x y : Called) → Keeps (Some 
 either_called s r true x y p q = p
 either_called s r false x y p q = q
 
-answers_keeps : (s : State) (r result failed : ℕ) (mem : List Block) (o : Outside)
-    → Keeps (Some (barrier (Some Callsys))) s.regs (returned Callsys (answers result failed s.regs mem o) s).state.regs r
-answers_keeps s r result failed mem o = answer_keeps Callsys s.regs (put s.regs 0 result) 19 failed r refl (answer_keeps Callsys s.regs s.regs 0 result r refl (inl refl))
+answers_keeps : (s : State) (r result failed : ℕ) (mem : List Block) (unique : ℕ) (traffic : Traffic)
+    → Keeps (Some (barrier (Some Callsys))) s.regs (returned Callsys (answers result failed s.regs mem unique traffic) s).state.regs r
+answers_keeps s r result failed mem unique traffic =
+    answer_keeps Callsys s.regs (put s.regs 0 result) 19 failed r refl (answer_keeps Callsys s.regs s.regs 0 result r refl (inl refl))
 
-read_keeps : (s : State) (r d at n : ℕ) (mem : List Block) (o : Outside)
-    → Keeps (Some (barrier (Some Callsys))) s.regs (returned Callsys (read d at n s.regs mem o) s).state.regs r
-read_keeps s r d at n mem o =
-    either_called s r (not (d == 0)) _ _ (answers_keeps s r 9 1 mem o)
-    (either_called s r (not (within (shapes mem) Store at n)) _ _ (answers_keeps s r 14 1 mem o) (answers_keeps s r (length (take n o.input)) 0 mem o))
+read_keeps : (s : State) (r d at n : ℕ) (mem : List Block) (unique : ℕ) (input : List ℕ)
+    → Keeps (Some (barrier (Some Callsys))) s.regs (returned Callsys (read d at n s.regs mem unique input) s).state.regs r
+read_keeps s r d at n mem unique input =
+    either_called s r (not (d == 0)) _ _ (answers_keeps s r 9 1 mem unique Silent)
+    (either_called s r (not (within (shapes mem) Store at n)) _ _ (answers_keeps s r 14 1 mem unique Silent)
+    (answers_keeps s r (length (take n input)) 0 mem unique Silent))
 
-write_keeps : (s : State) (r d at n : ℕ) (mem : List Block) (o : Outside)
-    → Keeps (Some (barrier (Some Callsys))) s.regs (returned Callsys (write d at n s.regs mem o) s).state.regs r
-write_keeps s r d at n mem o =
-    either_called s r (not (d == 1)) _ _ (answers_keeps s r 9 1 mem o)
-    (either_called s r (not (within (shapes mem) Load at n)) _ _ (answers_keeps s r 14 1 mem o) (answers_keeps s r n 0 mem o))
+write_keeps : (s : State) (r d at n : ℕ) (mem : List Block) (unique : ℕ)
+    → Keeps (Some (barrier (Some Callsys))) s.regs (returned Callsys (write d at n s.regs mem unique) s).state.regs r
+write_keeps s r d at n mem unique =
+    either_called s r (not (d == 1)) _ _ (answers_keeps s r 9 1 mem unique Silent)
+    (either_called s r (not (within (shapes mem) Load at n)) _ _ (answers_keeps s r 14 1 mem unique Silent) (answers_keeps s r n 0 mem unique Silent))
 
-callsys_keeps : (s : State) (r number : ℕ) (mem : List Block) (o : Outside)
-    → Keeps (Some (barrier (Some Callsys))) s.regs (returned Callsys (callsys number s.regs mem o) s).state.regs r
-callsys_keeps s r number mem o =
+callsys_keeps : (s : State) (r number : ℕ) (mem : List Block) (unique : ℕ) (input : List ℕ)
+    → Keeps (Some (barrier (Some Callsys))) s.regs (returned Callsys (callsys number s.regs mem unique input) s).state.regs r
+callsys_keeps s r number mem unique input =
     either_called s r (number == 1) _ _ (inl refl)
-    (either_called s r (number == 3) _ _ (read_keeps s r (reg s.regs 16) (reg s.regs 17) (reg s.regs 18) mem o)
-    (either_called s r (number == 4) _ _ (write_keeps s r (reg s.regs 16) (reg s.regs 17) (reg s.regs 18) mem o) (answers_keeps s r 78 1 mem o)))
+    (either_called s r (number == 3) _ _ (read_keeps s r (reg s.regs 16) (reg s.regs 17) (reg s.regs 18) mem unique input)
+    (either_called s r (number == 4) _ _ (write_keeps s r (reg s.regs 16) (reg s.regs 17) (reg s.regs 18) mem unique) (answers_keeps s r 78 1 mem unique Silent)))
 
-returned_keeps : (function : PalCall) (s : State) (r : ℕ)
-    → Keeps (Some (barrier (Some function))) s.regs (returned function (call function s.regs s.mem s.outside) s).state.regs r
+returned_keeps : (function : PalCall) (s : State) (input : List ℕ) (r : ℕ)
+    → Keeps (Some (barrier (Some function))) s.regs (returned function (call function s.regs s.mem s.unique input) s).state.regs r
 unfolding call
-returned_keeps Bpt s r = inl refl
-returned_keeps Bugchk s r = inl refl
-returned_keeps Gentrap s r = inl refl
-returned_keeps Imb s r = inl refl
-returned_keeps Rdunique s r = answer_keeps Rdunique s.regs s.regs 0 s.outside.unique r refl (inl refl)
-returned_keeps Wrunique s r = inl refl
-returned_keeps Callsys s r = callsys_keeps s r (reg s.regs 0) s.mem s.outside
+returned_keeps Bpt s input r = inl refl
+returned_keeps Bugchk s input r = inl refl
+returned_keeps Gentrap s input r = inl refl
+returned_keeps Imb s input r = inl refl
+returned_keeps Rdunique s input r = answer_keeps Rdunique s.regs s.regs 0 s.unique r refl (inl refl)
+returned_keeps Wrunique s input r = inl refl
+returned_keeps Callsys s input r = callsys_keeps s r (reg s.regs 0) s.mem s.unique input
 
-pub step_keeps : (g : Program) (class : Option Class) (s : State) (r : ℕ) → (reg (step g class s).state.regs r ≡ reg s.regs r) ⊎ MayWrite class r
-step_keeps g None s r = inl refl
-step_keeps g (Some (operate op ra src rc)) s r = put_keeps (Some (operate op ra src rc)) s.regs rc _ r refl
-step_keeps g (Some (trigger op ra src rc)) s r =
+pub step_keeps : (g : Program) (class : Option Class) (s : State) (input : List ℕ) (r : ℕ) → (reg (step g class s input).state.regs r ≡ reg s.regs r) ⊎ MayWrite class r
+step_keeps g None s input r = inl refl
+step_keeps g (Some (operate op ra src rc)) s input r = put_keeps (Some (operate op ra src rc)) s.regs rc _ r refl
+step_keeps g (Some (trigger op ra src rc)) s input r =
     let class = Some (trigger op ra src rc) in
     let value = completed_of op (reg s.regs ra) (source_value s.regs src) g.how in
     either_keeps class s.regs r (overflow_of op (reg s.regs ra) (source_value s.regs src)) (overflowed g.how s rc value) (went (setting s rc value))
     (either_keeps class s.regs r (stops g.how) (ended s (ends.Overflow s.pc)) (stepped (logging s rc value) (Overflowed s.pc)) (inl refl) (put_keeps class s.regs rc value r refl))
     (put_keeps class s.regs rc value r refl)
-step_keeps g (Some (address op ra rb disp)) s r = put_keeps (Some (address op ra rb disp)) s.regs ra _ r refl
-step_keeps g (Some (load extension at ra)) s r = unless_keeps (Some (load extension at ra)) s _ r _ _ (put_keeps (Some (load extension at ra)) s.regs ra _ r refl)
-step_keeps g (Some (store at ra)) s r = unless_keeps (Some (store at ra)) s _ r _ _ (inl refl)
-step_keeps g (Some (load_locked extension at ra)) s r = unless_keeps (Some (load_locked extension at ra)) s _ r _ _ (put_keeps (Some (load_locked extension at ra)) s.regs ra _ r refl)
-step_keeps g (Some (store_conditional at ra)) s r = unless_keeps (Some (store_conditional at ra)) s _ r _ _ (conditional_keeps s at ra r (matches s.lock (lock_block at s)))
-step_keeps g (Some (branch None ra disp)) s r = put_keeps (Some (branch None ra disp)) s.regs ra (next_pc s) r refl
-step_keeps g (Some (branch (Some c) ra disp)) s r = inl refl
-step_keeps g (Some (jump ra rb)) s r = put_keeps (Some (jump ra rb)) s.regs ra (next_pc s) r refl
-step_keeps g (Some (barrier None)) s r = inl refl
-step_keeps g (Some (barrier (Some function))) s r = returned_keeps function s r
-step_keeps g (Some idle) s r = inl refl
+step_keeps g (Some (address op ra rb disp)) s input r = put_keeps (Some (address op ra rb disp)) s.regs ra _ r refl
+step_keeps g (Some (load extension at ra)) s input r = unless_keeps (Some (load extension at ra)) s _ r _ _ (put_keeps (Some (load extension at ra)) s.regs ra _ r refl)
+step_keeps g (Some (store at ra)) s input r = unless_keeps (Some (store at ra)) s _ r _ _ (inl refl)
+step_keeps g (Some (load_locked extension at ra)) s input r = unless_keeps (Some (load_locked extension at ra)) s _ r _ _ (put_keeps (Some (load_locked extension at ra)) s.regs ra _ r refl)
+step_keeps g (Some (store_conditional at ra)) s input r = unless_keeps (Some (store_conditional at ra)) s _ r _ _ (conditional_keeps s at ra r (matches s.lock (lock_block at s)))
+step_keeps g (Some (branch None ra disp)) s input r = put_keeps (Some (branch None ra disp)) s.regs ra (next_pc s) r refl
+step_keeps g (Some (branch (Some c) ra disp)) s input r = inl refl
+step_keeps g (Some (jump ra rb)) s input r = put_keeps (Some (jump ra rb)) s.regs ra (next_pc s) r refl
+step_keeps g (Some (barrier None)) s input r = inl refl
+step_keeps g (Some (barrier (Some function))) s input r = returned_keeps function s input r
+step_keeps g (Some idle) s input r = inl refl
 
 -- ---- on what it depends
 
@@ -159,16 +161,18 @@ loaded_is Sign at z = refl
 abbrev loading : Extension → MemAccess → ℕ → ℕ → State → Stepped
 loading extension at ra n z = unless (fault_of (shapes z.mem) Load n at.bytes) n z (setting z ra (value_of extension (bytes_at z.mem n at.bytes)))
 
-loading_is : (g : Program) (extension : Extension) (at : MemAccess) (ra : ℕ) (z : State) → loading extension at ra (accessed at z) z ≡ step g (Some (load extension at ra)) z
-loading_is g extension at ra z =
+loading_is : (g : Program) (extension : Extension) (at : MemAccess) (ra : ℕ) (z : State) (input : List ℕ)
+    → loading extension at ra (accessed at z) z ≡ step g (Some (load extension at ra)) z input
+loading_is g extension at ra z input =
     ap (λ v. unless (fault_of (shapes z.mem) Load (accessed at z) at.bytes) (accessed at z) z (setting z ra v)) (loaded_is extension at z)
 
 abbrev locking : Extension → MemAccess → ℕ → ℕ → State → Stepped
 locking extension at ra n z =
     unless (fault_of (shapes z.mem) Load n at.bytes) n z (record (setting z ra (value_of extension (bytes_at z.mem n at.bytes))) { lock = Some (n / 16) })
 
-locking_is : (g : Program) (extension : Extension) (at : MemAccess) (ra : ℕ) (z : State) → locking extension at ra (accessed at z) z ≡ step g (Some (load_locked extension at ra)) z
-locking_is g extension at ra z =
+locking_is : (g : Program) (extension : Extension) (at : MemAccess) (ra : ℕ) (z : State) (input : List ℕ)
+    → locking extension at ra (accessed at z) z ≡ step g (Some (load_locked extension at ra)) z input
+locking_is g extension at ra z input =
     ap (λ v. unless (fault_of (shapes z.mem) Load (accessed at z) at.bytes) (accessed at z) z (record (setting z ra v) { lock = Some (lock_block at z) })) (loaded_is extension at z)
 
 abbrev storing : MemAccess → ℕ → ℕ → State → Stepped
@@ -185,9 +189,9 @@ conditionally_is : (at : MemAccess) (ra : ℕ) (b : Bool) (z : State) → condit
 conditionally_is at ra true z = refl
 conditionally_is at ra false z = refl
 
-trying_is : (g : Program) (at : MemAccess) (ra : ℕ) (z : State)
-    → trying at ra (access_address at (reg z.regs at.base)) (reg z.regs ra) z ≡ step g (Some (store_conditional at ra)) z
-trying_is g at ra z =
+trying_is : (g : Program) (at : MemAccess) (ra : ℕ) (z : State) (input : List ℕ)
+    → trying at ra (access_address at (reg z.regs at.base)) (reg z.regs ra) z ≡ step g (Some (store_conditional at ra)) z input
+trying_is g at ra z input =
     let n = access_address at (reg z.regs at.base) in
     ap (unless (fault_of (shapes z.mem) Store n at.bytes) n z) (conditionally_is at ra (matches z.lock (n / 16)) z)
 
@@ -265,9 +269,10 @@ module _ (class : Option Class) (s : State) (other : List ℕ) (agree : AgreeFor
 -- ---- PALcode calls
 
 -- a system call with these arguments
-abbrev asked : ℕ → ℕ → ℕ → ℕ → List ℕ → List Block → Outside → Called
-asked number a0 a1 a2 regs mem o =
-    cond (number == 1) (exits a0) (cond (number == 3) (read a0 a1 a2 regs mem o) (cond (number == 4) (write a0 a1 a2 regs mem o) (answers 78 1 regs mem o)))
+abbrev asked : ℕ → ℕ → ℕ → ℕ → List ℕ → List Block → ℕ → List ℕ → Called
+asked number a0 a1 a2 regs mem unique input =
+    cond (number == 1) (exits a0) (cond (number == 3) (read a0 a1 a2 regs mem unique input)
+    (cond (number == 4) (write a0 a1 a2 regs mem unique) (answers 78 1 regs mem unique Silent)))
 
 module _ (s : State) (other : List ℕ) (agree : AgreeFor (Some (barrier (Some Callsys))) s.regs other) where
   abbrev CallAlike : Called → Called → Type 0
@@ -277,8 +282,9 @@ module _ (s : State) (other : List ℕ) (agree : AgreeFor (Some (barrier (Some C
   either_call true x y v w p q = p
   either_call false x y v w p q = q
 
-  answers_alike : (result failed : ℕ) (mem : List Block) (o : Outside) → CallAlike (answers result failed s.regs mem o) (answers result failed other mem o)
-  answers_alike result failed mem o = record {
+  answers_alike : (result failed : ℕ) (mem : List Block) (unique : ℕ) (traffic : Traffic)
+      → CallAlike (answers result failed s.regs mem unique traffic) (answers result failed other mem unique traffic)
+  answers_alike result failed mem unique traffic = record {
     event = refl;
     state = refl;
     registers = λ r.
@@ -289,53 +295,54 @@ module _ (s : State) (other : List ℕ) (agree : AgreeFor (Some (barrier (Some C
   exits_alike : (v : ℕ) → CallAlike (exits v) (exits v)
   exits_alike v = end_alike (Some (barrier (Some Callsys))) s other agree (ends.Exit v)
 
-  read_alike : (d at n : ℕ) (mem : List Block) (o : Outside) → CallAlike (read d at n s.regs mem o) (read d at n other mem o)
-  read_alike d at n mem o =
-      either_call (not (d == 0)) _ _ _ _ (answers_alike 9 1 mem o)
-      (either_call (not (within (shapes mem) Store at n)) _ _ _ _ (answers_alike 14 1 mem o) (answers_alike _ 0 _ _))
+  read_alike : (d at n : ℕ) (mem : List Block) (unique : ℕ) (input : List ℕ) → CallAlike (read d at n s.regs mem unique input) (read d at n other mem unique input)
+  read_alike d at n mem unique input =
+      either_call (not (d == 0)) _ _ _ _ (answers_alike 9 1 mem unique Silent)
+      (either_call (not (within (shapes mem) Store at n)) _ _ _ _ (answers_alike 14 1 mem unique Silent) (answers_alike _ 0 _ _ _))
 
-  write_alike : (d at n : ℕ) (mem : List Block) (o : Outside) → CallAlike (write d at n s.regs mem o) (write d at n other mem o)
-  write_alike d at n mem o =
-      either_call (not (d == 1)) _ _ _ _ (answers_alike 9 1 mem o)
-      (either_call (not (within (shapes mem) Load at n)) _ _ _ _ (answers_alike 14 1 mem o) (answers_alike n 0 mem _))
+  write_alike : (d at n : ℕ) (mem : List Block) (unique : ℕ) → CallAlike (write d at n s.regs mem unique) (write d at n other mem unique)
+  write_alike d at n mem unique =
+      either_call (not (d == 1)) _ _ _ _ (answers_alike 9 1 mem unique Silent)
+      (either_call (not (within (shapes mem) Load at n)) _ _ _ _ (answers_alike 14 1 mem unique Silent) (answers_alike n 0 mem _ _))
 
-  asked_alike : (number a0 a1 a2 : ℕ) (mem : List Block) (o : Outside) → CallAlike (asked number a0 a1 a2 s.regs mem o) (asked number a0 a1 a2 other mem o)
-  asked_alike number a0 a1 a2 mem o =
+  asked_alike : (number a0 a1 a2 : ℕ) (mem : List Block) (unique : ℕ) (input : List ℕ)
+      → CallAlike (asked number a0 a1 a2 s.regs mem unique input) (asked number a0 a1 a2 other mem unique input)
+  asked_alike number a0 a1 a2 mem unique input =
       either_call (number == 1) _ _ _ _ (exits_alike a0)
-      (either_call (number == 3) _ _ _ _ (read_alike a0 a1 a2 mem o)
-      (either_call (number == 4) _ _ _ _ (write_alike a0 a1 a2 mem o) (answers_alike 78 1 mem o)))
+      (either_call (number == 3) _ _ _ _ (read_alike a0 a1 a2 mem unique input)
+      (either_call (number == 4) _ _ _ _ (write_alike a0 a1 a2 mem unique) (answers_alike 78 1 mem unique Silent)))
 
-  callsys_alike : (mem : List Block) (o : Outside) → CallAlike (callsys (reg s.regs 0) s.regs mem o) (callsys (reg other 0) other mem o)
-  callsys_alike mem o =
+  callsys_alike : (mem : List Block) (unique : ℕ) (input : List ℕ) → CallAlike (callsys (reg s.regs 0) s.regs mem unique input) (callsys (reg other 0) other mem unique input)
+  callsys_alike mem unique input =
       let r0 : reg other 0 ≡ reg s.regs 0 = agree.read 0 (inr refl) in
       let r16 : reg other 16 ≡ reg s.regs 16 = agree.read 16 (inr refl) in
       let r17 : reg other 17 ≡ reg s.regs 17 = agree.read 17 (inr refl) in
       let r18 : reg other 18 ≡ reg s.regs 18 = agree.read 18 (inr refl) in
-      let x = callsys (reg s.regs 0) s.regs mem o in
-      subst (λ n. CallAlike x (asked n (reg other 16) (reg other 17) (reg other 18) other mem o)) (sym r0)
-      (subst (λ a. CallAlike x (asked (reg s.regs 0) a (reg other 17) (reg other 18) other mem o)) (sym r16)
-      (subst (λ a. CallAlike x (asked (reg s.regs 0) (reg s.regs 16) a (reg other 18) other mem o)) (sym r17)
-      (subst (λ a. CallAlike x (asked (reg s.regs 0) (reg s.regs 16) (reg s.regs 17) a other mem o)) (sym r18)
-      (asked_alike (reg s.regs 0) (reg s.regs 16) (reg s.regs 17) (reg s.regs 18) mem o))))
+      let x = callsys (reg s.regs 0) s.regs mem unique input in
+      subst (λ n. CallAlike x (asked n (reg other 16) (reg other 17) (reg other 18) other mem unique input)) (sym r0)
+      (subst (λ a. CallAlike x (asked (reg s.regs 0) a (reg other 17) (reg other 18) other mem unique input)) (sym r16)
+      (subst (λ a. CallAlike x (asked (reg s.regs 0) (reg s.regs 16) a (reg other 18) other mem unique input)) (sym r17)
+      (subst (λ a. CallAlike x (asked (reg s.regs 0) (reg s.regs 16) (reg s.regs 17) a other mem unique input)) (sym r18)
+      (asked_alike (reg s.regs 0) (reg s.regs 16) (reg s.regs 17) (reg s.regs 18) mem unique input))))
 
-returned_alike : (function : PalCall) (s : State) (other : List ℕ) → AgreeFor (Some (barrier (Some function))) s.regs other
-    → GoAlike s.regs other (returned function (call function s.regs s.mem s.outside) s) (returned function (call function other s.mem s.outside) (record s { regs = other }))
+returned_alike : (function : PalCall) (s : State) (other input : List ℕ) → AgreeFor (Some (barrier (Some function))) s.regs other
+    → GoAlike s.regs other (returned function (call function s.regs s.mem s.unique input) s) (returned function (call function other s.mem s.unique input) (record s { regs = other }))
 unfolding call
-returned_alike Bpt s other agree = end_alike (Some (barrier (Some Bpt))) s other agree (ends.Signal 0 s.pc)
-returned_alike Bugchk s other agree = end_alike (Some (barrier (Some Bugchk))) s other agree (ends.Signal 1 s.pc)
-returned_alike Gentrap s other agree = end_alike (Some (barrier (Some Gentrap))) s other agree (ends.Signal 2 s.pc)
-returned_alike Imb s other agree = record { event = refl; state = refl; registers = λ r. inr (refl, refl) }
-returned_alike Rdunique s other agree = record {
+returned_alike Bpt s other input agree = end_alike (Some (barrier (Some Bpt))) s other agree (ends.Signal 0 s.pc)
+returned_alike Bugchk s other input agree = end_alike (Some (barrier (Some Bugchk))) s other agree (ends.Signal 1 s.pc)
+returned_alike Gentrap s other input agree = end_alike (Some (barrier (Some Gentrap))) s other agree (ends.Signal 2 s.pc)
+returned_alike Imb s other input agree = record { event = refl; state = refl; registers = λ r. inr (refl, refl) }
+returned_alike Rdunique s other input agree = record {
   event = refl;
   state = refl;
-  registers = λ r. puts (Some (barrier (Some Rdunique))) s other agree 0 s.outside.unique s.outside.unique r refl;
+  registers = λ r. puts (Some (barrier (Some Rdunique))) s other agree 0 s.unique s.unique r refl;
 }
-returned_alike Wrunique s other agree = record {
+returned_alike Wrunique s other input agree = record {
   event = refl;
-  state = ap (λ u. record (onward s) { outside = outside u s.outside.input s.outside.output }) (agree.read 16 (inr refl));
+  state = ap (λ u. record (onward s) { unique = u }) (agree.read 16 (inr refl));
   registers = λ r. inr (refl, refl);
 }
-returned_alike Callsys s other agree = callsys_alike s other agree s.mem s.outside
+returned_alike Callsys s other input agree = callsys_alike s other agree s.mem s.unique input
 
 -- ---- a step
 
@@ -343,12 +350,12 @@ returned_alike Callsys s other agree = callsys_alike s other agree s.mem s.outsi
 by_number : (regs other : List ℕ) (t : Stepped) (u : ℕ → Stepped) (n m : ℕ) → m ≡ n → GoAlike regs other t (u n) → GoAlike regs other t (u m)
 by_number regs other t u n m same h = subst (λ k. GoAlike regs other t (u k)) (sym same) h
 
-module _ (g : Program) (s : State) (other : List ℕ) where
+module _ (g : Program) (s : State) (other input : List ℕ) where
   abbrev too_at : State
   too_at = record s { regs = other }
 
   operate_alike : (op : Op) (ra : ℕ) (src : Src) (rc : ℕ) → AgreeFor (Some (operate op ra src rc)) s.regs other
-      → GoAlike s.regs other (step g (Some (operate op ra src rc)) s) (step g (Some (operate op ra src rc)) too_at)
+      → GoAlike s.regs other (step g (Some (operate op ra src rc)) s input) (step g (Some (operate op ra src rc)) too_at input)
   operate_alike op ra src rc agree =
       let class = Some (operate op ra src rc) in
       let one = read_at class s other agree ra (λ low. counts_first ra _ low) in
@@ -360,43 +367,43 @@ module _ (g : Program) (s : State) (other : List ℕ) where
       (λ move. read_at class s other agree rc (λ low. counts_moved (is_move op) ra rc (source_registers src) move low))))
 
   trigger_alike : (op : TrapOp) (ra : ℕ) (src : Src) (rc : ℕ) → AgreeFor (Some (trigger op ra src rc)) s.regs other
-      → GoAlike s.regs other (step g (Some (trigger op ra src rc)) s) (step g (Some (trigger op ra src rc)) too_at)
+      → GoAlike s.regs other (step g (Some (trigger op ra src rc)) s input) (step g (Some (trigger op ra src rc)) too_at input)
   trigger_alike op ra src rc agree =
       let class = Some (trigger op ra src rc) in
       let one = read_at class s other agree ra (λ low. counts_first ra _ low) in
       let two = source_at class s other agree src (λ x f low. counts_source false ra rc x (source_registers src) low (source_used x src f)) in
-      let t = step g (Some (trigger op ra src rc)) s in
+      let t = step g (Some (trigger op ra src rc)) s input in
       by_number s.regs other t (λ a. trap g.how op a (source_value other src) rc too_at) (reg s.regs ra) (reg other ra) one
       (by_number s.regs other t (λ b. trap g.how op (reg s.regs ra) b rc too_at) (source_value s.regs src) (source_value other src) two
       (trap_alike class s other agree g op (reg s.regs ra) (source_value s.regs src) rc))
 
   load_alike : (extension : Extension) (at : MemAccess) (ra : ℕ) → AgreeFor (Some (load extension at ra)) s.regs other
-      → GoAlike s.regs other (step g (Some (load extension at ra)) s) (step g (Some (load extension at ra)) too_at)
+      → GoAlike s.regs other (step g (Some (load extension at ra)) s input) (step g (Some (load extension at ra)) too_at input)
   load_alike extension at ra agree =
       let class = Some (load extension at ra) in
       let n = access_address at (reg s.regs at.base) in
-      subst (λ x. GoAlike s.regs other x (step g class too_at)) (loading_is g extension at ra s)
-      (subst (λ y. GoAlike s.regs other (loading extension at ra n s) y) (loading_is g extension at ra too_at)
+      subst (λ x. GoAlike s.regs other x (step g class too_at input)) (loading_is g extension at ra s input)
+      (subst (λ y. GoAlike s.regs other (loading extension at ra n s) y) (loading_is g extension at ra too_at input)
       (by_number s.regs other (loading extension at ra n s) (λ m. loading extension at ra m too_at) n (access_address at (reg other at.base))
       (accessed_alike class s other agree at (λ low. counts_first at.base [] low))
       (loading_alike class s other agree extension at ra n)))
 
   load_locked_alike : (extension : Extension) (at : MemAccess) (ra : ℕ) → AgreeFor (Some (load_locked extension at ra)) s.regs other
-      → GoAlike s.regs other (step g (Some (load_locked extension at ra)) s) (step g (Some (load_locked extension at ra)) too_at)
+      → GoAlike s.regs other (step g (Some (load_locked extension at ra)) s input) (step g (Some (load_locked extension at ra)) too_at input)
   load_locked_alike extension at ra agree =
       let class = Some (load_locked extension at ra) in
       let n = access_address at (reg s.regs at.base) in
-      subst (λ x. GoAlike s.regs other x (step g class too_at)) (locking_is g extension at ra s)
-      (subst (λ y. GoAlike s.regs other (locking extension at ra n s) y) (locking_is g extension at ra too_at)
+      subst (λ x. GoAlike s.regs other x (step g class too_at input)) (locking_is g extension at ra s input)
+      (subst (λ y. GoAlike s.regs other (locking extension at ra n s) y) (locking_is g extension at ra too_at input)
       (by_number s.regs other (locking extension at ra n s) (λ m. locking extension at ra m too_at) n (access_address at (reg other at.base))
       (accessed_alike class s other agree at (λ low. counts_first at.base [] low))
       (locking_alike class s other agree extension at ra n)))
 
   store_alike : (at : MemAccess) (ra : ℕ) → AgreeFor (Some (store at ra)) s.regs other
-      → GoAlike s.regs other (step g (Some (store at ra)) s) (step g (Some (store at ra)) too_at)
+      → GoAlike s.regs other (step g (Some (store at ra)) s input) (step g (Some (store at ra)) too_at input)
   store_alike at ra agree =
       let class = Some (store at ra) in
-      let t = step g class s in
+      let t = step g class s input in
       let value = read_at class s other agree ra (λ low. counts_first ra (at.base ∷ []) low) in
       let place = accessed_alike class s other agree at (λ low. counts_second ra at.base [] low) in
       by_number s.regs other t (λ n. storing at n (reg other ra) too_at) (access_address at (reg s.regs at.base)) (access_address at (reg other at.base)) place
@@ -404,54 +411,54 @@ module _ (g : Program) (s : State) (other : List ℕ) where
       (storing_alike class s other agree at (access_address at (reg s.regs at.base)) (reg s.regs ra)))
 
   store_conditional_alike : (at : MemAccess) (ra : ℕ) → AgreeFor (Some (store_conditional at ra)) s.regs other
-      → GoAlike s.regs other (step g (Some (store_conditional at ra)) s) (step g (Some (store_conditional at ra)) too_at)
+      → GoAlike s.regs other (step g (Some (store_conditional at ra)) s input) (step g (Some (store_conditional at ra)) too_at input)
   store_conditional_alike at ra agree =
       let class = Some (store_conditional at ra) in
       let n = access_address at (reg s.regs at.base) in
       let t = trying at ra n (reg s.regs ra) s in
       let value = read_at class s other agree ra (λ low. counts_first ra (at.base ∷ []) low) in
       let place = accessed_alike class s other agree at (λ low. counts_second ra at.base [] low) in
-      subst (λ x. GoAlike s.regs other x (step g class too_at)) (trying_is g at ra s)
-      (subst (λ y. GoAlike s.regs other t y) (trying_is g at ra too_at)
+      subst (λ x. GoAlike s.regs other x (step g class too_at input)) (trying_is g at ra s input)
+      (subst (λ y. GoAlike s.regs other t y) (trying_is g at ra too_at input)
       (by_number s.regs other t (λ m. trying at ra m (reg other ra) too_at) n (access_address at (reg other at.base)) place
       (by_number s.regs other t (λ v. trying at ra n v too_at) (reg s.regs ra) (reg other ra) value
       (trying_alike class s other agree at ra n (reg s.regs ra)))))
 
   branch_alike : (c : Cond) (ra : ℕ) (disp : ℤ) → AgreeFor (Some (branch (Some c) ra disp)) s.regs other
-      → GoAlike s.regs other (step g (Some (branch (Some c) ra disp)) s) (step g (Some (branch (Some c) ra disp)) too_at)
+      → GoAlike s.regs other (step g (Some (branch (Some c) ra disp)) s input) (step g (Some (branch (Some c) ra disp)) too_at input)
   branch_alike c ra disp agree =
       let class = Some (branch (Some c) ra disp) in
       let pc : Bool → State → Stepped = λ b z. went (record z { pc = cond b (branch_target z disp) (next_pc z) }) in
-      by_number s.regs other (step g class s) (λ v. pc (is_taken c v) too_at) (reg s.regs ra) (reg other ra)
+      by_number s.regs other (step g class s input) (λ v. pc (is_taken c v) too_at) (reg s.regs ra) (reg other ra)
       (read_at class s other agree ra (λ low. counts_first ra [] low))
       (record { event = refl; state = refl; registers = stays class s other agree })
 
-  jump_alike : (ra rb : ℕ) → AgreeFor (Some (jump ra rb)) s.regs other → GoAlike s.regs other (step g (Some (jump ra rb)) s) (step g (Some (jump ra rb)) too_at)
+  jump_alike : (ra rb : ℕ) → AgreeFor (Some (jump ra rb)) s.regs other → GoAlike s.regs other (step g (Some (jump ra rb)) s input) (step g (Some (jump ra rb)) too_at input)
   jump_alike ra rb agree =
       let class = Some (jump ra rb) in
-      by_number s.regs other (step g class s) (λ v. went (record too_at { regs = put other ra (next_pc s); pc = v / 4 * 4 })) (reg s.regs rb) (reg other rb)
+      by_number s.regs other (step g class s input) (λ v. went (record too_at { regs = put other ra (next_pc s); pc = v / 4 * 4 })) (reg s.regs rb) (reg other rb)
       (read_at class s other agree rb (λ low. counts_first rb [] low))
       (record { event = refl; state = refl; registers = λ r. puts class s other agree ra (next_pc s) (next_pc s) r refl })
 
-pub step_alike : (g : Program) (class : Option Class) (s : State) (other : List ℕ) → AgreeFor class s.regs other
-    → GoAlike s.regs other (step g class s) (step g class (record s { regs = other }))
-step_alike g None s other agree = end_alike None s other agree (ends.Fetch s.pc)
-step_alike g (Some (operate op ra src rc)) s other agree = operate_alike g s other op ra src rc agree
-step_alike g (Some (trigger op ra src rc)) s other agree = trigger_alike g s other op ra src rc agree
-step_alike g (Some (address op ra rb disp)) s other agree =
+pub step_alike : (g : Program) (class : Option Class) (s : State) (other input : List ℕ) → AgreeFor class s.regs other
+    → GoAlike s.regs other (step g class s input) (step g class (record s { regs = other }) input)
+step_alike g None s other input agree = end_alike None s other agree (ends.Fetch s.pc)
+step_alike g (Some (operate op ra src rc)) s other input agree = operate_alike g s other input op ra src rc agree
+step_alike g (Some (trigger op ra src rc)) s other input agree = trigger_alike g s other input op ra src rc agree
+step_alike g (Some (address op ra rb disp)) s other input agree =
     let class = Some (address op ra rb disp) in
     set_alike class s other agree ra _ _ (ap (λ x. computed op x disp) (read_at class s other agree rb (λ low. counts_first rb [] low)))
-step_alike g (Some (load extension at ra)) s other agree = load_alike g s other extension at ra agree
-step_alike g (Some (store at ra)) s other agree = store_alike g s other at ra agree
-step_alike g (Some (load_locked extension at ra)) s other agree = load_locked_alike g s other extension at ra agree
-step_alike g (Some (store_conditional at ra)) s other agree = store_conditional_alike g s other at ra agree
-step_alike g (Some (branch None ra disp)) s other agree = record {
+step_alike g (Some (load extension at ra)) s other input agree = load_alike g s other input extension at ra agree
+step_alike g (Some (store at ra)) s other input agree = store_alike g s other input at ra agree
+step_alike g (Some (load_locked extension at ra)) s other input agree = load_locked_alike g s other input extension at ra agree
+step_alike g (Some (store_conditional at ra)) s other input agree = store_conditional_alike g s other input at ra agree
+step_alike g (Some (branch None ra disp)) s other input agree = record {
   event = refl;
   state = refl;
   registers = λ r. puts (Some (branch None ra disp)) s other agree ra (next_pc s) (next_pc s) r refl;
 }
-step_alike g (Some (branch (Some c) ra disp)) s other agree = branch_alike g s other c ra disp agree
-step_alike g (Some (jump ra rb)) s other agree = jump_alike g s other ra rb agree
-step_alike g (Some (barrier None)) s other agree = record { event = refl; state = refl; registers = λ r. inr (refl, refl) }
-step_alike g (Some (barrier (Some function))) s other agree = returned_alike function s other agree
-step_alike g (Some idle) s other agree = record { event = refl; state = refl; registers = λ r. inr (refl, refl) }
+step_alike g (Some (branch (Some c) ra disp)) s other input agree = branch_alike g s other input c ra disp agree
+step_alike g (Some (jump ra rb)) s other input agree = jump_alike g s other input ra rb agree
+step_alike g (Some (barrier None)) s other input agree = record { event = refl; state = refl; registers = λ r. inr (refl, refl) }
+step_alike g (Some (barrier (Some function))) s other input agree = returned_alike function s other input agree
+step_alike g (Some idle) s other input agree = record { event = refl; state = refl; registers = λ r. inr (refl, refl) }

@@ -16,7 +16,6 @@ pub mod Together
 pub mod Syncing
 pub mod Waiting
 pub mod Reporting
-pub mod Following
 pub mod Starting
 pub mod Agreeing
 pub mod Rows
@@ -24,4 +23,3 @@ pub mod Walks
 pub mod Fine
 pub mod Needed
 pub mod Losing
-pub mod FreeTogether

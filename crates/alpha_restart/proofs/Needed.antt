@@ -1,7 +1,7 @@
 -- For each condition from C1 to C7 an image that it alone refuses, and that can't be restarted: its run by some words shows
 -- another end than the sequential run, or loses a trap. The numbers are words of code; what they say stands above them.
 use Rattle.std.specs.Int.{int_wrap}
-use Rattle.std.proofs.Common.{◌≡◌, ◌≢◌, ◌<◌, ◌≤◌, ◌^◌, ℕ, zero, suc, Bool, true, false, List, [], ◌∷◌, length, get_or, ltb, Option, None, Some, refl, sym, ap, ◌∙◌, arith}
+use Rattle.std.proofs.Common.{◌≡◌, ◌≢◌, ◌<◌, ◌≤◌, ◌^◌, ℕ, zero, suc, true, false, List, [], ◌∷◌, length, get_or, ltb, Option, None, Some, refl, sym, ap, ◌∙◌, arith}
 use Rattle.std.specs.List.{list_all, All}
 use Rattle.std.proofs.lemmas.Bool.{ltb-true, and_parts}
 use Rattle.std.proofs.lemmas.List.Elements.{All-nil, All-cons}
@@ -31,16 +31,16 @@ use Rattle.alpha_image.proofs.FieldRules.{FieldsFit-least}
 use Rattle.alpha_image.proofs.CodeWords.{All-word_fault}
 use Rattle.alpha_seq.specs.declared.end.End.{End}
 use Rattle.alpha_seq.specs.declared.end.End.TheVariants.{Exit, Overflow}
-use Rattle.alpha_seq.specs.State.{Program}
+use Rattle.alpha_seq.specs.State.{Program, Event, Went, Ends, Stepped}
 use Rattle.alpha_seq.specs.Start.{start_memory, start_regs, start}
-use Rattle.alpha_seq.specs.Run.{sequential}
+use Rattle.alpha_seq.specs.Run.{begins, next, sequential}
 use Rattle.alpha_shadow.specs.declared.broken.Condition.{Condition}
 use Rattle.alpha_shadow.specs.declared.broken.Condition.TheVariants.{ZeroDestination, SourceLost, SameDestination, WildBase, LoadThenStore, Locked, Turn, Open, Long}
 use Rattle.alpha_shadow.specs.Least.{condition_number}
 use Rattle.alpha_trap.specs.Scan.{fits, greatest_below}
-use Rattle.alpha_imprecise.specs.Moment.{Choice}
+use Rattle.alpha_imprecise.specs.Moment.{Happening, Precisely, Triggered, Moment}
 use Rattle.alpha_restart.specs.Table.{IsChoice}
-use Rattle.alpha_imprecise.specs.Run.{WildRun, started_wild, run_wild}
+use Rattle.alpha_imprecise.specs.Run.{choice_of, seen, begins_wild, next_wild}
 use Rattle.alpha_imprecise.specs.Made.{LostTrap, imprecise}
 use Rattle.alpha_imprecise.specs.Restart.{IsRestartable}
 use Rattle.alpha_restart.specs.Needed.{Needs, StopsApart}
@@ -290,41 +290,58 @@ unfolding class_at class_in
 stopping-fine ZeroDestination = refl
 stopping-fine _ = refl
 
--- a choice that waits or reports, with a value
-abbrev choosing : Bool → ℕ → Choice
-choosing report value = record { report = report; value = value; bytes = 0; adds = false }
+-- three words, the trigger with another value in $3, and the report
+abbrev late_stop : List Happening
+late_stop = Precisely Went ∷ Precisely Went ∷ Precisely Went ∷ Triggered 5 ∷ Precisely (Ends (Overflow 65548)) ∷ []
 
--- the trigger with another value in $3, and the report; and three words before
-abbrev trap_choices : List Choice
-trap_choices = choosing false 5 ∷ choosing true 0 ∷ []
+more_small : (h : Happening) (rest : List Happening) → IsChoice (choice_of h) → All (λ x. IsChoice (choice_of x)) rest → All (λ x. IsChoice (choice_of x)) (h ∷ rest)
+more_small h rest low small = All-cons (λ x. IsChoice (choice_of x)) h rest low small
 
-abbrev late_stop : List Choice
-late_stop = choosing false 0 ∷ choosing false 0 ∷ choosing false 0 ∷ trap_choices
+precise_small : (event : Event) → IsChoice (choice_of (Precisely event))
+precise_small event = record { value = omega arith; bytes = omega arith }
 
-more_small : (report : Bool) (value : ℕ) (rest : List Choice) → value < 2 ^ 64 → All IsChoice rest → All IsChoice (choosing report value ∷ rest)
-more_small report value rest low small = All-cons IsChoice (choosing report value) rest (record { value = low; bytes = omega arith }) small
-
-late_stop-small : All IsChoice late_stop
+late_stop-small : All (λ h. IsChoice (choice_of h)) late_stop
 late_stop-small =
-    more_small false 0 (choosing false 0 ∷ choosing false 0 ∷ trap_choices) (omega arith)
-    (more_small false 0 (choosing false 0 ∷ trap_choices) (omega arith)
-    (more_small false 0 trap_choices (omega arith)
-    (more_small false 5 (choosing true 0 ∷ []) (omega arith) (more_small true 0 [] (omega arith) (All-nil IsChoice)))))
+    more_small (Precisely Went) (Precisely Went ∷ Precisely Went ∷ Triggered 5 ∷ Precisely (Ends (Overflow 65548)) ∷ []) (precise_small Went)
+    (more_small (Precisely Went) (Precisely Went ∷ Triggered 5 ∷ Precisely (Ends (Overflow 65548)) ∷ []) (precise_small Went)
+    (more_small (Precisely Went) (Triggered 5 ∷ Precisely (Ends (Overflow 65548)) ∷ []) (precise_small Went)
+    (more_small (Triggered 5) (Precisely (Ends (Overflow 65548)) ∷ []) (record { value = omega arith; bytes = omega arith })
+    (more_small (Precisely (Ends (Overflow 65548))) [] (precise_small (Ends (Overflow 65548))) (All-nil (λ h. IsChoice (choice_of h)))))))
 
-unfoldable stopped_run : WildRun
+abbrev stopping_program : Program
+stopping_program = record { image = image_of stopping; how = Stop }
+
+-- where steps that went so lead
+abbrev walk_wild : Moment → List Happening → Moment
+walk_wild a [] = a
+walk_wild a (h ∷ hs) = walk_wild (next_wild stopping_program a h) hs
+
+abbrev walk : Stepped → List Event → Stepped
+walk a [] = a
+walk a (event ∷ events) = walk (next stopping_program a event) events
+
+unfoldable stopped_moment : Moment
 unfolding int_wrap digits number reg put class_at class_in pairwise is_taken register_of address_of high_address_of access_address result_of overflow_of completed_of fault_of each_within bytes_at write_bytes call longword place_of start_memory start_regs fits greatest_below
-stopped_run = let g : Program = record { image = image_of stopping; how = Stop } in run_wild g late_stop (started_wild (start g []))
+stopped_moment = walk_wild (begins_wild (start stopping_program)) late_stop
+
+unfoldable stopped_state : Stepped
+unfolding int_wrap digits number reg put class_at class_in pairwise is_taken register_of address_of high_address_of access_address result_of overflow_of completed_of fault_of each_within bytes_at write_bytes call longword place_of start_memory start_regs
+stopped_state = walk (begins (start stopping_program)) (seen late_stop)
 
 pub stops_apart : StopsApart
-unfolding stopped_run
+unfolding stopped_moment stopped_state
 stops_apart = record {
   image = image_of stopping;
   good = stopping-good;
   accepted = λ t i c h. unbroken stopping c (stopping-fine c) t i h;
-  choices = late_stop;
+  steps = late_stop;
   small = late_stop-small;
+  w = stopped_moment;
+  runs = (refl, refl, (refl, refl, (refl, refl, (refl, refl, (refl, refl, refl)))));
   at = 65548;
-  register = 3;
   stopped = refl;
+  last = stopped_state;
+  follows = (refl, refl, (refl, refl, (refl, refl, (refl, refl, refl))));
+  register = 3;
   apart = λ e. let f : 5 ≡ 0 = e in omega arith;
 }

@@ -10,7 +10,7 @@ use Rattle.alpha_seq.specs.Step.{next_class}
 use Rattle.alpha_trap.specs.Scan.{scan, place_or_end}
 use Rattle.alpha_trap.proofs.Scanning.{scan-last}
 use Rattle.alpha_imprecise.specs.Step.{address_at}
-use Rattle.alpha_imprecise.specs.Run.{WildRun}
+use Rattle.alpha_imprecise.specs.Moment.{Moment}
 use Rattle.alpha_restart.specs.Safe.{IsSafe, is_steady}
 use Rattle.alpha_restart.specs.Invariant.{Trail}
 use Rattle.alpha_restart.proofs.Words.{class_within, class_past}
@@ -64,7 +64,7 @@ steady_within code k e = by (class_at code k) refl e
     by (Some class) f s = class_within code k class f
 
 -- the scan from a pending trap's report finds its trigger
-pub trail_scan : (g : Program) (place at : ℕ) (w : WildRun) → IsImage g.image → IsSafe g.image.words → (h : Trail g place at w)
+pub trail_scan : (g : Program) (place at : ℕ) (w : Moment) → IsImage g.image → IsSafe g.image.words → (h : Trail g place at w)
     → scan g.image w.state.pc h.mask ≡ Some place
 trail_scan g place at w good safe h =
     let above = h.above in

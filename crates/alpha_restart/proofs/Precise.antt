@@ -1,5 +1,5 @@
 -- A step with nothing pending: the machines go on together, or a trap is pending behind it.
-use Rattle.std.proofs.Common.{◌≡◌, ◌≢◌, ◌+◌, ◌%◌, ◌^◌, ℕ, Bool, true, false, cond, List, [], ◌∷◌, ◌++◌, Some, refl, sym, ap, ◌∙◌, arith, max, append-nil}
+use Rattle.std.proofs.Common.{◌≡◌, ◌≢◌, ◌+◌, ◌%◌, ◌^◌, ℕ, Bool, true, false, cond, Some, refl, sym, ap, ◌∙◌, arith, max}
 use Rattle.alpha_words.specs.Regs.{reg, put}
 use Rattle.alpha_table.specs.declared.columns.InsnKind.TheVariants as kinds
 use Rattle.alpha_table.specs.Code.{class_at, kind}
@@ -8,12 +8,10 @@ use Rattle.alpha_values.specs.Source.{source_value}
 use Rattle.alpha_values.specs.TrapOp.{stops}
 use Rattle.alpha_image.specs.Parts.{IsImage}
 use Rattle.alpha_seq.specs.declared.end.End.TheVariants.{Overflow}
-use Rattle.alpha_seq.specs.State.{Program, Overflowed, Ends, stepped}
-use Rattle.alpha_seq.specs.Step.{ended, logging, overflowed, next_class, step}
-use Rattle.alpha_seq.specs.Run.{Run, Mark, Over, extended_by, is_over, advance}
-use Rattle.alpha_imprecise.specs.Moment.{Choice}
-use Rattle.alpha_imprecise.specs.Step.{triggered, address_at, wild}
-use Rattle.alpha_imprecise.specs.Run.{WildRun, extended_wild, finished, advance_wild}
+use Rattle.alpha_seq.specs.State.{Program, Overflowed, Ends, Stepped, stepped}
+use Rattle.alpha_seq.specs.Step.{ended, logging, overflowed}
+use Rattle.alpha_imprecise.specs.Moment.{Choice, Moment}
+use Rattle.alpha_imprecise.specs.Step.{triggered, address_at}
 use Rattle.alpha_restart.specs.Safe.{IsSafe, is_steady}
 use Rattle.alpha_restart.specs.Match.{Match}
 use Rattle.alpha_restart.specs.Trigger.{Trigger, trigger_word, trigger_value}
@@ -25,35 +23,26 @@ use Rattle.alpha_restart.proofs.Shadows.{trigger_shadow}
 use Rattle.alpha_restart.proofs.Places.{next_address, steady_within}
 use Rattle.alpha_restart.proofs.Trails.{counted, trail_start}
 
--- how a run goes on that isn't over
-pub advance-going : (g : Program) (r : Run) → is_over r.last ≡ false → extended_by r (step g (next_class g r.state.pc) r.state) ≡ advance g r
-advance-going g r e = ap (λ b. cond b r (extended_by r (step g (next_class g r.state.pc) r.state))) (sym e)
-
-pub advance_wild-going : (g : Program) (w : WildRun) (c : Choice) → finished w.last ≡ false → extended_wild w (wild g w.state w.pending c) ≡ advance_wild g w c
-advance_wild-going g w c e = ap (λ b. cond b w (extended_wild w (wild g w.state w.pending c))) (sym e)
-
 module _ (g : Program) (good : IsImage g.image) (safe : IsSafe g.image.words) where
   -- ---- an overflow
 
-  module _ (q e : ℕ) (t : Trigger) (r : Run) (w : WildRun) (c : Choice) (word : class_at g.image.words q ≡ trigger_word t) (h : Match g.image.words q e r.state w.state)
-      (here : r.state.pc ≡ address_at g.image q) (here_too : w.state.pc ≡ r.state.pc) (trace : w.trace ≡ r.trace) where
+  module _ (q e : ℕ) (t : Trigger) (r : Stepped) (w : Moment) (c : Choice) (word : class_at g.image.words q ≡ trigger_word t) (h : Match g.image.words q e r.state w.state)
+      (here : r.state.pc ≡ address_at g.image q) (here_too : w.state.pc ≡ r.state.pc) where
     -- what the trigger sets is its destination
     same_unset_by : (v x : ℕ) → sets (class_at g.image.words q) ≢ Some x → reg (put r.state.regs t.rc v) x ≡ reg r.state.regs x
     same_unset_by v x n = reg-put_unset r.state.regs t.rc x v (λ f. n (ap sets word ∙ f))
 
     opens : stops g.how ≡ false
-        → Window g (extended_by r (stepped (logging r.state t.rc (trigger_value g.how t r.state.regs)) (Overflowed r.state.pc)))
-        (extended_wild w (triggered g (trigger_word t) w.state c))
+        → Window g (stepped (logging r.state t.rc (trigger_value g.how t r.state.regs)) (Overflowed r.state.pc)) (triggered g (trigger_word t) w.state c)
     opens goes = record {
       place = q;
       at = q + 1;
       to = max e (q + 1);
       t = t;
-      trail = trail_start g good safe q t w c word (here_too ∙ here);
+      trail = trail_start g good safe q t w.state c word (here_too ∙ here);
       goes_on = goes;
       pc = ap (λ n. (n + 4) % 2 ^ 64) here ∙ next_address g.image good q (steady_within g.image.words q (ap is_steady word));
-      trace = ap (λ n. r.trace ++ Over n ∷ []) here ∙ ap (λ (tr : List Mark). tr ++ Over (address_at g.image q) ∷ []) (sym (append-nil w.trace ∙ trace));
-      going = refl;
+      last = ap Overflowed here;
       shadow = trigger_shadow g.image.words safe g.how q t word e c.value r.state.regs w.state.regs h.registers (counted g good safe q t word)
           (same_ra_at) (same_src_at);
       memory = bytes_on g.image.words q e (max e (q + 1)) r.state.regs (put r.state.regs t.rc (trigger_value g.how t r.state.regs)) r.state.mem w.state.mem
@@ -62,7 +51,7 @@ module _ (g : Program) (good : IsImage g.image) (safe : IsSafe g.image.words) wh
       lock = refl;
       count = ap (λ n. (n + 1) % 2 ^ 64) (sym h.count);
       logged = here;
-      outside = h.outside;
+      unique = h.unique;
     }
       where
         same_ra_at : reg w.state.regs t.ra ≡ reg r.state.regs t.ra
@@ -71,23 +60,22 @@ module _ (g : Program) (good : IsImage g.image) (safe : IsSafe g.image.words) wh
         same_src_at : source_value w.state.regs t.src ≡ source_value r.state.regs t.src
         same_src_at = same_src g.image.words q e r.state w.state h t.op t.ra t.src t.rc word
 
-    halts : stops g.how ≡ true → Stopping g (extended_by r (ended r.state (Overflow r.state.pc))) (extended_wild w (triggered g (trigger_word t) w.state c))
+    halts : stops g.how ≡ true → Stopping g (ended r.state (Overflow r.state.pc)) (triggered g (trigger_word t) w.state c)
     halts stop = record {
       place = q;
       at = q + 1;
-      trail = trail_start g good safe q t w c word (here_too ∙ here);
+      trail = trail_start g good safe q t w.state c word (here_too ∙ here);
       halts = stop;
       last = ap (λ n. Ends (Overflow n)) here;
       pc = here;
-      trace = ap (λ (tr : List Mark). tr ++ []) trace;
-      outside = h.outside;
+      unique = h.unique;
     }
 
-    pub overflows : Together g (extended_by r (overflowed g.how r.state t.rc (trigger_value g.how t r.state.regs))) (extended_wild w (triggered g (trigger_word t) w.state c))
+    pub overflows : Together g (overflowed g.how r.state t.rc (trigger_value g.how t r.state.regs)) (triggered g (trigger_word t) w.state c)
     overflows = by (stops g.how) refl
       where
         by : (b : Bool) → stops g.how ≡ b
-            → Together g (extended_by r (cond b (ended r.state (Overflow r.state.pc)) (stepped (logging r.state t.rc (trigger_value g.how t r.state.regs)) (Overflowed r.state.pc))))
-            (extended_wild w (triggered g (trigger_word t) w.state c))
+            → Together g (cond b (ended r.state (Overflow r.state.pc)) (stepped (logging r.state t.rc (trigger_value g.how t r.state.regs)) (Overflowed r.state.pc)))
+            (triggered g (trigger_word t) w.state c)
         by true e = stopping (halts e)
         by false e = window (opens e)

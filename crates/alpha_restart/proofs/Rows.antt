@@ -12,11 +12,15 @@ use Rattle.alpha_table.specs.Class.{Class, operate, trigger, address, load, stor
 use Rattle.alpha_table.specs.Code.{class_at}
 use Rattle.alpha_table.specs.Uses.{access}
 use Rattle.alpha_image.specs.Parts.{IsByte, place_of}
-use Rattle.alpha_seq.specs.State.{Program, State}
+use Rattle.alpha_values.specs.TrapOp.{stops}
+use Rattle.alpha_seq.specs.declared.end.End.TheVariants.{Overflow}
+use Rattle.alpha_seq.specs.State.{Program, State, Ends}
 use Rattle.alpha_seq.specs.Step.{onward, setting, lock_block, matches, next_class, step}
-use Rattle.alpha_imprecise.specs.Moment.{Trap, with_register, Choice, Waited, Moment, moment}
-use Rattle.alpha_imprecise.specs.Step.{triggers, triggered, destination, precisely, report, can_wait, spoilt, spoilt_conditional, waited, wild}
-use Rattle.alpha_restart.specs.Table.{IsChoice, SetsAny, AreBytes, StoresAny, storing, StoresIf, Branches, Executed, Steps, Overflows, Reports, Waits, Row, steps, overflows, reports, waits}
+use Rattle.alpha_trap.specs.Scan.{scan}
+use Rattle.alpha_imprecise.specs.Moment.{Trap, with_register, Choice, Precisely, Waited, Reported, Moment, moment}
+use Rattle.alpha_imprecise.specs.Step.{triggers, triggered, destination, precisely, address_at, completed, report, can_wait, spoilt, spoilt_conditional, waited, wild}
+use Rattle.alpha_imprecise.proofs.Landed.{report_at}
+use Rattle.alpha_restart.specs.Table.{IsChoice, SetsAny, AreBytes, StoresAny, storing, StoresIf, Branches, Executed, unchosen, Steps, Overflows, Reports, Waits, Row, steps, overflows, reports, waits}
 use Rattle.alpha_restart.proofs.Words.{IsNarrow, narrow}
 
 -- ---- bytes and their number
@@ -135,57 +139,74 @@ chooses (Some idle) s b fit h = same_any _ s b refl (λ adds. sym h)
 -- ---- rows and choices
 
 -- a choice that makes a step
-abbrev pub Chosen : Program → State → Option Trap → Moment → Type 0
-Chosen g s pending m = (c : Choice) × IsChoice c × (wild g s pending c ≡ m)
+abbrev pub Chosen : Program → State → Option Trap → List ℕ → Moment → Type 0
+Chosen g s pending input m = (c : Choice) × IsChoice c × (unchosen (wild g s pending c input) ≡ m)
 
 small_choice : (v n : ℕ) (adds : Bool) → v < 2 ^ 64 → n < 2 ^ 64 → IsChoice (waiting v n adds)
 small_choice v n adds p q = record { value = p; bytes = q }
 
-by_test : {X : Type 0} (b flag : Bool) (x y : X) → b ≡ flag → cond b x y ≡ cond flag x y
-by_test b flag x y e = ap (λ f. cond f x y) e
+by_test : (b flag : Bool) (x y : Moment) → b ≡ flag → unchosen (cond b x y) ≡ unchosen (cond flag x y)
+by_test b flag x y e = ap (λ f. unchosen (cond f x y)) e
 
-row_steps : (g : Program) (s : State) (pending : Option Trap) (m : Moment) → Steps g s pending m → Chosen g s pending m
-row_steps g s pending m h =
-    subst (λ (p : Option Trap). Chosen g s p m) (sym h.none) (
-      waiting 0 0 false,
+row_steps : (g : Program) (s : State) (pending : Option Trap) (input : List ℕ) (m : Moment) → Steps g s pending input m → Chosen g s pending input m
+row_steps g s pending input m h =
+    let c = waiting 0 0 false in
+    subst (λ (p : Option Trap). Chosen g s p input m) (sym h.none) (
+      c,
       small_choice 0 0 false (omega arith) (omega arith),
-      by_test (triggers (next_class g s.pc) s) false (triggered g (next_class g s.pc) s (waiting 0 0 false)) (precisely (step g (next_class g s.pc) s)) h.calm ∙ sym h.is,
+      by_test (triggers (next_class g s.pc) s) false (triggered g (next_class g s.pc) s c) (precisely (step g (next_class g s.pc) s input)) h.calm ∙ sym h.is,
     )
 
-row_overflows : (g : Program) (s : State) (pending : Option Trap) (m : Moment) → Overflows g s pending m → Chosen g s pending m
-row_overflows g s pending m h =
-    subst (λ (p : Option Trap). Chosen g s p m) (sym h.none) (
-      waiting h.value 0 false,
+row_overflows : (g : Program) (s : State) (pending : Option Trap) (input : List ℕ) (m : Moment) → Overflows g s pending m → Chosen g s pending input m
+row_overflows g s pending input m h =
+    let c = waiting h.value 0 false in
+    subst (λ (p : Option Trap). Chosen g s p input m) (sym h.none) (
+      c,
       small_choice h.value 0 false h.small (omega arith),
-      by_test (triggers (next_class g s.pc) s) true (triggered g (next_class g s.pc) s (waiting h.value 0 false)) (precisely (step g (next_class g s.pc) s)) h.over ∙ sym h.is,
+      by_test (triggers (next_class g s.pc) s) true (triggered g (next_class g s.pc) s c) (precisely (step g (next_class g s.pc) s input)) h.over ∙ sym h.is,
     )
 
-row_reports : (g : Program) (s : State) (pending : Option Trap) (m : Moment) → Reports g s pending m → Chosen g s pending m
-row_reports g s pending m h =
-    subst (λ (p : Option Trap). Chosen g s p m) (sym h.some)
-    (record { report = true; value = 0; bytes = 0; adds = false }, record { value = omega arith; bytes = omega arith }, sym h.is)
+-- nothing is chosen in a report
+landed_untold : (g : Program) (s : State) (at : ℕ) (b : Bool)
+    → let m : Moment = cond b (moment (record s { pc = address_at g.image at }) None (Precisely (Ends (Overflow (address_at g.image at)))))
+    (moment (completed g s at) None (Reported (address_at g.image at))) in
+    unchosen m ≡ m
+landed_untold g s at true = refl
+landed_untold g s at false = refl
+
+found_untold : (g : Program) (s : State) (t : Trap) (found : Option ℕ) → unchosen (report_at g s t found) ≡ report_at g s t found
+found_untold g s t None = refl
+found_untold g s t (Some at) = landed_untold g s at (stops g.how)
+
+pub report_untold : (g : Program) (s : State) (t : Trap) → unchosen (report g s t) ≡ report g s t
+report_untold g s t = found_untold g s t (scan g.image s.pc t.mask)
+
+row_reports : (g : Program) (s : State) (pending : Option Trap) (input : List ℕ) (m : Moment) → Reports g s pending m → Chosen g s pending input m
+row_reports g s pending input m h =
+    subst (λ (p : Option Trap). Chosen g s p input m) (sym h.some)
+    (record { report = true; value = 0; bytes = 0; adds = false }, record { value = omega arith; bytes = omega arith }, report_untold g s h.t ∙ sym h.is)
 
 -- the mask stays, or gets a destination
 added : (mask d new : ℕ) → (new ≡ mask) ⊎ (new ≡ with_register mask d) → (adds : Bool) × (cond adds (with_register mask d) mask ≡ new)
 added mask d new (inl e) = (false, sym e)
 added mask d new (inr e) = (true, sym e)
 
-row_waits : (g : Program) (s : State) (pending : Option Trap) (m : Moment) → Waits g s pending m → Chosen g s pending m
-row_waits g s pending m h =
+row_waits : (g : Program) (s : State) (pending : Option Trap) (input : List ℕ) (m : Moment) → Waits g s pending m → Chosen g s pending input m
+row_waits g s pending input m h =
     let o = next_class g s.pc in
     let w = chooses o s h.after (next_narrow g s.pc o refl) h.executed in
     let a = added h.t.mask (destination o) h.mask h.adds in
     let c = waiting w.value w.bytes a.0 in
-    subst (λ (p : Option Trap). Chosen g s p m) (sym h.some) (
+    subst (λ (p : Option Trap). Chosen g s p input m) (sym h.some) (
       c,
       small_choice w.value w.bytes a.0 w.small w.small_too,
       by_test (not (can_wait o s)) false (report g s h.t) (waited o s h.t c) (ap not w.can)
-          ∙ (ap (λ (b : State). moment b (Some (record { place = h.t.place; mask = cond a.0 (with_register h.t.mask (destination o)) h.t.mask })) Waited) (w.is a.0)
-          ∙ (ap (λ n. moment h.after (Some (record { place = h.t.place; mask = n })) Waited) a.1 ∙ sym h.is)),
+          ∙ (ap (λ (b : State). moment b (Some (record { place = h.t.place; mask = cond a.0 (with_register h.t.mask (destination o)) h.t.mask })) (Waited false 0 0)) (w.is a.0)
+          ∙ (ap (λ n. moment h.after (Some (record { place = h.t.place; mask = n })) (Waited false 0 0)) a.1 ∙ sym h.is)),
     )
 
-pub row_chosen : (g : Program) (s : State) (pending : Option Trap) (m : Moment) → Row g s pending m → Chosen g s pending m
-row_chosen g s pending m (steps h) = row_steps g s pending m h
-row_chosen g s pending m (overflows h) = row_overflows g s pending m h
-row_chosen g s pending m (reports h) = row_reports g s pending m h
-row_chosen g s pending m (waits h) = row_waits g s pending m h
+pub row_chosen : (g : Program) (s : State) (pending : Option Trap) (input : List ℕ) (m : Moment) → Row g s pending input m → Chosen g s pending input m
+row_chosen g s pending input m (steps h) = row_steps g s pending input m h
+row_chosen g s pending input m (overflows h) = row_overflows g s pending input m h
+row_chosen g s pending input m (reports h) = row_reports g s pending input m h
+row_chosen g s pending input m (waits h) = row_waits g s pending input m h

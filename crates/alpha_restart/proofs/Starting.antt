@@ -95,5 +95,5 @@ unfolding start_regs
 start_size p =
     length-put (put (replicate 32 0) 27 p.entry) 30 stack_end ∙ (length-put (replicate 32 0) 27 p.entry ∙ length-replicate {A = ℕ} 32 0)
 
-pub ready_start : (g : Program) (input : List ℕ) → IsImage g.image → IsReady (start g input)
-ready_start g input good = record { size = start_size g.image; layout = start_layout g.image good }
+pub ready_start : (g : Program) → IsImage g.image → IsReady (start g)
+ready_start g good = record { size = start_size g.image; layout = start_layout g.image good }

@@ -8,11 +8,10 @@ use Rattle.alpha_words.proofs.Members.{Has-or}
 use Rattle.alpha_table.specs.Class.{Class}
 use Rattle.alpha_table.specs.Code.{class_at, trap_rc}
 use Rattle.alpha_image.specs.Parts.{IsImage, place_of}
-use Rattle.alpha_seq.specs.State.{Program}
-use Rattle.alpha_imprecise.specs.Moment.{with_register, Choice}
+use Rattle.alpha_seq.specs.State.{Program, State}
+use Rattle.alpha_imprecise.specs.Moment.{with_register, Choice, Moment}
 use Rattle.alpha_imprecise.specs.Step.{destination, triggered, address_at, spoilt, waited}
 use Rattle.alpha_imprecise.specs.Wild.{mask_after}
-use Rattle.alpha_imprecise.specs.Run.{WildRun, extended_wild}
 use Rattle.alpha_restart.specs.Safe.{IsSafe, is_steady}
 use Rattle.alpha_restart.specs.Trigger.{Trigger, trigger_word}
 use Rattle.alpha_restart.specs.Invariant.{Trail}
@@ -68,9 +67,9 @@ module _ (g : Program) (good : IsImage g.image) (safe : IsSafe g.image.words) wh
       omega arith
 
   -- at the trigger
-  pub trail_start : (q : ℕ) (t : Trigger) (w : WildRun) (c : Choice) → class_at g.image.words q ≡ trigger_word t → w.state.pc ≡ address_at g.image q
-      → Trail g q (q + 1) (extended_wild w (triggered g (trigger_word t) w.state c))
-  trail_start q t w c word at =
+  pub trail_start : (q : ℕ) (t : Trigger) (s : State) (c : Choice) → class_at g.image.words q ≡ trigger_word t → s.pc ≡ address_at g.image q
+      → Trail g q (q + 1) (triggered g (trigger_word t) s c)
+  trail_start q t s c word at =
       let here : is_steady (class_at g.image.words q) ≡ true = ap is_steady word in
       let low = steady_within g.image.words q here in
       record {
@@ -80,7 +79,7 @@ module _ (g : Program) (good : IsImage g.image) (safe : IsSafe g.image.words) wh
             (ap (place_of g.image) at ∙ place_within g.image good q low);
         pc = ap (λ n. (n + 4) % 2 ^ 64) at ∙ next_address g.image good q low;
         going = refl;
-        no_barrier = λ e. cc;
+        silent = refl;
         above = omega arith;
         steady = λ k from to. subst (λ j. is_steady (class_at g.image.words j) ≡ true) (let same : q ≡ k = omega arith in same) here;
         destination = ap trap_rc word;
@@ -93,9 +92,9 @@ module _ (g : Program) (good : IsImage g.image) (safe : IsSafe g.image.words) wh
       }
 
   -- over a word that waits
-  pub trail_on : (p i : ℕ) (w : WildRun) (c : Choice) (h : Trail g p i w) → is_steady (class_at g.image.words i) ≡ true
+  pub trail_on : (p i : ℕ) (w : Moment) (c : Choice) (h : Trail g p i w) → is_steady (class_at g.image.words i) ≡ true
       → (spoilt (class_at g.image.words i) w.state c).pc ≡ (w.state.pc + 4) % 2 ^ 64
-      → Trail g p (i + 1) (extended_wild w (waited (class_at g.image.words i) w.state (record { place = p; mask = h.mask }) c))
+      → Trail g p (i + 1) (waited (class_at g.image.words i) w.state (record { place = p; mask = h.mask }) c)
   trail_on p i w c h here moved =
       let low = steady_within g.image.words i here in
       let above = h.above in
@@ -105,7 +104,7 @@ module _ (g : Program) (good : IsImage g.image) (safe : IsSafe g.image.words) wh
         pending = refl;
         pc = moved ∙ (ap (λ n. (n + 4) % 2 ^ 64) h.pc ∙ next_address g.image good i low);
         going = refl;
-        no_barrier = λ e. cc;
+        silent = refl;
         above = omega arith;
         steady = λ k from to. ⊎_elim
             (λ (before : k < i). h.steady k from before)

@@ -1,5 +1,5 @@
 -- A word that is executed while a trap waits.
-use Rattle.std.proofs.Common.{◌≡◌, ◌<◌, ◌+◌, ◌%◌, ◌^◌, ℕ, true, List, [], ◌∷◌, ◌++◌, length, Option, Some, None, is_none, is_some, refl, sym, ap, subst, ◌∙◌, arith, max, append-nil}
+use Rattle.std.proofs.Common.{◌≡◌, ◌<◌, ◌+◌, ◌%◌, ◌^◌, ℕ, List, true, [], length, Option, Some, None, is_none, is_some, refl, sym, ap, subst, ◌∙◌, arith, max}
 use Rattle.alpha_words.specs.Digits.{low_bytes}
 use Rattle.alpha_words.specs.Regs.{reg, put}
 use Rattle.alpha_words.proofs.RegLemmas.{length-put}
@@ -15,12 +15,10 @@ use Rattle.alpha_mem.specs.Fault.{fault_of}
 use Rattle.alpha_mem.specs.Memory.{write_bytes}
 use Rattle.alpha_mem.proofs.LawLemmas as mem
 use Rattle.alpha_image.specs.Parts.{IsImage}
-use Rattle.alpha_seq.specs.State.{Program, State}
+use Rattle.alpha_seq.specs.State.{Program, State, Stepped}
 use Rattle.alpha_seq.specs.Step.{accessed}
-use Rattle.alpha_seq.specs.Run.{Run, Mark, Over}
-use Rattle.alpha_imprecise.specs.Moment.{Choice}
-use Rattle.alpha_imprecise.specs.Step.{can_wait, spoilt, waited, address_at}
-use Rattle.alpha_imprecise.specs.Run.{WildRun, extended_wild}
+use Rattle.alpha_imprecise.specs.Moment.{Choice, Moment}
+use Rattle.alpha_imprecise.specs.Step.{can_wait, spoilt, waited}
 use Rattle.alpha_trap.proofs.Columns.{has_rc_trigger}
 use Rattle.alpha_restart.specs.Safe.{Shadowed, IsSafe, is_steady}
 use Rattle.alpha_restart.specs.Match.{Reached, SameBytes, intent_of}
@@ -42,7 +40,7 @@ pub record Spoils (code : List ℕ) (i : ℕ) (a b : State) : Type 0 where
   pub size : length b.regs ≡ length a.regs
   pub same_unset : SameUnset code i a.regs b.regs
   pub count : b.count ≡ a.count
-  pub outside : b.outside ≡ a.outside
+  pub unique : b.unique ≡ a.unique
 
 module _ (code : List ℕ) (i : ℕ) (a : State) (c : Choice) where
   -- a word that sets a register
@@ -53,7 +51,7 @@ module _ (code : List ℕ) (i : ℕ) (a : State) (c : Choice) where
     size = length-put a.regs rc c.value;
     same_unset = λ x n. reg-put_unset a.regs rc x c.value (λ f. n (ap sets is ∙ (set ∙ f)));
     count = refl;
-    outside = refl;
+    unique = refl;
   }
 
   pub spoils : (o : Option Class) → class_at code i ≡ o → is_steady o ≡ true → Spoils code i a (spoilt o a c)
@@ -62,13 +60,13 @@ module _ (code : List ℕ) (i : ℕ) (a : State) (c : Choice) where
   spoils (Some (trigger op ra src rc)) is steady = set_spoils _ rc is refl
   spoils (Some (address op ra rb disp)) is steady = set_spoils _ ra is refl
   spoils (Some (load extension at ra)) is steady = set_spoils _ ra is refl
-  spoils (Some (store at ra)) is steady = record { pc = refl; size = refl; same_unset = λ x n. refl; count = refl; outside = refl }
+  spoils (Some (store at ra)) is steady = record { pc = refl; size = refl; same_unset = λ x n. refl; count = refl; unique = refl }
   spoils (Some (load_locked extension at ra)) is steady = cc
   spoils (Some (store_conditional at ra)) is steady = cc
   spoils (Some (branch condition ra disp)) is steady = cc
   spoils (Some (jump ra rb)) is steady = cc
   spoils (Some (barrier call)) is steady = cc
-  spoils (Some idle) is steady = record { pc = refl; size = refl; same_unset = λ x n. refl; count = refl; outside = refl }
+  spoils (Some idle) is steady = record { pc = refl; size = refl; same_unset = λ x n. refl; count = refl; unique = refl }
 
 -- in a trigger's shadow a word that can wait is steady
 pub waits_steady : (code : List ℕ) (p i : ℕ) (a : State) → IsSafe code → Shadowed code p i → (o : Option Class) → class_at code i ≡ o → can_wait o a ≡ true
@@ -158,7 +156,7 @@ module _ (code : List ℕ) (safe : IsSafe code) (how : _) (p i e : ℕ) (t : Tri
 
 module _ (g : Program) (good : IsImage g.image) (safe : IsSafe g.image.words) where
   -- the trigger's shadow reaches to where the machine has come
-  pub trail_shadowed : (p i : ℕ) (w : WildRun) → Trail g p i w → Shadowed g.image.words p i
+  pub trail_shadowed : (p i : ℕ) (w : Moment) → Trail g p i w → Shadowed g.image.words p i
   trail_shadowed p i w h = record {
     trigger_kind = has_rc_trigger (class_at g.image.words p) (ap is_some h.destination);
     order = (let up = h.above in omega arith);
@@ -166,10 +164,10 @@ module _ (g : Program) (good : IsImage g.image) (safe : IsSafe g.image.words) wh
   }
 
   -- the state and the trap behind the word
-  abbrev pub waited_run : WildRun → ℕ → ℕ → ℕ → Choice → WildRun
-  waited_run w p i mask c = extended_wild w (waited (class_at g.image.words i) w.state (record { place = p; mask = mask }) c)
+  abbrev pub waited_run : Moment → ℕ → ℕ → ℕ → Choice → Moment
+  waited_run w p i mask c = waited (class_at g.image.words i) w.state (record { place = p; mask = mask }) c
 
-  pub waits_window : (r : Run) (w : WildRun) (c : Choice) (h : Window g r w) → can_wait (class_at g.image.words h.at) w.state ≡ true
+  pub waits_window : (r : Stepped) (w : Moment) (c : Choice) (h : Window g r w) → can_wait (class_at g.image.words h.at) w.state ≡ true
       → Window g r (waited_run w h.place h.at h.trail.mask c)
   waits_window r w c h can =
       let reach = trail_shadowed h.place h.at w h.trail in
@@ -182,19 +180,18 @@ module _ (g : Program) (good : IsImage g.image) (safe : IsSafe g.image.words) wh
         t = h.t;
         trail = trail_on g good safe h.place h.at w c h.trail steady leaves.pc;
         goes_on = h.goes_on;
+        last = h.last;
         pc = h.pc;
-        trace = h.trace ∙ ap (λ (tr : List Mark). tr ++ Over (address_at g.image h.place) ∷ []) (sym (append-nil w.trace));
-        going = h.going;
         shadow = wait_shadow g.image.words safe g.how h.place h.t h.shadow.word h.at h.to r.state.regs w.state.regs
             (spoilt (class_at g.image.words h.at) w.state c).regs steady (leaves.size ∙ h.shadow.size_too) leaves.same_unset h.shadow;
         memory = spoilt_bytes g.image.words safe g.how h.place h.at h.to h.t r.state w.state c h.shadow h.memory (class_at g.image.words h.at) refl steady can;
         lock = h.lock;
         count = h.count ∙ ap (λ n. (n + 1) % 2 ^ 64) (sym leaves.count);
         logged = h.logged;
-        outside = leaves.outside ∙ h.outside;
+        unique = leaves.unique ∙ h.unique;
       }
 
-  pub waits_stopping : (r : Run) (w : WildRun) (c : Choice) (h : Stopping g r w) → can_wait (class_at g.image.words h.at) w.state ≡ true
+  pub waits_stopping : (r : Stepped) (w : Moment) (c : Choice) (h : Stopping g r w) → can_wait (class_at g.image.words h.at) w.state ≡ true
       → Stopping g r (waited_run w h.place h.at h.trail.mask c)
   waits_stopping r w c h can =
       let reach = trail_shadowed h.place h.at w h.trail in
@@ -207,6 +204,5 @@ module _ (g : Program) (good : IsImage g.image) (safe : IsSafe g.image.words) wh
         halts = h.halts;
         last = h.last;
         pc = h.pc;
-        trace = append-nil w.trace ∙ h.trace;
-        outside = leaves.outside ∙ h.outside;
+        unique = leaves.unique ∙ h.unique;
       }

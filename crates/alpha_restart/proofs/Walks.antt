@@ -1,22 +1,22 @@
 -- Each choice is a row of the table, and each walk is a run of choices.
-use Rattle.std.proofs.Common.{◌≡◌, ◌⊎◌, ◌||◌, not, ℕ, ℤ, Bool, true, false, cond, List, [], ◌∷◌, Option, Some, None, refl, sym, ap, subst, ◌∙◌, inl, inr}
+use Rattle.std.proofs.Common.{◌≡◌, ◌⊎◌, ◌||◌, not, ℕ, ℤ, Bool, true, false, cond, List, [], ◌∷◌, ◌++◌, map, Option, Some, None, refl, sym, ap, subst, ◌∙◌, inl, inr}
 use Rattle.alpha_table.specs.declared.op.Cond.{Cond}
 use Rattle.alpha_table.specs.declared.columns.MemAccess.{MemAccess}
 use Rattle.alpha_table.specs.Class.{Class, operate, trigger, address, load, store, load_locked, store_conditional, branch, jump, barrier, idle}
 use Rattle.alpha_words.specs.Digits.{low_bytes}
 use Rattle.alpha_image.specs.Parts.{Parts}
-use Rattle.alpha_seq.specs.State.{Program, State}
+use Rattle.alpha_seq.specs.State.{Program, State, Event, Barriered, Ends}
 use Rattle.alpha_seq.specs.Start.{start}
 use Rattle.alpha_seq.specs.Step.{lock_block, matches, next_class, step}
-use Rattle.alpha_imprecise.specs.Moment.{Trap, with_register, Choice, Moment}
+use Rattle.alpha_imprecise.specs.Moment.{Trap, with_register, Choice, Happening, Precisely, Triggered, Waited, Reported, Lost, Moment}
 use Rattle.alpha_imprecise.specs.Step.{triggers, triggered, destination, precisely, report, can_wait, spoilt, spoilt_conditional, waited, wild}
 use Rattle.alpha_imprecise.specs.Wild.{mask_after}
-use Rattle.alpha_imprecise.specs.Run.{WildRun, extended_wild, advance_wild, started_wild, run_wild}
+use Rattle.alpha_imprecise.specs.Run.{seen_of, seen, finished, begins_wild, next_wild, RunsWild}
 use Rattle.alpha_imprecise.specs.Restart.{Agrees, IsRestartable}
-use Rattle.alpha_restart.specs.Table.{IsChoice, StoresIf, Branches, Executed, Row, steps, overflows, reports, waits, IsWalk, walked, WalksAgree}
-use Rattle.alpha_restart.proofs.Precise.{advance_wild-going}
+use Rattle.alpha_imprecise.proofs.Saying.{as_said}
+use Rattle.alpha_restart.specs.Table.{IsChoice, StoresIf, Branches, Executed, untold, unchosen, Row, steps, overflows, reports, waits, IsWalk, walked, WalksAgree}
 use Rattle.alpha_restart.proofs.Reporting.{can_be_executed}
-use Rattle.alpha_restart.proofs.Rows.{low_bytes_are, row_chosen}
+use Rattle.alpha_restart.proofs.Rows.{low_bytes_are, report_untold, row_chosen}
 
 -- ---- each choice is a row
 
@@ -46,17 +46,18 @@ mask_chosen : (o : Option Class) (mask : ℕ) (adds : Bool) → (mask_after o ma
 mask_chosen o mask true = inr refl
 mask_chosen o mask false = inl refl
 
-pub choice_row : (g : Program) (s : State) (pending : Option Trap) (c : Choice) → IsChoice c → Row g s pending (wild g s pending c)
-choice_row g s None c small = by (triggers (next_class g s.pc) s) refl
+pub choice_row : (g : Program) (s : State) (pending : Option Trap) (input : List ℕ) (c : Choice) → IsChoice c → Row g s pending input (unchosen (wild g s pending c input))
+choice_row g s None input c small = by (triggers (next_class g s.pc) s) refl
   where
-    by : (b : Bool) → triggers (next_class g s.pc) s ≡ b → Row g s None (cond b (triggered g (next_class g s.pc) s c) (precisely (step g (next_class g s.pc) s)))
+    by : (b : Bool) → triggers (next_class g s.pc) s ≡ b
+        → Row g s None input (unchosen (cond b (triggered g (next_class g s.pc) s c) (precisely (step g (next_class g s.pc) s input))))
     by true e = overflows (record { none = refl; over = e; value = c.value; small = small.value; is = refl })
     by false e = steps (record { none = refl; calm = e; is = refl })
-choice_row g s (Some t) c small = by (c.report || not (can_wait (next_class g s.pc) s)) refl
+choice_row g s (Some t) input c small = by (c.report || not (can_wait (next_class g s.pc) s)) refl
   where
     by : (b : Bool) → (c.report || not (can_wait (next_class g s.pc) s)) ≡ b
-        → Row g s (Some t) (cond b (report g s t) (waited (next_class g s.pc) s t c))
-    by true e = reports (record { t = t; some = refl; is = refl })
+        → Row g s (Some t) input (unchosen (cond b (report g s t) (waited (next_class g s.pc) s t c)))
+    by true e = reports (record { t = t; some = refl; is = report_untold g s t })
     by false e = waits (record {
       t = t;
       some = refl;
@@ -69,16 +70,79 @@ choice_row g s (Some t) c small = by (c.report || not (can_wait (next_class g s.
 
 -- ---- each walk is a run
 
-walk_run : (g : Program) (w : WildRun) (ms : List Moment) → IsWalk g w ms → (choices : List Choice) × (run_wild g choices w ≡ walked w ms)
-walk_run g w [] h = ([], refl)
-walk_run g w (m ∷ ms) h =
-    let c = row_chosen g w.state w.pending m h.1 in
-    let rest = walk_run g (extended_wild w m) ms h.2 in
-    let one : advance_wild g w c.0 ≡ extended_wild w m = sym (advance_wild-going g w c.0 h.0) ∙ ap (extended_wild w) c.2 in
-    (c.0 ∷ rest.0, ap (run_wild g rest.0) one ∙ rest.1)
+finished_untold : (h : Happening) → finished (untold h) ≡ finished h
+finished_untold (Precisely event) = refl
+finished_untold (Triggered value) = refl
+finished_untold (Waited adds value bytes) = refl
+finished_untold (Reported at) = refl
+finished_untold (Lost pc mask) = refl
+
+seen_untold : (h : Happening) → seen_of (untold h) ≡ seen_of h
+seen_untold (Precisely event) = refl
+seen_untold (Triggered value) = refl
+seen_untold (Waited adds value bytes) = refl
+seen_untold (Reported at) = refl
+seen_untold (Lost pc mask) = refl
+
+precisely_told : (h : Happening) (event : Event) → untold h ≡ Precisely event → h ≡ Precisely event
+precisely_told (Precisely same) event e = e
+precisely_told (Triggered value) event e = cc
+precisely_told (Waited adds value bytes) event e = cc
+precisely_told (Reported at) event e = cc
+precisely_told (Lost pc mask) event e = cc
+
+lost_told : (h : Happening) (pc mask : ℕ) → untold h ≡ Lost pc mask → h ≡ Lost pc mask
+lost_told (Precisely event) pc mask e = cc
+lost_told (Triggered value) pc mask e = cc
+lost_told (Waited adds value bytes) pc mask e = cc
+lost_told (Reported at) pc mask e = cc
+lost_told (Lost at same) pc mask e = e
+
+abbrev ways : List Moment → List Happening
+ways ms = map (λ (m : Moment). m.happened) ms
+
+-- a run, of which the walk tells all but what was chosen
+record Walks (g : Program) (a : Moment) (ms : List Moment) : Type 0 where
+  steps : List Happening
+  at : Moment
+  runs : RunsWild g a steps at
+  end : unchosen at ≡ walked (unchosen a) ms
+  same : seen steps ≡ seen (ways ms)
+
+walk_run : (g : Program) (a : Moment) (ms : List Moment) → IsWalk g (unchosen a) ms → Walks g a ms
+walk_run g a [] h = record { steps = []; at = a; runs = refl; end = refl; same = refl }
+walk_run g a (m ∷ ms) h =
+    let c = row_chosen g a.state a.pending h.1.0 m h.1.1 in
+    let n = wild g a.state a.pending c.0 h.1.0 in
+    let is : next_wild g a n.happened ≡ n = as_said g a c.0 h.1.0 in
+    let rest = walk_run g n ms (subst (λ (x : Moment). IsWalk g x ms) (sym c.2) h.2) in
+    let first : seen_of n.happened ≡ seen_of m.happened = sym (seen_untold n.happened) ∙ ap (λ (x : Moment). seen_of x.happened) c.2 in
+    record {
+      steps = n.happened ∷ rest.steps;
+      at = rest.at;
+      runs = (sym (finished_untold a.happened) ∙ h.0, ap (λ (x : Moment). x.happened) is, subst (λ (x : Moment). RunsWild g x rest.steps rest.at) (sym is) rest.runs);
+      end = rest.end ∙ ap (λ (x : Moment). walked x ms) c.2;
+      same = ap (λ l. l ++ seen rest.steps) first ∙ ap (λ l. seen_of m.happened ++ l) rest.same;
+    }
+
+agree_told : (g : Program) (s : State) (events : List Event) (w : Moment) → Agrees g s events w → Agrees g s events (unchosen w)
+agree_told g s events w h = record {
+  found = λ pc mask e. h.found pc mask (lost_told w.happened pc mask e);
+  scanned = h.scanned;
+  follows = λ none. let f = h.follows none in record {
+    last = f.last;
+    runs = f.runs;
+    unique = f.unique;
+    barrier = λ traffic pc regs e. f.barrier traffic pc regs (precisely_told w.happened (Barriered traffic pc regs) e);
+    stopped = λ end e. f.stopped end (precisely_told w.happened (Ends end) e);
+    ended = λ end e n. f.ended end (precisely_told w.happened (Ends end) e) n;
+  };
+}
 
 pub walks_agree : (image : Parts) → IsRestartable image → WalksAgree image
-walks_agree image h = λ how input ms walk.
+walks_agree image h = λ how ms walk.
     let g : Program = record { image = image; how = how } in
-    let run = walk_run g (started_wild (start g input)) ms walk in
-    subst (λ (w : WildRun). Agrees g (start g input) w) run.1 (h how input run.0)
+    let w = walk_run g (begins_wild (start g)) ms walk in
+    subst (λ (x : Moment). Agrees g (start g) (seen (ways ms)) x) w.end
+    (subst (λ l. Agrees g (start g) l (unchosen w.at)) w.same
+    (agree_told g (start g) (seen w.steps) w.at (h how w.steps w.at w.runs)))

@@ -5,7 +5,7 @@ use Rattle.std.specs.List.{list_any}
 use Rattle.alpha_words.specs.Regs.{reg}
 use Rattle.alpha_table.specs.Class.{Class, barrier}
 use Rattle.alpha_table.specs.Uses.{sets, uses}
-use Rattle.alpha_seq.specs.State.{Stepped}
+use Rattle.alpha_seq.specs.State.{Event, Barriered, Stepped}
 
 -- A PALcode call, which has no columns since no shadow goes past it, answers in R0 and R19, and reads R0 and R16 to R18.
 abbrev pub answer_registers : Option Class → List ℕ
@@ -29,10 +29,15 @@ pub record AgreeFor (class : Option Class) (regs other : List ℕ) : Type 0 wher
   pub zero : reg other 31 ≡ reg regs 31
   pub read : (r : ℕ) → MayRead class r → reg other r ≡ reg regs r
 
+-- how a step went, where a barrier left these registers
+abbrev pub leaving : List ℕ → Event → Event
+leaving regs (Barriered traffic pc old) = Barriered traffic pc regs
+leaving regs event = event
+
 -- Steps from states that have these registers, and are the same otherwise. They go in the same way and leave the same
 -- states but for registers; each register has the same value behind both, or neither changed it.
 pub record GoAlike (regs other : List ℕ) (t u : Stepped) : Type 0 where
-  pub event : u.event ≡ t.event
+  pub event : leaving t.state.regs u.event ≡ t.event
   pub state : record u.state { regs = t.state.regs } ≡ t.state
   pub registers : (r : ℕ) → (reg u.state.regs r ≡ reg t.state.regs r)
       ⊎ ((reg u.state.regs r ≡ reg other r) × (reg t.state.regs r ≡ reg regs r))

@@ -1,17 +1,18 @@
 -- How the two machines stand to each other after as many precise steps as the imprecise run used units.
-use Rattle.std.specs.Prelude.{◌≡◌, ◌≢◌, ◌<◌, ◌+◌, ◌%◌, ◌^◌, ℕ, true, false, [], ◌∷◌, ◌++◌, length, Some, None}
+use Rattle.std.specs.Prelude.{◌≡◌, ◌<◌, ◌+◌, ◌%◌, ◌^◌, ℕ, List, true, false, [], ◌∷◌, length, Some, None}
 use Rattle.alpha_words.specs.Regs.{Has}
 use Rattle.alpha_table.specs.Code.{class_at, trap_rc}
 use Rattle.alpha_values.specs.TrapOp.{stops}
 use Rattle.alpha_mem.specs.Block.{shapes}
 use Rattle.alpha_mem.specs.Memory.{IsLayout}
+use Rattle.alpha_pal.specs.Call.{Traffic}
 use Rattle.alpha_seq.specs.declared.end.End.TheVariants.{Overflow}
-use Rattle.alpha_seq.specs.State.{Program, State, Barriered, Ends}
-use Rattle.alpha_seq.specs.Run.{Run, Over, is_over}
+use Rattle.alpha_seq.specs.State.{Program, State, Barriered, Overflowed, Ends, Stepped}
+use Rattle.alpha_seq.specs.Run.{is_over}
 use Rattle.alpha_trap.specs.Finds.{Covers}
-use Rattle.alpha_imprecise.specs.Moment.{Precisely}
+use Rattle.alpha_imprecise.specs.Moment.{Precisely, Moment}
 use Rattle.alpha_imprecise.specs.Step.{address_at}
-use Rattle.alpha_imprecise.specs.Run.{WildRun, finished}
+use Rattle.alpha_imprecise.specs.Run.{seen_of, finished}
 use Rattle.alpha_restart.specs.Safe.{Steady}
 use Rattle.alpha_restart.specs.Match.{SameBytes, Match}
 use Rattle.alpha_restart.specs.Trigger.{Trigger}
@@ -23,35 +24,34 @@ pub record IsReady (s : State) : Type 0 where
   pub layout : IsLayout (shapes s.mem)
 
 -- nothing is pending, and both machines are in the same state
-pub record Exact (r : Run) (w : WildRun) : Type 0 where
+pub record Exact (r : Stepped) (w : Moment) : Type 0 where
   pub pending : w.pending ≡ None
   pub state : w.state ≡ r.state
-  pub trace : w.trace ≡ r.trace
-  pub last : w.last ≡ Precisely r.last
+  pub last : w.happened ≡ Precisely r.event
   pub ready : IsReady r.state
 
 -- nothing is pending, and up to a place all that differs is written again before it is read
-pub record Synced (g : Program) (r : Run) (w : WildRun) : Type 0 where
+pub record Synced (g : Program) (r : Stepped) (w : Moment) : Type 0 where
   pub at : ℕ
   pub to : ℕ
   pub pending : w.pending ≡ None
   pub pc : r.state.pc ≡ address_at g.image at
   pub pc_too : w.state.pc ≡ r.state.pc
-  pub trace : w.trace ≡ r.trace
-  pub going : is_over r.last ≡ false
-  pub going_too : finished w.last ≡ false
-  pub no_barrier : w.last ≢ Precisely Barriered
+  pub shows : seen_of w.happened ≡ r.event ∷ []
+  pub going : is_over r.event ≡ false
+  pub going_too : finished w.happened ≡ false
+  pub no_barrier : (traffic : Traffic) (pc : ℕ) (regs : List ℕ) → w.happened ≡ Precisely (Barriered traffic pc regs) → ⊥
   pub matched : Match g.image.words at to r.state w.state
 
--- The trap of a trigger is pending, and the imprecise machine has come straight on to a place. The trigger's destination
--- is in the mask, and the mask has only destinations of triggers on the way.
-pub record Trail (g : Program) (place at : ℕ) (w : WildRun) : Type 0 where
+-- The trap of a trigger is pending, and the imprecise machine has come straight on to a place, of which nothing was seen. The
+-- trigger's destination is in the mask, and the mask has only destinations of triggers on the way.
+pub record Trail (g : Program) (place at : ℕ) (w : Moment) : Type 0 where
   pub rc : ℕ
   pub mask : ℕ
   pub pending : w.pending ≡ Some (record { place = place; mask = mask })
   pub pc : w.state.pc ≡ address_at g.image at
-  pub going : finished w.last ≡ false
-  pub no_barrier : w.last ≢ Precisely Barriered
+  pub going : finished w.happened ≡ false
+  pub silent : seen_of w.happened ≡ []
   pub above : place < at
   pub steady : Steady g.image.words place at
   pub destination : trap_rc (class_at g.image.words place) ≡ Some rc
@@ -59,47 +59,44 @@ pub record Trail (g : Program) (place at : ℕ) (w : WildRun) : Type 0 where
   pub has : Has mask rc
   pub covers : Covers g.image.words mask place at
 
--- a trap is pending that will be completed, and the precise machine has completed and logged it already
-pub record Window (g : Program) (r : Run) (w : WildRun) : Type 0 where
+-- a trap is pending that will be completed, and the precise machine has just completed and logged it
+pub record Window (g : Program) (r : Stepped) (w : Moment) : Type 0 where
   pub place : ℕ
   pub at : ℕ
   pub to : ℕ
   pub t : Trigger
   pub trail : Trail g place at w
   pub goes_on : stops g.how ≡ false
+  pub last : r.event ≡ Overflowed (address_at g.image place)
   pub pc : r.state.pc ≡ address_at g.image (place + 1)
-  pub trace : r.trace ≡ w.trace ++ Over (address_at g.image place) ∷ []
-  pub going : is_over r.last ≡ false
   pub shadow : Shadow g.image.words g.how place at to t r.state.regs w.state.regs
   pub memory : SameBytes g.image.words (place + 1) to r.state.regs r.state.mem w.state.mem
+  pub unique : w.state.unique ≡ r.state.unique
   pub lock : r.state.lock ≡ None
   pub count : r.state.count ≡ (w.state.count + 1) % 2 ^ 64
   pub logged : r.state.logged ≡ address_at g.image place
-  pub outside : w.state.outside ≡ r.state.outside
 
--- a trap is pending that will stop the program, and has stopped the precise machine already
-pub record Stopping (g : Program) (r : Run) (w : WildRun) : Type 0 where
+-- a trap is pending that will stop the program, and has just stopped the precise machine
+pub record Stopping (g : Program) (r : Stepped) (w : Moment) : Type 0 where
   pub place : ℕ
   pub at : ℕ
   pub trail : Trail g place at w
   pub halts : stops g.how ≡ true
-  pub last : r.last ≡ Ends (Overflow (address_at g.image place))
+  pub last : r.event ≡ Ends (Overflow (address_at g.image place))
   pub pc : r.state.pc ≡ address_at g.image place
-  pub trace : w.trace ≡ r.trace
-  pub outside : w.state.outside ≡ r.state.outside
+  pub unique : w.state.unique ≡ r.state.unique
 
 -- both machines have stopped at the same overflow
-pub record Stopped (r : Run) (w : WildRun) : Type 0 where
+pub record Stopped (r : Stepped) (w : Moment) : Type 0 where
   pub at : ℕ
   pub pending : w.pending ≡ None
-  pub last : r.last ≡ Ends (Overflow at)
-  pub last_too : w.last ≡ Precisely (Ends (Overflow at))
+  pub last : r.event ≡ Ends (Overflow at)
+  pub last_too : w.happened ≡ Precisely (Ends (Overflow at))
   pub pc : w.state.pc ≡ r.state.pc
-  pub trace : w.trace ≡ r.trace
-  pub outside : w.state.outside ≡ r.state.outside
+  pub unique : w.state.unique ≡ r.state.unique
 
 -- one of these holds after every step
-pub data Together (g : Program) (r : Run) (w : WildRun) : Type 0 where
+pub data Together (g : Program) (r : Stepped) (w : Moment) : Type 0 where
   exact : Exact r w → Together g r w
   synced : Synced g r w → Together g r w
   window : Window g r w → Together g r w

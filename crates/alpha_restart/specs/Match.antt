@@ -73,4 +73,4 @@ pub record Match (code : List ℕ) (from to : ℕ) (precise actual : State) : Ty
   pub lock : actual.lock ≡ precise.lock
   pub count : actual.count ≡ precise.count
   pub logged : actual.logged ≡ precise.logged
-  pub outside : actual.outside ≡ precise.outside
+  pub unique : actual.unique ≡ precise.unique

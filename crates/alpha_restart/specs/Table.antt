@@ -1,5 +1,5 @@
 -- The imprecise step as a table: what the machine may do at each moment, with nothing said of how it is chosen.
-use Rattle.std.specs.Prelude.{◌≡◌, ◌<◌, ◌*◌, ◌/◌, ◌^◌, ℕ, ℤ, Bool, true, false, ◌⊎◌, All, List, [], ◌∷◌, length, Option, Some, None, unwrap_or, ⊤}
+use Rattle.std.specs.Prelude.{◌≡◌, ◌<◌, ◌*◌, ◌/◌, ◌^◌, ℕ, ℤ, Bool, true, false, ◌⊎◌, All, List, [], ◌∷◌, length, map, Option, Some, None, unwrap_or, ⊤}
 use Rattle.alpha_words.specs.declared.Completion.{Completion}
 use Rattle.alpha_words.specs.Regs.{reg, put}
 use Rattle.alpha_table.specs.declared.op.Cond.{Cond}
@@ -11,9 +11,9 @@ use Rattle.alpha_image.specs.Parts.{Parts, IsByte, place_of}
 use Rattle.alpha_seq.specs.State.{Program, State}
 use Rattle.alpha_seq.specs.Start.{start}
 use Rattle.alpha_seq.specs.Step.{onward, setting, accessed, lock_block, matches, branch_target, branched, next_class, step}
-use Rattle.alpha_imprecise.specs.Moment.{Trap, with_register, Choice, Triggered, Waited, Moment, moment}
+use Rattle.alpha_imprecise.specs.Moment.{Trap, with_register, Choice, Happening, Triggered, Waited, Moment, moment}
 use Rattle.alpha_imprecise.specs.Step.{triggers, destination, precisely, report, goes_well}
-use Rattle.alpha_imprecise.specs.Run.{WildRun, finished, extended_wild, started_wild}
+use Rattle.alpha_imprecise.specs.Run.{finished, seen, begins_wild}
 use Rattle.alpha_imprecise.specs.Restart.{Agrees}
 
 -- ---- a word that is executed while a trap waits
@@ -65,11 +65,20 @@ Executed (Some idle) s b = b ≡ onward s
 
 -- ---- the rows
 
+-- how a step went, with nothing told of what was chosen in it
+abbrev pub untold : Happening → Happening
+untold (Triggered value) = Triggered 0
+untold (Waited adds value bytes) = Waited false 0 0
+untold happened = happened
+
+abbrev pub unchosen : Moment → Moment
+unchosen m = moment m.state m.pending (untold m.happened)
+
 -- nothing is pending and the word doesn't overflow: the precise step
-pub record Steps (g : Program) (s : State) (pending : Option Trap) (m : Moment) : Type 0 where
+pub record Steps (g : Program) (s : State) (pending : Option Trap) (input : List ℕ) (m : Moment) : Type 0 where
   pub none : pending ≡ None
   pub calm : triggers (next_class g s.pc) s ≡ false
-  pub is : m ≡ precisely (step g (next_class g s.pc) s)
+  pub is : m ≡ precisely (step g (next_class g s.pc) s input)
 
 -- nothing is pending and the word overflows: its destination gets any value, and its trap is pending
 pub record Overflows (g : Program) (s : State) (pending : Option Trap) (m : Moment) : Type 0 where
@@ -79,7 +88,7 @@ pub record Overflows (g : Program) (s : State) (pending : Option Trap) (m : Mome
   pub small : value < 2 ^ 64
   pub is : let o = next_class g s.pc in
       let t : Trap = record { place = unwrap_or (place_of g.image s.pc) 0; mask = with_register 0 (destination o) } in
-      m ≡ moment (setting s (destination o) value) (Some t) Triggered
+      m ≡ moment (setting s (destination o) value) (Some t) (Triggered 0)
 
 -- a pending trap is reported, at any place
 pub record Reports (g : Program) (s : State) (pending : Option Trap) (m : Moment) : Type 0 where
@@ -95,13 +104,14 @@ pub record Waits (g : Program) (s : State) (pending : Option Trap) (m : Moment) 
   pub executed : Executed (next_class g s.pc) s after
   pub mask : ℕ
   pub adds : (mask ≡ t.mask) ⊎ (mask ≡ with_register t.mask (destination (next_class g s.pc)))
-  pub is : m ≡ moment after (Some (record { place = t.place; mask = mask })) Waited
+  pub is : m ≡ moment after (Some (record { place = t.place; mask = mask })) (Waited false 0 0)
 
-pub data Row (g : Program) (s : State) (pending : Option Trap) (m : Moment) : Type 0 where
-  steps : Steps g s pending m → Row g s pending m
-  overflows : Overflows g s pending m → Row g s pending m
-  reports : Reports g s pending m → Row g s pending m
-  waits : Waits g s pending m → Row g s pending m
+-- a row where this is what there is to be read
+pub data Row (g : Program) (s : State) (pending : Option Trap) (input : List ℕ) (m : Moment) : Type 0 where
+  steps : Steps g s pending input m → Row g s pending input m
+  overflows : Overflows g s pending m → Row g s pending input m
+  reports : Reports g s pending m → Row g s pending input m
+  waits : Waits g s pending m → Row g s pending input m
 
 -- a choice whose value and bytes fit registers: such choices make just the rows
 pub record IsChoice (c : Choice) : Type 0 where
@@ -110,18 +120,19 @@ pub record IsChoice (c : Choice) : Type 0 where
 
 -- ---- walks
 
--- each step of a list is a row, and the run was not over before it
-abbrev pub IsWalk : Program → WildRun → List Moment → Type 0
-IsWalk g w [] = ⊤
-IsWalk g w (m ∷ ms) = (finished w.last ≡ false) × Row g w.state w.pending m × IsWalk g (extended_wild w m) ms
+-- each step of a list is a row, whatever it is given to read, and the run was not over before it
+abbrev pub IsWalk : Program → Moment → List Moment → Type 0
+IsWalk g a [] = ⊤
+IsWalk g a (m ∷ ms) = (finished a.happened ≡ false) × ((input : List ℕ) × Row g a.state a.pending input m) × IsWalk g m ms
 
--- the run after the steps of a list
-abbrev pub walked : WildRun → List Moment → WildRun
-walked w [] = w
-walked w (m ∷ ms) = walked (extended_wild w m) ms
+-- where the steps of a list lead
+abbrev pub walked : Moment → List Moment → Moment
+walked a [] = a
+walked a (m ∷ ms) = walked m ms
 
--- every walk from the start agrees with the precise run, by every completion and over every input
+-- every walk from the start agrees with the precise run, by every completion
 abbrev pub WalksAgree : Parts → Type 0
-WalksAgree image = (how : Completion) (input : List ℕ) (steps : List Moment)
+WalksAgree image = (how : Completion) (steps : List Moment)
     → let g : Program = record { image = image; how = how } in
-    IsWalk g (started_wild (start g input)) steps → Agrees g (start g input) (walked (started_wild (start g input)) steps)
+    IsWalk g (begins_wild (start g)) steps
+    → Agrees g (start g) (seen (map (λ m. m.happened) steps)) (walked (begins_wild (start g)) steps)

@@ -3,8 +3,7 @@
 //! functions are laws.
 //!
 //! - [`laws_of_restarts`] says that accepted images can be restarted, and what that is in four parts;
-//!   that they lose no trap, whatever input each step finds; and that their runs are precise ones over
-//!   such inputs too.
+//!   and that they lose no trap from any state that has nothing pending.
 //! - [`laws_of_restarted_runs`] says what a run of such an image shows, whatever is chosen.
 //! - [`laws_of_imprecise_steps`] says that the choices of the imprecise step are the rows of its table.
 //! - [`laws_of_columns`] says that the columns by which the checker judges a word are what the machine
@@ -13,8 +12,8 @@
 //!   could be said of a stop.
 //!
 //! What can be restarted is defined in `alpha_imprecise` (`specs/Restart.antt`), and what its runs show
-//! (`specs/Shown.antt`, and `specs/Free.antt` where each step finds an input of its own); what is
-//! accepted in `alpha_shadow` (`specs/Broken.antt`). `docs/restart.md` explains why the law holds.
+//! (`specs/Shown.antt`); what is accepted in `alpha_shadow` (`specs/Broken.antt`). `docs/restart.md`
+//! explains why the law holds.
 //!
 //! `specs/Table.antt` has the table, `specs/Columns.antt` what the columns say of a step,
 //! `specs/Needed.antt` what it means that a condition is needed. The others have the invariant of
@@ -27,10 +26,9 @@
 //! `Bytes.antt`, `Accesses.antt` and `Advancing.antt` (one precise step in both machines),
 //! `Shadows.antt`, `Spoiling.antt` and `Trails.antt` (registers, bytes and the mask while a trap is
 //! pending), `Precise.antt`, `Together.antt`, `Syncing.antt`, `Waiting.antt` and `Reporting.antt`
-//! (each kind of step has the invariant hold), `Following.antt` (it holds after every run),
-//! `Starting.antt` (the start) and `Agreeing.antt` (the law). `Losing.antt` has that no trap is
-//! lost, and `FreeTogether.antt` the runs over inputs of their own. `Columns.antt` has the laws of
-//! columns, `Rows.antt` and `Walks.antt` the table, `Fine.antt` a test for broken places and
+//! (each kind of step has the invariant hold), `Starting.antt` (the start) and `Agreeing.antt` (it
+//! holds after every run, and the law). `Losing.antt` has that no trap is lost. `Columns.antt` has the
+//! laws of columns, `Rows.antt` and `Walks.antt` the table, `Fine.antt` a test for broken places and
 //! `Needed.antt` an image for each condition. What follows for runs is proved in `alpha_imprecise`
 //! (`proofs/Showing.antt`).
 #![tactic(auto)]

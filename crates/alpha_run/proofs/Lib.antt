@@ -2,11 +2,10 @@ pub mod Rows
 pub mod Noting
 pub mod Rushing
 pub mod Turning
-pub mod Leaving
+pub mod Saying
 pub mod SeqRuns
 pub mod SeqShown
 pub mod WildRuns
-pub mod WildUsed
 pub mod WildShown
 pub mod Told
 pub mod Restarted

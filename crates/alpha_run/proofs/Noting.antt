@@ -11,13 +11,13 @@ pub seen-stays : (o : Notes) (ps : List Print) → seen_by stays o ps ≡ o
 seen-stays o [] = refl
 seen-stays o (p ∷ ps) = seen-stays o ps
 
-no_lines : (o : Notes) (left : List ℕ) (ps : List Print) → AreWent left ps → lines_by stays lines_of o ps ≡ []
-no_lines o left [] went = refl
-no_lines o left (p ∷ ps) went = ap (λ (event : Event). noted o.watch event p.core ++ lines_by stays lines_of o ps) went.0.event ∙ no_lines o left ps went.1
+no_lines : (o : Notes) (ps : List Print) → AreWent ps → lines_by stays lines_of o ps ≡ []
+no_lines o [] went = refl
+no_lines o (p ∷ ps) went = ap (λ (event : Event). noted o.watch event p.core ++ lines_by stays lines_of o ps) went.0.event ∙ no_lines o ps went.1
 
 never-stops : (o : Notes) (ps : List Print) → Unstopped stays never o ps
 never-stops o [] = tt
 never-stops o (p ∷ ps) = (refl, never-stops o ps)
 
 pub notes_pass : (n : ℕ) (o : Notes) → PassesOver (watching stays lines_of never) n o o
-notes_pass n o = λ left ps went count. (sym (seen-stays o ps), no_lines o left ps went, never-stops o ps)
+notes_pass n o = λ ps went count. (sym (seen-stays o ps), no_lines o ps went, never-stops o ps)

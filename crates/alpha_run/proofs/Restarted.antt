@@ -8,49 +8,40 @@ use Rattle.alpha_seq.specs.declared.event.Event.{Event as Seen}
 use Rattle.alpha_pal.specs.declared.fault.Fault.{Fault}
 use Rattle.alpha_seq.specs.State.{Went, Barriered, Overflowed, Ends}
 use Rattle.alpha_seq.specs.Run.{Shown, sequential}
-use Rattle.alpha_seq.specs.Machine.{program_of}
+use Rattle.alpha_seq.specs.Machine.{program_of, state_of}
 use Rattle.alpha_seq.specs.Devices.{Drawn}
-use Rattle.alpha_imprecise.specs.declared.pending.Pending.{Pending}
-use Rattle.alpha_imprecise.specs.Moment.{Happening, Precisely, Triggered, Waited, Reported, Lost}
-use Rattle.alpha_imprecise.specs.Run.{WildRun, resumed}
+use Rattle.alpha_imprecise.specs.Moment.{Trap, Happening, Precisely, Triggered, Waited, Reported, Lost, moment}
+use Rattle.alpha_imprecise.specs.Run.{RunsWild}
 use Rattle.alpha_imprecise.specs.Made.{Making, wild_end, lost_trap, made, shown_making}
 use Rattle.alpha_imprecise.specs.Telling.{Telling}
-use Rattle.alpha_imprecise.specs.Wild.{WildState, bare, trap_in, begun_at, making_at, IsFresh}
-use Rattle.alpha_imprecise.specs.Free.{run_free, NeverLoses}
-use Rattle.alpha_imprecise.specs.Restart.{IsRestartable}
+use Rattle.alpha_imprecise.specs.Wild.{WildState, trap_in, begun_at, moment_of, IsFresh}
+use Rattle.alpha_imprecise.specs.Restart.{IsRestartable, NeverLoses}
 use Rattle.alpha_imprecise.specs.Shown.{ShowsSame}
 use Rattle.alpha_imprecise.proofs.Fresh.{begun_fresh}
-use Rattle.alpha_imprecise.proofs.Freely.{all_free}
 use Rattle.alpha_imprecise.proofs.Showing.{runs_alike}
+use Rattle.alpha_imprecise.proofs.Drawn.{making}
 use Rattle.alpha_run.specs.WildRan.{ended_as, WildRanAs, WildCut}
-use Rattle.alpha_run.specs.Shows.{LosesNone, ended_by, Shows, ShowsSequential}
-use Rattle.alpha_run.proofs.WildShown.{Whole, whole, told_all, cut_told}
+use Rattle.alpha_run.specs.SeqRun.{ended_by}
+use Rattle.alpha_run.specs.Shows.{LosesNone, Shows, ShowsSequential}
+use Rattle.alpha_run.proofs.WildShown.{Whole, whole, told_from, cut_from}
 
 -- ---- no trap is lost
 
 none_lost : (h : Happening) → ((pc mask : ℕ) → h ≢ Lost pc mask) → LosesNone (ended_as h)
 none_lost (Precisely Went) never = tt
-none_lost (Precisely Barriered) never = tt
+none_lost (Precisely (Barriered traffic pc regs)) never = tt
 none_lost (Precisely (Overflowed at)) never = tt
 none_lost (Precisely (Ends end)) never = tt
-none_lost Triggered never = tt
-none_lost Waited never = tt
+none_lost (Triggered value) never = tt
+none_lost (Waited adds value bytes) never = tt
 none_lost (Reported at) never = tt
 none_lost (Lost pc mask) never = absurd (never pc mask refl)
 
 pub loses_none : (last : Option Seen) (n left : ℕ) (watch : Bool) (old new : WildState) (before after : Telling) (input : Drawn) (out notes : Sunk)
     → Whole last n left watch old new before after input out notes → old.pending ≡ None → NeverLoses old.machine.image → LosesNone last
 loses_none last n left watch old new before after input out notes w calm never =
-    let g = program_of old.machine in
-    let k = begun_at old [] [] (w.ran.words ++ []) in
-    let free = all_free g w.ran.inputs k in
-    let stands = w.ran.is [] [] in
-    let start : k.run ≡ resumed (bare old.machine) None = ap (λ (p : Option Pending). resumed (bare old.machine) (trap_in p)) calm in
-    let here : (run_free g free.steps (resumed (bare old.machine) None)).last ≡ w.happened =
-    ap (λ (r : WildRun). (run_free g free.steps r).last) (sym start)
-    ∙ (ap (λ (r : WildRun). r.last) free.is
-    ∙ (ap (λ (j : Making). j.run.last) stands.is ∙ stands.last_is)) in
-    subst LosesNone (sym w.last_is) (none_lost w.happened (λ pc mask lost. never old.machine.how (bare old.machine) free.steps pc mask (here ∙ lost)))
+    let run = subst (λ (p : Option Trap). RunsWild (program_of old.machine) (moment (state_of old.machine) p (Precisely Went)) w.ran.steps (moment_of new w.happened)) (ap trap_in calm) w.ran.runs in
+    subst LosesNone (sym w.last_is) (none_lost w.happened (λ pc mask. never old.machine.how (state_of old.machine) w.ran.steps (moment_of new w.happened) pc mask run))
 
 pub found : (r : Result (Option Seen) Fault) (n left : ℕ) (watch : Bool) (old new : WildState) (before after : Telling) (input : Drawn) (out notes : Sunk)
     → IfOk r (λ last. WildRanAs last n left watch old new before after input out notes) → old.pending ≡ None → NeverLoses old.machine.image → IfOk r LosesNone
@@ -61,18 +52,18 @@ found (Err fault) n left watch old new before after input out notes did calm nev
 -- ---- the sequential run
 
 same_shown : (n : ℕ) (watch : Bool) (old : WildState) (bytes words : List ℕ) → IsFresh old → IsRestartable old.machine.image
-    → ShowsSame (sequential (program_of old.machine) bytes n watch) (shown_making watch (made (program_of old.machine) (begun_at old bytes [] words) n))
+    → ShowsSame (sequential (program_of old.machine) bytes n watch) (shown_making watch (made (program_of old.machine) (begun_at old bytes words) n))
 same_shown n watch old bytes words fresh restarts =
     subst (λ (k : Making). ShowsSame (sequential (program_of old.machine) bytes n watch) (shown_making watch (made (program_of old.machine) k n))) (sym (begun_fresh old bytes words fresh))
     (runs_alike old.machine.image restarts old.machine.how bytes words n watch)
 
 same_answer : (h : Happening) → lost_trap h ≡ None → ended_as h ≡ ended_by (wild_end h)
 same_answer (Precisely Went) none = refl
-same_answer (Precisely Barriered) none = refl
+same_answer (Precisely (Barriered traffic pc regs)) none = refl
 same_answer (Precisely (Overflowed at)) none = refl
 same_answer (Precisely (Ends end)) none = refl
-same_answer Triggered none = refl
-same_answer Waited none = refl
+same_answer (Triggered value) none = refl
+same_answer (Waited adds value bytes) none = refl
 same_answer (Reported at) none = refl
 same_answer (Lost pc mask) none = absurd cc
 
@@ -89,18 +80,15 @@ shows : (last : Option Seen) (n left : ℕ) (watch : Bool) (old new : WildState)
 shows last n left watch old new before after input out notes w bytes tells fresh restarts =
     let ran = w.ran in
     let s = sequential (program_of old.machine) bytes n watch in
-    let stands = ran.is bytes [] in
-    let at = making_at stands.run new stands.left ran.put [] (length ran.words) in
-    let whole_run = sym (told_all last n left watch old new before after input out notes w fresh.calm bytes [] tells) ∙ stands.is in
-    let same : ShowsSame s (shown_making watch at) = subst (λ (k : Making). ShowsSame s (shown_making watch k)) whole_run (same_shown n watch old bytes (ran.words ++ []) fresh restarts) in
+    let fed = ran.told bytes tells in
+    let there = told_from last n left watch old new before after input out notes w bytes [] fed.0 fed.1 in
+    let same : ShowsSame s (shown_making watch (making (moment_of new w.happened) ran.steps fed.0 w.count there.0 [] (length ran.words))) =
+    subst (λ (k : Making). ShowsSame s (shown_making watch k)) there.1 (same_shown n watch old bytes (ran.words ++ []) fresh restarts) in
     record {
-      answer_is =
-          w.last_is
-          ∙ (ap ended_as (sym stands.last_is)
-          ∙ (same_answer stands.run.last same.lost ∙ ap ended_by same.end));
+      answer_is = w.last_is ∙ (same_answer w.happened same.lost ∙ ap ended_by same.end);
       bytes = subst (Puts out) same.output ran.wrote;
-      left = (ran.told bytes [] tells).1 ∙ (ap (λ (k : Making). Some k.run.state.outside.input) stands.is ∙ ap Some same.left);
-      lines = subst (Puts notes) (sym stands.notes ∙ same.notes) ran.noted;
+      left = fed.2 ∙ ap Some same.left;
+      lines = subst (Puts notes) same.notes ran.noted;
     }
 
 pub restarted : (r : Result (Option Seen) Fault) (n left : ℕ) (watch : Bool) (old new : WildState) (before after : Telling) (input : Drawn) (out notes : Sunk)
@@ -119,8 +107,8 @@ restarted (Ok last) n left watch old new before after input out notes did cut by
       };
     }
 restarted (Err fault) n left watch old new before after input out notes did cut bytes tells fresh restarts =
-    let fronts = cut_told fault n watch old before after input out notes cut fresh.calm bytes [] tells in
-    let same = same_shown n watch old bytes (cut.drawn ++ []) fresh restarts in
+    let fronts = cut_from fault n watch old before after input out notes cut bytes [] tells in
+    let same = same_shown n watch old bytes ((cut.words ++ cut.print.words) ++ []) fresh restarts in
     record {
       found = tt;
       shows = tt;

@@ -1,5 +1,5 @@
 -- Rows of steps, and one more.
-use Rattle.std.proofs.Common.{◌≡◌, ◌≤◌, ◌+◌, ◌-◌, ℕ, Bool, true, false, List, [], ◌∷◌, ◌++◌, length, Option, Some, None, Result, IfErr, refl, sym, ap, subst, ◌∙◌, append_assoc, append-nil, arith}
+use Rattle.std.proofs.Common.{◌≡◌, ◌≤◌, ◌+◌, ◌-◌, ℕ, Bool, true, false, List, [], ◌∷◌, ◌++◌, length, Option, Result, IfErr, refl, sym, ap, subst, ◌∙◌, append_assoc, append-nil, arith}
 use Rattle.std.specs.Prelude.{IsErr, IsErrAnd}
 use Rattle.std.proofs.lemmas.Result.{err_from_is_err_and}
 use Rattle.std.specs.List.{flat_map}
@@ -9,18 +9,21 @@ use Rattle.alpha_io.specs.Faults.{Rose}
 use Rattle.alpha_io.specs.Sunk.{Sunk, Puts}
 use Rattle.alpha_io.proofs.Sinks.{Puts-none, Puts-then}
 use Rattle.alpha_seq.specs.declared.machine.Machine.{Machine}
-use Rattle.alpha_seq.specs.Devices.{Drawn, drawn_from, sunk_from}
+use Rattle.alpha_seq.specs.State.{Event as Happened}
+use Rattle.alpha_seq.specs.Run.{put, output, Fed}
+use Rattle.alpha_seq.specs.Devices.{Drawn, Feeds, drawn_from, sunk_from}
+use Rattle.alpha_seq.proofs.Sequence.{Fed-append}
 use Rattle.alpha_seq.proofs.RunSteps.{Times, drawn_before, drawn_after, drawn_over, sunk_before, sunk_after, sunk_over}
 use Rattle.alpha_seq.proofs.RunSteps.{between}
 use Rattle.alpha_imprecise.specs.Telling.{Telling, Moves}
 use Rattle.alpha_imprecise.proofs.Choosing.{Moves-none}
 use Rattle.alpha_imprecise.proofs.Joining.{resting, idle_sink}
-use Rattle.alpha_imprecise.proofs.RunSteps.{Moves-then}
+use Rattle.alpha_imprecise.proofs.Telling.{Moves-then}
 use Rattle.alpha_seq.specs.declared.event.Event.{Event}
 use Rattle.alpha_pal.specs.declared.fault.Fault.{Fault}
 use Rattle.alpha_pal.specs.declared.fault.Fault.TheVariants as faults
 use Rattle.alpha_seq.specs.Print.{Print, is_over}
-use Rattle.alpha_run.specs.Row.{Row, AreGoing, AreWent, words_of, bytes_of, units_of, Feeds, lines_by, seen_by, Unstopped}
+use Rattle.alpha_run.specs.Row.{Row, AreGoing, AreWent, words_of, events_in, events_of, units_of, lines_by, seen_by, Unstopped}
 use Rattle.alpha_seq.specs.StepEffect.{Causes}
 use Rattle.alpha_run.specs.Ran.{Watching, ends_at, Did, Behind, Turns, Slips, Hastens, Goes, Stops, IsCut}
 
@@ -54,10 +57,17 @@ pub seen-append : {O : Type 0} (after : O → Event → Machine → O) (o : O) (
 seen-append after o [] qs = refl
 seen-append after o (p ∷ ps) qs = seen-append after (after o p.event p.core) ps qs
 
-pub Feeds-append : (first mid last : Option (List ℕ)) (ps qs : List Print) → Feeds first ps mid → Feeds mid qs last → Feeds first (ps ++ qs) last
-Feeds-append None mid last ps qs fed found = tt
-Feeds-append (Some left) mid last [] qs fed found = subst (λ m. Feeds m qs last) fed found
-Feeds-append (Some left) mid last (p ∷ ps) qs fed found = (fed.0, Feeds-append (Some p.rest) mid last ps qs fed.1 found)
+pub events-append : (ps qs : List Print) → events_of (ps ++ qs) ≡ events_of ps ++ events_of qs
+events-append ps qs = flat_map-append events_in ps qs
+
+pub output-append : (xs ys : List Happened) → output (xs ++ ys) ≡ output xs ++ output ys
+output-append xs ys = flat_map-append put xs ys
+
+pub Feeds-append : (t : Times) (xs ys : List Happened) → Feeds (drawn_before t) xs → Feeds (drawn_after t) ys → Feeds (drawn_over t) (xs ++ ys)
+Feeds-append t xs ys one two = λ bytes is.
+    let first = one bytes is in
+    let last = two first.0 first.2 in
+    (last.0, Fed-append bytes first.0 last.0 xs ys first.1 last.1, last.2)
 
 -- ---- no step yet
 
@@ -72,51 +82,35 @@ Goes-none goes w units m o told left out notes a b c = record {
   did = record {
     seen = refl;
     drew = Moves-none told;
-    fed = feeds left;
+    fed = λ bytes is. (bytes, refl, is);
     same = refl;
     wrote = Puts-none out b;
     lines = Puts-none notes c;
   };
 }
-  where
-    feeds : (left : Option (List ℕ)) → Feeds left [] left
-    feeds None = tt
-    feeds (Some l) = refl
 
 -- ---- steps that only went on
 
--- the input that they find, any where it isn't told
-abbrev told_by : Option (List ℕ) → List ℕ
-told_by None = []
-told_by (Some left) = left
+went-going : (ps : List Print) → AreWent ps → AreGoing ps
+went-going [] went = tt
+went-going (p ∷ ps) went = (ap is_over went.0.event, went-going ps went.1)
 
-went-going : (found : List ℕ) (ps : List Print) → AreWent found ps → AreGoing ps
-went-going found [] went = tt
-went-going found (p ∷ ps) went = (ap is_over went.0.event, went-going found ps went.1)
+went-units : (ps : List Print) → AreWent ps → units_of ps ≡ length ps
+went-units [] went = refl
+went-units (p ∷ ps) went = omega (arith, went.0.units, went-units ps went.1)
 
-went-units : (found : List ℕ) (ps : List Print) → AreWent found ps → units_of ps ≡ length ps
-went-units found [] went = refl
-went-units found (p ∷ ps) went = omega (arith, went.0.units, went-units found ps went.1)
+went-words : (ps : List Print) → AreWent ps → flat_map words_of ps ≡ []
+went-words [] went = refl
+went-words (p ∷ ps) went = ap (λ l. l ++ flat_map words_of ps) went.0.words ∙ went-words ps went.1
 
-went-words : (found : List ℕ) (ps : List Print) → AreWent found ps → flat_map words_of ps ≡ []
-went-words found [] went = refl
-went-words found (p ∷ ps) went = ap (λ l. l ++ flat_map words_of ps) went.0.words ∙ went-words found ps went.1
+went-output : (ps : List Print) → AreWent ps → output (events_of ps) ≡ []
+went-output [] went = refl
+went-output (p ∷ ps) went = ap (λ (l : List Happened). output (l ++ events_of ps)) went.0.seen ∙ went-output ps went.1
 
-went-bytes : (found : List ℕ) (ps : List Print) → AreWent found ps → flat_map bytes_of ps ≡ []
-went-bytes found [] went = refl
-went-bytes found (p ∷ ps) went = ap (λ l. l ++ flat_map bytes_of ps) went.0.bytes ∙ went-bytes found ps went.1
-
--- each found the whole input, and left it
-fed-went : (left : List ℕ) (ps : List Print) → AreWent left ps → Feeds (Some left) ps (Some left)
-fed-went left [] went = refl
-fed-went left (p ∷ ps) went = (
-  sym (ap (λ l. l ++ p.rest) went.0.taken ∙ went.0.rest),
-  subst (λ l. Feeds (Some l) ps (Some left)) (sym went.0.rest) (fed-went left ps went.1),
-)
-
-went-feeds : (input : Option (List ℕ)) (ps : List Print) → AreWent (told_by input) ps → Feeds input ps input
-went-feeds None ps went = tt
-went-feeds (Some left) ps went = fed-went left ps went
+-- nothing was read
+went-fed : (left : List ℕ) (ps : List Print) → AreWent ps → Fed left (events_of ps) left
+went-fed left [] went = refl
+went-fed left (p ∷ ps) went = subst (λ (l : List Happened). Fed left (l ++ events_of ps) left) (sym went.0.seen) (refl, went-fed left ps went.1)
 
 -- ---- steps behind one another
 
@@ -127,10 +121,10 @@ pub Did-append : {O : Type 0} (w : Watching O) (from via to : O) (ps qs : List P
 Did-append w from via to ps qs before told after input out notes one two = record {
   seen = two.seen ∙ (ap (λ o. seen_by w.after o qs) one.seen ∙ sym (seen-append w.after from ps qs));
   drew = subst (Moves before after) (sym (flat_map-append words_of ps qs)) (Moves-then before told after (flat_map words_of ps) (flat_map words_of qs) one.drew two.drew);
-  fed = Feeds-append input.first input.mid input.last ps qs one.fed two.fed;
+  fed = subst (Feeds (drawn_over input)) (sym (events-append ps qs)) (Feeds-append input (events_of ps) (events_of qs) one.fed two.fed);
   same = two.same ∙ one.same;
-  wrote = subst (Puts (sunk_over out)) (sym (flat_map-append bytes_of ps qs))
-      (Puts-then out.first out.mid out.last out.faults_first out.faults_mid out.faults_last (flat_map bytes_of ps) (flat_map bytes_of qs) one.wrote two.wrote);
+  wrote = subst (Puts (sunk_over out)) (sym (ap output (events-append ps qs) ∙ output-append (events_of ps) (events_of qs)))
+      (Puts-then out.first out.mid out.last out.faults_first out.faults_mid out.faults_last (output (events_of ps)) (output (events_of qs)) one.wrote two.wrote);
   lines = subst (Puts (sunk_over notes)) (sym (lines-append w.after w.lines from ps qs))
       (Puts-then notes.first notes.mid notes.last notes.faults_first notes.faults_mid notes.faults_last (lines_by w.after w.lines from ps) (lines_by w.after w.lines (seen_by w.after from ps) qs) one.lines
       (subst (λ o. Puts (sunk_after notes) (lines_by w.after w.lines o qs)) one.seen two.lines));
@@ -171,23 +165,22 @@ pub Goes-hasten : {M O : Type 0} (goes : M → Print → M → Type 0) (w : Watc
     → Hastens goes w units left old new from to
     → Goes goes w units left old new from to told told (resting input a) (idle_sink out b) (idle_sink notes c)
 Goes-hasten goes w units left old new from to told input out notes a b c one =
-    let found = told_by input in
-    let rushed = one.rushed found in
+    let rushed = one.rushed in
     let ps = rushed.0 in
     let went = rushed.2 in
-    let passed = one.passed found ps went rushed.3 in
+    let passed = one.passed ps went rushed.3 in
     record {
       prints = ps;
       row = rushed.1;
-      going = went-going found ps went;
+      going = went-going ps went;
       unstopped = passed.2;
-      used = omega (arith, went-units found ps went, rushed.3, one.used);
+      used = omega (arith, went-units ps went, rushed.3, one.used);
       did = record {
         seen = passed.0;
-        drew = subst (Moves told told) (sym (went-words found ps went)) (Moves-none told);
-        fed = went-feeds input ps went;
+        drew = subst (Moves told told) (sym (went-words ps went)) (Moves-none told);
+        fed = λ bytes is. (bytes, went-fed bytes ps went, is);
         same = refl;
-        wrote = subst (Puts (idle_sink out b)) (sym (went-bytes found ps went)) (Puts-none out b);
+        wrote = subst (Puts (idle_sink out b)) (sym (went-output ps went)) (Puts-none out b);
         lines = subst (Puts (idle_sink notes c)) (sym passed.1) (Puts-none notes c);
       };
     }
@@ -268,13 +261,14 @@ cut fault goes uses leaves w units some left old mid new from via before told af
             (Moves-then before told after (flat_map words_of ps) (flat_map words_of (p ∷ [])) one.did.drew (subst (Moves told after) (sym (append-nil p.words)) two.drew));
         left = input.mid;
         fed = one.did.fed;
-        found = two.found;
+        would_feed = λ bytes is. two.would_feed bytes is;
+        leaves_end = λ bytes is. two.leaves_end bytes is;
         written = out.mid;
         wrote = one.did.wrote.written;
         noted = notes.mid;
         notes_are = one.did.lines.written;
-        output = between out.first out.mid out.last (flat_map bytes_of ps) p.bytes (flat_map bytes_of (ps ++ p ∷ [])) one.did.wrote.written two.output
-            (flat_map-append bytes_of ps (p ∷ []) ∙ ap (λ l. flat_map bytes_of ps ++ l) (append-nil p.bytes));
+        bytes = between out.first out.mid out.last (output (events_of ps)) (output p.seen) (output (events_of ps ++ p.seen)) one.did.wrote.written two.bytes
+            (output-append (events_of ps) p.seen);
         lines = between notes.first notes.mid notes.last (lines_by w.after w.lines from ps) (w.lines via p.event p.core) (lines_by w.after w.lines from (ps ++ p ∷ [])) one.did.lines.written two.lines
             (lines-append w.after w.lines from ps (p ∷ []) ∙ ap (λ l. lines_by w.after w.lines from ps ++ l)
             (append-nil (w.lines (seen_by w.after from ps) p.event p.core) ∙ ap (λ o. w.lines o p.event p.core) (sym one.did.seen)));

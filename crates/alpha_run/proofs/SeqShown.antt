@@ -1,103 +1,87 @@
 -- What a run of the sequential machine shows: to its end or for all its steps, and where a device's fault cut it short.
-use Rattle.std.proofs.Common.{◌≡◌, ◌+◌, ◌-◌, ℕ, suc, Bool, true, List, [], ◌∷◌, ◌++◌, length, Option, Some, None, refl, sym, ap, subst, ◌∙◌, arith}
+use Rattle.std.proofs.Common.{◌≡◌, ◌+◌, ◌-◌, ℕ, Bool, true, false, List, [], ◌∷◌, ◌++◌, length, Option, Some, sym, ap, subst, ◌∙◌, ⊎_elim, length-append, arith}
+use Rattle.std.proofs.lemmas.Bool.{cases_Bool}
+use Rattle.std.proofs.lemmas.Grind.{flat_map-append}
 use Rattle.alpha_io.specs.Sunk.{Sunk}
 use Rattle.alpha_io.specs.Written.{WritesPrefix}
 use Rattle.alpha_seq.specs.declared.machine.Machine.{Machine}
-use Rattle.alpha_seq.specs.declared.end.End.{End}
 use Rattle.alpha_seq.specs.declared.event.Event.{Event as Seen}
 use Rattle.alpha_pal.specs.declared.fault.Fault.{Fault}
-use Rattle.alpha_seq.specs.State.{State, Event, Went, Barriered, Overflowed, Ends}
-use Rattle.alpha_seq.specs.Run.{Run, started, end_of, is_over, advance, after, notes_of}
+use Rattle.alpha_seq.specs.State.{Event, Stepped, stepped}
+use Rattle.alpha_seq.specs.Step.{step_from}
+use Rattle.alpha_seq.specs.Run.{Run, given, is_over, begins, next, Runs, Fed, after, output, notes, lines_of}
 use Rattle.alpha_seq.specs.Machine.{program_of, state_of}
 use Rattle.alpha_seq.specs.Devices.{Drawn}
-use Rattle.alpha_seq.specs.Inputs.{advance_over, run_over, HasMade, IsFront}
+use Rattle.alpha_seq.specs.Fronts.{IsFront}
 use Rattle.alpha_seq.proofs.Running.{after-over}
-use Rattle.alpha_seq.proofs.Growing.{Grows, after-begins}
-use Rattle.alpha_seq.proofs.Inputs.{run_over-last}
-use Rattle.alpha_seq.proofs.Filling.{filled, run_over-append, front, notes-grow}
-use Rattle.alpha_run.specs.SeqRun.{end_by, run_from, SeqRan, SeqCut}
+use Rattle.alpha_seq.proofs.RunSteps.{front}
+use Rattle.alpha_seq.proofs.Sequence.{Runs-append, Fed-append, fed-after, cut-front, filled}
+use Rattle.alpha_run.specs.SeqRun.{ended_by, SeqRan, SeqCut}
+use Rattle.alpha_run.proofs.Rows.{output-append}
+use Rattle.alpha_run.proofs.SeqRuns.{no_end, step_is}
 
-over-some : (event : Event) (end : End) → end_of event ≡ Some end → is_over event ≡ true
-over-some Went end e = absurd cc
-over-some Barriered end e = absurd cc
-over-some (Overflowed at) end e = absurd cc
-over-some (Ends last) end e = refl
+pub notes-append : (watch : Bool) (xs ys : List Event) → notes watch (xs ++ ys) ≡ notes watch xs ++ notes watch ys
+notes-append watch xs ys = flat_map-append (lines_of watch) xs ys
 
 -- where the input is told, it is the run after all its steps
-pub told_all : (last : Option Seen) (units left : ℕ) (watch : Bool) (old new : Machine) (input : Drawn) (out notes : Sunk) (ran : SeqRan last units left watch old new input out notes) (bytes : List ℕ)
-    → input.old ≡ Some bytes → run_from old bytes ran.inputs ≡ after (program_of old) (state_of old bytes []) units
-told_all None units left watch old new input out notes ran bytes tells =
-    (ran.told bytes tells).0 ∙ ap (after (program_of old) (state_of old bytes [])) (ran.each ∙ ran.full refl)
-told_all (Some event) units left watch old new input out notes ran bytes tells =
+pub told_all : (last : Option Seen) (units left : ℕ) (watch : Bool) (old new : Machine) (input : Drawn) (out sink : Sunk) (ran : SeqRan last units left watch old new input out sink) (bytes rest : List ℕ)
+    → Fed bytes ran.events rest → after (program_of old) (state_of old) bytes units ≡ record { at = ran.at; events = ran.events; left = rest }
+told_all last units left watch old new input out sink ran bytes rest fed =
     let g = program_of old in
-    let s = state_of old bytes [] in
-    let n = length ran.inputs in
-    let told = (ran.told bytes tells).0 in
-    let stands = ran.is bytes in
-    let over : is_over (after g s n).last ≡ true =
-    ap (λ (r : Run). is_over r.last) (sym told)
-    ∙ over-some (run_from old bytes ran.inputs).last ran.ended.0 (stands.end_is ∙ ap (λ (e : Seen). end_by (Some e)) ran.ended.1) in
-    told ∙ sym (after-over g s units n (omega (arith, ran.each, ran.used)) over)
-
--- over any input it has made all its steps, or has ended
-pub made_any : (last : Option Seen) (units left : ℕ) (watch : Bool) (old new : Machine) (input : Drawn) (out notes : Sunk) (ran : SeqRan last units left watch old new input out notes) (from : List ℕ)
-    → HasMade units (run_from old from ran.inputs)
-made_any None units left watch old new input out notes ran from =
-    let stands = ran.is from in
-    record {
-      most = omega (arith, stands.steps, ran.used);
-      full = λ e. stands.steps ∙ ran.full refl;
-    }
-made_any (Some event) units left watch old new input out notes ran from =
-    let stands = ran.is from in
-    record {
-      most = omega (arith, stands.steps, ran.used);
-      full = λ e. absurd (let f = sym e ∙ (stands.end_is ∙ ap (λ (x : Seen). end_by (Some x)) ran.ended.1) in cc);
-    }
+    let s = state_of old in
+    let here = fed-after g s ran.events ran.at bytes rest ran.runs fed in
+    ⊎_elim
+    (λ (over : is_over ran.at.event ≡ true).
+    after-over g s bytes units (length ran.events) (omega (arith, ran.used)) (ap (λ (r : Run). is_over r.at.event) here ∙ over) ∙ here)
+    (λ (going : is_over ran.at.event ≡ false).
+    ap (after g s bytes) (sym (ran.full (ran.end ∙ ap ended_by (no_end ran.at.event going)))) ∙ here)
+    (cases_Bool (is_over ran.at.event))
 
 -- ---- a run that was cut short
 
--- what was written is a front of what a whole run shows over some inputs
-pub cut_any : (fault : Fault) (units : ℕ) (watch : Bool) (old : Machine) {new : Machine} (input : Drawn) (out notes : Sunk) → SeqCut fault units watch old new input out notes → IsFront units watch old out notes
-cut_any fault units watch old input out notes cut =
-    let g = program_of old in
-    let all = cut.inputs ++ cut.next ∷ [] in
-    let q = run_from old [] all in
-    let stands = cut.then [] in
-    let rest = filled g units (units - (cut.steps + 1)) q (omega (arith, stands.steps, cut.less)) in
-    let to = run_over g rest.inputs q in
-    let whole : run_from old [] (all ++ rest.inputs) ≡ to = run_over-append g all rest.inputs (started (state_of old [] [])) in
-    record {
-      inputs = all ++ rest.inputs;
-      made = subst (HasMade units) (sym whole) rest.made;
-      bytes = subst (λ (r : Run). WritesPrefix out.old out.new r.state.outside.output) (sym whole)
-          (front out.old out.new cut.put cut.put' to.state.outside.output cut.output
-          (subst (λ (l : List ℕ). Grows l to.state.outside.output) (ap (λ (s : State). s.outside.output) stands.state) rest.begins.output));
-      lines = subst (λ (r : Run). WritesPrefix notes.old notes.new (notes_of watch r.trace)) (sym whole)
-          (front notes.old notes.new cut.lines cut.lines' (notes_of watch to.trace) cut.noted
-          (subst (λ (l : List ℕ). Grows l (notes_of watch to.trace)) stands.notes (notes-grow watch q.trace to.trace rest.begins.trace)));
-    }
+module _ (fault : Fault) (units : ℕ) (watch : Bool) (old : Machine) {new : Machine} (input : Drawn) (out sink : Sunk) (cut : SeqCut fault units watch old new input out sink) where
+  -- the steps that were made, and the one that was cut short
+  abbrev all : List Event
+  all = cut.events ++ cut.print.seen
 
--- where the input is told, of what the run after all its steps shows
-pub cut_told : (fault : Fault) (units : ℕ) (watch : Bool) (old : Machine) {new : Machine} (input : Drawn) (out notes : Sunk) → SeqCut fault units watch old new input out notes → (bytes : List ℕ) → input.old ≡ Some bytes
-    → let to = after (program_of old) (state_of old bytes []) units in
-    WritesPrefix out.old out.new to.state.outside.output × WritesPrefix notes.old notes.new (notes_of watch to.trace)
-cut_told fault units watch old input out notes cut bytes tells =
-    let g = program_of old in
-    let s = state_of old bytes [] in
-    let n = length cut.inputs in
-    let told = cut.told bytes tells in
-    let run = run_from old bytes cut.inputs in
-    let stands = cut.then bytes in
-    let one : run_from old bytes (cut.inputs ++ cut.next ∷ []) ≡ after g s (suc n) =
-    run_over-last g cut.inputs cut.next (started s)
-    ∙ (ap (advance_over g run) told.1
-    ∙ ap (advance g) told.0) in
-    let begins = after-begins g s units (suc n) (omega (arith, cut.each, cut.less)) in
-    let to = after g s units in (
-      front out.old out.new cut.put cut.put' to.state.outside.output cut.output
-          (subst (λ (l : List ℕ). Grows l to.state.outside.output) (ap (λ (r : Run). r.state.outside.output) (sym one) ∙ ap (λ (t : State). t.outside.output) stands.state) begins.output),
-      front notes.old notes.new cut.lines cut.lines' (notes_of watch to.trace) cut.noted
-          (subst (λ (l : List ℕ). Grows l (notes_of watch to.trace)) (ap (λ (r : Run). notes_of watch r.trace) (sym one) ∙ stands.notes)
-          (notes-grow watch (after g s (suc n)).trace to.trace begins.trace)),
-    )
+  abbrev behind : Stepped
+  behind = stepped (state_of cut.would) cut.step.happened
+
+  runs : Runs (program_of old) (begins (state_of old)) all behind
+  runs =
+      let g = program_of old in
+      let h = cut.step.happened in
+      let is : next g cut.at h ≡ behind = ap (λ x. step_from g x (given h)) (sym cut.stands) ∙ step_is g cut.print cut.mid cut.would cut.program cut.step in
+      subst (λ (l : List Event). Runs g (begins (state_of old)) (cut.events ++ l) behind) (sym cut.step.seen)
+      (Runs-append g cut.events (h ∷ []) (begins (state_of old)) cut.at behind cut.runs (cut.going, ap (λ (t : Stepped). t.event) is, is))
+
+  count : length all ≡ length cut.events + 1
+  count = let one = ap (λ (l : List Event). length l) cut.step.seen in omega (arith, length-append cut.events cut.print.seen, one)
+
+  -- what was written is a front of what a whole run shows
+  pub cut_any : IsFront units watch old out sink
+  cut_any =
+      let rest = filled (program_of old) units (units - length all) (begins (state_of old)) all behind runs (omega (arith, count, cut.less)) in
+      record {
+        events = all ++ rest.more;
+        at = rest.at;
+        runs = rest.runs;
+        made = rest.made;
+        bytes = front out.old out.new (output cut.events) (output all) (output rest.more) (output (all ++ rest.more)) cut.bytes (output-append all rest.more);
+        lines = front sink.old sink.new (notes watch cut.events) (notes watch all) (notes watch rest.more) (notes watch (all ++ rest.more)) cut.lines (notes-append watch all rest.more);
+      }
+
+  -- where the input is told, of what the run after all its steps shows
+  pub cut_told : (bytes : List ℕ) → input.old ≡ Some bytes
+      → let to = after (program_of old) (state_of old) bytes units in
+      WritesPrefix out.old out.new (output to.events) × WritesPrefix sink.old sink.new (notes watch to.events)
+  cut_told bytes tells =
+      let first = cut.told bytes tells in
+      let last = cut.would_feed first.0 first.2 in
+      let fed = Fed-append bytes first.0 last.0 cut.events cut.print.seen first.1 last.1 in
+      let rest = cut-front (program_of old) (state_of old) all behind bytes last.0 (units - length all) runs fed in
+      let same : length all + (units - length all) ≡ units = omega (arith, count, cut.less) in
+      let is : (after (program_of old) (state_of old) bytes units).events ≡ all ++ rest.0 = ap (λ n. (after (program_of old) (state_of old) bytes n).events) (sym same) ∙ rest.1 in (
+        front out.old out.new (output cut.events) (output all) (output rest.0) _ cut.bytes (ap output is ∙ output-append all rest.0),
+        front sink.old sink.new (notes watch cut.events) (notes watch all) (notes watch rest.0) _ cut.lines (ap (notes watch) is ∙ notes-append watch all rest.0),
+      )

@@ -1,10 +1,10 @@
 -- A step and what the observer writes of it.
-use Rattle.std.proofs.Common.{◌≡◌, ◌<◌, ◌+◌, ◌*◌, ℕ, ◌||◌, Bool, false, List, [], ◌∷◌, Option, Some, None, Result, Ok, Err, IfOk, refl, sym, ap, subst, ◌∙◌, append-nil, arith}
+use Rattle.std.proofs.Common.{◌≡◌, ◌<◌, ◌+◌, ◌*◌, ℕ, ◌||◌, Bool, false, List, ◌++◌, Option, None, Result, Ok, Err, IfOk, refl, sym, ap, subst, ◌∙◌, append_assoc, append-nil, arith}
 use Rattle.alpha_io.specs.Sunk.{Sunk, Puts, Partly, HasFailed}
 use Rattle.alpha_io.specs.Written.{WritesPrefix}
 use Rattle.alpha_io.proofs.Writes.{WritesPrefix-all}
 use Rattle.alpha_seq.specs.declared.machine.Machine.{Machine}
-use Rattle.alpha_seq.specs.Devices.{Drawn, Idles}
+use Rattle.alpha_seq.specs.Devices.{Drawn, LeavesEnd, Feeds, WouldFeed, Idles, drawn_from}
 use Rattle.alpha_seq.proofs.RunSteps.{idle-part}
 use Rattle.alpha_imprecise.specs.Telling.{Telling, Moves}
 use Rattle.alpha_seq.specs.declared.event.Event.{Event}
@@ -13,13 +13,11 @@ use Rattle.alpha_pal.specs.declared.fault.Fault.TheVariants as faults
 use Rattle.alpha_seq.specs.Print.{Print, is_over}
 use Rattle.alpha_seq.specs.Sequential.{SeqGoes, SeqLeaves, one_unit, no_wait, itself, SeqMakes, SeqBreaks}
 use Rattle.alpha_imprecise.proofs.Choosing.{Moves-none}
-use Rattle.alpha_run.specs.Row.{Feeds}
-use Rattle.alpha_seq.specs.StepEffect.{Finds, FindsPart, Makes, Breaks}
-use Rattle.alpha_run.specs.Ran.{watching, Behind, Turns, Slips}
-
-feeds : (old new : Option (List ℕ)) (p : Print) → Finds old new p → Feeds old (p ∷ []) new
-feeds None new p found = tt
-feeds (Some left) new p found = found left refl
+use Rattle.alpha_seq.specs.State.{Event as Happened}
+use Rattle.alpha_seq.specs.Run.{taken, output}
+use Rattle.alpha_seq.specs.StepEffect.{Makes, Breaks}
+use Rattle.alpha_seq.proofs.Fronts.{fed_all}
+use Rattle.alpha_run.specs.Ran.{watching, drawn_to, Behind, Turns, Slips}
 
 -- the step was made, and all of its lines are written
 pub turned : {M O : Type 0} (goes : M → Print → M → Type 0) (uses : M → ℕ) (core : M → Machine) (next : O → Event → Machine → O) (lines : O → Event → Machine → List ℕ) (stops : O → Event → Machine → Bool)
@@ -43,15 +41,29 @@ turned goes uses core next lines stops event stop last old new m from to before 
       did = record {
         seen = seen ∙ (ap (next from event) (here ∙ same) ∙ ap (λ e. next from e p.core) (sym one.event_is));
         drew = subst (Moves before after) (sym (append-nil p.words)) one.drew;
-        fed = feeds input.old input.new p one.found;
+        fed = subst (Feeds input) (sym (append-nil p.seen)) one.fed;
         same = one.same;
-        wrote = subst (Puts out) (sym (append-nil p.bytes)) one.wrote;
+        wrote = subst (λ l. Puts out (output l)) (sym (append-nil p.seen)) one.wrote;
         lines = subst (Puts notes) (ap (lines from event) (here ∙ same) ∙ (ap (λ e. lines from e p.core) (sym one.event_is) ∙ sym (append-nil (lines from p.event p.core)))) wrote;
       };
     }
 
-part-of : (old new : Option (List ℕ)) (p : Print) → Finds old new p → FindsPart old new p
-part-of old new p found = λ left is. let f = found left is in (f.0, (p.taken, p.rest, f.0, f.1))
+would_of : (input : Drawn) (events : List Happened) → Feeds input events → WouldFeed input events
+would_of input events fed = λ bytes is. let f = fed bytes is in (f.0, f.1)
+
+pub end_of_fed : (input : Drawn) (events : List Happened) → Feeds input events → LeavesEnd input
+end_of_fed input events fed = λ bytes is. let f = fed bytes is in (taken events, f.0, sym (fed_all events bytes f.0 f.1), f.2)
+
+-- steps left this of it, and one that was cut short an end of that
+pub end_of_cut : (input : Drawn) (left : Option (List ℕ)) (events : List Happened) → Feeds (drawn_to input left) events → LeavesEnd (drawn_from input left input.before) → LeavesEnd input
+end_of_cut input left events fed more = λ bytes is.
+    let one = fed bytes is in
+    let two = more one.0 one.2 in (
+      taken events ++ two.0,
+      two.1,
+      sym (fed_all events bytes one.0 one.1) ∙ (ap (λ l. taken events ++ l) two.2 ∙ sym (append_assoc (taken events) two.0 two.1)),
+      two.3,
+    )
 
 -- the step was made, and its lines failed
 pub unnoted : {M O : Type 0} (goes : M → Print → M → Type 0) (uses : M → ℕ) (core : M → Machine) (leaves : Fault → M → M → Drawn → Sunk → Type 0) (next : O → Event → Machine → O) (lines : O → Event → Machine → List ℕ) (stops : O → Event → Machine → Bool)
@@ -66,10 +78,11 @@ unnoted goes uses core leaves next lines stops event old new m from before after
       is = one.is;
       units = one.units;
       drew = one.drew;
-      found = part-of input.old input.new p one.found;
-      output = WritesPrefix-all out.old out.new p.bytes one.wrote.written;
+      would_feed = would_of input p.seen one.fed;
+      leaves_end = end_of_fed input p.seen one.fed;
+      bytes = WritesPrefix-all out.old out.new (output p.seen) one.wrote.written;
       lines = subst (WritesPrefix notes.old notes.new) (ap (lines from event) (here ∙ sym one.core_is) ∙ ap (λ e. lines from e p.core) (sym one.event_is)) wrote.prefix;
-      behind = record { is = refl; found = one.found; wrote = one.wrote };
+      behind = record { is = refl; fed = one.fed; wrote = one.wrote };
       cause = record { source = one.same; sink = one.wrote.same; later = wrote.later; lines = failed };
     }
 
@@ -101,8 +114,9 @@ broken goes uses core leaves next lines stops fault old new from before after in
       is = one.is;
       units = one.units;
       drew = one.drew;
-      found = one.found;
-      output = one.wrote;
+      would_feed = one.fed;
+      leaves_end = one.left;
+      bytes = one.wrote;
       lines = idle-part notes (lines from p.event p.core) (record { written = refl; same = refl });
       behind = behind_step goes uses core leaves (Moves before after) fault old new input out notes (record { written = refl; same = refl }) one;
       cause = one.cause notes refl;
@@ -119,7 +133,7 @@ told_makes event old new t input out made = record {
   event_is = made.event_is;
   core_is = made.core_is;
   drew = subst (Moves t t) (sym made.drew) (Moves-none t);
-  found = made.found;
+  fed = made.fed;
   same = made.same;
   wrote = made.wrote;
 }
@@ -133,7 +147,8 @@ told_breaks fault old new t input out breaks = record {
   units = breaks.units;
   core_is = breaks.core_is;
   drew = subst (Moves t t) (sym breaks.drew) (Moves-none t);
-  found = breaks.found;
+  fed = breaks.fed;
+  left = breaks.left;
   wrote = breaks.wrote;
   behind = breaks.behind;
   cause = breaks.cause;

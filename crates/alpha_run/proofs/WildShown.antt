@@ -1,35 +1,34 @@
 -- What a run of the imprecise machine shows: to its end or for all its units, and where a device's fault cut it short.
-use Rattle.std.proofs.Common.{◌≡◌, ◌<◌, ◌≤◌, ◌+◌, ◌-◌, ◌%◌, ◌^◌, ◌||◌, ℕ, zero, suc, Bool, true, false, List, [], ◌∷◌, ◌++◌, length, Option, Some, None, is_none, refl, sym, ap, subst, ◌∙◌, ⊎_elim, arith}
-use Rattle.std.proofs.lemmas.Bool.{cases_lt}
-use Rattle.std.proofs.Math.Nat.{lt-suc_self}
+use Rattle.std.proofs.Common.{◌≡◌, ◌<◌, ◌≤◌, ◌+◌, ◌-◌, ◌%◌, ◌^◌, ◌||◌, ℕ, zero, suc, Bool, true, false, cond, List, [], ◌∷◌, ◌++◌, length, drop, Option, Some, None, is_none, refl, sym, ap, subst, ◌∙◌, ⊎_elim, append_assoc, append-nil, length-append, arith}
+use Rattle.std.proofs.lemmas.Bool.{cases_lt, cases_Bool}
 use Rattle.alpha_io.specs.Sunk.{Sunk}
 use Rattle.alpha_io.specs.Written.{WritesPrefix}
-use Rattle.alpha_pal.specs.Kernel.{KernelState}
 use Rattle.alpha_seq.specs.declared.event.Event.{Event as Seen}
 use Rattle.alpha_pal.specs.declared.fault.Fault.{Fault}
-use Rattle.alpha_seq.specs.State.{Program, Went, Barriered, Overflowed, Ends}
-use Rattle.alpha_seq.specs.Run.{notes_of}
+use Rattle.alpha_seq.specs.State.{Program, State, Event, Went, Barriered, Overflowed, Ends}
+use Rattle.alpha_seq.specs.Run.{Fed, output, notes}
 use Rattle.alpha_seq.specs.Machine.{program_of, state_of}
 use Rattle.alpha_seq.specs.Devices.{Drawn}
-use Rattle.alpha_seq.proofs.Growing.{Grows}
-use Rattle.alpha_seq.proofs.Filling.{front, notes-grow}
+use Rattle.alpha_seq.proofs.RunSteps.{front}
+use Rattle.alpha_seq.proofs.Sequence.{Fed-append}
 use Rattle.alpha_imprecise.specs.declared.pending.Pending.{Pending}
-use Rattle.alpha_imprecise.specs.Moment.{Trap, Happening, Precisely, Triggered, Waited, Reported, Lost}
-use Rattle.alpha_imprecise.specs.Run.{finished, unit_of}
+use Rattle.alpha_imprecise.specs.Moment.{Trap, Happening, Precisely, Triggered, Waited, Reported, Lost, Moment, moment}
+use Rattle.alpha_imprecise.specs.Run.{seen_of, seen, finished, next_wild, RunsWild, unit_of, units}
 use Rattle.alpha_imprecise.specs.Used.{HasUsed}
-use Rattle.alpha_imprecise.specs.Chosen.{most_waited}
+use Rattle.alpha_imprecise.specs.Chosen.{draw, waited_after, waits_behind, Draws}
 use Rattle.alpha_imprecise.specs.Made.{Making, begun, advance_making, steps_making, made, most_words}
 use Rattle.alpha_imprecise.specs.Telling.{Telling, Counts}
-use Rattle.alpha_imprecise.specs.Wild.{WildState, trap_in, waited_in, begun_at}
-use Rattle.alpha_imprecise.specs.Free.{advance_making_over, run_making_over, IsFrontBy}
-use Rattle.alpha_imprecise.proofs.Settling.{advance-going, none_of, made_from}
-use Rattle.alpha_imprecise.proofs.Nearing.{pending_takes}
-use Rattle.alpha_imprecise.proofs.Growing.{Begins, begins_same, begins_then, advance_begins}
-use Rattle.alpha_imprecise.proofs.Freely.{run_making-last}
-use Rattle.alpha_imprecise.proofs.FreeDrawing.{free_draws}
-use Rattle.alpha_imprecise.proofs.FreeFilling.{filled, append-making}
-use Rattle.alpha_run.specs.WildRan.{WildStands, making_from, WildRan, ended_as, WildRanAs, WildCut}
-use Rattle.alpha_run.proofs.WildUsed.{own-input, first_step, then_steps, units_grow, stays_over, made_by}
+use Rattle.alpha_imprecise.specs.Wild.{WildState, trap_in, waited_in, begun_at, moment_of}
+use Rattle.alpha_imprecise.specs.Fronts.{IsFrontBy}
+use Rattle.alpha_imprecise.proofs.Settling.{stepped_making, advance-going, none_of, made_any}
+use Rattle.alpha_imprecise.proofs.Nearing.{steps-first, steps-then, pending_takes}
+use Rattle.alpha_imprecise.proofs.Sequence.{seen-append, RunsWild-append, units-append}
+use Rattle.alpha_imprecise.proofs.Drawing.{drawn, words_most, words_all}
+use Rattle.alpha_imprecise.proofs.Drawn.{making, Draws-last, waits-last, making-made, begun-made, drawn_told, units_grow, stays_over, made_by}
+use Rattle.alpha_run.specs.WildRan.{moment_at, WildRan, ended_as, WildRanAs, WildCut}
+use Rattle.alpha_run.proofs.Rows.{output-append}
+use Rattle.alpha_run.proofs.SeqShown.{notes-append}
+use Rattle.alpha_run.proofs.WildRuns.{step_is, step_chosen, step_drops}
 
 -- ---- words
 
@@ -44,43 +43,40 @@ drawn_from_none (Some b) (Some c) count n from to more =
 
 -- ---- a run to its end, or for all its units
 
-calm_waits : (o : Option Pending) → o ≡ None → waited_in o ≤ most_waited
-calm_waits o calm = let none : waited_in o ≡ 0 = ap waited_in calm in omega arith
-
 going_as : (h : Happening) → finished h ≡ false → None ≡ ended_as h
 going_as (Precisely Went) e = refl
-going_as (Precisely Barriered) e = refl
+going_as (Precisely (Barriered traffic pc regs)) e = refl
 going_as (Precisely (Overflowed at)) e = refl
 going_as (Precisely (Ends end)) e = cc
-going_as Triggered e = refl
-going_as Waited e = refl
+going_as (Triggered value) e = refl
+going_as (Waited adds value bytes) e = refl
 going_as (Reported at) e = refl
 going_as (Lost pc mask) e = cc
 
 -- such a run, by its last step
-pub record Whole (last : Option Seen) (n left : ℕ) (watch : Bool) (old new : WildState) (before after : Telling) (input : Drawn) (out notes : Sunk) : Type 0 where
+pub record Whole (last : Option Seen) (n left : ℕ) (watch : Bool) (old new : WildState) (before after : Telling) (input : Drawn) (out sink : Sunk) : Type 0 where
   pub happened : Happening
-  pub units : ℕ
-  pub ran : WildRan happened units watch old new before after input out notes
+  pub count : ℕ
+  pub ran : WildRan happened count watch old new before after input out sink
   pub last_is : last ≡ ended_as happened
   pub settled : (finished happened || is_none (trap_in new.pending)) ≡ true
-  pub used : units + left ≡ n
+  pub used : count + left ≡ n
   pub full : finished happened ≡ false → left ≡ 0
 
-pub whole : (last : Option Seen) (n left : ℕ) (watch : Bool) (old new : WildState) (before after : Telling) (input : Drawn) (out notes : Sunk)
-    → WildRanAs last n left watch old new before after input out notes → Whole last n left watch old new before after input out notes
-whole None n left watch old new before after input out notes r = record {
+pub whole : (last : Option Seen) (n left : ℕ) (watch : Bool) (old new : WildState) (before after : Telling) (input : Drawn) (out sink : Sunk)
+    → WildRanAs last n left watch old new before after input out sink → Whole last n left watch old new before after input out sink
+whole None n left watch old new before after input out sink r = record {
   happened = r.0;
-  units = n;
+  count = n;
   ran = r.4;
   last_is = going_as r.0 r.1;
   settled = ap (λ (b : Bool). b || is_none (trap_in new.pending)) r.1 ∙ ap (λ (o : Option Pending). is_none (trap_in o)) r.2;
   used = (let none = r.3 in omega arith);
   full = λ e. r.3;
 }
-whole (Some event) n left watch old new before after input out notes r = record {
+whole (Some event) n left watch old new before after input out sink r = record {
   happened = r.0;
-  units = r.1;
+  count = r.1;
   ran = r.5;
   last_is = r.3;
   settled = ap (λ (b : Bool). b || is_none (trap_in new.pending)) r.4;
@@ -88,80 +84,144 @@ whole (Some event) n left watch old new before after input out notes r = record 
   full = λ e. absurd (let no : true ≡ false = sym r.4 ∙ e in cc);
 }
 
--- no more words than its units draw
-draws_most : (w : WildState) (words : List ℕ) (inputs : List (List ℕ)) → w.pending ≡ None
-    → (making_from w [] words inputs).count ≤ most_words (making_from w [] words inputs).run.units
-draws_most w words inputs calm =
-    let g = program_of w.machine in
-    let s = state_of w.machine [] [] in
-    let start : begun_at w [] [] words ≡ begun s None 0 words = ap (λ (p : Option Pending). begun s (trap_in p) (waited_in p) words) calm in
-    subst (λ (k : Making). (run_making_over g inputs k).count ≤ most_words (run_making_over g inputs k).run.units) (sym start) (free_draws g s words inputs)
-
-few : (w new : WildState) (words : List ℕ) (inputs : List (List ℕ)) (n : ℕ) (watch : Bool) (h : Happening) (put lines : List ℕ) (served : KernelState) → w.pending ≡ None
-    → WildStands (program_of w.machine) (making_from w [] (words ++ []) inputs) n watch h put lines [] (length words) new served → length words ≤ most_words n
-few w new words inputs n watch h put lines served calm stands =
-    let draws = draws_most w (words ++ []) inputs calm in
-    let count : (making_from w [] (words ++ []) inputs).count ≡ length words = ap (λ (k : Making). k.count) stands.is in
-    let units : (making_from w [] (words ++ []) inputs).run.units ≡ n = ap (λ (k : Making). k.run.units) stands.is ∙ stands.units in
-    omega (arith, draws, count, units)
-
-module _ (last : Option Seen) (n left : ℕ) (watch : Bool) (old new : WildState) (before after : Telling) (input : Drawn) (out notes : Sunk)
-    (w : Whole last n left watch old new before after input out notes) where
+module _ (last : Option Seen) (n left : ℕ) (watch : Bool) (old new : WildState) (before after : Telling) (input : Drawn) (out sink : Sunk)
+    (w : Whole last n left watch old new before after input out sink) where
   -- it has used its units
-  pub used_all : (from coming : List ℕ) → HasUsed n (making_from old from (w.ran.words ++ coming) w.ran.inputs).run
-  used_all from coming =
-      let stands = w.ran.is from coming in
-      let units = stands.units in
-      let used = w.used in
-      subst (λ (j : Making). HasUsed n j.run) (sym stands.is) (record {
-        settled = ap (λ (h : Happening). finished h || is_none (trap_in new.pending)) stands.last_is ∙ w.settled;
-        most = omega arith;
-        full = λ e. (let none = w.full (ap finished (sym stands.last_is) ∙ e) in omega arith);
-      })
+  pub used_all : HasUsed n w.count (moment_of new w.happened)
+  used_all = record {
+    settled = w.settled;
+    most = omega (arith, w.used);
+    full = λ e. omega (arith, w.used, w.full e);
+  }
 
   pub few_drawn : old.pending ≡ None → length w.ran.words ≤ most_words n
   few_drawn calm =
-      let low = few old new w.ran.words w.ran.inputs w.units watch w.happened w.ran.put w.ran.lines _ calm (w.ran.is [] []) in
-      let used = w.used in
-      omega arith
-
-  -- where the input is told, it is the run that the words make
-  pub told_from : waited_in old.pending ≤ most_waited → (bytes coming : List ℕ) → input.old ≡ Some bytes
-      → making_from old bytes (w.ran.words ++ coming) w.ran.inputs ≡ made (program_of old.machine) (begun_at old bytes [] (w.ran.words ++ coming)) n
-  told_from low bytes coming tells =
       let g = program_of old.machine in
-      let k = begun_at old bytes [] (w.ran.words ++ coming) in
-      let told = (w.ran.told bytes coming tells).0 in
-      told
-      ∙ sym (made_by g k (length w.ran.inputs) n (made_from g k n low refl)
-      (subst (λ (j : Making). HasUsed n j.run) told (used_all bytes coming)))
+      let low = words_most g w.ran.steps (moment_at old) (moment_of new w.happened) (waited_in old.pending) w.ran.words (ap trap_in calm) w.ran.runs w.ran.draws in
+      omega (arith, low, w.ran.used, w.used)
 
-  pub told_all : old.pending ≡ None → (bytes coming : List ℕ) → input.old ≡ Some bytes
-      → making_from old bytes (w.ran.words ++ coming) w.ran.inputs ≡ made (program_of old.machine) (begun_at old bytes [] (w.ran.words ++ coming)) n
-  told_all calm = told_from (calm_waits old.pending calm)
+  -- where an input feeds it, it is the run that the words make over it
+  pub told_from : (bytes coming rest : List ℕ) → Fed bytes (seen w.ran.steps) rest
+      → (waited : ℕ) × (made (program_of old.machine) (begun_at old bytes (w.ran.words ++ coming)) n
+      ≡ making (moment_of new w.happened) w.ran.steps rest w.count waited coming (length w.ran.words))
+  told_from bytes coming rest fed =
+      let g = program_of old.machine in
+      let a = moment_at old in
+      let b = moment_of new w.happened in
+      let hs = w.ran.steps in
+      let wait = waited_in old.pending in
+      let k = begun_at old bytes (w.ran.words ++ coming) in
+      let there = drawn_told g hs k b rest coming w.ran.runs (w.ran.draws coming) fed in
+      let all = words_all g hs a wait w.ran.words coming w.ran.draws in
+      let used : 0 + units g a hs ≡ w.count = omega (arith, w.ran.used) in
+      let drew : 0 + drawn g a wait (w.ran.words ++ coming) hs ≡ length w.ran.words = omega (arith, all) in
+      let is : steps_making g k (length hs) ≡ making b hs rest w.count there.0 coming (length w.ran.words) =
+      there.1 ∙ (ap (λ u. making b hs rest u there.0 coming (0 + drawn g a wait (w.ran.words ++ coming) hs)) used ∙ ap (making b hs rest w.count there.0 coming) drew) in
+      (there.0, made_by g k (length hs) n (made_any g k n refl) (subst (λ (j : Making). HasUsed n j.run.units j.run.at) (sym is) used_all) ∙ is)
 
--- ---- a run that was cut short
+-- ---- a run that goes on
+
+-- whatever the step before was, a run goes on from its state
+module _ (g : Program) (s : State) (p : Option Trap) (x y : Happening) where
+  other_runs : (hs : List Happening) (b : Moment) → finished x ≡ finished y → RunsWild g (moment s p x) hs b
+      → (c : Moment) × RunsWild g (moment s p y) hs c × (c.pending ≡ b.pending) × (finished c.happened ≡ finished b.happened)
+  other_runs [] b same run = (moment s p y, refl, ap (λ (m : Moment). m.pending) run, sym same ∙ ap (λ (m : Moment). finished m.happened) run)
+  other_runs (h ∷ hs) b same run = (b, (sym same ∙ run.0, run.1, run.2), refl, refl)
+
+  other_draws : (hs : List Happening) (waited : ℕ) (words rest : List ℕ) → Draws g (moment s p x) waited words hs rest → Draws g (moment s p y) waited words hs rest
+  other_draws [] waited words rest draws = draws
+  other_draws (h ∷ hs) waited words rest draws = draws
+
+  other_units : (hs : List Happening) → units g (moment s p y) hs ≡ units g (moment s p x) hs
+  other_units [] = refl
+  other_units (h ∷ hs) = refl
+
+-- more steps, that use so many units, or are over before
+pub record More (g : Program) (m : ℕ) (a : Moment) (waited : ℕ) (words : List ℕ) : Type 0 where
+  pub steps : List Happening
+  pub at : Moment
+  pub rest : List ℕ
+  pub runs : RunsWild g a steps at
+  pub draws : Draws g a waited words steps rest
+  pub used : HasUsed m (units g a steps) at
+
+pub more_steps : (g : Program) (m : ℕ) (s : State) (p : Option Trap) (h : Happening) (waited : ℕ) (words : List ℕ) → More g m (moment s p h) waited words
+more_steps g m s p h waited words =
+    ⊎_elim
+    (λ (over : finished h ≡ true). record {
+      steps = [];
+      at = moment s p h;
+      rest = words;
+      runs = refl;
+      draws = refl;
+      used = record {
+        settled = ap (λ b. b || is_none p) over;
+        most = omega arith;
+        full = λ e. absurd (let no : true ≡ false = sym over ∙ e in cc);
+      };
+    })
+    (λ (going : finished h ≡ false).
+    let k = begun s [] p waited words in
+    let j = made g k m in
+    let is = making-made g (moment s p (Precisely Went)) [] words waited k m (begun-made g s [] words p waited) in
+    let u = made_any g k m refl in
+    let o = other_runs g s p (Precisely Went) h j.run.steps j.run.at (sym going) is.runs in
+    let count = other_units g s p (Precisely Went) h j.run.steps in
+    record {
+      steps = j.run.steps;
+      at = o.0;
+      rest = j.words;
+      runs = o.1;
+      draws = other_draws g s p (Precisely Went) h j.run.steps waited words j.words is.draws;
+      used = record {
+        settled = ap (λ b. b || is_none o.0.pending) o.3 ∙ (ap (λ q. finished j.run.at.happened || is_none q) o.2 ∙ u.settled);
+        most = omega (arith, count, is.used, u.most);
+        full = λ e. omega (arith, count, is.used, u.full (sym o.3 ∙ e));
+      };
+    })
+    (cases_Bool (finished h))
+
+pub Draws-append : (g : Program) (xs ys : List Happening) (a b : Moment) (waited : ℕ) (words mid rest : List ℕ) → RunsWild g a xs b → Draws g a waited words xs mid
+    → Draws g b (waits_behind xs waited) mid ys rest → Draws g a waited words (xs ++ ys) rest
+Draws-append g [] ys a b waited words mid rest run one two =
+    subst (λ (m : Moment). Draws g m waited words ys rest) (sym run) (subst (λ l. Draws g b waited l ys rest) (sym one) two)
+Draws-append g (x ∷ xs) ys a b waited words mid rest run one two =
+    (one.0, Draws-append g xs ys (next_wild g a x) b (waited_after x waited) (drop (draw g a.state a.pending waited words).count words) mid rest run.2 one.1 two)
+
+-- ---- fronts of the run that is made
+
+abbrev pub Begins : Making → Making → Type 0
+Begins j k = (more : List Happening) × (k.run.steps ≡ j.run.steps ++ more)
+
+pub begins_then : (i j k : Making) → Begins i j → Begins j k → Begins i k
+begins_then i j k one two = (one.0 ++ two.0, two.1 ∙ (ap (λ l. l ++ two.0) one.1 ∙ append_assoc i.run.steps one.0 two.0))
+
+pub advance_begins : (g : Program) (k : Making) → Begins k (advance_making g k)
+advance_begins g k = by (finished k.run.at.happened)
+  where
+    by : (b : Bool) → Begins k (cond b k (stepped_making g k))
+    by true = ([], sym (append-nil k.run.steps))
+    by false = ((stepped_making g k).run.at.happened ∷ [], refl)
 
 steps_begin : (g : Program) (k : Making) (d : ℕ) → Begins k (steps_making g k d)
-steps_begin g k zero = begins_same k
-steps_begin g k (suc d) =
-    begins_then k (steps_making g k d) (steps_making g k (suc d)) (steps_begin g k d) (advance_begins g (steps_making g k d))
+steps_begin g k zero = ([], sym (append-nil k.run.steps))
+steps_begin g k (suc d) = begins_then k (steps_making g k d) (steps_making g k (suc d)) (steps_begin g k d) (advance_begins g (steps_making g k d))
 
 -- a run that has used so many units makes no step within them
-none_within : (g : Program) (k : Making) (n : ℕ) → HasUsed n k.run → (d : ℕ) → finished (steps_making g k d).run.last ≡ false
-    → (steps_making g k d).run.units + unit_of (steps_making g k d).run.pending ≤ n → k.run.units ≡ k.run.units + 1
-none_within g k n used d going room = by (finished k.run.last) refl d going room
+none_within : (g : Program) (k : Making) (n : ℕ) → HasUsed n k.run.units k.run.at → (d : ℕ) → finished (steps_making g k d).run.at.happened ≡ false
+    → (steps_making g k d).run.units + unit_of (steps_making g k d).run.at.pending ≤ n → k.run.units ≡ k.run.units + 1
+none_within g k n used d going room = by (finished k.run.at.happened) refl d going room
   where
-    calm : finished k.run.last ≡ false → k.run.pending ≡ None
-    calm e = none_of k.run.pending (ap (λ (b : Bool). b || is_none k.run.pending) (sym e) ∙ used.settled)
+    calm : finished k.run.at.happened ≡ false → k.run.at.pending ≡ None
+    calm e = none_of k.run.at.pending (ap (λ (b : Bool). b || is_none k.run.at.pending) (sym e) ∙ used.settled)
 
-    by : (b : Bool) → finished k.run.last ≡ b → (d : ℕ) → finished (steps_making g k d).run.last ≡ false
-        → (steps_making g k d).run.units + unit_of (steps_making g k d).run.pending ≤ n → k.run.units ≡ k.run.units + 1
+    by : (b : Bool) → finished k.run.at.happened ≡ b → (d : ℕ) → finished (steps_making g k d).run.at.happened ≡ false
+        → (steps_making g k d).run.units + unit_of (steps_making g k d).run.at.pending ≤ n → k.run.units ≡ k.run.units + 1
     by true e d going room =
-        let no : true ≡ false = sym e ∙ (ap (λ (j : Making). finished j.run.last) (sym (stays_over g d k e)) ∙ going) in
+        let no : true ≡ false = sym e ∙ (ap (λ (j : Making). finished j.run.at.happened) (sym (stays_over g d k e)) ∙ going) in
         cc
     by false e zero going room =
-        let one : unit_of k.run.pending ≡ 1 = ap unit_of (calm e) in
+        let one : unit_of k.run.at.pending ≡ 1 = ap unit_of (calm e) in
         let full = used.full e in
         omega arith
     by false e (suc d) going room =
@@ -169,97 +229,139 @@ none_within g k n used d going room = by (finished k.run.last) refl d going room
         ap (λ (j : Making). j.run.units) (advance-going g k e) ∙ ap (λ (p : Option Trap). k.run.units + unit_of p) (calm e) in
         let full = used.full e in
         let grows = units_grow g d (advance_making g k) in
-        let more : (steps_making g (advance_making g k) d).run.units ≡ (steps_making g k (suc d)).run.units = ap (λ (j : Making). j.run.units) (first_step g k d) in
+        let more : (steps_making g (advance_making g k) d).run.units ≡ (steps_making g k (suc d)).run.units = ap (λ (j : Making). j.run.units) (steps-first g k d) in
         omega arith
 
 -- a run whose next step is within so many units begins the one that uses them
-step_begins : (g : Program) (k : Making) (m n : ℕ) → HasUsed n (made g k n).run → finished (steps_making g k m).run.last ≡ false
-    → (steps_making g k m).run.units + unit_of (steps_making g k m).run.pending ≤ n → Begins (steps_making g k (suc m)) (made g k n)
+step_begins : (g : Program) (k : Making) (m n : ℕ) → HasUsed n (made g k n).run.units (made g k n).run.at → finished (steps_making g k m).run.at.happened ≡ false
+    → (steps_making g k m).run.units + unit_of (steps_making g k m).run.at.pending ≤ n → Begins (steps_making g k (suc m)) (made g k n)
 step_begins g k m n whole going room =
     let within = pending_takes g k n in
     let s = within.steps in
-    let used : HasUsed n (steps_making g k s).run = subst (λ (j : Making). HasUsed n j.run) (sym within.reached) whole in
+    let used : HasUsed n (steps_making g k s).run.units (steps_making g k s).run.at = subst (λ (j : Making). HasUsed n j.run.units j.run.at) (sym within.reached) whole in
     ⊎_elim
     (λ (late : s < suc m).
-    let same : steps_making g (steps_making g k s) (m - s) ≡ steps_making g k m = then_steps g k s (m - s) ∙ ap (steps_making g k) (let e : (m - s) + s ≡ m = omega arith in e) in
-    let no = none_within g (steps_making g k s) n used (m - s) (ap (λ (j : Making). finished j.run.last) same ∙ going)
-    (subst (λ (j : Making). j.run.units + unit_of j.run.pending ≤ n) (sym same) room) in
+    let same : steps_making g (steps_making g k s) (m - s) ≡ steps_making g k m = steps-then g k s (m - s) ∙ ap (steps_making g k) (let e : (m - s) + s ≡ m = omega arith in e) in
+    let no = none_within g (steps_making g k s) n used (m - s) (ap (λ (j : Making). finished j.run.at.happened) same ∙ going)
+    (subst (λ (j : Making). j.run.units + unit_of j.run.at.pending ≤ n) (sym same) room) in
     absurd (omega (arith, no)))
     (λ (soon : suc m ≤ s).
     let same : steps_making g (steps_making g k (suc m)) (s - suc m) ≡ steps_making g k s =
-    then_steps g k (suc m) (s - suc m) ∙ ap (steps_making g k) (let e : (s - suc m) + suc m ≡ s = omega arith in e) in
+    steps-then g k (suc m) (s - suc m) ∙ ap (steps_making g k) (let e : (s - suc m) + suc m ≡ s = omega arith in e) in
     subst (Begins (steps_making g k (suc m))) (same ∙ within.reached) (steps_begin g (steps_making g k (suc m)) (s - suc m)))
     (cases_lt s (suc m))
 
-module _ (fault : Fault) (n : ℕ) (watch : Bool) (old : WildState) {new : WildState} (before after : Telling) (input : Drawn) (out notes : Sunk)
-    (cut : WildCut fault n watch old new before after input out notes) where
-  -- fronts of what some run of all its units shows were written
-  pub cut_any : (coming : List ℕ) → IsFrontBy n watch old (cut.drawn ++ coming) out notes
-  cut_any coming =
-      let g = program_of old.machine in
-      let words = cut.drawn ++ coming in
-      let all = cut.inputs ++ cut.next ∷ [] in
-      let k = making_from old [] words all in
-      let stands = cut.then [] coming in
-      let units : k.run.units ≡ cut.units + cut.more = ap (λ (j : Making). j.run.units) stands.is ∙ stands.units in
-      let room = cut.room in
-      let most : k.run.units ≤ n = omega arith in
-      let rest = filled g n _ k most (lt-suc_self _) in
-      let to = run_making_over g rest.inputs k in
-      let same : making_from old [] words (all ++ rest.inputs) ≡ to = append-making g all rest.inputs (begun_at old [] [] words) in
-      record {
-        inputs = all ++ rest.inputs;
-        used = subst (λ (j : Making). HasUsed n j.run) (sym same) rest.used;
-        bytes = subst (λ (j : Making). WritesPrefix out.old out.new j.run.state.outside.output) (sym same)
-            (front out.old out.new cut.put cut.put' to.run.state.outside.output cut.output
-            (subst (λ (l : List ℕ). Grows l to.run.state.outside.output) (ap (λ (j : Making). j.run.state.outside.output) stands.is) rest.begins.output));
-        lines = subst (λ (j : Making). WritesPrefix notes.old notes.new (notes_of watch j.run.trace)) (sym same)
-            (front notes.old notes.new cut.lines cut.lines' (notes_of watch to.run.trace) cut.noted
-            (subst (λ (l : List ℕ). Grows l (notes_of watch to.run.trace)) (ap (λ (j : Making). notes_of watch j.run.trace) stands.is ∙ stands.notes)
-            (notes-grow watch k.run.trace to.run.trace rest.begins.trace)));
-      }
+-- ---- a run that was cut short
 
-  pub few_cut : old.pending ≡ None → length cut.drawn ≤ most_words n
-  few_cut calm =
-      let low = few old cut.would cut.drawn (cut.inputs ++ cut.next ∷ []) (cut.units + cut.more) watch cut.happened cut.put' cut.lines' _ calm (cut.then [] []) in
-      let room = cut.room in
-      omega arith
+module _ (fault : Fault) (n : ℕ) (watch : Bool) (old : WildState) {new : WildState} (before after : Telling) (input : Drawn) (out sink : Sunk)
+    (cut : WildCut fault n watch old new before after input out sink) where
+  -- the steps that were made and the one that was cut short, and their words
+  abbrev pub all : List Happening
+  all = cut.steps ++ cut.step.by.happened ∷ []
 
-  -- where the input is told, of what the run that the words make shows
-  pub cut_from : waited_in old.pending ≤ most_waited → (bytes coming : List ℕ) → input.old ≡ Some bytes
-      → let to = made (program_of old.machine) (begun_at old bytes [] (cut.drawn ++ coming)) n in
-      WritesPrefix out.old out.new to.run.state.outside.output × WritesPrefix notes.old notes.new (notes_of watch to.run.trace)
-  cut_from low bytes coming tells =
+  abbrev pub all_words : List ℕ
+  all_words = cut.words ++ cut.print.words
+
+  abbrev pub behind : Moment
+  behind = moment_of cut.would cut.step.by.happened
+
+  pub runs : RunsWild (program_of old.machine) (moment_at old) all behind
+  runs =
       let g = program_of old.machine in
-      let k = begun_at old bytes [] (cut.drawn ++ coming) in
-      let m = length cut.inputs in
-      let split = cut.split coming in
-      let told = cut.told bytes (cut.print.words ++ coming) tells in
-      let first = cut.is bytes (cut.print.words ++ coming) in
-      let q = making_from old bytes (cut.drawn ++ coming) cut.inputs in
-      let here : q ≡ making_from old bytes (cut.words ++ (cut.print.words ++ coming)) cut.inputs = ap (λ (l : List ℕ). making_from old bytes l cut.inputs) split in
-      let there : q ≡ steps_making g k m = here ∙ (told.0 ∙ ap (λ (l : List ℕ). steps_making g (begun_at old bytes [] l) m) (sym split)) in
-      let one : making_from old bytes (cut.drawn ++ coming) (cut.inputs ++ cut.next ∷ []) ≡ steps_making g k (suc m) =
-      run_making-last g cut.inputs cut.next k
-      ∙ (ap (advance_making_over g q) (told.1 ∙ ap (λ (j : Making). j.run.state.outside.input) (sym here))
-      ∙ (own-input g q
-      ∙ ap (advance_making g) there)) in
-      let at = sym there ∙ (here ∙ first.is) in
-      let units = first.units in
-      let uses = cut.uses in
-      let room = cut.room in
-      let begins = step_begins g k m n (made_from g k n low refl) (ap (λ (j : Making). finished j.run.last) at ∙ (ap finished first.last_is ∙ cut.going))
-      (subst (λ (j : Making). j.run.units + unit_of j.run.pending ≤ n) (sym at) (let low : first.run.units + unit_of (trap_in cut.mid.pending) ≤ n = omega arith in low)) in
-      let stands = cut.then bytes coming in
-      let to = made g k n in (
-        front out.old out.new cut.put cut.put' to.run.state.outside.output cut.output
-            (subst (λ (l : List ℕ). Grows l to.run.state.outside.output) (ap (λ (j : Making). j.run.state.outside.output) (sym one ∙ stands.is)) begins.output),
-        front notes.old notes.new cut.lines cut.lines' (notes_of watch to.run.trace) cut.noted
-            (subst (λ (l : List ℕ). Grows l (notes_of watch to.run.trace)) (ap (λ (j : Making). notes_of watch j.run.trace) (sym one ∙ stands.is) ∙ stands.notes)
-            (notes-grow watch (steps_making g k (suc m)).run.trace to.run.trace begins.trace)),
+      let h = cut.step.by.happened in
+      let is = step_is g cut.print cut.mid cut.would cut.program cut.step cut.last in
+      RunsWild-append g cut.steps (h ∷ []) (moment_at old) (moment_of cut.mid cut.last) behind cut.runs (cut.going, ap (λ (m : Moment). m.happened) is, is)
+
+  pub draws : (coming : List ℕ) → Draws (program_of old.machine) (moment_at old) (waited_in old.pending) (all_words ++ coming) all coming
+  draws coming =
+      let g = program_of old.machine in
+      let h = cut.step.by.happened in
+      let rest = cut.print.words ++ coming in
+      let one = Draws-last g cut.steps (moment_at old) (moment_of cut.mid cut.last) (waited_in old.pending) (waited_in cut.mid.pending) (cut.words ++ rest) rest h cut.runs (cut.draws rest)
+      (sym cut.waited) (step_chosen g cut.print cut.mid cut.would cut.program cut.step coming) in
+      subst (λ l. Draws g (moment_at old) (waited_in old.pending) l all coming) (sym (append_assoc cut.words cut.print.words coming))
+      (subst (λ l. Draws g (moment_at old) (waited_in old.pending) (cut.words ++ rest) all l) (step_drops g cut.print cut.mid cut.would cut.program cut.step coming) one)
+
+  count : units (program_of old.machine) (moment_at old) all ≡ units (program_of old.machine) (moment_at old) cut.steps + unit_of (trap_in cut.mid.pending)
+  count =
+      let g = program_of old.machine in
+      let e = units-append g cut.steps (cut.step.by.happened ∷ []) (moment_at old) (moment_of cut.mid cut.last) cut.runs in omega (arith, e)
+
+  waits : waited_in cut.would.pending ≡ waits_behind all (waited_in old.pending)
+  waits =
+      let h = cut.step.by.happened in
+      cut.step.by.waited ∙ (ap (waited_after h) cut.waited ∙ sym (waits-last (program_of old.machine) cut.steps (waited_in old.pending) h))
+
+  pub seen_all : seen all ≡ seen cut.steps ++ cut.print.seen
+  seen_all =
+      seen-append cut.steps (cut.step.by.happened ∷ [])
+      ∙ ap (λ (l : List Event). seen cut.steps ++ l) (append-nil (seen_of cut.step.by.happened) ∙ sym cut.step.by.seen)
+
+  -- what feeds them all
+  pub all_fed : (bytes : List ℕ) → input.old ≡ Some bytes → (rest : List ℕ) × Fed bytes (seen all) rest
+  all_fed bytes tells =
+      let first = cut.told bytes tells in
+      let last = cut.would_feed first.0 first.2 in (
+        last.0,
+        subst (λ (l : List Event). Fed bytes l last.0) (sym seen_all) (Fed-append bytes first.0 last.0 (seen cut.steps) cut.print.seen first.1 last.1),
       )
 
-  pub cut_told : old.pending ≡ None → (bytes coming : List ℕ) → input.old ≡ Some bytes
-      → let to = made (program_of old.machine) (begun_at old bytes [] (cut.drawn ++ coming)) n in
-      WritesPrefix out.old out.new to.run.state.outside.output × WritesPrefix notes.old notes.new (notes_of watch to.run.trace)
-  cut_told calm = cut_from (calm_waits old.pending calm)
+  -- what more steps show begins with what was written
+  pub fronts : (more hs : List Happening) → hs ≡ all ++ more → WritesPrefix out.old out.new (output (seen hs)) × WritesPrefix sink.old sink.new (notes watch (seen hs))
+  fronts more hs is =
+      let e : seen hs ≡ (seen cut.steps ++ cut.print.seen) ++ seen more = ap seen is ∙ (seen-append all more ∙ ap (λ (l : List Event). l ++ seen more) seen_all) in (
+        front out.old out.new (output (seen cut.steps)) (output (seen cut.steps ++ cut.print.seen)) (output (seen more)) (output (seen hs)) cut.bytes
+            (ap output e ∙ output-append (seen cut.steps ++ cut.print.seen) (seen more)),
+        front sink.old sink.new (notes watch (seen cut.steps)) (notes watch (seen cut.steps ++ cut.print.seen)) (notes watch (seen more)) (notes watch (seen hs)) cut.lines
+            (ap (notes watch) e ∙ notes-append watch (seen cut.steps ++ cut.print.seen) (seen more)),
+      )
+
+  -- fronts of what some run of all its units shows were written
+  pub cut_any : (coming : List ℕ) → IsFrontBy n watch old (all_words ++ coming) out sink
+  cut_any coming =
+      let g = program_of old.machine in
+      let a = moment_at old in
+      let rest = more_steps g (n - units g a all) (state_of cut.would.machine) (trap_in cut.would.pending) cut.step.by.happened (waited_in cut.would.pending) coming in
+      let both = units-append g all rest.steps a behind runs in
+      let written = fronts rest.steps (all ++ rest.steps) refl in
+      record {
+        steps = all ++ rest.steps;
+        at = rest.at;
+        rest = rest.rest;
+        runs = RunsWild-append g all rest.steps a behind rest.at runs rest.runs;
+        draws = Draws-append g all rest.steps a behind (waited_in old.pending) (all_words ++ coming) coming rest.rest runs (draws coming)
+            (subst (λ k. Draws g behind k coming rest.steps rest.rest) waits rest.draws);
+        used = record {
+          settled = rest.used.settled;
+          most = omega (arith, both, count, cut.room, rest.used.most);
+          full = λ e. omega (arith, both, count, cut.room, rest.used.full e);
+        };
+        bytes = written.0;
+        lines = written.1;
+      }
+
+  pub few_cut : old.pending ≡ None → length all_words ≤ most_words n
+  few_cut calm =
+      let low = words_most (program_of old.machine) all (moment_at old) behind (waited_in old.pending) all_words (ap trap_in calm) runs draws in
+      omega (arith, low, count, cut.room)
+
+  -- where the input is told, of what the run that the words make shows
+  pub cut_from : (bytes coming : List ℕ) → input.old ≡ Some bytes
+      → let to = made (program_of old.machine) (begun_at old bytes (all_words ++ coming)) n in
+      WritesPrefix out.old out.new (output (seen to.run.steps)) × WritesPrefix sink.old sink.new (notes watch (seen to.run.steps))
+  cut_from bytes coming tells =
+      let g = program_of old.machine in
+      let a = moment_at old in
+      let k = begun_at old bytes (all_words ++ coming) in
+      let m = length cut.steps in
+      let first = cut.told bytes tells in
+      let fed = all_fed bytes tells in
+      let there = drawn_told g all k behind fed.0 coming runs (draws coming) fed.1 in
+      let drew = subst (λ l. Draws g a (waited_in old.pending) l cut.steps (cut.print.words ++ coming)) (sym (append_assoc cut.words cut.print.words coming)) (cut.draws (cut.print.words ++ coming)) in
+      let here = drawn_told g cut.steps k (moment_of cut.mid cut.last) first.0 (cut.print.words ++ coming) cut.runs drew first.1 in
+      let low : 0 + units g a cut.steps + unit_of (trap_in cut.mid.pending) ≤ n = omega (arith, cut.room) in
+      let begins = step_begins g k m n (made_any g k n refl) (ap (λ (j : Making). finished j.run.at.happened) here.1 ∙ cut.going)
+      (subst (λ (j : Making). j.run.units + unit_of j.run.at.pending ≤ n) (sym here.1) low) in
+      let size : suc m ≡ length all = omega (arith, length-append cut.steps (cut.step.by.happened ∷ [])) in
+      let same : (steps_making g k (suc m)).run.steps ≡ all = ap (λ i. (steps_making g k i).run.steps) size ∙ ap (λ (j : Making). j.run.steps) there.1 in
+      fronts begins.0 (made g k n).run.steps (begins.1 ∙ ap (λ l. l ++ begins.0) same)

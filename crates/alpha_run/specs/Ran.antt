@@ -5,15 +5,15 @@ use Rattle.std.specs.Io.KnownBytes.{Appends}
 use Rattle.alpha_io.specs.Sunk.{Sunk, Puts}
 use Rattle.alpha_io.specs.Written.{WritesPrefix}
 use Rattle.alpha_seq.specs.declared.machine.Machine.{Machine}
-use Rattle.alpha_seq.specs.Devices.{Drawn, Idles, drawn_from, sunk_from}
-use Rattle.alpha_seq.specs.Inputs.{WritesBetween}
+use Rattle.alpha_seq.specs.Run.{output}
+use Rattle.alpha_seq.specs.Devices.{Drawn, LeavesEnd, Feeds, WouldFeed, WritesBetween, Idles, drawn_from, sunk_from}
 use Rattle.alpha_imprecise.specs.Telling.{Telling, Moves}
 use Rattle.alpha_seq.specs.declared.event.Event.{Event}
 use Rattle.alpha_pal.specs.declared.fault.Fault.{Fault}
 use Rattle.alpha_pal.specs.declared.fault.Fault.TheVariants as faults
 use Rattle.alpha_seq.specs.Print.{Print, is_over}
-use Rattle.alpha_run.specs.Row.{Row, AreGoing, AreWent, Rushed, words_of, bytes_of, units_of, Feeds, lines_by, seen_by, Unstopped}
-use Rattle.alpha_seq.specs.StepEffect.{Finds, FindsPart, Causes}
+use Rattle.alpha_run.specs.Row.{Row, AreGoing, AreWent, Rushed, words_of, events_of, units_of, lines_by, seen_by, Unstopped}
+use Rattle.alpha_seq.specs.StepEffect.{Causes}
 
 -- How an observer goes on, what it writes, and where it stops the run.
 pub record Watching (O : Type 0) : Type 0 where
@@ -31,31 +31,35 @@ ends_at w o event m = w.stops o event m || is_over event
 -- An observer that has passed over so many steps that only went on is as if it had seen each: it writes no line of them, and
 -- stops behind none.
 abbrev pub PassesOver : {O : Type 0} → Watching O → ℕ → O → O → Type 0
-PassesOver w n old new = (left : List ℕ) (prints : List Print) → AreWent left prints → length prints ≡ n
+PassesOver w n old new = (prints : List Print) → AreWent prints → length prints ≡ n
     → (new ≡ seen_by w.after old prints) × (lines_by w.after w.lines old prints ≡ []) × Unstopped w.after w.stops old prints
 
--- What steps did to the devices: each word drawn, each byte put and each line, and where the input is told, each step found
--- what was left of it.
+-- What steps did to the devices: each word drawn, each byte put and each line, and where the input is told, they read it.
 pub record Did {O : Type 0} (w : Watching O) (from to : O) (ps : List Print) (before after : Telling) (input : Drawn) (out notes : Sunk) : Type 0 where
   pub seen : to ≡ seen_by w.after from ps
   pub drew : Moves before after (flat_map words_of ps)
-  pub fed : Feeds input.old ps input.new
+  pub fed : Feeds input (events_of ps)
   pub same : input.now ≡ input.before
-  pub wrote : Puts out (flat_map bytes_of ps)
+  pub wrote : Puts out (output (events_of ps))
   pub lines : Puts notes (lines_by w.after w.lines from ps)
+
+-- what was done to an input of which this was left
+abbrev pub drawn_to : Drawn → Option (List ℕ) → Drawn
+drawn_to d left = record d { new = left }
 
 -- What they did where a device's fault cut the last one short: all of the first, and of the last a front. Before that one
 -- this was left of the input, and this was written to the output and to the notes.
 pub record DidPart {O : Type 0} (w : Watching O) (from : O) (ps : List Print) (p : Print) (before after : Telling) (input : Drawn) (out notes : Sunk) : Type 0 where
   pub drew : Moves before after (flat_map words_of (ps ++ p ∷ []))
   pub left : Option (List ℕ)
-  pub fed : Feeds input.old ps left
-  pub found : FindsPart left input.new p
+  pub fed : Feeds (drawn_to input left) (events_of ps)
+  pub would_feed : WouldFeed (drawn_from input left input.before) p.seen
+  pub leaves_end : LeavesEnd (drawn_from input left input.before)
   pub written : Option (List ℕ)
-  pub wrote : Appends out.old written (flat_map bytes_of ps)
+  pub wrote : Appends out.old written (output (events_of ps))
   pub noted : Option (List ℕ)
   pub notes_are : Appends notes.old noted (lines_by w.after w.lines from ps)
-  pub output : WritesBetween out.old out.new (flat_map bytes_of ps) (flat_map bytes_of (ps ++ p ∷ []))
+  pub bytes : WritesBetween out.old out.new (output (events_of ps)) (output (events_of ps ++ p.seen))
   pub lines : WritesBetween notes.old notes.new (lines_by w.after w.lines from ps) (lines_by w.after w.lines from (ps ++ p ∷ []))
 
 -- ---- what a fault leaves
@@ -63,8 +67,8 @@ pub record DidPart {O : Type 0} (w : Watching O) (from : O) (ps : List Print) (p
 -- a step was made: all that it puts was put, and of the input is left what it leaves
 pub record StepMade {M : Type 0} (p : Print) (would new : M) (input : Drawn) (out : Sunk) : Type 0 where
   pub is : new ≡ would
-  pub found : Finds input.old input.new p
-  pub wrote : Puts out p.bytes
+  pub fed : Feeds input p.seen
+  pub wrote : Puts out (output p.seen)
 
 -- What a fault leaves of a machine whose step it cut short, by what it leaves of a step and by the machine to which the step
 -- leads. Where the notes failed, the step was made; else nothing was noted of it.
@@ -93,8 +97,9 @@ pub record Slips {M O : Type 0} (goes : M → Print → M → Type 0) (uses : M 
   pub is : goes old print would
   pub units : print.units ≡ uses old
   pub drew : Moves before after print.words
-  pub found : FindsPart input.old input.new print
-  pub output : WritesPrefix out.old out.new print.bytes
+  pub would_feed : WouldFeed input print.seen
+  pub leaves_end : LeavesEnd input
+  pub bytes : WritesPrefix out.old out.new (output print.seen)
   pub lines : WritesPrefix notes.old notes.new (w.lines from print.event print.core)
   pub behind : Behind leaves fault print old would new input out notes
   pub cause : Causes fault input out notes

@@ -1,9 +1,11 @@
 -- Steps in a row, and what an observer writes of them.
-use Rattle.std.specs.Prelude.{◌≡◌, ⊤, ℕ, ◌+◌, Bool, false, List, [], ◌∷◌, ◌++◌, length, Option, Some, None}
+use Rattle.std.specs.Prelude.{◌≡◌, ⊤, ℕ, ◌+◌, Bool, false, List, [], ◌∷◌, ◌++◌, length}
+use Rattle.std.specs.List.{flat_map}
 use Rattle.alpha_seq.specs.declared.machine.Machine.{Machine}
 use Rattle.alpha_seq.specs.declared.event.Event.{Event}
 use Rattle.alpha_seq.specs.declared.event.Event.TheVariants as events
-use Rattle.alpha_seq.specs.Print.{Print, is_over, found_by}
+use Rattle.alpha_seq.specs.State.{Event as Happened, Went}
+use Rattle.alpha_seq.specs.Print.{Print, is_over}
 
 -- from one machine to another by these steps
 abbrev pub Row : {M : Type 0} → (M → Print → M → Type 0) → M → List Print → M → Type 0
@@ -15,39 +17,35 @@ abbrev pub AreGoing : List Print → Type 0
 AreGoing [] = ⊤
 AreGoing (p ∷ ps) = (is_over p.event ≡ false) × AreGoing ps
 
--- a step that only went on over this input: it used a unit, and drew, took and put nothing
-pub record OnlyWent (left : List ℕ) (p : Print) : Type 0 where
+-- a step that only went on: it used a unit and drew no word, and nothing passed in it
+pub record OnlyWent (p : Print) : Type 0 where
   pub event : p.event ≡ events.Went
   pub units : p.units ≡ 1
   pub words : p.words ≡ []
-  pub taken : p.taken ≡ []
-  pub rest : p.rest ≡ left
-  pub bytes : p.bytes ≡ []
+  pub seen : p.seen ≡ Went ∷ []
 
-abbrev pub AreWent : List ℕ → List Print → Type 0
-AreWent left [] = ⊤
-AreWent left (p ∷ ps) = OnlyWent left p × AreWent left ps
+abbrev pub AreWent : List Print → Type 0
+AreWent [] = ⊤
+AreWent (p ∷ ps) = OnlyWent p × AreWent ps
 
--- from one machine to another by so many steps that only went on, over any input
+-- from one machine to another by so many steps that only went on
 abbrev pub Rushed : {M : Type 0} → (M → Print → M → Type 0) → ℕ → M → M → Type 0
-Rushed goes n old new = (left : List ℕ) → (prints : List Print) × Row goes old prints new × AreWent left prints × (length prints ≡ n)
+Rushed goes n old new = (prints : List Print) × Row goes old prints new × AreWent prints × (length prints ≡ n)
 
 abbrev pub words_of : Print → List ℕ
 words_of p = p.words
 
-abbrev pub bytes_of : Print → List ℕ
-bytes_of p = p.bytes
+abbrev pub events_in : Print → List Happened
+events_in p = p.seen
+
+-- all that was seen of them
+abbrev pub events_of : List Print → List Happened
+events_of ps = flat_map events_in ps
 
 -- the units that they used
 abbrev pub units_of : List Print → ℕ
 units_of [] = 0
 units_of (p ∷ ps) = p.units + units_of ps
-
--- Where the input is told, each step found what was left of it, and this is left.
-abbrev pub Feeds : Option (List ℕ) → List Print → Option (List ℕ) → Type 0
-Feeds None ps new = ⊤
-Feeds (Some left) [] new = new ≡ Some left
-Feeds (Some left) (p ∷ ps) new = (left ≡ found_by p) × Feeds (Some p.rest) ps new
 
 -- the lines that an observer writes of them, and what it is behind them
 abbrev pub lines_by : {O : Type 0} → (O → Event → Machine → O) → (O → Event → Machine → List ℕ) → O → List Print → List ℕ

@@ -1,29 +1,25 @@
 -- What a run shows, by its answer.
-use Rattle.std.specs.Prelude.{◌≡◌, ⊤, ℕ, Bool, List, [], ◌++◌, length, Option, Some, None, Result, IfOk}
+use Rattle.std.specs.Prelude.{◌≡◌, ⊤, ℕ, Bool, List, ◌++◌, length, Option, Some, Result, IfOk}
 use Rattle.alpha_io.specs.Sunk.{Sunk, Puts}
 use Rattle.alpha_io.specs.Written.{WritesPrefix}
 use Rattle.alpha_seq.specs.declared.machine.Machine.{Machine}
-use Rattle.alpha_seq.specs.declared.end.End.{End}
 use Rattle.alpha_seq.specs.declared.event.Event.{Event}
 use Rattle.alpha_seq.specs.declared.event.Event.TheVariants as events
 use Rattle.alpha_pal.specs.declared.fault.Fault.{Fault}
-use Rattle.alpha_seq.specs.Run.{Shown, after, notes_of, shown, sequential}
+use Rattle.alpha_seq.specs.Run.{Shown, output, notes, after, shown, sequential}
 use Rattle.alpha_seq.specs.Machine.{program_of, state_of}
 use Rattle.alpha_seq.specs.Devices.{Drawn}
+use Rattle.alpha_imprecise.specs.Run.{seen}
 use Rattle.alpha_imprecise.specs.Made.{Making, made}
 use Rattle.alpha_imprecise.specs.Telling.{Telling, Moves}
 use Rattle.alpha_imprecise.specs.Wild.{WildState, trap_in, begun_at}
+use Rattle.alpha_run.specs.SeqRun.{ended_by}
 use Rattle.alpha_run.specs.WildRan.{ended_as}
 
 -- the run didn't end by a trap that is lost
 abbrev pub LosesNone : Option Event → Type 0
 LosesNone (Some (events.Lost pc mask)) = ⊥
 LosesNone _ = ⊤
-
--- the answer of a run by how the program ended, if it has
-abbrev pub ended_by : Option End → Option Event
-ended_by None = None
-ended_by (Some end) = Some (events.Ended end)
 
 -- the answer, the bytes put, the bytes left and the lines are those that a run shows
 pub record Shows (s : Shown) (last : Option Event) (input : Drawn) (out notes : Sunk) : Type 0 where
@@ -49,31 +45,31 @@ pub record ShowsSequential (n : ℕ) (watch : Bool) (bytes : List ℕ) (answer :
 
 -- what the definition's run of so many steps from here shows, over this input
 abbrev pub shown_from : Machine → List ℕ → ℕ → Bool → Shown
-shown_from m input n watch = shown watch (after (program_of m) (state_of m input []) n)
+shown_from m input n watch = shown watch (after (program_of m) (state_of m) input n)
 
 -- a run that words make came to where the machine stands, and this is what it shows
-pub record IsMade (k : Making) (last : Option Event) (watch : Bool) (new : WildState) (input : Drawn) (out notes : Sunk) : Type 0 where
-  pub last_is : last ≡ ended_as k.run.last
-  pub state : k.run.state ≡ state_of new.machine k.run.state.outside.input k.run.state.outside.output
-  pub pending : k.run.pending ≡ trap_in new.pending
-  pub bytes : Puts out k.run.state.outside.output
-  pub left : input.new ≡ Some k.run.state.outside.input
-  pub lines : Puts notes (notes_of watch k.run.trace)
+pub record IsMade (k : Making) (last : Option Event) (watch : Bool) (new : WildState) (input : Drawn) (out sink : Sunk) : Type 0 where
+  pub last_is : last ≡ ended_as k.run.at.happened
+  pub state : k.run.at.state ≡ state_of new.machine
+  pub pending : k.run.at.pending ≡ trap_in new.pending
+  pub bytes : Puts out (output (seen k.run.steps))
+  pub left : input.new ≡ Some k.run.left
+  pub lines : Puts sink (notes watch (seen k.run.steps))
 
 -- the run of so many units over this input, by the words that the chooser went on by, whatever comes behind them; these are
 -- all that it draws
 pub record ShowsMade (n : ℕ) (watch : Bool) (bytes : List ℕ) (last : Option Event) (old new : WildState) (before after : Telling)
-    (input : Drawn) (out notes : Sunk) : Type 0 where
+    (input : Drawn) (out sink : Sunk) : Type 0 where
   pub words : List ℕ
   pub drew : Moves before after words
-  pub is : (coming : List ℕ) → IsMade (made (program_of old.machine) (begun_at old bytes [] (words ++ coming)) n) last watch new input out notes
-  pub count : (coming : List ℕ) → (made (program_of old.machine) (begun_at old bytes [] (words ++ coming)) n).count ≡ length words
+  pub is : (coming : List ℕ) → IsMade (made (program_of old.machine) (begun_at old bytes (words ++ coming)) n) last watch new input out sink
+  pub count : (coming : List ℕ) → (made (program_of old.machine) (begun_at old bytes (words ++ coming)) n).count ≡ length words
 
 -- prefixes of what that run shows were written
-pub record ShowsMadePart (n : ℕ) (watch : Bool) (bytes : List ℕ) (old : WildState) (before after : Telling) (out notes : Sunk) : Type 0 where
+pub record ShowsMadePart (n : ℕ) (watch : Bool) (bytes : List ℕ) (old : WildState) (before after : Telling) (out sink : Sunk) : Type 0 where
   pub words : List ℕ
   pub drew : Moves before after words
   pub bytes_part : (coming : List ℕ)
-      → WritesPrefix out.old out.new (made (program_of old.machine) (begun_at old bytes [] (words ++ coming)) n).run.state.outside.output
+      → WritesPrefix out.old out.new (output (seen (made (program_of old.machine) (begun_at old bytes (words ++ coming)) n).run.steps))
   pub lines_part : (coming : List ℕ)
-      → WritesPrefix notes.old notes.new (notes_of watch (made (program_of old.machine) (begun_at old bytes [] (words ++ coming)) n).run.trace)
+      → WritesPrefix sink.old sink.new (notes watch (seen (made (program_of old.machine) (begun_at old bytes (words ++ coming)) n).run.steps))

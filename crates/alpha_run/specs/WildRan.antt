@@ -1,59 +1,52 @@
--- What a run of the imprecise machine did, by the definition's runs.
-use Rattle.std.specs.Prelude.{◌≡◌, ◌≤◌, ◌+◌, ℕ, Bool, true, false, List, [], ◌∷◌, ◌++◌, length, Option, Some, None}
-use Rattle.alpha_pal.specs.Kernel.{KernelState}
+-- What a run of the imprecise machine did, as a run of the definition.
+use Rattle.std.specs.Prelude.{◌≡◌, ◌≤◌, ◌+◌, ℕ, Bool, true, false, List, [], ◌∷◌, ◌++◌, Option, Some, None}
 use Rattle.std.specs.Io.KnownBytes.{Appends}
 use Rattle.alpha_io.specs.Sunk.{Sunk, Puts}
-use Rattle.alpha_seq.specs.State.{Program, Ends}
-use Rattle.alpha_seq.specs.Run.{notes_of}
-use Rattle.alpha_seq.specs.Machine.{program_of}
-use Rattle.alpha_seq.specs.Devices.{Drawn, LeavesEnd, drawn_from, sunk_from}
-use Rattle.alpha_seq.specs.Inputs.{WritesBetween}
-use Rattle.alpha_imprecise.specs.Moment.{Happening, Precisely, Lost}
-use Rattle.alpha_imprecise.specs.Run.{WildRun, finished, unit_of}
-use Rattle.alpha_imprecise.specs.Made.{Making, steps_making}
-use Rattle.alpha_imprecise.specs.Telling.{Telling, Moves}
-use Rattle.alpha_imprecise.specs.Wild.{WildState, trap_in, begun_at, making_at}
-use Rattle.alpha_imprecise.specs.Free.{run_making_over, kernel_making_over}
+use Rattle.alpha_pal.specs.Kernel.{KernelState}
+use Rattle.alpha_pal.specs.declared.fault.Fault.{Fault}
 use Rattle.alpha_seq.specs.declared.event.Event.{Event}
 use Rattle.alpha_seq.specs.declared.event.Event.TheVariants as events
-use Rattle.alpha_pal.specs.declared.fault.Fault.{Fault}
-use Rattle.alpha_seq.specs.Print.{Print, found_by}
+use Rattle.alpha_seq.specs.State.{Program, Went, Ends}
+use Rattle.alpha_seq.specs.Step.{next_class}
+use Rattle.alpha_seq.specs.Run.{output, notes}
+use Rattle.alpha_seq.specs.Machine.{program_of}
+use Rattle.alpha_seq.specs.Devices.{Drawn, LeavesEnd, Feeds, WouldFeed, WritesBetween, drawn_from, sunk_from}
+use Rattle.alpha_seq.specs.Print.{Print}
 use Rattle.alpha_seq.specs.StepEffect.{Causes}
+use Rattle.alpha_imprecise.specs.Moment.{Happening, Precisely, Lost, Moment}
+use Rattle.alpha_imprecise.specs.Run.{finished, seen, next_wild, RunsWild, unit_of, units}
+use Rattle.alpha_imprecise.specs.Chosen.{waits_behind, Draws}
+use Rattle.alpha_imprecise.specs.Telling.{Telling, Moves}
+use Rattle.alpha_imprecise.specs.Wild.{WildState, trap_in, waited_in, moment_of, kernel_by}
 use Rattle.alpha_imprecise.specs.WildEffect.{WildGoes, WildLeaves}
-use Rattle.alpha_run.specs.Ran.{Behind}
+use Rattle.alpha_run.specs.Ran.{drawn_to, Behind}
 
--- a run of the definition has come to where a machine stands, with this output, these notes and these words to come
-pub record WildStands (g : Program) (k : Making) (n : ℕ) (watch : Bool) (last : Happening) (put lines words : List ℕ) (count : ℕ) (new : WildState) (served : KernelState) : Type 0 where
-  pub run : WildRun
-  pub left : List ℕ
-  pub is : k ≡ making_at run new left put words count
-  pub units : run.units ≡ n
-  pub last_is : run.last ≡ last
-  pub notes : notes_of watch run.trace ≡ lines
-  pub kernel : new.machine.kernel ≡ served
-  pub program : program_of new.machine ≡ g
+-- no step was made yet
+abbrev pub moment_at : WildState → Moment
+moment_at w = moment_of w (Precisely Went)
 
--- the run over these inputs, from a machine and any input that no step finds
-abbrev pub making_from : WildState → List ℕ → List ℕ → List (List ℕ) → Making
-making_from w from words inputs = run_making_over (program_of w.machine) inputs (begun_at w from [] words)
+-- the kernel behind steps that went so
+abbrev pub kernel_wild : Program → Moment → List Happening → KernelState → KernelState
+kernel_wild g a [] k = k
+kernel_wild g a (h ∷ hs) k =
+    kernel_wild g (next_wild g a h) hs (kernel_by a.pending (next_class g a.state.pc) a.state (next_wild g a h).state h k)
 
--- The run of so many units over some inputs, one a step, by the words that the chooser went on by, whatever comes behind
--- them. Where the input is told, it is the run over that one, and an end of it is left.
-pub record WildRan (last : Happening) (n : ℕ) (watch : Bool) (old new : WildState) (before after : Telling) (input : Drawn) (out notes : Sunk) : Type 0 where
-  pub inputs : List (List ℕ)
+-- The run of so many units by the words that the chooser went on by, whatever comes behind them. Where the input is told it
+-- is what these steps read, and what is left.
+pub record WildRan (last : Happening) (n : ℕ) (watch : Bool) (old new : WildState) (before after : Telling) (input : Drawn) (out sink : Sunk) : Type 0 where
+  pub steps : List Happening
   pub words : List ℕ
-  pub put : List ℕ
-  pub lines : List ℕ
   pub drew : Moves before after words
-  pub is : (from coming : List ℕ) → WildStands (program_of old.machine) (making_from old from (words ++ coming) inputs) n watch last put lines coming (length words) new
-      (kernel_making_over (program_of old.machine) inputs (begun_at old from [] (words ++ coming)) old.machine.kernel)
+  pub runs : RunsWild (program_of old.machine) (moment_at old) steps (moment_of new last)
+  pub draws : (coming : List ℕ) → Draws (program_of old.machine) (moment_at old) (waited_in old.pending) (words ++ coming) steps coming
+  pub waited : waited_in new.pending ≡ waits_behind steps (waited_in old.pending)
+  pub used : units (program_of old.machine) (moment_at old) steps ≡ n
+  pub kernel : new.machine.kernel ≡ kernel_wild (program_of old.machine) (moment_at old) steps old.machine.kernel
+  pub program : program_of new.machine ≡ program_of old.machine
   pub same : input.now ≡ input.before
-  pub wrote : Puts out put
-  pub noted : Puts notes lines
-  pub told : (bytes coming : List ℕ) → input.old ≡ Some bytes
-      → (making_from old bytes (words ++ coming) inputs ≡ steps_making (program_of old.machine) (begun_at old bytes [] (words ++ coming)) (length inputs))
-      × (input.new ≡ Some (making_from old bytes (words ++ coming) inputs).run.state.outside.input)
-  pub rest : LeavesEnd input
+  pub wrote : Puts out (output (seen steps))
+  pub noted : Puts sink (notes watch (seen steps))
+  pub told : Feeds input (seen steps)
 
 -- the step behind which a run is over, none where it goes on
 abbrev pub ended_as : Happening → Option Event
@@ -63,55 +56,40 @@ ended_as _ = None
 
 -- the run of all its units, or to its last step, which leaves the units that it didn't use
 abbrev pub WildRanAs : Option Event → ℕ → ℕ → Bool → WildState → WildState → Telling → Telling → Drawn → Sunk → Sunk → Type 0
-WildRanAs None units left watch old new before after input out notes =
-    (h : Happening) × (finished h ≡ false) × (new.pending ≡ None) × (left ≡ 0) × WildRan h units watch old new before after input out notes
-WildRanAs (Some event) units left watch old new before after input out notes =
-    (h : Happening) × (n : ℕ) × (n + left ≡ units) × (Some event ≡ ended_as h) × (finished h ≡ true) × WildRan h n watch old new before after input out notes
+WildRanAs None units left watch old new before after input out sink =
+    (h : Happening) × (finished h ≡ false) × (new.pending ≡ None) × (left ≡ 0) × WildRan h units watch old new before after input out sink
+WildRanAs (Some event) units left watch old new before after input out sink =
+    (h : Happening) × (n : ℕ) × (n + left ≡ units) × (Some event ≡ ended_as h) × (finished h ≡ true) × WildRan h n watch old new before after input out sink
 
--- A run that a device's fault cut short within a step: it was made for fewer units or steps over some inputs, and the output
--- and the notes have all that it shows, and of the next step a front. What is there of the machine behind that step is said
--- from where it began: this was left of the input then, and this was written to the output and to the notes.
-pub record WildCut (fault : Fault) (n : ℕ) (watch : Bool) (old new : WildState) (before after : Telling) (input : Drawn) (out notes : Sunk) : Type 0 where
-  pub inputs : List (List ℕ)
-  pub next : List ℕ
+-- A run that a device's fault cut short within a step: it was made for fewer units or steps, and the output and the notes have
+-- all that it shows, and of the next step a front. What is there of the machine behind that step is said from where it began:
+-- this was left of the input then, and this was written to the output and to the notes.
+pub record WildCut (fault : Fault) (n : ℕ) (watch : Bool) (old new : WildState) (before after : Telling) (input : Drawn) (out sink : Sunk) : Type 0 where
+  pub steps : List Happening
   pub words : List ℕ
-  pub drawn : List ℕ
-  pub units : ℕ
-  pub more : ℕ
+  pub last : Happening
   pub mid : WildState
+  pub runs : RunsWild (program_of old.machine) (moment_at old) steps (moment_of mid last)
+  pub going : finished last ≡ false
+  pub draws : (coming : List ℕ) → Draws (program_of old.machine) (moment_at old) (waited_in old.pending) (words ++ coming) steps coming
+  pub waited : waited_in mid.pending ≡ waits_behind steps (waited_in old.pending)
+  pub room : units (program_of old.machine) (moment_at old) steps + unit_of (trap_in mid.pending) ≤ n
+  pub kernel : mid.machine.kernel ≡ kernel_wild (program_of old.machine) (moment_at old) steps old.machine.kernel
+  pub program : program_of mid.machine ≡ program_of old.machine
   pub print : Print
   pub would : WildState
   pub step : WildGoes mid print would
-  pub last : Happening
-  pub happened : Happening
-  pub put : List ℕ
-  pub lines : List ℕ
-  pub put' : List ℕ
-  pub lines' : List ℕ
-  pub room : units + more ≤ n
-  pub uses : more ≡ unit_of (trap_in mid.pending)
-  pub going : finished last ≡ false
-  pub next_is : next ≡ found_by print
-  pub put_is : put' ≡ put ++ print.bytes
-  pub split : (coming : List ℕ) → drawn ++ coming ≡ words ++ (print.words ++ coming)
-  pub drew : Moves before after drawn
-  pub is : (from coming : List ℕ) → WildStands (program_of old.machine) (making_from old from (words ++ coming) inputs) units watch last put lines coming (length words) mid
-      (kernel_making_over (program_of old.machine) inputs (begun_at old from [] (words ++ coming)) old.machine.kernel)
-  pub then : (from coming : List ℕ) → WildStands (program_of old.machine) (making_from old from (drawn ++ coming) (inputs ++ next ∷ [])) (units + more) watch happened put' lines' coming (length drawn) would
-      (kernel_making_over (program_of old.machine) (inputs ++ next ∷ []) (begun_at old from [] (drawn ++ coming)) old.machine.kernel)
+  pub drew : Moves before after (words ++ print.words)
   pub left : Option (List ℕ)
+  pub told : Feeds (drawn_to input left) (seen steps)
+  pub would_feed : WouldFeed (drawn_from input left input.before) print.seen
+  pub leaves_end : LeavesEnd (drawn_from input left input.before)
   pub written : Option (List ℕ)
-  pub wrote : Appends out.old written put
+  pub wrote : Appends out.old written (output (seen steps))
   pub marked : Option (List ℕ)
-  pub marks : Appends notes.old marked lines
+  pub marks : Appends sink.old marked (notes watch (seen steps))
+  pub bytes : WritesBetween out.old out.new (output (seen steps)) (output (seen steps ++ print.seen))
+  pub lines : WritesBetween sink.old sink.new (notes watch (seen steps)) (notes watch (seen steps ++ print.seen))
   pub behind : Behind WildLeaves fault print mid would new (drawn_from input left input.before)
-      (sunk_from out written out.before) (sunk_from notes marked notes.before)
-  pub output : WritesBetween out.old out.new put put'
-  pub noted : WritesBetween notes.old notes.new lines lines'
-  pub told : (bytes coming : List ℕ) → input.old ≡ Some bytes
-      → (making_from old bytes (words ++ coming) inputs ≡ steps_making (program_of old.machine) (begun_at old bytes [] (words ++ coming)) (length inputs))
-      × (next ≡ (making_from old bytes (words ++ coming) inputs).run.state.outside.input)
-      × (left ≡ Some next)
-      × ((taken : List ℕ) × (rest : List ℕ) × (next ≡ taken ++ rest) × (input.new ≡ Some rest))
-  pub rest : LeavesEnd input
-  pub cause : Causes fault input out notes
+      (sunk_from out written out.before) (sunk_from sink marked sink.before)
+  pub cause : Causes fault input out sink

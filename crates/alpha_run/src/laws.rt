@@ -4,17 +4,17 @@ ghost use Rattle.alpha_seq.specs.declared.machine.Machine.{Machine};
 ghost use Rattle.alpha_seq.specs.declared.event.Event.{Event};
 ghost use Rattle.alpha_pal.specs.declared.fault.Fault.{Fault};
 ghost use Rattle.alpha_seq.specs.Devices.{Drawn};
-ghost use Rattle.alpha_seq.specs.Inputs.{IsFront};
+ghost use Rattle.alpha_seq.specs.Fronts.{IsFront};
 ghost use Rattle.alpha_imprecise.specs.Chosen.{most_waited};
 ghost use Rattle.alpha_imprecise.specs.Wild.{WildState, waited_in};
 ghost use Rattle.alpha_imprecise.specs.Telling.{Telling};
-ghost use Rattle.alpha_imprecise.specs.Free.{IsFreeFront};
+ghost use Rattle.alpha_imprecise.specs.Fronts.{IsFreeFront};
 ghost use Rattle.alpha_run.specs.SeqRun.{SeqCut, SeqRan};
 ghost use Rattle.alpha_run.specs.WildRan.{WildCut, WildRanAs};
 ghost use Rattle.alpha_run.specs.Shows.{Shows, ShowsPart, shown_from, ShowsMade, ShowsMadePart};
 
-/// What a run has shown that a device's fault cut short is a front of what a whole run shows over some inputs, which the
-/// imprecise machine makes by the words that were drawn and any others behind them.
+/// What a run has shown that a device's fault cut short is a front of what a whole run shows, which the imprecise machine makes
+/// by the words that were drawn and any others behind them.
 pub fn laws_of_cut_runs()
     ensures sequential { (fault : Fault) (n : ℕ) (watch : Bool) (m new : Machine) (input : Drawn)
         (out notes : Sunk) → SeqCut fault n watch m new input out notes → IsFront n watch m out notes }

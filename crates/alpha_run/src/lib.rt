@@ -8,14 +8,14 @@
 //! - [`laws_of_cut_runs`]: what a run has shown that a device's fault cut short is a front of what a whole run shows.
 //!   [`laws_of_told_runs`]: where the input is told, that is the run over it.
 //!
-//! `specs/Row.antt` says what steps in a row are, `specs/Ran.antt` what a run did by its answer, `specs/Noted.antt` which
-//! lines are written of a step, and `specs/SeqRun.antt` and `specs/WildRan.antt` what the runs of the two machines did, by
-//! the definition's runs: over a source that tells its bytes and over another. `specs/Shows.antt` says what such a run
-//! shows, and `specs/Stays.antt` what no step changes.
+//! `specs/Row.antt` says what steps in a row are, `specs/Ran.antt` what a run did by its answer, `specs/Noted.antt`
+//! which lines are written of a step, and `specs/SeqRun.antt` and `specs/WildRan.antt` what the runs of the two
+//! machines did, as runs of the definitions. `specs/Shows.antt` says what such a run shows, and `specs/Stays.antt` what
+//! no step changes.
 //!
-//! `src/steps.rt` and `src/observer.rt` have the two traits, `src/seq.rt` and `src/wild.rt` the machines, `src/notes.rt` and
-//! `src/no_words.rt` the observer and the chooser, `src/turn.rt` one step with its lines, `src/runs.rt` the loop, and
-//! `src/seq_run.rt` and `src/wild_run.rt` the runs, `src/laws.rt` the laws.
+//! `src/steps.rt` and `src/observer.rt` have the two traits, `src/seq.rt` and `src/wild.rt` the machines,
+//! `src/notes.rt` and `src/no_words.rt` the observer and the chooser, `src/turn.rt` one step with its lines,
+//! `src/runs.rt` the loop, and `src/seq_run.rt` and `src/wild_run.rt` the runs, `src/laws.rt` the laws.
 #![tactic(auto)]
 
 mod laws;

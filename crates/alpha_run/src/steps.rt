@@ -14,7 +14,7 @@ use alpha_seq::{Event, Fault, Machine};
 
 /// A machine that makes steps.
 pub trait Steps {
-    /// The step of the definition from one machine to another, over the input that it found.
+    /// The step of the definition from one machine to another.
     ghost goes: { Self → Print → Self → Type 0 };
 
     /// The machine may make a step.

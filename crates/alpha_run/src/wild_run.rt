@@ -6,8 +6,7 @@ ghost use Rattle.alpha_seq.specs.Machine.{Stays};
 ghost use Rattle.alpha_seq.specs.Devices.{drawn};
 ghost use Rattle.alpha_imprecise.specs.Telling.{telling};
 ghost use Rattle.alpha_imprecise.specs.Wild.{IsFresh};
-ghost use Rattle.alpha_imprecise.specs.Free.{NeverLoses};
-ghost use Rattle.alpha_imprecise.specs.Restart.{IsRestartable};
+ghost use Rattle.alpha_imprecise.specs.Restart.{IsRestartable, NeverLoses};
 ghost use Rattle.alpha_run.specs.WildRan.{WildRanAs, WildCut};
 ghost use Rattle.alpha_run.specs.Shows.{LosesNone, ShowsSequential};
 

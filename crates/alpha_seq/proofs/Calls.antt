@@ -1,5 +1,5 @@
 -- The step of a PAL call, by its end.
-use Rattle.std.proofs.Common.{◌≡◌, ℕ, List, [], ◌++◌, Option, Some, Ok, Err, refl, sym, ap, subst, ◌∙◌, append-nil}
+use Rattle.std.proofs.Common.{◌≡◌, ℕ, List, [], Option, Some, Ok, Err, refl, sym, ap, subst, ◌∙◌}
 use Rattle.std.specs.Io.KnownBytes.{Appends}
 use Rattle.std.proofs.KnownBytes.{Appends-nil}
 use Rattle.alpha_io.specs.Sunk.{Sunk}
@@ -14,9 +14,9 @@ use Rattle.alpha_pal.specs.declared.pal_end.Passed.{Passed}
 use Rattle.alpha_pal.specs.declared.pal_end.Passed.TheVariants.{Nothing}
 use Rattle.alpha_pal.specs.Passed.{IsPassed}
 use Rattle.alpha_pal.specs.Kernel.{KernelState}
-use Rattle.alpha_pal.specs.Call.{Called, Outside, outside, exits, signals, call}
-use Rattle.alpha_pal.specs.CallEffect.{Takes, CallEffect, InputCause, SinkCause, Seen, seen}
-use Rattle.alpha_pal.proofs.Serving.{rest_of, Takes-nothing}
+use Rattle.alpha_pal.specs.Call.{Silent, given_in, put_in, Called, exits, signals, call}
+use Rattle.alpha_pal.specs.CallEffect.{Reads, GoesOn, CallEffect, InputCause, SinkCause, Seen, seen}
+use Rattle.alpha_pal.proofs.Serving.{Reads-silent}
 use Rattle.alpha_seq.specs.declared.end.End.{End}
 use Rattle.alpha_seq.specs.declared.end.End.TheVariants as ends
 use Rattle.alpha_seq.specs.declared.machine.Machine.{Machine}
@@ -40,31 +40,25 @@ sunk_by old new before now = record { old = old; new = new; before = before; now
 
 module _ (function : PalCall) (m : Machine) (k : KernelState) (regs : List ℕ) (mem : List Block) (unique : ℕ) (left left' written written' : Option (List ℕ)) (faults faults' count count' : ℕ) (here : class_here m ≡ Some (barrier (Some function))) where
   -- the definition's step there
-  step_here : (input output : List ℕ) → step (program_of m) (class_here m) (state_of m input output) ≡ returned function (call function m.regs m.memory (outside m.unique input output)) (state_of m input output)
-  step_here input output = ap (λ class. step (program_of m) class (state_of m input output)) here
+  step_here : (input : List ℕ) → step (program_of m) (class_here m) (state_of m) input ≡ returned function (call function m.regs m.memory m.unique input) (state_of m)
+  step_here input = ap (λ class. step (program_of m) class (state_of m) input) here
 
   -- a call that ends the program
-  ends_here : (end : End) (c : Called) → ((o : Outside) → call function m.regs m.memory o ≡ c) → ((s : State) → s.pc ≡ m.pc → returned function c s ≡ ended s end)
+  ends_here : (end : End) (c : Called) → ((input : List ℕ) → call function m.regs m.memory m.unique input ≡ c) → ((s : State) → s.pc ≡ m.pc → returned function c s ≡ ended s end)
       → seen regs mem unique left' written' ≡ seen m.regs m.memory m.unique left written
       → faults' ≡ faults → count' ≡ count
       → Steps (Ends end) Nothing m (called_machine m k regs mem unique) (drawn_by left left' faults faults')
       (sunk_by written written' count count')
-  ends_here end c does end_is e calm_input calm_sink =
-      let rest : List ℕ = rest_of left left in
-      record {
-        taken = [];
-        rest = rest;
-        bytes = [];
-        took = record { took = subst (λ (l : Option (List ℕ)). Takes left l [] rest) (sym (ap (λ (s : Seen). s.left) e)) (Takes-nothing left); same = calm_input };
-        wrote = record { written = subst (λ (l : Option (List ℕ)). Appends written l []) (sym (ap (λ (s : Seen). s.written) e)) (Appends-nil written); same = calm_sink };
-        is = λ output.
-            step_here rest output
-            ∙ (ap (λ (d : Called). returned function d (state_of m rest output)) (does (outside m.unique rest output))
-            ∙ (end_is (state_of m rest output) refl
-            ∙ (ap (λ (s : Seen). stepped (state_of (called_machine m k s.regs s.mem s.unique) rest output) (Ends end)) (sym e)
-            ∙ ap (λ l. stepped (state_of (called_machine m k regs mem unique) rest l) (Ends end)) (sym (append-nil output)))));
-        passes = (refl, refl);
-      }
+  ends_here end c does end_is e calm_input calm_sink = record {
+    is = step_here []
+        ∙ (ap (λ (d : Called). returned function d (state_of m)) (does [])
+        ∙ (end_is (state_of m) refl
+        ∙ ap (λ (s : Seen). stepped (state_of (called_machine m k s.regs s.mem s.unique)) (Ends end)) (sym e)));
+    fed = subst (λ (l : Option (List ℕ)). Reads left Silent l) (sym (ap (λ (s : Seen). s.left) e)) (Reads-silent left);
+    same = calm_input;
+    wrote = record { written = subst (λ (l : Option (List ℕ)). Appends written l []) (sym (ap (λ (s : Seen). s.written) e)) (Appends-nil written); same = calm_sink };
+    passes = (refl, refl);
+  }
 
   pub call-exits : (v : ℕ)
       → CallEffect function (Ok (pals.Exit v)) (seen m.regs m.memory m.unique left written)
@@ -85,22 +79,18 @@ module _ (function : PalCall) (m : Machine) (k : KernelState) (regs : List ℕ) 
 
   -- a call behind which the program goes on
   pub call-goes : (passed : Passed) (new : Machine)
-      → CallEffect function (Ok (pals.Goes passed)) (seen m.regs m.memory m.unique left written)
-      (seen regs mem unique left' written')
+      → (h : GoesOn function passed (seen m.regs m.memory m.unique left written) (seen regs mem unique left' written'))
       → faults' ≡ faults → count' ≡ count
-      → new ≡ record (called_machine m k regs mem unique) { pc = next_pc (state_of m [] []); lock = lock_after function m.lock }
-      → Steps Barriered passed m new (drawn_by left left' faults faults') (sunk_by written written' count count')
+      → new ≡ record (called_machine m k regs mem unique) { pc = next_pc (state_of m); lock = lock_after function m.lock }
+      → Steps (Barriered h.traffic (next_pc (state_of m)) regs) passed m new (drawn_by left left' faults faults') (sunk_by written written' count count')
   call-goes passed new h calm_input calm_sink is = record {
-    taken = h.taken;
-    rest = h.rest;
-    bytes = h.bytes;
-    took = record { took = h.took; same = calm_input };
+    is = step_here (given_in h.traffic)
+        ∙ (ap (λ (d : Called). returned function d (state_of m)) h.is
+        ∙ ap (λ (n : Machine). stepped (state_of n) (Barriered h.traffic (next_pc (state_of m)) regs)) (sym is));
+    fed = h.fed;
+    same = calm_input;
     wrote = record { written = h.wrote; same = calm_sink };
-    is = λ output.
-        step_here (h.taken ++ h.rest) output
-        ∙ (ap (λ (d : Called). returned function d (state_of m (h.taken ++ h.rest) output)) (h.is output)
-        ∙ ap (λ (n : Machine). stepped (state_of n h.rest (output ++ h.bytes)) Barriered) (sym is));
-    passes = subst (λ (n : Machine). IsPassed passed n.memory h.taken h.bytes) (sym is) h.passes;
+    passes = subst (λ (n : Machine). IsPassed passed n.memory (given_in h.traffic) (put_in h.traffic)) (sym is) h.passes;
   }
 
   -- a call in which a device failed

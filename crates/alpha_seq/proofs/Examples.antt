@@ -1,5 +1,6 @@
 -- Programs whose ends are computed by the definitions alone.
 use Rattle.std.specs.Int.{int_wrap}
+use Rattle.std.specs.List.{flat_map}
 use Rattle.std.specs.Prelude.{◌++◌, replicate}
 use Rattle.std.proofs.Common.{◌≡◌, ℕ, List, [], ◌∷◌, false, Option, None, Some, refl}
 use Rattle.alpha_words.specs.declared.Level.TheVariants as levels
@@ -17,15 +18,15 @@ use Rattle.alpha_values.specs.Op.{result_of}
 use Rattle.alpha_values.specs.TrapOp.{overflow_of, completed_of}
 use Rattle.alpha_mem.specs.Fault.{fault_of, each_within}
 use Rattle.alpha_mem.specs.Memory.{bytes_at, write_bytes}
-use Rattle.alpha_pal.specs.Call.{call}
+use Rattle.alpha_pal.specs.Call.{Silent, call}
 use Rattle.alpha_image.specs.declared.version.Version.TheVariants as versions
 use Rattle.alpha_image.specs.Layout.{longword}
 use Rattle.alpha_image.specs.Parts.{place_of}
 use Rattle.alpha_seq.specs.declared.end.End.{End}
 use Rattle.alpha_seq.specs.declared.end.End.TheVariants.{Exit, Fetch, Access, Align, Overflow}
-use Rattle.alpha_seq.specs.State.{Program}
+use Rattle.alpha_seq.specs.State.{Program, Event, Went, Barriered, Overflowed, Ends}
 use Rattle.alpha_seq.specs.Start.{start_memory, start_regs, start}
-use Rattle.alpha_seq.specs.Run.{Mark, Over, Passed, after, sequential}
+use Rattle.alpha_seq.specs.Run.{after, sequential}
 
 -- words at 65,536 with a stack of 16 bytes and no segment
 abbrev program : List ℕ → Completion → Program
@@ -48,14 +49,19 @@ unfoldable end : Completion → ℕ → List ℕ → Option End
 unfolding int_wrap digits number reg put class_at class_in pairwise is_taken register_of address_of high_address_of access_address result_of overflow_of completed_of fault_of each_within bytes_at write_bytes call longword place_of start_memory start_regs
 end how n words = (sequential (program words how) [] n false).end
 
--- how many steps that run has, and what is noted of it
+-- how many steps that run has, and its overflows and barriers
 unfoldable steps : Completion → ℕ → List ℕ → ℕ
 unfolding end
 steps how n words = (sequential (program words how) [] n false).steps
 
-unfoldable trace : Completion → ℕ → List ℕ → List Mark
+abbrev marked : Event → List Event
+marked Went = []
+marked (Ends end) = []
+marked event = event ∷ []
+
+unfoldable trace : Completion → ℕ → List ℕ → List Event
 unfolding end
-trace how n words = let g = program words how in (after g (start g []) n).trace
+trace how n words = let g = program words how in flat_map marked (after g (start g) [] n).events
 
 -- `lda $0,9($31); callsys; bis $0,$0,$16; lda $0,1($31); callsys`: there is no system call 9
 abbrev no_such_call : List ℕ
@@ -113,7 +119,7 @@ two_overflows-saturate : end Saturate 9 two_overflows ≡ Some (Exit 0)
 unfolding end
 two_overflows-saturate = refl
 
-two_overflows-trace : trace Wrap 5 two_overflows ≡ Over 65548 ∷ Over 65552 ∷ []
+two_overflows-trace : trace Wrap 5 two_overflows ≡ Overflowed 65548 ∷ Overflowed 65552 ∷ []
 unfolding trace
 two_overflows-trace = refl
 
@@ -158,7 +164,7 @@ watched = 0x203f0002 ∷ 0x205f0003 ∷ 0x40220c03 ∷ 0x63ff0000 ∷ 0x83 ∷ [
 abbrev registers : ℕ → ℕ → List ℕ
 registers r0 r19 = r0 ∷ 2 ∷ 3 ∷ 5 ∷ (replicate 15 0 ++ r19 ∷ (replicate 7 0 ++ 65536 ∷ 0 ∷ 0 ∷ 1073741824 ∷ 0 ∷ []))
 
-watched-trace : trace Wrap 9 watched ≡ Passed 65552 (registers 0 0) ∷ Passed 65556 (registers 78 1) ∷ []
+watched-trace : trace Wrap 9 watched ≡ Barriered Silent 65552 (registers 0 0) ∷ Barriered Silent 65556 (registers 78 1) ∷ []
 unfolding trace
 watched-trace = refl
 

@@ -1,8 +1,8 @@
 -- What the execution of a word does, class by class.
-use Rattle.std.proofs.Common.{◌≡◌, ◌≢◌, ℕ, ◌+◌, ◌%◌, ◌^◌, Bool, true, false, cond, List, [], Option, None, Some, Result, Ok, Err, refl, sym, ap, subst, ◌∙◌, append-nil}
+use Rattle.std.proofs.Common.{◌≡◌, ◌≢◌, ℕ, ◌+◌, ◌%◌, ◌^◌, Bool, true, false, cond, List, [], Option, None, Some, Result, Ok, Err, refl, sym, ap, subst, ◌∙◌}
 use Rattle.std.specs.Prelude.{slice_get, is_ok, IfErr}
 use Rattle.std.specs.Option.{option_map, option_and_then}
-use Rattle.alpha_io.specs.Sunk.{Sunk}
+use Rattle.alpha_io.specs.Sunk.{Sunk, Puts}
 use Rattle.alpha_io.proofs.Sinks.{Puts-none}
 use Rattle.alpha_words.specs.Regs.{reg}
 use Rattle.alpha_words.specs.declared.Completion.{Completion}
@@ -10,9 +10,9 @@ use Rattle.alpha_words.specs.declared.PalCall.{PalCall}
 use Rattle.alpha_words.specs.declared.PalCall.TheVariants.{Callsys}
 use Rattle.alpha_pal.specs.declared.pal_end.Passed.TheVariants.{Nothing}
 use Rattle.alpha_pal.specs.Kernel.{KernelState}
-use Rattle.alpha_pal.specs.Call.{Called, goes, exits, signals, call}
-use Rattle.alpha_pal.specs.CallEffect.{kernel_after}
-use Rattle.alpha_pal.proofs.Serving.{rest_of, Takes-nothing}
+use Rattle.alpha_pal.specs.Call.{Traffic, Silent, given_in, put_in, Called, goes, exits, signals, call}
+use Rattle.alpha_pal.specs.CallEffect.{Reads, kernel_after}
+use Rattle.alpha_pal.proofs.Serving.{Reads-silent}
 use Rattle.alpha_table.specs.declared.columns.InsnKind.TheVariants as kinds
 use Rattle.alpha_table.specs.declared.columns.MemAccess.{MemAccess}
 use Rattle.alpha_table.specs.declared.op.Op.{Op}
@@ -42,6 +42,7 @@ use Rattle.alpha_seq.specs.declared.event.Event.TheVariants as events
 use Rattle.alpha_seq.specs.declared.machine.Machine.{Machine}
 use Rattle.alpha_seq.specs.State.{State, Event, Went, Barriered, Overflowed, Ends, Stepped, stepped}
 use Rattle.alpha_seq.specs.Step.{next_pc, setting, fault_end, accessed, ended, went, logging, overflowed, returned, step}
+use Rattle.alpha_seq.specs.Run.{traffic_of, given}
 use Rattle.alpha_seq.specs.Next.{next_insn}
 use Rattle.alpha_seq.specs.Machine.{program_of, state_of, class_here, kernel_left}
 use Rattle.alpha_seq.specs.Devices.{Drawn}
@@ -62,12 +63,12 @@ class_here-insn m insn e = class_by_place m.image.words (place_of m.image m.pc) 
 -- a word that is executed leaves where the blocks lie
 pub Does-shapes : (event : Event) (class : Class) (old new : Machine) → Does event class old new → shapes new.memory ≡ shapes old.memory
 Does-shapes event class old new does =
-    sym (ap (λ (t : Stepped). shapes t.state.mem) (does.is [] [])) ∙ (Leaves-step (program_of old) (Some class) (state_of old [] [])).blocks
+    sym (ap (λ (t : Stepped). shapes t.state.mem) (does.is [])) ∙ (Leaves-step (program_of old) (Some class) (state_of old) []).blocks
 
 -- and the kernel
-pub Does-kernel : (event : Event) (class : Class) (old new : Machine) → class_here old ≡ Some class → Does event class old new → new.kernel ≡ kernel_left (class_here old) (next_pc (state_of old [] [])) old.regs old.kernel
+pub Does-kernel : (event : Event) (class : Class) (old new : Machine) → class_here old ≡ Some class → Does event class old new → new.kernel ≡ kernel_left (class_here old) (next_pc (state_of old)) old.regs old.kernel
 Does-kernel event class old new here does =
-    does.kernel ∙ ap (λ (c : Option Class). kernel_left c (next_pc (state_of old [] [])) old.regs old.kernel) (sym here)
+    does.kernel ∙ ap (λ (c : Option Class). kernel_left c (next_pc (state_of old)) old.regs old.kernel) (sym here)
 
 kernel-user : (class : Option Class) (next : ℕ) (regs : List ℕ) (k : KernelState) → k.user ≡ true
     → (kernel_left class next regs k).user ≡ true
@@ -79,40 +80,35 @@ pub Does-user : (event : Event) (class : Class) (old new : Machine) → old.kern
     → new.kernel.user ≡ true
 Does-user event class old new user does =
     ap (λ (k : KernelState). k.user) does.kernel
-    ∙ kernel-user (Some class) (next_pc (state_of old [] [])) old.regs old.kernel user
+    ∙ kernel-user (Some class) (next_pc (state_of old)) old.regs old.kernel user
 
 -- what passes in a step that takes and puts nothing
 passes_nothing : (event : Event) (mem : List Block) → HasPassed (seen_as event Nothing) mem [] []
 passes_nothing Went mem = (refl, refl)
-passes_nothing Barriered mem = (refl, refl)
+passes_nothing (Barriered traffic pc regs) mem = (refl, refl)
 passes_nothing (Overflowed at) mem = (refl, refl)
 passes_nothing (Ends end) mem = (refl, refl)
 
 -- a step that leaves its devices alone
-pub Steps-quiet : (event : Event) (class : Option Class) (old new : Machine) (left written : Option (List ℕ)) (faults count : ℕ) → class_here old ≡ class
-    → ((input output : List ℕ) → step (program_of old) class (state_of old input output) ≡ stepped (state_of new input output) event)
+pub Steps-quiet : (event : Event) (class : Option Class) (old new : Machine) (left written : Option (List ℕ)) (faults count : ℕ) → traffic_of event ≡ Silent → class_here old ≡ class
+    → ((input : List ℕ) → step (program_of old) class (state_of old) input ≡ stepped (state_of new) event)
     → Steps event Nothing old new (record { old = left; new = left; before = faults; now = faults })
     (record { old = written; new = written; before = count; now = count })
-Steps-quiet event class old new left written faults count here does = record {
-  taken = [];
-  rest = rest_of left left;
-  bytes = [];
-  took = record { took = Takes-nothing left; same = refl };
-  wrote = Puts-none written count;
-  is = λ output.
-      ap (λ c. step (program_of old) c (state_of old (rest_of left left) output)) here
-      ∙ (does (rest_of left left) output
-      ∙ ap (λ l. stepped (state_of new (rest_of left left) l) event) (sym (append-nil output)));
-  passes = passes_nothing event new.memory;
+Steps-quiet event class old new left written faults count quiet here does = record {
+  is = ap (λ c. step (program_of old) c (state_of old) (given event)) here ∙ does (given event);
+  fed = subst (λ t. Reads left t left) (sym quiet) (Reads-silent left);
+  same = refl;
+  wrote = subst (λ (t : Traffic). Puts (record { old = written; new = written; before = count; now = count }) (put_in t)) (sym quiet) (Puts-none written count);
+  passes = subst (λ (t : Traffic). HasPassed (seen_as event Nothing) new.memory (given_in t) (put_in t)) (sym quiet) (passes_nothing event new.memory);
 }
 
 -- a step that only went on leaves its devices alone, the kernel, and where the blocks lie
 pub GoesOn-steps : (old new : Machine) (left written : Option (List ℕ)) (faults count : ℕ) → GoesOn old new
     → Steps Went Nothing old new (record { old = left; new = left; before = faults; now = faults })
     (record { old = written; new = written; before = count; now = count })
-GoesOn-steps old new left written faults count h = Steps-quiet Went (Some h.class) old new left written faults count h.here h.does.is
+GoesOn-steps old new left written faults count h = Steps-quiet Went (Some h.class) old new left written faults count refl h.here h.does.is
 
-pub GoesOn-kernel : (old new : Machine) → GoesOn old new → new.kernel ≡ kernel_left (class_here old) (next_pc (state_of old [] [])) old.regs old.kernel
+pub GoesOn-kernel : (old new : Machine) → GoesOn old new → new.kernel ≡ kernel_left (class_here old) (next_pc (state_of old)) old.regs old.kernel
 GoesOn-kernel old new h = Does-kernel Went h.class old new h.here h.does
 
 pub GoesOn-makes : (old new : Machine) (left written : Option (List ℕ)) (faults count : ℕ) → GoesOn old new
@@ -152,12 +148,12 @@ misc_idle op e = by (misc_row op).reports e
     by false e = refl
 
 pub Does-barrier : (op : MiscOp) (i : Form) (old new : Machine) → Misc op ≡ i → kind_of i ≡ kinds.Barrier
-    → new ≡ record old { pc = (old.pc + 4) % 2 ^ 64 } → Does Barriered (class_of i) old new
+    → new ≡ record old { pc = (old.pc + 4) % 2 ^ 64 } → Does (Barriered Silent new.pc new.regs) (class_of i) old new
 Does-barrier op i old new is kind moved =
-    let passed : Does Barriered (barrier None) old (record old { pc = (old.pc + 4) % 2 ^ 64 }) =
-    record { is = λ input output. refl; program = refl; kernel = refl } in
-    subst (λ (class : Class). Does Barriered class old new) (sym (misc_barrier op (ap kind_of is ∙ kind)) ∙ ap class_of is)
-    (subst (λ n. Does Barriered (barrier None) old n) (sym moved) passed)
+    let passed : Does (Barriered Silent ((old.pc + 4) % 2 ^ 64) old.regs) (barrier None) old (record old { pc = (old.pc + 4) % 2 ^ 64 }) =
+    record { is = λ input. refl; program = refl; kernel = refl } in
+    subst (λ (class : Class). Does (Barriered Silent new.pc new.regs) class old new) (sym (misc_barrier op (ap kind_of is ∙ kind)) ∙ ap class_of is)
+    (subst (λ (n : Machine). Does (Barriered Silent n.pc n.regs) (barrier None) old n) (sym moved) passed)
 
 pub Does-idle : (op : MiscOp) (i : Form) (old new : Machine) → Misc op ≡ i → kind_of i ≢ kinds.Barrier
     → Does Went idle old new → Does Went (class_of i) old new
@@ -167,29 +163,30 @@ Does-idle op i old new is kind does =
 
 -- the kernel after a PAL call, which is made from the state as it was
 pub called-kernel : (function : PalCall) (old mid : Machine) (kernel : KernelState) → class_here old ≡ Some (barrier (Some function)) → mid ≡ old
-    → kernel ≡ kernel_after function (next_pc (state_of mid [] [])) mid.regs mid.kernel
-    → kernel ≡ kernel_left (class_here old) (next_pc (state_of old [] [])) old.regs old.kernel
+    → kernel ≡ kernel_after function (next_pc (state_of mid)) mid.regs mid.kernel
+    → kernel ≡ kernel_left (class_here old) (next_pc (state_of old)) old.regs old.kernel
 called-kernel function old mid kernel here same e =
     e
-    ∙ (ap (λ (m : Machine). kernel_after function (next_pc (state_of m [] [])) m.regs m.kernel) same
-    ∙ ap (λ (c : Option Class). kernel_left c (next_pc (state_of old [] [])) old.regs old.kernel) (sym here))
+    ∙ (ap (λ (m : Machine). kernel_after function (next_pc (state_of m)) m.regs m.kernel) same
+    ∙ ap (λ (c : Option Class). kernel_left c (next_pc (state_of old)) old.regs old.kernel) (sym here))
 
 -- what the execution of a word that is no PAL call did, as the step of the definition
 pub record Executes (event : Seen) (class : Class) (old new : Machine) : Type 0 where
   pub happened : Event
   pub seen : event ≡ seen_as happened Nothing
+  pub quiet : traffic_of happened ≡ Silent
   pub does : Does happened class old new
 
 pub executes : (event : Seen) (class : Class) (old new : Machine) → ExecuteEffect event class old new
     → Executes event class old new
-executes events.Went class old new did = record { happened = Went; seen = refl; does = did }
+executes events.Went class old new did = record { happened = Went; seen = refl; quiet = refl; does = did }
 executes (events.Barrier passed) class old new did =
-    record { happened = Barriered; seen = ap events.Barrier did.0; does = did.1 }
-executes (events.Overflowed at) class old new did = record { happened = Overflowed at; seen = refl; does = did }
+    record { happened = Barriered Silent new.pc new.regs; seen = ap events.Barrier did.0; quiet = refl; does = did.1 }
+executes (events.Overflowed at) class old new did = record { happened = Overflowed at; seen = refl; quiet = refl; does = did }
 executes (events.Triggered value) class old new did = absurd did
 executes (events.Waited wait) class old new did = absurd did
 executes (events.Reported at) class old new did = absurd did
-executes (events.Ended end) class old new did = record { happened = Ends end; seen = refl; does = did }
+executes (events.Ended end) class old new did = record { happened = Ends end; seen = refl; quiet = refl; does = did }
 executes (events.Lost pc mask) class old new did = absurd did
 
 pub executes-makes : (event : Seen) (class : Class) (old new : Machine) (left written : Option (List ℕ))
@@ -203,7 +200,7 @@ executes-makes event class old new left written faults count here did =
     let x = executes event class old new did in
     subst (λ (e : Seen). SeqMakes e old new input out) (sym x.seen)
     (makes x.happened Nothing old new input out
-    (Steps-quiet x.happened (Some class) old new left written faults count here x.does.is)
+    (Steps-quiet x.happened (Some class) old new left written faults count x.quiet here x.does.is)
     (Does-kernel x.happened class old new here x.does) x.does.program)
 
 -- ---- words that never only go on
@@ -217,8 +214,8 @@ overflowed-never how s rc value = by (stops how)
 
 pub overflow-never : (op : TrapOp) (ra : ℕ) (src : Src) (rc : ℕ) (m : Machine) → overflow_of op (reg m.regs ra) (source_value m.regs src) ≡ true
     → NeverGoes (Some (trigger op ra src rc)) m
-overflow-never op ra src rc m over = λ input output e.
-    let s = state_of m input output in
+overflow-never op ra src rc m over = λ input e.
+    let s = state_of m in
     let value = completed_of op (reg m.regs ra) (source_value m.regs src) m.how in
     overflowed-never m.how s rc value (sym (ap (λ (b : Bool). (cond b (overflowed m.how s rc value) (went (setting s rc value))).event) over) ∙ e)
 
@@ -234,16 +231,19 @@ trap-never op trap ra src rc i m traps is over =
     subst (λ (class : Class). NeverGoes (Some class) m) (sym (trap_class (op_row op).role op trap ra src rc traps) ∙ ap class_of is)
     (overflow-never trap ra src rc m over)
 
+pub Does-trap : (op : Op) (trap : TrapOp) (ra : ℕ) (src : Src) (rc : ℕ) (i : Form) (old new : Machine) → trap_of op ≡ Some trap → Operate op ra src rc ≡ i
+    → Does Went (trigger trap ra src rc) old new → Does Went (class_of i) old new
+Does-trap op trap ra src rc i old new traps is does =
+    subst (λ (class : Class). Does Went class old new) (sym (trap_class (op_row op).role op trap ra src rc traps) ∙ ap class_of is) does
+
 returned-never : (function : PalCall) (called : Called) (s : State) → (returned function called s).event ≢ Went
-returned-never function (goes regs mem outside) s = λ e. cc
+returned-never function (goes regs mem unique traffic) s = λ e. cc
 returned-never function (exits v) s = λ e. cc
 returned-never function (signals code) s = λ e. cc
 
 pub barrier-never : (call : Option PalCall) (m : Machine) → NeverGoes (Some (barrier call)) m
-barrier-never None m = λ input output e. cc
-barrier-never (Some function) m = λ input output.
-    let s = state_of m input output in
-    returned-never function (call function s.regs s.mem s.outside) s
+barrier-never None m = λ input e. cc
+barrier-never (Some function) m = λ input. returned-never function (call function m.regs m.memory m.unique input) (state_of m)
 
 pub misc-never : (op : MiscOp) (i : Form) (m : Machine) → Misc op ≡ i → kind_of i ≡ kinds.Barrier → NeverGoes (Some (class_of i)) m
 misc-never op i m is kind =
@@ -253,10 +253,10 @@ misc-never op i m is kind =
 pub fault-never : {T : Type 0} (r : Result T MemFault) (class : Class) (at : MemAccess) (old new : Machine)
     → IfErr r (λ fault. FaultEffect fault class at old new) → is_ok r ≡ false → NeverGoes (Some class) old
 fault-never (Ok v) class at old new h e = absurd cc
-fault-never (Err fault) class at old new h failed = λ input output e.
-    let is : Ends (fault_end fault old.pc (accessed at (state_of old [] []))) ≡ Went = sym (ap (λ (t : Stepped). t.event) (h.1.is input output)) ∙ e in
+fault-never (Err fault) class at old new h failed = λ input e.
+    let is : Ends (fault_end fault old.pc (accessed at (state_of old))) ≡ Went = sym (ap (λ (t : Stepped). t.event) (h.1.is input)) ∙ e in
     cc
 
 -- nor does the machine go on where no word is
 pub fetch-never : (m : Machine) → NeverGoes None m
-fetch-never m = λ input output e. cc
+fetch-never m = λ input e. cc

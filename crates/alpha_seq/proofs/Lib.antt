@@ -9,9 +9,9 @@ pub mod Looking
 pub mod Loaded
 pub mod Loading
 pub mod RunSteps
-pub mod Growing
-pub mod Inputs
+pub mod Asking
+pub mod Sequence
 pub mod Unread
-pub mod Filling
+pub mod Fronts
 pub mod Rushing
 pub mod RushRuns

@@ -12,7 +12,6 @@ use Rattle.alpha_words.specs.declared.Completion.{Completion}
 use Rattle.alpha_words.specs.Regs.{put}
 use Rattle.alpha_mem.specs.Block.{Block, shape_of, shapes, holds, within, block}
 use Rattle.alpha_mem.specs.Memory.{IsFree}
-use Rattle.alpha_pal.specs.Call.{outside}
 use Rattle.alpha_image.specs.declared.segment.Segment.{Segment}
 use Rattle.alpha_image.specs.Layout.{longword, filled_size}
 use Rattle.alpha_image.specs.Rules.{Holds, AreApart, code_segment, stack_segment, size_of_segment}
@@ -199,23 +198,23 @@ stack_last p =
 
 -- ---- the state
 
-abbrev state_with : List ℕ → ℕ → List Block → List ℕ → State
-state_with regs pc mem input = record {
+abbrev state_with : List ℕ → ℕ → List Block → State
+state_with regs pc mem = record {
   regs = regs;
   pc = pc;
   mem = mem;
+  unique = 0;
   lock = None;
   count = 0;
   logged = 0;
-  outside = outside 0 input [];
 }
 
 pub started_state : (p : Parts) (how : Completion) (mem : List Block) (regs : List ℕ) (entry : ℕ)
     → mem ≡ start_memory p → regs ≡ put (put (replicate 32 0) 27 entry) 30 stack_end → entry ≡ p.entry
-    → (input : List ℕ) → state_with regs entry mem input ≡ start (record { image = p; how = how }) input
+    → state_with regs entry mem ≡ start (record { image = p; how = how })
 unfolding start_regs
-started_state p how mem regs entry memory_is regs_are entry_is input =
+started_state p how mem regs entry memory_is regs_are entry_is =
     let registers : regs ≡ put (put (replicate 32 0) 27 p.entry) 30 stack_end = regs_are ∙ ap (λ n. put (put (replicate 32 0) 27 n) 30 stack_end) entry_is in
-    ap (λ l. state_with l entry mem input) registers
-    ∙ ap (λ n. state_with (start_regs p) n mem input) entry_is
-    ∙ ap (λ m. state_with (start_regs p) p.entry m input) memory_is
+    ap (λ l. state_with l entry mem) registers
+    ∙ ap (λ n. state_with (start_regs p) n mem) entry_is
+    ∙ ap (λ m. state_with (start_regs p) p.entry m) memory_is

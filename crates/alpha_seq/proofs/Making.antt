@@ -1,71 +1,73 @@
 -- What the machine's step did, as the step of a run.
-use Rattle.std.proofs.Common.{◌≡◌, ◌≤◌, ℕ, true, List, [], ◌++◌, length, take, drop, Some, None, refl, sym, ap, ◌∙◌, arith, append-nil, length-take, take-append-drop}
+use Rattle.std.proofs.Common.{◌≡◌, ◌≤◌, ℕ, true, List, [], ◌∷◌, ◌++◌, length, take, Option, None, Some, refl, sym, ap, subst, ◌∙◌, arith, append-nil, length-take}
 use Rattle.alpha_words.specs.declared.PalCall.TheVariants.{Callsys}
-use Rattle.alpha_words.specs.Regs.{reg, put}
+use Rattle.alpha_words.specs.Regs.{reg, put as put_reg}
 use Rattle.alpha_io.specs.Faults.{Rose}
 use Rattle.alpha_io.specs.Sunk.{Sunk, Puts, HasFailed}
+use Rattle.alpha_io.specs.Written.{WritesPrefix}
 use Rattle.alpha_table.specs.Class.{barrier}
 use Rattle.alpha_mem.specs.Intent.{Load, Store}
-use Rattle.alpha_mem.specs.Block.{shapes, within}
+use Rattle.alpha_mem.specs.Block.{Block, shapes, within}
 use Rattle.alpha_mem.specs.Memory.{bytes_at, write_bytes}
 use Rattle.alpha_pal.specs.declared.fault.Fault.TheVariants as faults
 use Rattle.alpha_pal.specs.declared.pal_end.Passed.{Passed}
 use Rattle.alpha_pal.specs.declared.pal_end.Passed.TheVariants.{Took, Put}
 use Rattle.alpha_pal.specs.Kernel.{KernelState}
-use Rattle.alpha_pal.specs.Call.{call}
+use Rattle.alpha_pal.specs.Call.{Traffic, Read, Wrote, call}
 use Rattle.alpha_pal.specs.Serve.{system_call_of}
-use Rattle.alpha_pal.specs.CallEffect.{TakesPart, PutsPart}
+use Rattle.alpha_pal.specs.CallEffect.{Takes, Reads, TakesPart, PutsPart}
 use Rattle.alpha_pal.proofs.Takings.{there_behind}
-use Rattle.alpha_pal.proofs.Serving.{rest_of, Takes-nothing}
+use Rattle.alpha_pal.proofs.Asking.{take-again}
+use Rattle.alpha_seq.specs.declared.event.Event.{Event as Seen}
 use Rattle.alpha_seq.specs.declared.machine.Machine.{Machine}
 use Rattle.alpha_seq.specs.State.{Event, Barriered, stepped}
 use Rattle.alpha_seq.specs.Step.{next_class, next_pc, step_from}
+use Rattle.alpha_seq.specs.Run.{traffic_of, given, put, taken, output, left_by}
 use Rattle.alpha_seq.specs.Machine.{program_of, state_of, class_here, kernel_left}
 use Rattle.alpha_seq.specs.Devices.{Drawn, Rests, Idles}
-use Rattle.alpha_seq.specs.Draws.{Draws}
 use Rattle.alpha_seq.specs.Print.{HasPassed}
 use Rattle.alpha_seq.specs.Sequential.{seen_as, SeqMakes, SeqBreaks}
-use Rattle.alpha_seq.proofs.RunSteps.{Takes-told, idle-part}
+use Rattle.alpha_seq.proofs.RunSteps.{idle-part}
 
--- The step of the definition, at an input of what was taken and the rest; what was put is the output's growth. Both stand in
--- memory where a barrier says so.
+-- what was taken and is left of an input that is told
+Takes-told : (old new : Option (List ℕ)) (taken rest left : List ℕ) → old ≡ Some left → Takes old new taken rest
+    → (left ≡ taken ++ rest) × (new ≡ Some rest)
+Takes-told old new taken rest left is took = subst (λ (o : Option (List ℕ)). Takes o new taken rest) is took
+
+-- The step of the definition, where what its event was given is there to be read. What passed went through the devices, and
+-- stands in memory where a barrier says so.
 pub record Steps (event : Event) (passed : Passed) (old new : Machine) (input : Drawn) (out : Sunk) : Type 0 where
-  pub taken : List ℕ
-  pub rest : List ℕ
-  pub bytes : List ℕ
-  pub took : Draws input taken rest
-  pub wrote : Puts out bytes
-  pub is : (output : List ℕ)
-      → step_from (program_of old) (state_of old (taken ++ rest) output)
-      ≡ stepped (state_of new rest (output ++ bytes)) event
-  pub passes : HasPassed (seen_as event passed) new.memory taken bytes
+  pub is : step_from (program_of old) (state_of old) (given event) ≡ stepped (state_of new) event
+  pub fed : Reads input.old (traffic_of event) input.new
+  pub same : input.now ≡ input.before
+  pub wrote : Puts out (put event)
+  pub passes : HasPassed (seen_as event passed) new.memory (given event) (put event)
 
 -- the kernel after a step from here
 abbrev pub kernel_here : Machine → Machine → Type 0
-kernel_here old new = new.kernel ≡ kernel_left (class_here old) (next_pc (state_of old [] [])) old.regs old.kernel
+kernel_here old new = new.kernel ≡ kernel_left (class_here old) (next_pc (state_of old)) old.regs old.kernel
+
+-- what passed in a single step
+passed-one : (event : Event) (seen : Seen) (mem : List Block) → HasPassed seen mem (given event) (put event) → HasPassed seen mem (taken (event ∷ [])) (output (event ∷ []))
+passed-one event seen mem h =
+    subst (λ l. HasPassed seen mem l (output (event ∷ []))) (sym (append-nil (given event)))
+    (subst (λ l. HasPassed seen mem (given event) l) (sym (append-nil (put event))) h)
 
 pub makes : (event : Event) (passed : Passed) (old new : Machine) (input : Drawn) (out : Sunk)
     → Steps event passed old new input out → kernel_here old new
     → program_of new ≡ program_of old → SeqMakes (seen_as event passed) old new input out
 makes event passed old new input out did kernel program = record {
-  print = record {
-    units = 1;
-    words = [];
-    taken = did.taken;
-    rest = did.rest;
-    bytes = did.bytes;
-    event = seen_as event passed;
-    core = new;
-  };
+  print = record { units = 1; words = []; seen = event ∷ []; event = seen_as event passed; core = new };
   is = record {
     happened = event;
     passed = passed;
+    seen = refl;
     event = refl;
     units = refl;
     words = refl;
     core = refl;
     is = did.is;
-    passes = did.passes;
+    passes = passed-one event (seen_as event passed) new.memory did.passes;
     kernel = kernel;
     program = program;
   };
@@ -73,9 +75,11 @@ makes event passed old new input out did kernel program = record {
   event_is = refl;
   core_is = refl;
   drew = refl;
-  found = λ left is. Takes-told input.old input.new did.taken did.rest left is did.took.took;
-  same = did.took.same;
-  wrote = did.wrote;
+  fed = λ bytes tells.
+      let reads = subst (λ (l : Option (List ℕ)). Reads l (traffic_of event) input.new) tells did.fed in
+      (left_by event bytes, (reads.0, refl), reads.1);
+  same = did.same;
+  wrote = subst (Puts out) (sym (append-nil (put event))) did.wrote;
 }
 
 -- ---- a step that a fault cuts short
@@ -86,73 +90,70 @@ take_at-most n xs = omega (arith, length-take n xs)
 -- the machine after a system call with this value
 abbrev pub served_machine : Machine → ℕ → Machine
 served_machine m value = record m {
-  regs = put (put m.regs 0 value) 19 0;
-  pc = next_pc (state_of m [] []);
+  regs = put_reg (put_reg m.regs 0 value) 19 0;
+  pc = next_pc (state_of m);
   lock = None;
-  kernel = kernel_left (Some (barrier (Some Callsys))) (next_pc (state_of m [] [])) m.regs m.kernel;
+  kernel = kernel_left (Some (barrier (Some Callsys))) (next_pc (state_of m)) m.regs m.kernel;
 }
 
--- the machine after a read that takes all it asks for
+-- the machine after a read that is given these bytes
 abbrev pub read_machine : Machine → List ℕ → Machine
-read_machine m input =
-    record (served_machine m (length (take (reg m.regs 18) input))) { memory = write_bytes m.memory (reg m.regs 17) (take (reg m.regs 18) input) }
+read_machine m bytes = record (served_machine m (length bytes)) { memory = write_bytes m.memory (reg m.regs 17) bytes }
 
-pub reads_all : (m : Machine) (input output : List ℕ) → next_class (program_of m) m.pc ≡ Some (barrier (Some Callsys))
+-- such a barrier
+abbrev pub barriered : Machine → Traffic → Event
+barriered m traffic = Barriered traffic m.pc m.regs
+
+pub reads_all : (m : Machine) (input : List ℕ) → next_class (program_of m) m.pc ≡ Some (barrier (Some Callsys))
     → reg m.regs 0 ≡ 3 → reg m.regs 16 ≡ 0 → within (shapes m.memory) Store (reg m.regs 17) (reg m.regs 18) ≡ true
-    → step_from (program_of m) (state_of m input output) ≡ stepped (state_of (read_machine m input) (drop (reg m.regs 18) input) output) Barriered
+    → let n = read_machine m (take (reg m.regs 18) input) in
+    step_from (program_of m) (state_of m) input ≡ stepped (state_of n) (barriered n (Read (reg m.regs 18) (take (reg m.regs 18) input)))
 unfolding call
-reads_all m input output class number descriptor range = rw (class, number, descriptor, range) refl
+reads_all m input class number descriptor range = rw (class, number, descriptor, range) refl
 
-pub writes_all : (m : Machine) (input output : List ℕ) → next_class (program_of m) m.pc ≡ Some (barrier (Some Callsys))
+pub writes_all : (m : Machine) (input : List ℕ) → next_class (program_of m) m.pc ≡ Some (barrier (Some Callsys))
     → reg m.regs 0 ≡ 4 → reg m.regs 16 ≡ 1 → within (shapes m.memory) Load (reg m.regs 17) (reg m.regs 18) ≡ true
-    → step_from (program_of m) (state_of m input output)
-    ≡ stepped (state_of (served_machine m (reg m.regs 18)) input (output ++ bytes_at m.memory (reg m.regs 17) (reg m.regs 18))) Barriered
+    → let n = served_machine m (reg m.regs 18) in
+    step_from (program_of m) (state_of m) input ≡ stepped (state_of n) (barriered n (Wrote (bytes_at m.memory (reg m.regs 17) (reg m.regs 18))))
 unfolding call
-writes_all m input output class number descriptor range = rw (class, number, descriptor, range) refl
+writes_all m input class number descriptor range = rw (class, number, descriptor, range) refl
 
 -- a read whose source failed: the step to the machine after a read that takes all it asks for, of which some was taken
 pub input_breaks : (old new : Machine) (input : Drawn) (out : Sunk) → class_here old ≡ Some (barrier (Some Callsys))
     → TakesPart (system_call_of old.regs) old.memory new.memory input.old input.new → new ≡ record old { memory = new.memory; kernel = new.kernel }
     → kernel_here old new → input.before ≤ input.now → Rose input.before input.now → Idles out → SeqBreaks faults.Input old new input out
 input_breaks old new input out class part stays kernel later cause idle =
-    let next = part.taken ++ part.rest in
     let at = reg old.regs 17 in
     let n = reg old.regs 18 in
-    let passed = Took at (length (take n next)) in
-    let there = there_behind old.memory at n (take n next) part.layout part.range (take_at-most n next) in
-    let whole : take n next ++ drop n next ≡ next = take-append-drop n next in
+    let bytes = take n (part.taken ++ part.rest) in
+    let passed = Took at (length bytes) in
+    let would = read_machine old bytes in
+    let event = barriered would (Read n bytes) in
+    let there = there_behind old.memory at n bytes part.layout part.range (take_at-most n (part.taken ++ part.rest)) in
     record {
-      would = read_machine old next;
-      print = record {
-        units = 1;
-        words = [];
-        taken = take n next;
-        rest = drop n next;
-        bytes = [];
-        event = seen_as Barriered passed;
-        core = read_machine old next;
-      };
+      would = would;
+      print = record { units = 1; words = []; seen = event ∷ []; event = seen_as event passed; core = would };
       is = record {
-        happened = Barriered;
+        happened = event;
         passed = passed;
+        seen = refl;
         event = refl;
         units = refl;
         words = refl;
         core = refl;
-        is = λ output.
-            ap (λ (l : List ℕ). step_from (program_of old) (state_of old l output)) whole
-            ∙ (reads_all old next output class part.number part.descriptor part.range
-            ∙ ap (λ (l : List ℕ). stepped (state_of (read_machine old next) (drop n next) l) Barriered) (sym (append-nil output)));
-        passes = (there.0, there.1, refl);
-        kernel = ap (λ class. kernel_left class (next_pc (state_of old [] [])) old.regs old.kernel) (sym class);
+        is = reads_all old bytes class part.number part.descriptor part.range
+            ∙ ap (λ (l : List ℕ). let m = read_machine old l in stepped (state_of m) (barriered m (Read n l))) (take-again n (part.taken ++ part.rest));
+        passes = passed-one event (seen_as event passed) would.memory (there.0, there.1, refl);
+        kernel = ap (λ class. kernel_left class (next_pc (state_of old)) old.regs old.kernel) (sym class);
         program = refl;
       };
       units = refl;
       core_is = refl;
       drew = refl;
-      found = λ left is.
-          let took = Takes-told input.old input.new part.taken part.rest left is part.took in
-          (took.0 ∙ sym whole, (part.taken, part.rest, took.0, took.1));
+      fed = λ left is. (left_by event left, (ap (take n) (sym (Takes-told input.old input.new part.taken part.rest left is part.took).0), refl));
+      left = λ left is.
+          let told = Takes-told input.old input.new part.taken part.rest left is part.took in
+          (part.taken, part.rest, told.0, told.1);
       wrote = idle-part out [] idle;
       behind = record {
         class = class;
@@ -168,40 +169,32 @@ pub output_breaks : (old new : Machine) (input : Drawn) (out : Sunk) → class_h
     → PutsPart (system_call_of old.regs) old.memory out.old out.new → new ≡ record old { kernel = new.kernel }
     → kernel_here old new → out.before ≤ out.now → HasFailed out → Rests input → SeqBreaks faults.Output old new input out
 output_breaks old new input out class part unmade kernel later cause rests =
-    let next = rest_of input.old input.old in
     let bytes = bytes_at old.memory (reg old.regs 17) (reg old.regs 18) in
     let passed = Put (reg old.regs 17) (reg old.regs 18) in
     let would = served_machine old (reg old.regs 18) in
+    let event = barriered would (Wrote bytes) in
     record {
       would = would;
-      print = record {
-        units = 1;
-        words = [];
-        taken = [];
-        rest = next;
-        bytes = bytes;
-        event = seen_as Barriered passed;
-        core = would;
-      };
+      print = record { units = 1; words = []; seen = event ∷ []; event = seen_as event passed; core = would };
       is = record {
-        happened = Barriered;
+        happened = event;
         passed = passed;
+        seen = refl;
         event = refl;
         units = refl;
         words = refl;
         core = refl;
-        is = λ output. writes_all old next output class part.number part.descriptor part.range;
-        passes = (part.range, refl, refl);
-        kernel = ap (λ class. kernel_left class (next_pc (state_of old [] [])) old.regs old.kernel) (sym class);
+        is = writes_all old [] class part.number part.descriptor part.range;
+        passes = passed-one event (seen_as event passed) would.memory (part.range, refl, refl);
+        kernel = ap (λ class. kernel_left class (next_pc (state_of old)) old.regs old.kernel) (sym class);
         program = refl;
       };
       units = refl;
       core_is = refl;
       drew = refl;
-      found = λ left is.
-          let took = Takes-told input.old input.old [] next left is (Takes-nothing input.old) in
-          (took.0, ([], next, took.0, rests.left ∙ took.1));
-      wrote = part.prefix;
+      fed = λ left is. (left, (refl, refl));
+      left = λ left is. ([], left, refl, rests.left ∙ is);
+      wrote = subst (WritesPrefix out.old out.new) (sym (append-nil bytes)) part.prefix;
       behind = record {
         class = class;
         part = part;

@@ -1,19 +1,14 @@
--- The devices before a run, between it and a step, and after the step; and what the definition's run shows of one step more.
-use Rattle.std.proofs.Common.{◌≡◌, ℕ, Bool, false, List, [], ◌++◌, Option, Some, None, refl, sym, ap, subst, ◌∙◌, append_assoc}
+-- The devices before a run, between it and a step, and after the step.
+use Rattle.std.proofs.Common.{◌≡◌, ℕ, false, List, [], ◌++◌, Option, None, refl, sym, ap, subst, ◌∙◌, append_assoc}
 use Rattle.std.specs.Io.KnownBytes.{Appends}
 use Rattle.std.proofs.KnownBytes.{Appends-trans}
-use Rattle.std.proofs.lemmas.Grind.{flat_map-append}
 use Rattle.alpha_io.specs.Sunk.{Sunk}
 use Rattle.alpha_io.specs.Written.{WritesPrefix}
 use Rattle.alpha_io.proofs.Sinks.{Puts-none}
-use Rattle.alpha_pal.specs.CallEffect.{Takes}
-use Rattle.alpha_seq.specs.declared.machine.Machine.{Machine}
-use Rattle.alpha_seq.specs.State.{Program, Event, Went, Barriered, Overflowed, Ends, Stepped}
-use Rattle.alpha_seq.specs.Step.{step_from}
-use Rattle.alpha_seq.specs.Run.{Run, Mark, marks_of, end_of, is_over, extended_by, advance, mark_lines, notes_of}
-use Rattle.alpha_seq.specs.Machine.{state_of}
-use Rattle.alpha_seq.specs.Devices.{Drawn, Idles}
-use Rattle.alpha_seq.specs.Inputs.{WritesBetween}
+use Rattle.alpha_io.proofs.Writes.{WritesPrefix-more}
+use Rattle.alpha_seq.specs.State.{Event, Went, Barriered, Overflowed, Ends}
+use Rattle.alpha_seq.specs.Run.{end_of, is_over}
+use Rattle.alpha_seq.specs.Devices.{Drawn, WritesBetween, Idles}
 
 -- the devices before a run, between it and a step, and after the step
 pub record Times : Type 0 where
@@ -57,29 +52,11 @@ sunk_over t = record { old = t.first; new = t.last; before = t.faults_first; now
 
 pub over-end : (event : Event) → end_of event ≡ None → is_over event ≡ false
 over-end Went e = refl
-over-end Barriered e = refl
+over-end (Barriered traffic pc regs) e = refl
 over-end (Overflowed at) e = refl
 over-end (Ends end) e = absurd cc
 
-pub advance-extended : (g : Program) (r : Run) (t : Stepped) → is_over r.last ≡ false → step_from g r.state ≡ t → advance g r ≡ extended_by r t
-advance-extended g r t goes e = rw (goes, e) refl
-
--- what is noted of a step shows the PC and the registers alone
-pub marks-same : (event : Event) (m : Machine) (input output : List ℕ) → marks_of event (state_of m input output) ≡ marks_of event (state_of m [] [])
-marks-same Went m input output = refl
-marks-same Barriered m input output = refl
-marks-same (Overflowed at) m input output = refl
-marks-same (Ends end) m input output = refl
-
-pub notes-more : (watch : Bool) (trace marks : List Mark) → notes_of watch (trace ++ marks) ≡ notes_of watch trace ++ notes_of watch marks
-notes-more watch trace marks = flat_map-append (mark_lines watch) trace marks
-
 -- ---- devices
-
--- what was taken and is left of an input that is told
-pub Takes-told : (old new : Option (List ℕ)) (taken rest left : List ℕ) → old ≡ Some left → Takes old new taken rest
-    → (left ≡ taken ++ rest) × (new ≡ Some rest)
-Takes-told old new taken rest left is took = subst (λ (o : Option (List ℕ)). Takes o new taken rest) is took
 
 pub between : (old mid new : Option (List ℕ)) (xs zs ys : List ℕ) → Appends old mid xs → WritesPrefix mid new zs → ys ≡ xs ++ zs → WritesBetween old new xs ys
 between old mid new xs zs ys first part is = record {
@@ -97,3 +74,9 @@ idle-part s bytes idle = record {
   whole = refl;
   written = subst (λ (l : Option (List ℕ)). Appends s.old l []) (sym idle.written) (Puts-none s.old 0).written;
 }
+
+-- a run that was cut short wrote a front of what a longer one shows
+pub front : (old new : Option (List ℕ)) (xs ys more zs : List ℕ) → WritesBetween old new xs ys → zs ≡ ys ++ more → WritesPrefix old new zs
+front old new xs ys more zs b is =
+    let written : WritesPrefix old new ys = record { done = xs ++ b.more; rest = b.rest; whole = b.whole; written = b.written } in
+    subst (WritesPrefix old new) (sym is) (WritesPrefix-more old new ys more written)

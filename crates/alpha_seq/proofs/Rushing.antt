@@ -98,8 +98,8 @@ Passes-operate level op ra src rc regs mem place value image is levels = record 
     plain : (m : Machine) → m.image ≡ image → value ≡ result_of level op a b old
         → Does Went (operate op ra src rc) (machine_at m regs mem place) (machine_at m (put regs rc value) mem ((place + 1) % 2 ^ 64))
     plain m same e = record {
-      is = λ input output.
-          let s = state_of (machine_at m regs mem place) input output in
+      is = λ input.
+          let s = state_of (machine_at m regs mem place) in
           ap (λ (l : Level). goes s (put regs rc (result_of l op a b old)) mem (next_pc s)) (ap (λ (p : Parts). p.level) same ∙ levels)
           ∙ (ap (λ (v : ℕ). goes s (put regs rc v) mem (next_pc s)) (sym e)
           ∙ ap (goes s (put regs rc value) mem) (next_place m.image.code_base place));
@@ -113,8 +113,8 @@ Passes-operate level op ra src rc regs mem place value image is levels = record 
         let within : (overflow_of trap a b ≡ true) → ⊥ = λ h. false≢true (sym fits ∙ h) in
         let completed : completed_of trap a b m.how ≡ value =
         completed-exact trap a b m.how within ∙ (sym (completed-exact trap a b Wrap within) ∙ (completed-wrap level op trap a b old traps ∙ sym e)) in record {
-          is = λ input output.
-              let s = state_of (machine_at m regs mem place) input output in
+          is = λ input.
+              let s = state_of (machine_at m regs mem place) in
               rw fits
               (ap (λ (v : ℕ). goes s (put regs rc v) mem (next_pc s)) completed
               ∙ ap (goes s (put regs rc value) mem) (next_place m.image.code_base place));
@@ -140,8 +140,8 @@ pub Passes-address : (op : MemOp) (ra rb : ℕ) (disp : ℤ) (regs : List ℕ) (
     → Passes image (address op ra rb disp) regs mem place (put regs ra (computed op (reg regs rb) disp)) mem ((place + 1) % 2 ^ 64)
 Passes-address op ra rb disp regs mem place image = record {
   does = λ m same. record {
-    is = λ input output.
-        let s = state_of (machine_at m regs mem place) input output in
+    is = λ input.
+        let s = state_of (machine_at m regs mem place) in
         ap (goes s (put regs ra (computed op (reg regs rb) disp)) mem) (next_place m.image.code_base place);
     program = refl;
     kernel = refl;
@@ -151,7 +151,7 @@ Passes-address op ra rb disp regs mem place image = record {
 pub Passes-idle : (regs : List ℕ) (mem : List Block) (place : ℕ) (image : Parts) → Passes image idle regs mem place regs mem ((place + 1) % 2 ^ 64)
 Passes-idle regs mem place image = record {
   does = λ m same. record {
-    is = λ input output. ap (goes (state_of (machine_at m regs mem place) input output) regs mem) (next_place m.image.code_base place);
+    is = λ input. ap (goes (state_of (machine_at m regs mem place)) regs mem) (next_place m.image.code_base place);
     program = refl;
     kernel = refl;
   };
@@ -173,8 +173,8 @@ Passes-load extension at ra regs mem place addr n image there calm is = by (eqb 
         (Passes-idle regs mem place image)
     by false e = record {
       does = λ m same. record {
-        is = λ input output.
-            let s = state_of (machine_at m regs mem place) input output in
+        is = λ input.
+            let s = state_of (machine_at m regs mem place) in
             let fault : fault_of (shapes mem) Load (access_address at (reg regs at.base)) at.bytes ≡ None =
             ap (λ (x : ℕ). fault_of (shapes mem) Load x at.bytes) (sym there) ∙ calm in
             let value : loaded extension at s ≡ filled extension n =
@@ -192,8 +192,8 @@ pub Passes-store : (at : MemAccess) (ra : ℕ) (regs : List ℕ) (mem new : List
     → Passes image (store at ra) regs mem place regs new ((place + 1) % 2 ^ 64)
 Passes-store at ra regs mem new place addr image there calm is = record {
   does = λ m same. record {
-    is = λ input output.
-        let s = state_of (machine_at m regs mem place) input output in
+    is = λ input.
+        let s = state_of (machine_at m regs mem place) in
         let to = access_address at (reg regs at.base) in
         let left = write_bytes mem to (low_bytes at.bytes (reg regs ra)) in
         let fault : fault_of (shapes mem) Store to at.bytes ≡ None = ap (λ (x : ℕ). fault_of (shapes mem) Store x at.bytes) (sym there) ∙ calm in
@@ -212,8 +212,8 @@ pub Passes-turn : (ra : ℕ) (disp : ℤ) (regs : List ℕ) (mem : List Block) (
     → Passes image (branch None ra disp) regs mem place (put regs ra next) mem (register_of (pos ((place + 1) % 2 ^ 64) +ℤ disp))
 Passes-turn ra disp regs mem place next image fits is = record {
   does = λ m same. record {
-    is = λ input output.
-        let s = state_of (machine_at m regs mem place) input output in
+    is = λ input.
+        let s = state_of (machine_at m regs mem place) in
         let left : next_pc s ≡ next = next_place m.image.code_base place ∙ (ap (λ (p : Parts). (p.code_base + 4 * ((place + 1) % 2 ^ 64)) % 2 ^ 64) same ∙ sym is) in
         ap (λ (n : ℕ). goes s (put regs ra n) mem (branch_target s disp)) left
         ∙ ap (goes s (put regs ra next) mem) (displaced_place m.image.code_base place disp fits);
@@ -229,8 +229,8 @@ pub Passes-branch : (c : Cond) (ra : ℕ) (disp : ℤ) (regs : List ℕ) (mem : 
     → Passes image (branch (Some c) ra disp) regs mem place regs mem to
 Passes-branch c ra disp regs mem place to taken image fits takes is = record {
   does = λ m same. record {
-    is = λ input output.
-        let s = state_of (machine_at m regs mem place) input output in
+    is = λ input.
+        let s = state_of (machine_at m regs mem place) in
         ap (λ (b : Bool). goes s regs mem (cond b (branch_target s disp) (next_pc s))) takes
         ∙ ap (goes s regs mem) (by m.image.code_base taken ∙ ap (λ (k : ℕ). (m.image.code_base + 4 * k) % 2 ^ 64) (sym is));
     program = refl;

@@ -1,5 +1,5 @@
 -- What each step leaves as it was. The function of `src/laws.rt` carries these as its contract.
-use Rattle.std.proofs.Common.{◌≡◌, ℕ, Bool, true, false, cond, length, Option, None, Some, refl, ap}
+use Rattle.std.proofs.Common.{◌≡◌, ℕ, Bool, true, false, cond, List, length, Option, None, Some, refl, ap}
 use Rattle.alpha_words.specs.declared.Completion.{Completion}
 use Rattle.alpha_words.specs.declared.Completion.TheVariants.{Wrap, Saturate, Stop}
 use Rattle.alpha_words.specs.declared.PalCall.{PalCall}
@@ -52,27 +52,28 @@ Leaves-conditional : (b : Bool) (at : MemAccess) (ra : ℕ) (s : State) → (len
 Leaves-conditional true at ra s = (length-put s.regs ra 1, shapes-write_bytes s.mem _ _)
 Leaves-conditional false at ra s = (length-put s.regs ra 0, refl)
 
-Leaves-returned : (function : PalCall) (c : Called) (s : State) → call function s.regs s.mem s.outside ≡ c → Leaves s (returned function c s)
-Leaves-returned function (goes regs mem o) s e =
-    goes_on s (returned function (goes regs mem o) s) refl (length-call function s.regs regs s.mem mem s.outside o e) (shapes-call function s.regs regs s.mem mem s.outside o e)
-Leaves-returned function (exits v) s e = stays s _
-Leaves-returned function (signals code) s e = stays s _
+Leaves-returned : (function : PalCall) (c : Called) (s : State) (input : List ℕ) → call function s.regs s.mem s.unique input ≡ c → Leaves s (returned function c s)
+Leaves-returned function (goes regs mem unique traffic) s input e =
+    goes_on s (returned function (goes regs mem unique traffic) s) refl (length-call function s.regs regs s.mem mem s.unique unique input traffic e)
+    (shapes-call function s.regs regs s.mem mem s.unique unique input traffic e)
+Leaves-returned function (exits v) s input e = stays s _
+Leaves-returned function (signals code) s input e = stays s _
 
-pub Leaves-step : (g : Program) (class : Option Class) (s : State) → Leaves s (step g class s)
-Leaves-step g None s = stays s _
-Leaves-step g (Some (operate op ra src rc)) s = goes_on s _ refl (length-put s.regs rc _) refl
-Leaves-step g (Some (trigger op ra src rc)) s =
+pub Leaves-step : (g : Program) (class : Option Class) (s : State) (input : List ℕ) → Leaves s (step g class s input)
+Leaves-step g None s input = stays s _
+Leaves-step g (Some (operate op ra src rc)) s input = goes_on s _ refl (length-put s.regs rc _) refl
+Leaves-step g (Some (trigger op ra src rc)) s input =
     Leaves-cond s _ _ _ (Leaves-overflowed g.how s rc _) (goes_on s _ refl (length-put s.regs rc _) refl)
-Leaves-step g (Some (address op ra rb disp)) s = goes_on s _ refl (length-put s.regs ra _) refl
-Leaves-step g (Some (load extension at ra)) s = Leaves-unless s _ _ _ (length-put s.regs ra _) refl
-Leaves-step g (Some (store at ra)) s = Leaves-unless s _ _ _ refl (shapes-write_bytes s.mem _ _)
-Leaves-step g (Some (load_locked extension at ra)) s = Leaves-unless s _ _ _ (length-put s.regs ra _) refl
-Leaves-step g (Some (store_conditional at ra)) s =
+Leaves-step g (Some (address op ra rb disp)) s input = goes_on s _ refl (length-put s.regs ra _) refl
+Leaves-step g (Some (load extension at ra)) s input = Leaves-unless s _ _ _ (length-put s.regs ra _) refl
+Leaves-step g (Some (store at ra)) s input = Leaves-unless s _ _ _ refl (shapes-write_bytes s.mem _ _)
+Leaves-step g (Some (load_locked extension at ra)) s input = Leaves-unless s _ _ _ (length-put s.regs ra _) refl
+Leaves-step g (Some (store_conditional at ra)) s input =
     let parts = Leaves-conditional (matches s.lock (lock_block at s)) at ra s in
     Leaves-unless s _ _ _ parts.0 parts.1
-Leaves-step g (Some (branch None ra disp)) s = goes_on s _ refl (length-put s.regs ra _) refl
-Leaves-step g (Some (branch (Some c) ra disp)) s = goes_on s _ refl refl refl
-Leaves-step g (Some (jump ra rb)) s = goes_on s _ refl (length-put s.regs ra _) refl
-Leaves-step g (Some (barrier None)) s = goes_on s _ refl refl refl
-Leaves-step g (Some (barrier (Some function))) s = Leaves-returned function _ s refl
-Leaves-step g (Some idle) s = goes_on s _ refl refl refl
+Leaves-step g (Some (branch None ra disp)) s input = goes_on s _ refl (length-put s.regs ra _) refl
+Leaves-step g (Some (branch (Some c) ra disp)) s input = goes_on s _ refl refl refl
+Leaves-step g (Some (jump ra rb)) s input = goes_on s _ refl (length-put s.regs ra _) refl
+Leaves-step g (Some (barrier None)) s input = goes_on s _ refl refl refl
+Leaves-step g (Some (barrier (Some function))) s input = Leaves-returned function _ s input refl
+Leaves-step g (Some idle) s input = goes_on s _ refl refl refl

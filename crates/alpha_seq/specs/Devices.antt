@@ -1,8 +1,11 @@
 -- What a step or a run did to its devices, which may tell nothing.
 use Rattle.std.specs.Prelude.{◌≡◌, ◌≤◌, ℕ, List, ◌++◌, Option, Some}
+use Rattle.std.specs.Io.KnownBytes.{Appends}
 use Rattle.alpha_io.specs.declared.source.Source.{Ghosts}
 use Rattle.alpha_io.specs.Faults.{Rose}
 use Rattle.alpha_io.specs.Sunk.{Sunk, HasFailed}
+use Rattle.alpha_seq.specs.State.{Event}
+use Rattle.alpha_seq.specs.Run.{Fed}
 
 -- What a call did to a source: its bytes still to come and its count of faults, before the call and after it.
 pub record Drawn : Type 0 where
@@ -27,6 +30,21 @@ pub record Rests (d : Drawn) : Type 0 where
 -- Where the source told its bytes, what is left of them is an end of them.
 abbrev pub LeavesEnd : Drawn → Type 0
 LeavesEnd d = (bytes : List ℕ) → d.old ≡ Some bytes → (taken : List ℕ) × (rest : List ℕ) × (bytes ≡ taken ++ rest) × (d.new ≡ Some rest)
+
+-- Where the source told its bytes, the steps with these events read them, and the rest is left.
+abbrev pub Feeds : Drawn → List Event → Type 0
+Feeds d events = (bytes : List ℕ) → d.old ≡ Some bytes → (rest : List ℕ) × Fed bytes events rest × (d.new ≡ Some rest)
+
+-- Where the source told its bytes, the steps with these events would have read them, had no device failed.
+abbrev pub WouldFeed : Drawn → List Event → Type 0
+WouldFeed d events = (bytes : List ℕ) → d.old ≡ Some bytes → (rest : List ℕ) × Fed bytes events rest
+
+-- All of xs was written, and of what follows it in ys a front.
+pub record WritesBetween (old new : Option (List ℕ)) (xs ys : List ℕ) : Type 0 where
+  pub more : List ℕ
+  pub rest : List ℕ
+  pub whole : (xs ++ more) ++ rest ≡ ys
+  pub written : Appends old new (xs ++ more)
 
 -- nothing was put and no fault came
 pub record Idles (s : Sunk) : Type 0 where

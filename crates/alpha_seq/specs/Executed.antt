@@ -1,5 +1,5 @@
 -- What the execution of one word did, by its answer.
-use Rattle.std.specs.Prelude.{◌≡◌, ◌≢◌, ℕ, ℤ, ◌+◌, ◌%◌, ◌^◌, ◌⊎◌, List, [], Option, Some, None}
+use Rattle.std.specs.Prelude.{◌≡◌, ◌≢◌, ℕ, ℤ, ◌+◌, ◌%◌, ◌^◌, ◌⊎◌, List, Option, Some, None}
 use Rattle.std.specs.Int.{w32}
 use Rattle.alpha_words.specs.Regs.{put}
 use Rattle.alpha_table.specs.declared.rows.Extension.{Extension}
@@ -12,6 +12,7 @@ use Rattle.alpha_table.specs.Rows.{mem_row}
 use Rattle.alpha_values.specs.Numbers.{signed, register_of}
 use Rattle.alpha_mem.specs.declared.access.MemFault.{MemFault}
 use Rattle.alpha_pal.specs.declared.pal_end.Passed.TheVariants.{Nothing}
+use Rattle.alpha_pal.specs.Call.{Silent}
 use Rattle.alpha_seq.specs.declared.end.End.{End}
 use Rattle.alpha_seq.specs.declared.end.Next.{Next}
 use Rattle.alpha_seq.specs.declared.end.Next.TheVariants as nexts
@@ -22,12 +23,11 @@ use Rattle.alpha_seq.specs.State.{Event, Went, Barriered, Overflowed, Ends, step
 use Rattle.alpha_seq.specs.Step.{next_pc, fault_end, accessed, step}
 use Rattle.alpha_seq.specs.Machine.{program_of, state_of, class_here, kernel_left}
 
--- The step of the definition at a word of this class, at each input and output, which it leaves.
+-- The step of the definition at a word of this class, whatever there is to be read.
 pub record Does (event : Event) (class : Class) (old new : Machine) : Type 0 where
-  pub is : (input output : List ℕ)
-      → step (program_of old) (Some class) (state_of old input output) ≡ stepped (state_of new input output) event
+  pub is : (input : List ℕ) → step (program_of old) (Some class) (state_of old) input ≡ stepped (state_of new) event
   pub program : program_of new ≡ program_of old
-  pub kernel : new.kernel ≡ kernel_left (Some class) (next_pc (state_of old [] [])) old.regs old.kernel
+  pub kernel : new.kernel ≡ kernel_left (Some class) (next_pc (state_of old)) old.regs old.kernel
 
 -- what a load makes of a number; the longwords alone are extended with the sign
 abbrev pub filled : Extension → ℕ → ℕ
@@ -37,7 +37,7 @@ filled Sign n = register_of (signed w32 n)
 -- what the execution of a word that is no PAL call did, by its answer
 abbrev pub ExecuteEffect : Seen → Class → Machine → Machine → Type 0
 ExecuteEffect events.Went class old new = Does Went class old new
-ExecuteEffect (events.Barrier passed) class old new = (passed ≡ Nothing) × Does Barriered class old new
+ExecuteEffect (events.Barrier passed) class old new = (passed ≡ Nothing) × Does (Barriered Silent new.pc new.regs) class old new
 ExecuteEffect (events.Overflowed at) class old new = Does (Overflowed at) class old new
 ExecuteEffect (events.Triggered value) class old new = ⊥
 ExecuteEffect (events.Waited wait) class old new = ⊥
@@ -48,18 +48,18 @@ ExecuteEffect (events.Lost pc mask) class old new = ⊥
 -- an access of a word that faults ends the program, and all is as before
 abbrev pub FaultEffect : MemFault → Class → MemAccess → Machine → Machine → Type 0
 FaultEffect fault class at old new =
-    (new ≡ old) × Does (Ends (fault_end fault old.pc (accessed at (state_of old [] [])))) class old new
+    (new ≡ old) × Does (Ends (fault_end fault old.pc (accessed at (state_of old)))) class old new
 
--- The step of the definition only went on, at each input and output, which it leaves.
+-- The step of the definition only went on, whatever there is to be read.
 pub record GoesOn (old new : Machine) : Type 0 where
   pub class : Class
   pub here : class_here old ≡ Some class
   pub does : Does Went class old new
 
--- The step of the definition at such a word, at any input and output, doesn't only go on: it overflows, is a barrier or
+-- The step of the definition at such a word doesn't only go on, whatever there is to be read: it overflows, is a barrier or
 -- ends the program.
 abbrev pub NeverGoes : Option Class → Machine → Type 0
-NeverGoes class m = (input output : List ℕ) → (step (program_of m) class (state_of m input output)).event ≢ Went
+NeverGoes class m = (input : List ℕ) → (step (program_of m) class (state_of m) input).event ≢ Went
 
 -- the machine after an overflow that is completed
 abbrev pub logged_machine : Machine → ℕ → ℕ → Machine

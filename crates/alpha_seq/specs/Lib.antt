@@ -7,10 +7,9 @@ pub mod Run
 pub mod Next
 pub mod Machine
 pub mod Devices
-pub mod Draws
 pub mod Print
 pub mod StepEffect
 pub mod Sequential
 pub mod Executed
-pub mod Inputs
+pub mod Fronts
 pub mod Rushed

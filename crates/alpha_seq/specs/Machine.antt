@@ -2,7 +2,6 @@
 use Rattle.std.specs.Prelude.{◌≡◌, ℕ, List, Option, Some}
 use Rattle.alpha_table.specs.Class.{Class, barrier}
 use Rattle.alpha_pal.specs.Kernel.{KernelState}
-use Rattle.alpha_pal.specs.Call.{outside}
 use Rattle.alpha_pal.specs.CallEffect.{kernel_after}
 use Rattle.alpha_seq.specs.declared.machine.Machine.{Machine}
 use Rattle.alpha_seq.specs.State.{Program, State}
@@ -11,16 +10,15 @@ use Rattle.alpha_seq.specs.Step.{next_class}
 abbrev pub program_of : Machine → Program
 program_of m = record { image = m.image; how = m.how }
 
--- the state, with the input still to come and the output so far
-abbrev pub state_of : Machine → List ℕ → List ℕ → State
-state_of m input output = record {
+abbrev pub state_of : Machine → State
+state_of m = record {
   regs = m.regs;
   pc = m.pc;
   mem = m.memory;
+  unique = m.unique;
   lock = m.lock;
   count = m.overflows;
   logged = m.last;
-  outside = outside m.unique input output;
 }
 
 -- the class of the word at the machine's PC

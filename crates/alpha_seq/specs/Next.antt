@@ -1,5 +1,5 @@
 -- What the word at the PC is, and what a step would do there.
-use Rattle.std.specs.Prelude.{ℕ, Option, Some, None, slice_get}
+use Rattle.std.specs.Prelude.{ℕ, List, Option, Some, None, slice_get}
 use Rattle.std.specs.Option.{option_and_then}
 use Rattle.alpha_table.specs.declared.form.Form.{Form}
 use Rattle.alpha_table.specs.Class.{Class, barrier}
@@ -25,7 +25,7 @@ by_end i end = Faults end
 -- an instruction by how its step would go
 abbrev pub by_event : Form → Event → Next
 by_event i Went = Plain i
-by_event i Barriered = Barrier i
+by_event i (Barriered traffic pc regs) = Barrier i
 by_event i (Overflowed at) = Overflows i
 by_event i (Ends end) = by_end i end
 
@@ -34,10 +34,10 @@ abbrev pub by_class : Class → Form → Event → Next
 by_class (barrier function) i event = Barrier i
 by_class _ i event = by_event i event
 
-abbrev pub next_by : Program → Option Form → State → Next
-next_by g None s = Outside
-next_by g (Some i) s = by_class (class_of i) i (step g (Some (class_of i)) s).event
+abbrev pub next_by : Program → Option Form → State → List ℕ → Next
+next_by g None s input = Outside
+next_by g (Some i) s input = by_class (class_of i) i (step g (Some (class_of i)) s input).event
 
--- what a step from a state would do
-abbrev pub next_of : Program → State → Next
-next_of g s = next_by g (next_insn g s.pc) s
+-- what a step from a state would do, where this is what there is to be read
+abbrev pub next_of : Program → State → List ℕ → Next
+next_of g s input = next_by g (next_insn g s.pc) s input

@@ -1,24 +1,23 @@
 -- What a step of a machine was.
-use Rattle.std.specs.Prelude.{◌≡◌, ℕ, Bool, true, false, List, [], ◌++◌}
+use Rattle.std.specs.Prelude.{◌≡◌, ℕ, Bool, true, false, List, []}
 use Rattle.alpha_mem.specs.Block.{Block}
 use Rattle.alpha_pal.specs.Passed.{IsPassed}
 use Rattle.alpha_seq.specs.declared.machine.Machine.{Machine}
-use Rattle.alpha_seq.specs.declared.event.Event.{Event}
+use Rattle.alpha_seq.specs.declared.event.Event.{Event as Seen}
 use Rattle.alpha_seq.specs.declared.event.Event.TheVariants as events
+use Rattle.alpha_seq.specs.State.{Event}
 
--- What one step of a machine was: the units that it used, the words that it drew, what it took of the input that it found and
--- what it left of it, the bytes that it put, how it went, and the registers, memory and PC behind it.
+-- What one step of a machine was: the units that it used, the words that it drew, what was seen of it, how the code says it,
+-- and the registers, memory and PC behind it.
 pub record Print : Type 0 where
   pub units : ℕ
   pub words : List ℕ
-  pub taken : List ℕ
-  pub rest : List ℕ
-  pub bytes : List ℕ
-  pub event : Event
+  pub seen : List Event
+  pub event : Seen
   pub core : Machine
 
 -- the program has ended, or a trap is lost
-abbrev pub is_over : Event → Bool
+abbrev pub is_over : Seen → Bool
 is_over events.Went = false
 is_over (events.Barrier passed) = false
 is_over (events.Overflowed at) = false
@@ -29,10 +28,6 @@ is_over (events.Ended end) = true
 is_over (events.Lost pc mask) = true
 
 -- a barrier took and put what it says, which stands in memory behind it, and every other step nothing
-abbrev pub HasPassed : Event → List Block → List ℕ → List ℕ → Type 0
+abbrev pub HasPassed : Seen → List Block → List ℕ → List ℕ → Type 0
 HasPassed (events.Barrier passed) mem taken bytes = IsPassed passed mem taken bytes
 HasPassed event mem taken bytes = (taken ≡ []) × (bytes ≡ [])
-
--- the input that it found
-abbrev pub found_by : Print → List ℕ
-found_by p = p.taken ++ p.rest

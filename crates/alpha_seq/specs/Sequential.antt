@@ -1,5 +1,5 @@
 -- The step of the sequential machine, as one of a run.
-use Rattle.std.specs.Prelude.{◌≡◌, ℕ, List, [], ◌++◌, Some}
+use Rattle.std.specs.Prelude.{◌≡◌, ℕ, List, [], ◌∷◌, Some}
 use Rattle.alpha_words.specs.declared.PalCall.TheVariants.{Callsys}
 use Rattle.alpha_io.specs.Sunk.{Sunk}
 use Rattle.alpha_table.specs.Class.{barrier}
@@ -13,30 +13,31 @@ use Rattle.alpha_seq.specs.declared.event.Event.{Event as Seen}
 use Rattle.alpha_seq.specs.declared.event.Event.TheVariants as events
 use Rattle.alpha_seq.specs.State.{Event, Went, Barriered, Overflowed, Ends, stepped}
 use Rattle.alpha_seq.specs.Step.{next_pc, step_from}
+use Rattle.alpha_seq.specs.Run.{given, taken, output}
 use Rattle.alpha_seq.specs.Machine.{program_of, state_of, class_here, kernel_left}
 use Rattle.alpha_seq.specs.Devices.{Drawn, Rests, Idles}
-use Rattle.alpha_seq.specs.Print.{Print, HasPassed, found_by}
+use Rattle.alpha_seq.specs.Print.{Print, HasPassed}
 use Rattle.alpha_seq.specs.StepEffect.{Makes, Breaks}
 
 -- how the code says what a step of the definition came to, a barrier with what it took or put
 abbrev pub seen_as : Event → Passed → Seen
 seen_as Went passed = events.Went
-seen_as Barriered passed = events.Barrier passed
+seen_as (Barriered traffic pc regs) passed = events.Barrier passed
 seen_as (Overflowed at) passed = events.Overflowed at
 seen_as (Ends end) passed = events.Ended end
 
--- the step of the definition, at the input that it found and at each output
+-- the step of the definition, where what its event was given is there to be read
 pub record SeqGoes (old : Machine) (p : Print) (new : Machine) : Type 0 where
   pub happened : Event
   pub passed : Passed
+  pub seen : p.seen ≡ happened ∷ []
   pub event : p.event ≡ seen_as happened passed
   pub units : p.units ≡ 1
   pub words : p.words ≡ []
   pub core : p.core ≡ new
-  pub is : (output : List ℕ)
-      → step_from (program_of old) (state_of old (found_by p) output) ≡ stepped (state_of new p.rest (output ++ p.bytes)) happened
-  pub passes : HasPassed p.event p.core.memory p.taken p.bytes
-  pub kernel : new.kernel ≡ kernel_left (class_here old) (next_pc (state_of old [] [])) old.regs old.kernel
+  pub is : step_from (program_of old) (state_of old) (given happened) ≡ stepped (state_of new) happened
+  pub passes : HasPassed p.event p.core.memory (taken p.seen) (output p.seen)
+  pub kernel : new.kernel ≡ kernel_left (class_here old) (next_pc (state_of old)) old.regs old.kernel
   pub program : program_of new ≡ program_of old
 
 -- each step is a unit, and none without one follows; no word is drawn
@@ -60,7 +61,7 @@ SeqMakes event old new input out = Makes SeqGoes one_unit itself no_words event 
 
 -- all is as before but for the kernel's frame: the call has entered the kernel
 abbrev pub entered : Machine → Machine
-entered m = record m { kernel = kernel_left (class_here m) (next_pc (state_of m [] [])) m.regs m.kernel }
+entered m = record m { kernel = kernel_left (class_here m) (next_pc (state_of m)) m.regs m.kernel }
 
 -- A read whose source failed: the bytes taken so far are in memory, and all else is as before but for the kernel's frame.
 pub record ReadsPart (old new : Machine) (input : Drawn) (out : Sunk) : Type 0 where

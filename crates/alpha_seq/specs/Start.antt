@@ -3,7 +3,6 @@ use Rattle.std.specs.Prelude.{ℕ, ◌-◌, ◌^◌, true, false, List, [], ◌�
 use Rattle.std.specs.List.{flat_map}
 use Rattle.alpha_words.specs.Regs.{put}
 use Rattle.alpha_mem.specs.Block.{Block, block}
-use Rattle.alpha_pal.specs.Call.{outside}
 use Rattle.alpha_image.specs.Layout.{longword}
 use Rattle.alpha_image.specs.Parts.{Parts, pieces}
 use Rattle.alpha_seq.specs.State.{Program, State}
@@ -22,14 +21,14 @@ start_memory p =
 unfoldable pub start_regs : Parts → List ℕ
 start_regs p = put (put (replicate 32 0) 27 p.entry) 30 stack_end
 
--- the state at the start, with the whole input still to come
-abbrev pub start : Program → List ℕ → State
-start g input = record {
+-- the state at the start
+abbrev pub start : Program → State
+start g = record {
   regs = start_regs g.image;
   pc = g.image.entry;
   mem = start_memory g.image;
+  unique = 0;
   lock = None;
   count = 0;
   logged = 0;
-  outside = outside 0 input [];
 }

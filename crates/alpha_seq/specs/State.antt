@@ -2,7 +2,7 @@
 use Rattle.std.specs.Prelude.{ℕ, List, Option}
 use Rattle.alpha_words.specs.declared.Completion.{Completion}
 use Rattle.alpha_mem.specs.Block.{Block}
-use Rattle.alpha_pal.specs.Call.{Outside}
+use Rattle.alpha_pal.specs.Call.{Traffic}
 use Rattle.alpha_image.specs.Parts.{Parts}
 use Rattle.alpha_seq.specs.declared.end.End.{End}
 
@@ -11,22 +11,22 @@ pub record Program : Type 0 where
   pub image : Parts
   pub how : Completion
 
--- The registers, the PC, the memory, the number in the lock flag if it is set, how many overflows were logged modulo
--- 2 ^ 64 and the address of the last one, and what PAL calls alone change: the unique value, the input still to come and
--- the output so far.
+-- The registers, the PC, the memory, the unique value, the number in the lock flag if it is set, how many overflows were
+-- logged modulo 2 ^ 64 and the address of the last one.
 pub record State : Type 0 where
   pub regs : List ℕ
   pub pc : ℕ
   pub mem : List Block
+  pub unique : ℕ
   pub lock : Option ℕ
   pub count : ℕ
   pub logged : ℕ
-  pub outside : Outside
 
--- An instruction was executed; a barrier was; the one at this address overflowed and was logged; or the program ended.
+-- An instruction was executed; a barrier was, with what passed in it and the PC and the registers behind it; the one at this
+-- address overflowed and was logged; or the program ended.
 pub data Event : Type 0 where
   Went : Event
-  Barriered : Event
+  Barriered : (traffic : Traffic) (pc : ℕ) (regs : List ℕ) → Event
   Overflowed : (at : ℕ) → Event
   Ends : (end : End) → Event
 

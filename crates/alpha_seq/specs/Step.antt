@@ -28,7 +28,7 @@ use Rattle.alpha_mem.specs.Intent.{Intent, Load, Store}
 use Rattle.alpha_mem.specs.Block.{Block, shapes}
 use Rattle.alpha_mem.specs.Fault.{fault_of}
 use Rattle.alpha_mem.specs.Memory.{bytes_at, write_bytes}
-use Rattle.alpha_pal.specs.Call.{Called, goes, exits, signals, call}
+use Rattle.alpha_pal.specs.Call.{Silent, Called, goes, exits, signals, call}
 use Rattle.alpha_image.specs.Parts.{place_of}
 use Rattle.alpha_seq.specs.declared.end.End.{End}
 use Rattle.alpha_seq.specs.declared.end.End.TheVariants as ends
@@ -147,8 +147,9 @@ lock_after Callsys lock = None
 lock_after function lock = lock
 
 abbrev pub returned : PalCall → Called → State → Stepped
-returned function (goes regs mem outside) s =
-    stepped (record s { regs = regs; pc = next_pc s; mem = mem; lock = lock_after function s.lock; outside = outside }) Barriered
+returned function (goes regs mem unique traffic) s =
+    stepped (record s { regs = regs; pc = next_pc s; mem = mem; unique = unique; lock = lock_after function s.lock })
+    (Barriered traffic (next_pc s) regs)
 returned function (exits v) s = ended s (ends.Exit v)
 returned function (signals code) s = ended s (ends.Signal code s.pc)
 
@@ -158,24 +159,24 @@ returned function (signals code) s = ended s (ends.Signal code s.pc)
 abbrev pub next_class : Program → ℕ → Option Class
 next_class g pc = option_and_then (class_at g.image.words) (place_of g.image pc)
 
--- a step at a word of this class
-abbrev pub step : Program → Option Class → State → Stepped
-step g None s = ended s (ends.Fetch s.pc)
-step g (Some (operate op ra src rc)) s =
+-- a step at a word of this class, where this is what there is to be read
+abbrev pub step : Program → Option Class → State → List ℕ → Stepped
+step g None s input = ended s (ends.Fetch s.pc)
+step g (Some (operate op ra src rc)) s input =
     went (setting s rc (result_of g.image.level op (reg s.regs ra) (source_value s.regs src) (reg s.regs rc)))
-step g (Some (trigger op ra src rc)) s = trap g.how op (reg s.regs ra) (source_value s.regs src) rc s
-step g (Some (address op ra rb disp)) s = went (setting s ra (computed op (reg s.regs rb) disp))
-step g (Some (load extension at ra)) s = accessing Load at s (setting s ra (loaded extension at s))
-step g (Some (store at ra)) s = accessing Store at s (record (onward s) { mem = written_memory at ra s })
-step g (Some (load_locked extension at ra)) s =
+step g (Some (trigger op ra src rc)) s input = trap g.how op (reg s.regs ra) (source_value s.regs src) rc s
+step g (Some (address op ra rb disp)) s input = went (setting s ra (computed op (reg s.regs rb) disp))
+step g (Some (load extension at ra)) s input = accessing Load at s (setting s ra (loaded extension at s))
+step g (Some (store at ra)) s input = accessing Store at s (record (onward s) { mem = written_memory at ra s })
+step g (Some (load_locked extension at ra)) s input =
     accessing Load at s (record (setting s ra (loaded extension at s)) { lock = Some (lock_block at s) })
-step g (Some (store_conditional at ra)) s = accessing Store at s (conditional (matches s.lock (lock_block at s)) at ra s)
-step g (Some (branch condition ra disp)) s = went (branched condition ra disp s)
-step g (Some (jump ra rb)) s = went (jumped ra rb s)
-step g (Some (barrier None)) s = stepped (onward s) Barriered
-step g (Some (barrier (Some function))) s = returned function (call function s.regs s.mem s.outside) s
-step g (Some idle) s = went (onward s)
+step g (Some (store_conditional at ra)) s input = accessing Store at s (conditional (matches s.lock (lock_block at s)) at ra s)
+step g (Some (branch condition ra disp)) s input = went (branched condition ra disp s)
+step g (Some (jump ra rb)) s input = went (jumped ra rb s)
+step g (Some (barrier None)) s input = stepped (onward s) (Barriered Silent (next_pc s) s.regs)
+step g (Some (barrier (Some function))) s input = returned function (call function s.regs s.mem s.unique input) s
+step g (Some idle) s input = went (onward s)
 
 -- the step from a state
-abbrev pub step_from : Program → State → Stepped
-step_from g s = step g (next_class g s.pc) s
+abbrev pub step_from : Program → State → List ℕ → Stepped
+step_from g s input = step g (next_class g s.pc) s input

@@ -1,22 +1,14 @@
 -- What a step of a machine did, by its answer.
-use Rattle.std.specs.Prelude.{◌≡◌, ℕ, List, ◌++◌, Option, Some}
+use Rattle.std.specs.Prelude.{◌≡◌, ℕ, List}
 use Rattle.alpha_io.specs.Sunk.{Sunk, Puts}
 use Rattle.alpha_io.specs.Written.{WritesPrefix}
 use Rattle.alpha_pal.specs.declared.fault.Fault.{Fault}
 use Rattle.alpha_pal.specs.declared.fault.Fault.TheVariants as faults
 use Rattle.alpha_seq.specs.declared.machine.Machine.{Machine}
 use Rattle.alpha_seq.specs.declared.event.Event.{Event}
-use Rattle.alpha_seq.specs.Devices.{Drawn, HasInputFault, HasOutputFault, HasNotesFault}
-use Rattle.alpha_seq.specs.Print.{Print, found_by}
-
--- where the input is told, the step found what was left of it, and left this
-abbrev pub Finds : Option (List ℕ) → Option (List ℕ) → Print → Type 0
-Finds old new p = (left : List ℕ) → old ≡ Some left → (left ≡ found_by p) × (new ≡ Some p.rest)
-
--- where the input is told, the step found what was left of it, and a rest of that is left
-abbrev pub FindsPart : Option (List ℕ) → Option (List ℕ) → Print → Type 0
-FindsPart old new p = (left : List ℕ) → old ≡ Some left
-    → (left ≡ found_by p) × ((taken : List ℕ) × (rest : List ℕ) × (left ≡ taken ++ rest) × (new ≡ Some rest))
+use Rattle.alpha_seq.specs.Run.{output}
+use Rattle.alpha_seq.specs.Devices.{Drawn, Feeds, WouldFeed, LeavesEnd, HasInputFault, HasOutputFault, HasNotesFault}
+use Rattle.alpha_seq.specs.Print.{Print}
 
 -- The step of the definition, with all that it puts. A machine says by `goes` what its step is, by `uses` how many units it
 -- uses, by `core` where its registers, memory and PC are, and by `draws` which words a chooser went on by.
@@ -28,9 +20,9 @@ pub record Makes {M : Type 0} (goes : M → Print → M → Type 0) (uses : M �
   pub event_is : print.event ≡ event
   pub core_is : print.core ≡ core new
   pub drew : draws print.words
-  pub found : Finds input.old input.new print
+  pub fed : Feeds input print.seen
   pub same : input.now ≡ input.before
-  pub wrote : Puts out print.bytes
+  pub wrote : Puts out (output print.seen)
 
 -- which count of faults rose, by the device that failed
 abbrev pub Causes : Fault → Drawn → Sunk → Sunk → Type 0
@@ -49,7 +41,8 @@ pub record Breaks {M : Type 0} (goes : M → Print → M → Type 0) (uses : M �
   pub units : print.units ≡ uses old
   pub core_is : print.core ≡ core would
   pub drew : draws print.words
-  pub found : FindsPart input.old input.new print
-  pub wrote : WritesPrefix out.old out.new print.bytes
+  pub fed : WouldFeed input print.seen
+  pub left : LeavesEnd input
+  pub wrote : WritesPrefix out.old out.new (output print.seen)
   pub behind : leaves fault old new input out
   pub cause : (notes : Sunk) → notes.now ≡ notes.before → Causes fault input out notes

@@ -1,4 +1,4 @@
-ghost use Rattle.std.specs.Prelude.{◌≡◌, ◌==◌, [], IfOk, IfErr, OnOk, if◌then◌else◌};
+ghost use Rattle.std.specs.Prelude.{◌≡◌, ◌==◌, IfOk, IfErr, OnOk, if◌then◌else◌};
 ghost use Rattle.std.specs.Int.{w32};
 ghost use Rattle.std.specs.Result.{result_err};
 ghost use Rattle.alpha_mem.specs.Size.{size_of};
@@ -154,7 +154,7 @@ impl Machine {
     /// The address of an access (Architecture Handbook, section 4.2).
     #[inline(always)]
     pub fn accessed(&self, at: &MemAccess) -> u64
-        ensures { result ≡ accessed at.now (state_of self.now [] []) }
+        ensures { result ≡ accessed at.now (state_of self.now) }
     {
         access_address(at, self.regs.get(at.base))
     }
@@ -164,10 +164,10 @@ impl Machine {
     #[inline(always)]
     fn read(&self, extension: Extension, at: &MemAccess, addr: u64) -> Result<u64, MemFault>
         requires size { IsSized at.now.bytes }
-        requires addr { addr ≡ accessed at.now (state_of self.now [] []) }
+        requires addr { addr ≡ accessed at.now (state_of self.now) }
         ensures fault { result_err result
             ≡ fault_of (shapes self.now.memory) Load addr at.now.bytes }
-        ensures ok { IfOk result (λ v. v ≡ loaded extension at.now (state_of self.now [] [])) }
+        ensures ok { IfOk result (λ v. v ≡ loaded extension at.now (state_of self.now)) }
     {
         match self.memory.load(addr, size(at.bytes)) {
             Ok(value) => Ok(extended(extension, value)),

@@ -1,4 +1,4 @@
-ghost use Rattle.std.specs.Prelude.{◌≡◌, [], Some, IsTrue, IfOk, IfErr};
+ghost use Rattle.std.specs.Prelude.{◌≡◌, Some, IsTrue, IfOk, IfErr};
 ghost use Rattle.alpha_io.specs.Sunk.{sunk};
 ghost use Rattle.alpha_table.specs.Class.{barrier};
 ghost use Rattle.alpha_pal.specs.CallEffect.{kernel_after};
@@ -31,7 +31,7 @@ impl Machine {
             (drawn S.Source input.old input.new)
             (sunk K.Sink out.old out.new)) }
         ensures kernel { self.new.kernel ≡ kernel_after function
-            (next_pc (state_of self.old [] [])) self.old.regs self.old.kernel }
+            (next_pc (state_of self.old)) self.old.regs self.old.kernel }
         ensures shapes { shapes self.new.memory ≡ shapes self.old.memory }
         ensures program { program_of self.new ≡ program_of self.old }
     {

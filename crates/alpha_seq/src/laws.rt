@@ -2,36 +2,40 @@ ghost use Rattle.std.specs.Prelude.{◌≡◌, ◌≤◌, ℕ, true, false, List
 ghost use Rattle.alpha_table.specs.Class.{Class};
 ghost use Rattle.alpha_mem.specs.Block.{shapes};
 ghost use Rattle.alpha_seq.specs.declared.end.End.{End};
-ghost use Rattle.alpha_seq.specs.State.{Program, State, Ends};
+ghost use Rattle.alpha_seq.specs.State.{Program, State, Event, Ends, Stepped};
 ghost use Rattle.alpha_seq.specs.Step.{step};
-ghost use Rattle.alpha_seq.specs.Run.{started, after, is_over};
-ghost use Rattle.alpha_seq.specs.Inputs.{run_over, lefts, IsUnread, SameButInput};
+ghost use Rattle.alpha_seq.specs.Run.{begins, Runs, Fed, ReadNothing, Run, after, is_over};
 
 /// The laws of steps: a step leaves how many registers there are and where the blocks of memory lie, and where it
 /// ends the program it leaves all.
 pub fn laws_of_steps()
-    ensures registers { (g : Program) (class : Option Class) (s : State)
-        → length (step g class s).state.regs ≡ length s.regs }
-    ensures shapes { (g : Program) (class : Option Class) (s : State)
-        → shapes (step g class s).state.mem ≡ shapes s.mem }
-    ensures ended { (g : Program) (class : Option Class) (s : State) (e : End)
-        → (step g class s).event ≡ Ends e → (step g class s).state ≡ s }
+    ensures registers { (g : Program) (class : Option Class) (s : State) (input : List ℕ)
+        → length (step g class s input).state.regs ≡ length s.regs }
+    ensures shapes { (g : Program) (class : Option Class) (s : State) (input : List ℕ)
+        → shapes (step g class s input).state.mem ≡ shapes s.mem }
+    ensures ended { (g : Program) (class : Option Class) (s : State) (input : List ℕ) (e : End)
+        → (step g class s input).event ≡ Ends e → (step g class s input).state ≡ s }
 {}
 
 /// The laws of runs: a run that is over stays, and one that isn't has made all its steps.
 pub fn laws_of_runs()
-    ensures over { (g : Program) (s : State) (n m : ℕ) → n ≤ m
-        → is_over (after g s n).last ≡ true → after g s m ≡ after g s n }
-    ensures steps { (g : Program) (s : State) (n : ℕ) → is_over (after g s n).last ≡ false
-        → (after g s n).steps ≡ n }
+    ensures over { (g : Program) (s : State) (input : List ℕ) (n m : ℕ) → n ≤ m
+        → is_over (after g s input n).at.event ≡ true → after g s input m ≡ after g s input n }
+    ensures steps { (g : Program) (s : State) (input : List ℕ) (n : ℕ)
+        → is_over (after g s input n).at.event ≡ false → length (after g s input n).events ≡ n }
 {}
 
-/// The laws of runs in which each step finds an input of its own. The run over one input is such a run, in which each
-/// step finds what is left of it. A run of steps that don't look at the input is the same over every input.
+/// The laws of inputs: the run over an input is a list of events that the input fed, and each such list is the run over
+/// it. Where none of its steps reads, a run is the same over every input, and leaves all of it, whatever its steps were
+/// given.
 pub fn laws_of_inputs()
-    ensures told { (g : Program) (s : State) (n : ℕ)
-        → run_over g (lefts g s n) (started s) ≡ after g s n }
-    ensures unread { (g : Program) (s : State) (inputs : List (List ℕ))
-        → IsUnread g s (length inputs)
-        → SameButInput (run_over g inputs (started s)) (after g s (length inputs)) }
+    ensures told { (g : Program) (s : State) (input : List ℕ) (n : ℕ)
+        → let r = after g s input n in
+        Runs g (begins s) r.events r.at × Fed input r.events r.left }
+    ensures fed { (g : Program) (s : State) (events : List Event) (at : Stepped) (input left : List ℕ)
+        → Runs g (begins s) events at → Fed input events left
+        → after g s input (length events) ≡ record { at = at; events = events; left = left } }
+    ensures unread { (g : Program) (s : State) (events : List Event) (at : Stepped) (input : List ℕ)
+        → Runs g (begins s) events at → ReadNothing events
+        → after g s input (length events) ≡ record { at = at; events = events; left = input } }
 {}

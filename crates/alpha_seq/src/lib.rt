@@ -13,25 +13,25 @@
 //!   barrier, of the registers alone and of an end; [`line_of_end`] is the last of these.
 //! - [`laws_of_steps`]: a step leaves how many registers there are and where the blocks of memory lie, and one that ends
 //!   the program leaves all. [`laws_of_runs`]: a run that is over stays, and one that isn't has made all its steps.
-//!   [`laws_of_inputs`]: how runs in which each step finds an input of its own stand to the run over one input, and to
-//!   runs that don't look at theirs.
+//!   [`laws_of_inputs`]: the run over an input is the list of events that the input feeds, and a run that reads nothing
+//!   is the same over every input.
 //!
 //! `specs/State.antt` says what a program and a state are and what comes of a step, `specs/Start.antt` what the state
-//! at the start is, `specs/Step.antt` what each class of words does, `specs/Run.antt` what a run is and what one sees
-//! of it, `specs/Notes.antt` what its lines are, and `specs/Next.antt` what a word would do. `specs/Machine.antt` says
-//! how the code's machine stands to programs and states. `specs/Print.antt` says what a step of a machine was,
-//! `specs/StepEffect.antt` what the code's step did by its answer, for each machine, `specs/Sequential.antt` the same for
-//! this one, and `specs/Devices.antt` what it did to devices that tell their bytes and to others. `specs/Inputs.antt` says
-//! what a run does over a source that tells nothing: each step finds some input of its own. `specs/StartMemory.antt` and
-//! `specs/Executed.antt` say what the helpers of the start and of the step do, `specs/Rushed.antt` what steps are that
-//! only go on behind one another.
+//! at the start is, `specs/Step.antt` what each class of words does, `specs/Run.antt` what a run is, whatever its steps
+//! are given or over one input, and what one sees of it, `specs/Notes.antt` what its lines are, and `specs/Next.antt`
+//! what a word would do. `specs/Machine.antt` says how the code's machine stands to programs and states.
+//! `specs/Print.antt` says what a step of a machine was, `specs/StepEffect.antt` what the code's step did by its
+//! answer, for each machine, `specs/Sequential.antt` the same for this one, and `specs/Devices.antt` what it did to
+//! devices that tell their bytes and to others. `specs/Fronts.antt` says what is told of a run that a device's fault
+//! cut short. `specs/StartMemory.antt` and `specs/Executed.antt` say what the helpers of the start and of the step do,
+//! `specs/Rushed.antt` what steps are that only go on behind one another.
 //!
-//! `src/machine.rt` has the machine, `src/event.rt` and `src/end.rt` its answers; `src/step.rt` has the step. Its layers are
-//! `src/execute.rt`, which executes each word that is no barrier, `src/words.rt` and `src/access.rt` with the
-//! families of these words, the second with those that have a displacement from a base register, `src/barrier.rt`
-//! with the PAL calls, and `src/parts.rt` with what they share. `src/look.rt` says what a word would do.
-//! `src/start.rt` makes the machine, `src/rush.rt` executes words that only go on, `src/lines.rt` writes the lines,
-//! `src/laws.rt` has the laws, and `proofs/Examples.antt` has programs whose runs the definitions compute.
+//! `src/machine.rt` has the machine, `src/event.rt` and `src/end.rt` its answers; `src/step.rt` has the step. Its
+//! layers are `src/execute.rt`, which executes each word that is no barrier, `src/words.rt` and `src/access.rt` with
+//! the families of these words, the second with those that have a displacement from a base register, `src/barrier.rt`
+//! with the PAL calls, and `src/parts.rt` with what they share. `src/look.rt` says what a word would do. `src/start.rt`
+//! makes the machine, `src/rush.rt` executes words that only go on, `src/lines.rt` writes the lines, `src/laws.rt` has
+//! the laws, and `proofs/Examples.antt` has programs whose runs the definitions compute.
 #![tactic(auto)]
 
 mod access;

@@ -1,4 +1,4 @@
-ghost use Rattle.std.specs.Prelude.{◌≡◌, ℕ, List, [], false, Some};
+ghost use Rattle.std.specs.Prelude.{◌≡◌, ℕ, List, false, Some};
 ghost use Rattle.std.specs.Option.{option_map, option_map_or};
 ghost use Rattle.alpha_mem.specs.Block.{shapes};
 ghost use Rattle.alpha_mem.specs.Fault.{fault_of};
@@ -24,8 +24,8 @@ use alpha_words::Reg;
 impl Machine {
     /// What the word at the PC is, and what a step would do there.
     pub fn next(&self) -> Next
-        ensures value { (input output : List ℕ)
-            → result ≡ next_of (program_of self.now) (state_of self.now input output) }
+        ensures value { (input : List ℕ)
+            → result ≡ next_of (program_of self.now) (state_of self.now) input }
     {
         match self.insn() {
             Some(insn) => self.next_at(&insn),
@@ -35,9 +35,8 @@ impl Machine {
 
     // What an instruction would do here.
     fn next_at(&self, insn: &Insn) -> Next
-        ensures { (input output : List ℕ)
-            → result ≡ next_by (program_of self.now) (Some insn.now)
-            (state_of self.now input output) }
+        ensures { (input : List ℕ)
+            → result ≡ next_by (program_of self.now) (Some insn.now) (state_of self.now) input }
     {
         match insn.form() {
             Form::Operate { op, ra, src, .. } => {
@@ -73,9 +72,9 @@ impl Machine {
 
     // How the access of a memory instruction would end the program, if it makes one that faults.
     fn fault_at(&self, op: MemOp, ra: Reg, rb: Reg, disp: i16) -> Option<End>
-        ensures { (insn : Form) (input output : List ℕ)
+        ensures { (insn : Form) (input : List ℕ)
             → by_event insn (step (program_of self.now) (Some (class_of (Mem op ra rb disp)))
-            (state_of self.now input output)).event ≡ fault_answer result insn }
+            (state_of self.now) input).event ≡ fault_answer result insn }
     {
         let at = memory_access(op, rb, disp);
         match op.row().role {
@@ -91,7 +90,7 @@ impl Machine {
     // How a load would end the program, if it would fault.
     fn load_end(&self, at: &MemAccess) -> Option<End>
         requires { IsSized at.now.bytes }
-        ensures { let addr = accessed at.now (state_of self.now [] []) in
+        ensures { let addr = accessed at.now (state_of self.now) in
             result ≡ option_map (λ fault. fault_end fault self.now.pc addr)
             (fault_of (shapes self.now.memory) Load addr at.now.bytes) }
     {
@@ -105,7 +104,7 @@ impl Machine {
     // How a store would end the program, if it would fault.
     fn store_end(&self, at: &MemAccess) -> Option<End>
         requires { IsSized at.now.bytes }
-        ensures { let addr = accessed at.now (state_of self.now [] []) in
+        ensures { let addr = accessed at.now (state_of self.now) in
             result ≡ option_map (λ fault. fault_end fault self.now.pc addr)
             (fault_of (shapes self.now.memory) Store addr at.now.bytes) }
     {

@@ -21,8 +21,7 @@ impl Machine {
     /// `how` is what an instruction that overflows leaves. `NoMemory` where memory runs out.
     pub fn new(alloc: Global, image: Image, how: Completion) -> Result<Machine, NoMemory>
         ensures program { IfOk result (λ m. program_of m ≡ record { image = image; how = how }) }
-        ensures start { IfOk result (λ m. (input : List ℕ)
-            → state_of m input [] ≡ start (program_of m) input) }
+        ensures start { IfOk result (λ m. state_of m ≡ start (program_of m)) }
         ensures kernel { IfOk result (λ m. m.kernel ≡ new_kernel) }
     {
         let memory = start_memory(alloc, &image)?;

@@ -1,4 +1,4 @@
-ghost use Rattle.std.specs.Prelude.{◌≡◌, [], IsTrue, IfOk, IfErr};
+ghost use Rattle.std.specs.Prelude.{◌≡◌, IsTrue, IfOk, IfErr};
 ghost use Rattle.alpha_io.specs.Sunk.{sunk};
 ghost use Rattle.alpha_mem.specs.Block.{shapes};
 ghost use Rattle.alpha_seq.specs.Step.{next_pc};
@@ -28,7 +28,7 @@ impl Machine {
             (drawn S.Source input.old input.new)
             (sunk K.Sink out.old out.new)) }
         ensures kernel { self.new.kernel ≡ kernel_left (class_here self.old)
-            (next_pc (state_of self.old [] [])) self.old.regs self.old.kernel }
+            (next_pc (state_of self.old)) self.old.regs self.old.kernel }
         ensures shapes { shapes self.new.memory ≡ shapes self.old.memory }
         ensures same { Stays self.old self.new }
     {
@@ -54,7 +54,7 @@ impl Machine {
             (drawn S.Source input.old input.new)
             (sunk K.Sink out.old out.new)) }
         ensures kernel { self.new.kernel ≡ kernel_left (class_here self.old)
-            (next_pc (state_of self.old [] [])) self.old.regs self.old.kernel }
+            (next_pc (state_of self.old)) self.old.regs self.old.kernel }
         ensures shapes { shapes self.new.memory ≡ shapes self.old.memory }
         ensures same { Stays self.old self.new }
     {
@@ -79,7 +79,7 @@ impl Machine {
             (drawn S.Source input.old input.new)
             (sunk K.Sink out.old out.new)) }
         ensures kernel { self.new.kernel ≡ kernel_left (class_here self.old)
-            (next_pc (state_of self.old [] [])) self.old.regs self.old.kernel }
+            (next_pc (state_of self.old)) self.old.regs self.old.kernel }
         ensures shapes { shapes self.new.memory ≡ shapes self.old.memory }
         ensures same { Stays self.old self.new }
     {

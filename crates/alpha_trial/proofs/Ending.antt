@@ -1,5 +1,5 @@
 -- The ten words behind a trial's blocks: they put eight bytes and exit with 0.
-use Rattle.std.proofs.Common.{◌≡◌, ◌≤◌, ◌+◌, ◌*◌, ◌++◌, ℕ, pos, true, false, List, [], ◌∷◌, length, Option, Some, None, refl, sym, ap, subst, ◌∙◌, arith, add-one, bit_or}
+use Rattle.std.proofs.Common.{◌≡◌, ◌≤◌, ◌+◌, ◌*◌, ℕ, pos, true, false, List, [], ◌∷◌, length, Option, Some, None, refl, sym, ap, subst, ◌∙◌, arith, append-nil, length-append, add-one, bit_or}
 use Rattle.alpha_words.specs.declared.Level.{Level}
 use Rattle.alpha_words.specs.declared.Level.TheVariants.{One}
 use Rattle.alpha_words.specs.declared.PalCall.TheVariants.{Callsys}
@@ -21,13 +21,14 @@ use Rattle.alpha_mem.specs.Intent.{Load, Store}
 use Rattle.alpha_mem.specs.Block.{Block, shapes, within}
 use Rattle.alpha_mem.specs.Fault.{fault_of}
 use Rattle.alpha_mem.specs.Memory.{bytes_at, write_bytes}
-use Rattle.alpha_pal.specs.Call.{Outside, outside, Called, goes, exits, call}
+use Rattle.alpha_pal.specs.Call.{Wrote, Called, goes, exits, call}
 use Rattle.alpha_image.specs.Parts.{Parts}
 use Rattle.alpha_seq.specs.declared.end.End.TheVariants.{Exit}
 use Rattle.alpha_seq.specs.State.{State, Stepped, stepped, Ends}
 use Rattle.alpha_seq.specs.Start.{start_memory, start}
 use Rattle.alpha_seq.specs.Step.{onward, unless, returned, step}
-use Rattle.alpha_seq.specs.Run.{Run, is_over, extended_by, advance, after}
+use Rattle.alpha_seq.specs.Run.{Run, output, is_over, extended_by, advance, after}
+use Rattle.alpha_run.proofs.Rows.{output-append}
 use Rattle.alpha_seq.proofs.Running.{after-over}
 use Rattle.alpha_trial.specs.Words.{program_words, trial_image}
 use Rattle.alpha_trial.specs.Report.{wrapping, sequential_run}
@@ -113,57 +114,55 @@ facts9 = fact 0 1 ∷ facts8
 
 -- ---- the store
 
-store_leaves : (image : Parts) (facts : List Fact) (mem : List Block) (out : List ℕ) (s : State) → reg s.regs 8 ≡ data_base
-    → fault_of (shapes mem) Store data_base 8 ≡ None → Holds facts mem out s
-    → Leaves facts (write_bytes mem data_base (low_bytes 8 (reg s.regs 7))) out s (step (wrapping image) (Some (store data_access 7)) s)
-store_leaves image facts mem out s at none h =
+store_leaves : (image : Parts) (facts : List Fact) (mem : List Block) (s : State) → reg s.regs 8 ≡ data_base
+    → fault_of (shapes mem) Store data_base 8 ≡ None → Holds facts mem s
+    → Leaves facts (write_bytes mem data_base (low_bytes 8 (reg s.regs 7))) [] s (step (wrapping image) (Some (store data_access 7)) s [])
+store_leaves image facts mem s at none h =
     let place = access_address data_access (reg s.regs 8) in
     let bytes = low_bytes 8 (reg s.regs 7) in
     let there : place ≡ data_base = ap (access_address data_access) at ∙ numbers.data_there in
     let fine : fault_of (shapes s.mem) Store place 8 ≡ None =
     ap (λ (a : ℕ). fault_of (shapes s.mem) Store a 8) there ∙ (ap (λ (m : List Block). fault_of (shapes m) Store data_base 8) h.memory ∙ none) in
     let behind : State = record (onward s) { mem = write_bytes s.mem place bytes } in
-    subst (λ (t : Stepped). Leaves facts (write_bytes mem data_base bytes) out s t) (sym (ap (λ (o : Option MemFault). unless o place s behind) fine))
+    subst (λ (t : Stepped). Leaves facts (write_bytes mem data_base bytes) [] s t) (sym (ap (λ (o : Option MemFault). unless o place s behind) fine))
     (record {
       going = refl;
       pc = refl;
+      puts = refl;
       there = record {
         size = h.size;
         known = h.known;
         memory = ap (λ (a : ℕ). write_bytes s.mem a bytes) there ∙ ap (λ (m : List Block). write_bytes m data_base bytes) h.memory;
-        devices = h.devices;
       };
     })
 
 -- ---- the system calls
 
-wrote : (regs : List ℕ) (mem : List Block) (o : Outside) → reg regs 0 ≡ 4 → reg regs 16 ≡ 1 → reg regs 17 ≡ data_base → reg regs 18 ≡ 8
+wrote : (regs : List ℕ) (mem : List Block) (unique : ℕ) → reg regs 0 ≡ 4 → reg regs 16 ≡ 1 → reg regs 17 ≡ data_base → reg regs 18 ≡ 8
     → within (shapes mem) Load data_base 8 ≡ true
-    → call Callsys regs mem o ≡ goes (put (put regs 0 8) 19 0) mem (outside o.unique o.input (o.output ++ bytes_at mem data_base 8))
+    → call Callsys regs mem unique [] ≡ goes (put (put regs 0 8) 19 0) mem unique (Wrote (bytes_at mem data_base 8))
 unfolding call
-wrote regs mem o number a0 a1 a2 readable = rw (number, a0, a1, a2, readable) refl
+wrote regs mem unique number a0 a1 a2 readable = rw (number, a0, a1, a2, readable) refl
 
-exited : (regs : List ℕ) (mem : List Block) (o : Outside) → reg regs 0 ≡ 1 → reg regs 16 ≡ 0 → call Callsys regs mem o ≡ exits 0
+exited : (regs : List ℕ) (mem : List Block) (unique : ℕ) → reg regs 0 ≡ 1 → reg regs 16 ≡ 0 → call Callsys regs mem unique [] ≡ exits 0
 unfolding call
-exited regs mem o number a0 = rw (number, a0) refl
+exited regs mem unique number a0 = rw (number, a0) refl
 
-write_leaves : (image : Parts) (mem : List Block) (out : List ℕ) (s : State) → HoldsEight mem → Holds facts6 mem out s
-    → Leaves base mem (out ++ bytes_at mem data_base 8) s (step (wrapping image) (Some (barrier (Some Callsys))) s)
-write_leaves image mem out s eight h =
+write_leaves : (image : Parts) (mem : List Block) (s : State) → HoldsEight mem → Holds facts6 mem s
+    → Leaves base mem (bytes_at mem data_base 8) s (step (wrapping image) (Some (barrier (Some Callsys))) s [])
+write_leaves image mem s eight h =
     let k = h.known in
     let readable : within (shapes s.mem) Load data_base 8 ≡ true = ap (λ (m : List Block). within (shapes m) Load data_base 8) h.memory ∙ eight.readable in
-    let does = wrote s.regs s.mem s.outside k.0 k.1.1.1.0 k.1.1.0 k.1.0 readable in
-    subst (λ (t : Stepped). Leaves base mem (out ++ bytes_at mem data_base 8) s t) (sym (ap (λ (c : Called). returned Callsys c s) does))
+    let does = wrote s.regs s.mem s.unique k.0 k.1.1.1.0 k.1.1.0 k.1.0 readable in
+    subst (λ (t : Stepped). Leaves base mem (bytes_at mem data_base 8) s t) (sym (ap (λ (c : Called). returned Callsys c s) does))
     (record {
       going = refl;
       pc = refl;
+      puts = ap (λ (m : List Block). bytes_at m data_base 8) h.memory;
       there = record {
         size = length-put (put s.regs 0 8) 19 0 ∙ (length-put s.regs 0 8 ∙ h.size);
         known = known_after base (put s.regs 0 8) 19 0 refl (known_after base s.regs 0 8 refl (k.1.1.1.1.1));
         memory = h.memory;
-        devices =
-            ap (λ (o : Outside). outside o.unique o.input (o.output ++ bytes_at s.mem data_base 8)) h.devices
-            ∙ ap (λ (m : List Block). outside 0 [] (out ++ bytes_at m data_base 8)) h.memory;
       };
     })
 
@@ -188,7 +187,7 @@ module _ (n : ℕ) (most : n ≤ 20000) where
 
   -- the state before the store
   abbrev before : State
-  before = (after (trial n) (start (trial n) []) (9 * n + 1)).state
+  before = (after (trial n) (start (trial n)) [] (9 * n + 1)).at.state
 
   abbrev buffer : List Block
   buffer = write_bytes (memory n) data_base (low_bytes 8 (reg before.regs 7))
@@ -202,7 +201,7 @@ module _ (n : ℕ) (most : n ≤ 20000) where
   stage2 : Stage n (9 * n + 2) facts1 buffer []
   stage2 =
       next_stage n most (9 * n + 1) (9 * n + 2) (store data_access 7) facts1 facts1 (memory n) buffer [] [] (omega arith) (words_are n).word1 stage1
-      (store_leaves (trial_image n) facts1 (memory n) [] before stage1.here.known.0 (granted (program_words n) 65536) stage1.here)
+      (store_leaves (trial_image n) facts1 (memory n) before stage1.here.known.0 (granted (program_words n) 65536) stage1.here)
 
   stage3 : Stage n (9 * n + 3) facts3 buffer []
   stage3 =
@@ -212,10 +211,10 @@ module _ (n : ℕ) (most : n ≤ 20000) where
 
   stage4 : Stage n (9 * n + 4) facts4 buffer []
   stage4 =
-      let s : State = (after (trial n) (start (trial n) []) (9 * n + 3)).state in
+      let s : State = (after (trial n) (start (trial n)) [] (9 * n + 3)).at.state in
       let h = stage3.here in
       next_stage n most (9 * n + 3) (9 * n + 4) (operate Bis 31 (Reg 8) 17) facts3 facts4 buffer buffer [] [] (omega arith) (words_are n).word3 stage3
-      (setting_leaves facts3 buffer [] s 17 (result_of One Bis (reg s.regs 31) (reg s.regs 8) (reg s.regs 17)) data_base (omega arith) refl
+      (setting_leaves facts3 buffer s 17 (result_of One Bis (reg s.regs 31) (reg s.regs 8) (reg s.regs 17)) data_base (omega arith) refl
       (copied One (reg s.regs 31) (reg s.regs 8) (reg s.regs 17) h.known.1.1.0 h.known.1.0) h)
 
   stage5 : Stage n (9 * n + 5) facts5 buffer []
@@ -232,9 +231,9 @@ module _ (n : ℕ) (most : n ≤ 20000) where
 
   stage7 : Stage n (9 * n + 7) base buffer put_bytes
   stage7 =
-      let s : State = (after (trial n) (start (trial n) []) (9 * n + 6)).state in
+      let s : State = (after (trial n) (start (trial n)) [] (9 * n + 6)).at.state in
       next_stage n most (9 * n + 6) (9 * n + 7) (barrier (Some Callsys)) facts6 base buffer buffer [] put_bytes (omega arith) (words_are n).word6 stage6
-      (write_leaves (trial_image n) buffer [] s buffer_eight stage6.here)
+      (write_leaves (trial_image n) buffer s buffer_eight stage6.here)
 
   stage8 : Stage n (9 * n + 8) facts8 buffer put_bytes
   stage8 =
@@ -251,26 +250,27 @@ module _ (n : ℕ) (most : n ≤ 20000) where
   exit_step : (k : ℕ) (r : Run) → class_at (program_words n) k ≡ Some (barrier (Some Callsys)) → Stands n k facts9 buffer put_bytes r → Exits (k + 1) (advance (trial n) r)
   exit_step k r there s =
       let h = s.here in
-      let ends : step (trial n) (Some (barrier (Some Callsys))) r.state ≡ stepped r.state (Ends (Exit 0)) =
-      ap (λ (c : Called). returned Callsys c r.state) (exited r.state.regs r.state.mem r.state.outside h.known.0 h.known.1.0) in
-      subst (λ (q : Run). Exits (k + 1) q) (sym (advanced n most k r (barrier (Some Callsys)) there s.going s.pc))
-      (subst (λ (t : Stepped). Exits (k + 1) (extended_by r t)) (sym ends)
+      let t : Stepped = stepped r.at.state (Ends (Exit 0)) in
+      let ends : step (trial n) (Some (barrier (Some Callsys))) r.at.state [] ≡ t =
+      ap (λ (c : Called). returned Callsys c r.at.state) (exited r.at.state.regs r.at.state.mem r.at.state.unique h.known.0 h.known.1.0) in
+      subst (λ (q : Run). Exits (k + 1) q) (sym (advanced n most k r (barrier (Some Callsys)) there s.going s.pc s.none))
+      (subst (λ (x : Stepped). Exits (k + 1) (extended_by r x)) (sym ends)
       (record {
         last = refl;
-        steps_are = ap (λ (m : ℕ). m + 1) s.steps;
-        eight = ap (λ (o : Outside). length o.output) h.devices ∙ buffer_eight.eight;
+        steps_are = omega (arith, length-append r.events (t.event ∷ []), s.steps);
+        eight = ap length (output-append r.events (t.event ∷ []) ∙ (append-nil (output r.events) ∙ s.puts)) ∙ buffer_eight.eight;
       }))
 
-  ends_there : Exits (9 * n + 10) (after (trial n) (start (trial n) []) (9 * n + 10))
+  ends_there : Exits (9 * n + 10) (after (trial n) (start (trial n)) [] (9 * n + 10))
   ends_there =
-      subst (λ (m : ℕ). Exits m (after (trial n) (start (trial n) []) m)) (let e : 9 * n + 9 + 1 ≡ 9 * n + 10 = omega arith in e)
-      (subst (λ (q : Run). Exits (9 * n + 9 + 1) q) (sym (ap (after (trial n) (start (trial n) [])) (add-one (9 * n + 9))))
-      (exit_step (9 * n + 9) (after (trial n) (start (trial n) []) (9 * n + 9)) (words_are n).word9 stage9))
+      subst (λ (m : ℕ). Exits m (after (trial n) (start (trial n)) [] m)) (let e : 9 * n + 9 + 1 ≡ 9 * n + 10 = omega arith in e)
+      (subst (λ (q : Run). Exits (9 * n + 9 + 1) q) (sym (ap (after (trial n) (start (trial n)) []) (add-one (9 * n + 9))))
+      (exit_step (9 * n + 9) (after (trial n) (start (trial n)) [] (9 * n + 9)) (words_are n).word9 stage9))
 
 -- the run of enough steps is that of as many as the program has words
-pub run_is : (n units : ℕ) → n ≤ 20000 → 9 * n + 10 ≤ units → sequential_run units (trial_image n) ≡ after (trial n) (start (trial n) []) (9 * n + 10)
+pub run_is : (n units : ℕ) → n ≤ 20000 → 9 * n + 10 ≤ units → sequential_run units (trial_image n) ≡ after (trial n) (start (trial n)) [] (9 * n + 10)
 unfolding sequential_run
-run_is n units most enough = after-over (trial n) (start (trial n) []) units (9 * n + 10) enough (ap is_over (ends_there n most).last)
+run_is n units most enough = after-over (trial n) (start (trial n)) [] units (9 * n + 10) enough (ap is_over (ends_there n most).last)
 
 pub run_exits : (n units : ℕ) → n ≤ 20000 → 9 * n + 10 ≤ units → Exits (9 * n + 10) (sequential_run units (trial_image n))
 run_exits n units most enough = subst (Exits (9 * n + 10)) (sym (run_is n units most enough)) (ends_there n most)

@@ -38,34 +38,34 @@ same_conditional true at ra s = refl
 same_conditional false at ra s = refl
 
 same_returned : (function : PalCall) (c : Called) (s : State) → (returned function c s).state.count ≡ s.count
-same_returned function (goes regs mem outside) s = refl
+same_returned function (goes regs mem unique traffic) s = refl
 same_returned function (exits v) s = refl
 same_returned function (signals code) s = refl
 
-same_count : (g : Program) (o : Option Class) (s : State) → triggers o s ≡ false → (step g o s).state.count ≡ s.count
-same_count g None s e = refl
-same_count g (Some (operate op ra src rc)) s e = refl
-same_count g (Some (trigger op ra src rc)) s e = rw e refl
-same_count g (Some (address op ra rb disp)) s e = refl
-same_count g (Some (load extension at ra)) s e = same_unless _ _ s _ refl
-same_count g (Some (store at ra)) s e = same_unless _ _ s _ refl
-same_count g (Some (load_locked extension at ra)) s e = same_unless _ _ s _ refl
-same_count g (Some (store_conditional at ra)) s e = same_unless _ _ s _ (same_conditional (matches s.lock (lock_block at s)) at ra s)
-same_count g (Some (branch None ra disp)) s e = refl
-same_count g (Some (branch (Some condition) ra disp)) s e = refl
-same_count g (Some (jump ra rb)) s e = refl
-same_count g (Some (barrier None)) s e = refl
-same_count g (Some (barrier (Some function))) s e = same_returned function _ s
-same_count g (Some idle) s e = refl
+same_count : (g : Program) (o : Option Class) (s : State) (input : List ℕ) → triggers o s ≡ false → (step g o s input).state.count ≡ s.count
+same_count g None s input e = refl
+same_count g (Some (operate op ra src rc)) s input e = refl
+same_count g (Some (trigger op ra src rc)) s input e = rw e refl
+same_count g (Some (address op ra rb disp)) s input e = refl
+same_count g (Some (load extension at ra)) s input e = same_unless _ _ s _ refl
+same_count g (Some (store at ra)) s input e = same_unless _ _ s _ refl
+same_count g (Some (load_locked extension at ra)) s input e = same_unless _ _ s _ refl
+same_count g (Some (store_conditional at ra)) s input e = same_unless _ _ s _ (same_conditional (matches s.lock (lock_block at s)) at ra s)
+same_count g (Some (branch None ra disp)) s input e = refl
+same_count g (Some (branch (Some condition) ra disp)) s input e = refl
+same_count g (Some (jump ra rb)) s input e = refl
+same_count g (Some (barrier None)) s input e = refl
+same_count g (Some (barrier (Some function))) s input e = same_returned function _ s
+same_count g (Some idle) s input e = refl
 
-free_total : (g : Program) (o : Option Class) (s : State) (n : ℕ) (words : List ℕ)
-    → total (wild_at g o s None (draw_at o s None n words).choice) ≤ s.count + (draw_at o s None n words).count
-free_total g o s n words = by (triggers o s) refl
+free_total : (g : Program) (o : Option Class) (s : State) (n : ℕ) (words input : List ℕ)
+    → total (wild_at g o s None (draw_at o s None n words).choice input) ≤ s.count + (draw_at o s None n words).count
+free_total g o s n words input = by (triggers o s) refl
   where
     by : (b : Bool) → triggers o s ≡ b
-        → total (cond b (triggered g o s (draw_at o s None n words).choice) (precisely (step g o s))) ≤ s.count + (cond b (triggering (first_word words)) (reporting 0)).count
+        → total (cond b (triggered g o s (draw_at o s None n words).choice) (precisely (step g o s input))) ≤ s.count + (cond b (triggering (first_word words)) (reporting 0)).count
     by true e = omega arith
-    by false e = let same = same_count g o s e in omega arith
+    by false e = let same = same_count g o s input e in omega arith
 
 -- ---- a step with a trap pending
 
@@ -100,8 +100,8 @@ spoilt_count (Some (store_conditional at ra)) s c = by (matches s.lock (lock_blo
 spoilt_count (Some (branch (Some condition) ra disp)) s c = refl
 spoilt_count o s c = refl
 
-trap_total : (g : Program) (o : Option Class) (s : State) (t : Trap) (c : Choice) → total (wild_at g o s (Some t) c) ≤ s.count + 1
-trap_total g o s t c = by (c.report || not (can_wait o s))
+trap_total : (g : Program) (o : Option Class) (s : State) (t : Trap) (c : Choice) (input : List ℕ) → total (wild_at g o s (Some t) c input) ≤ s.count + 1
+trap_total g o s t c input = by (c.report || not (can_wait o s))
   where
     by : (b : Bool) → total (cond b (report g s t) (waited o s t c)) ≤ s.count + 1
     by true = report_total g s t
@@ -109,15 +109,15 @@ trap_total g o s t c = by (c.report || not (can_wait o s))
 
 -- ---- runs
 
-chosen_total : (g : Program) (s : State) (pending : Option Trap) (n : ℕ) (words : List ℕ)
-    → total (chosen g s pending n words) ≤ s.count + owed pending + (draw g s pending n words).count
-chosen_total g s None n words = let one = free_total g (next_class g s.pc) s n words in omega arith
-chosen_total g s (Some t) n words =
-    let one = trap_total g (next_class g s.pc) s t (draw g s (Some t) n words).choice in omega arith
+chosen_total : (g : Program) (s : State) (pending : Option Trap) (n : ℕ) (words input : List ℕ)
+    → total (chosen g s pending n words input) ≤ s.count + owed pending + (draw g s pending n words).count
+chosen_total g s None n words input = let one = free_total g (next_class g s.pc) s n words input in omega arith
+chosen_total g s (Some t) n words input =
+    let one = trap_total g (next_class g s.pc) s t (draw g s (Some t) n words).choice input in omega arith
 
 -- a run has drawn a word for each overflow beyond so many
 abbrev Paid : ℕ → Making → Type 0
-Paid first k = k.run.state.count + owed k.run.pending ≤ first + k.count
+Paid first k = k.run.at.state.count + owed k.run.at.pending ≤ first + k.count
 
 either : (first : ℕ) (b : Bool) (k l : Making) → Paid first k → Paid first l → Paid first (cond b k l)
 either first true k l p q = p
@@ -126,8 +126,8 @@ either first false k l p q = q
 module _ (g : Program) (first : ℕ) where
   step_pays : (k : Making) → Paid first k → Paid first (advance_making g k)
   step_pays k h =
-      let more = chosen_total g k.run.state k.run.pending k.waited k.words in
-      either first (finished k.run.last) k (stepped_making g k) h (omega arith)
+      let more = chosen_total g k.run.at.state k.run.at.pending k.waited k.words k.run.left in
+      either first (finished k.run.at.happened) k (stepped_making g k) h (omega arith)
 
   settling_pays : (fuel : ℕ) (k : Making) → Paid first k → Paid first (settled_within fuel g k)
   settling_pays zero k h = h
@@ -139,6 +139,6 @@ module _ (g : Program) (first : ℕ) where
   run_pays k (suc n) h = settling_pays (most_waited + 1) (advance_making g (made g k n)) (step_pays (made g k n) (run_pays k n h))
 
 -- a run with nothing pending at the beginning logs an overflow at most for each word that it draws
-pub logged : (g : Program) (s : State) (words : List ℕ) (n : ℕ)
-    → (made g (begun s None 0 words) n).run.state.count ≤ s.count + (made g (begun s None 0 words) n).count
-logged g s words n = let h = run_pays g s.count (begun s None 0 words) n (omega arith) in omega arith
+pub logged : (g : Program) (s : State) (input words : List ℕ) (n : ℕ)
+    → (made g (begun s input None 0 words) n).run.at.state.count ≤ s.count + (made g (begun s input None 0 words) n).count
+logged g s input words n = let h = run_pays g s.count (begun s input None 0 words) n (omega arith) in omega arith

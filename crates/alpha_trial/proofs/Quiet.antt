@@ -48,48 +48,47 @@ is_quiet idle = true
 abbrev pub base : List Fact
 base = fact 31 0 ∷ []
 
-set_holds : (mem : List Block) (out : List ℕ) (s t : State) (r v : ℕ) → t.regs ≡ put s.regs r v → t.mem ≡ s.mem → t.outside ≡ s.outside
-    → Holds base mem out s → Holds base mem out t
-set_holds mem out s t r v regs memory devices h = record {
+set_holds : (mem : List Block) (s t : State) (r v : ℕ) → t.regs ≡ put s.regs r v → t.mem ≡ s.mem
+    → Holds base mem s → Holds base mem t
+set_holds mem s t r v regs memory h = record {
   size = ap length regs ∙ (length-put s.regs r v ∙ h.size);
   known = (ap (λ (file : List ℕ). reg file 31) regs ∙ (reg-put_unset s.regs r 31 v (never_zero r) ∙ h.known.0), tt);
   memory = memory ∙ h.memory;
-  devices = devices ∙ h.devices;
 }
 
-set_leaves : (mem : List Block) (out : List ℕ) (s : State) (r v : ℕ) → Holds base mem out s → Leaves base mem out s (went (setting s r v))
-set_leaves mem out s r v h =
-    record { going = refl; pc = refl; there = set_holds mem out s (setting s r v) r v refl refl refl h }
+set_leaves : (mem : List Block) (s : State) (r v : ℕ) → Holds base mem s → Leaves base mem [] s (went (setting s r v))
+set_leaves mem s r v h =
+    record { going = refl; pc = refl; puts = refl; there = set_holds mem s (setting s r v) r v refl refl h }
 
-log_leaves : (mem : List Block) (out : List ℕ) (s : State) (r v : ℕ) → Holds base mem out s → Leaves base mem out s (stepped (logging s r v) (Overflowed s.pc))
-log_leaves mem out s r v h =
-    record { going = refl; pc = refl; there = set_holds mem out s (logging s r v) r v refl refl refl h }
+log_leaves : (mem : List Block) (s : State) (r v : ℕ) → Holds base mem s → Leaves base mem [] s (stepped (logging s r v) (Overflowed s.pc))
+log_leaves mem s r v h =
+    record { going = refl; pc = refl; puts = refl; there = set_holds mem s (logging s r v) r v refl refl h }
 
-idle_leaves : (mem : List Block) (out : List ℕ) (s : State) (image : Parts) → Holds base mem out s
-    → Leaves base mem out s (step (wrapping image) (Some idle) s) × Leaves base mem out s (step (wrapping image) (Some (barrier None)) s)
-idle_leaves mem out s image h =
-    let there : Holds base mem out (onward s) = record { size = h.size; known = h.known; memory = h.memory; devices = h.devices } in
-    (record { going = refl; pc = refl; there = there }, record { going = refl; pc = refl; there = there })
+idle_leaves : (mem : List Block) (s : State) (image : Parts) → Holds base mem s
+    → Leaves base mem [] s (step (wrapping image) (Some idle) s []) × Leaves base mem [] s (step (wrapping image) (Some (barrier None)) s [])
+idle_leaves mem s image h =
+    let there : Holds base mem (onward s) = record { size = h.size; known = h.known; memory = h.memory } in
+    (record { going = refl; pc = refl; puts = refl; there = there }, record { going = refl; pc = refl; puts = refl; there = there })
 
-quiet_leaves : (image : Parts) (c : Class) (mem : List Block) (out : List ℕ) (s : State) → is_quiet c ≡ true → Holds base mem out s
-    → Leaves base mem out s (step (wrapping image) (Some c) s)
-quiet_leaves image (operate op ra src rc) mem out s e h = set_leaves mem out s rc _ h
-quiet_leaves image (trigger op ra src rc) mem out s e h = by (overflow_of op (reg s.regs ra) (source_value s.regs src))
+quiet_leaves : (image : Parts) (c : Class) (mem : List Block) (s : State) → is_quiet c ≡ true → Holds base mem s
+    → Leaves base mem [] s (step (wrapping image) (Some c) s [])
+quiet_leaves image (operate op ra src rc) mem s e h = set_leaves mem s rc _ h
+quiet_leaves image (trigger op ra src rc) mem s e h = by (overflow_of op (reg s.regs ra) (source_value s.regs src))
   where
-    by : (b : Bool) → Leaves base mem out s (cond b (stepped (logging s rc (completed_of op (reg s.regs ra) (source_value s.regs src) Wrap)) (Overflowed s.pc))
+    by : (b : Bool) → Leaves base mem [] s (cond b (stepped (logging s rc (completed_of op (reg s.regs ra) (source_value s.regs src) Wrap)) (Overflowed s.pc))
         (went (setting s rc (completed_of op (reg s.regs ra) (source_value s.regs src) Wrap))))
-    by true = log_leaves mem out s rc (completed_of op (reg s.regs ra) (source_value s.regs src) Wrap) h
-    by false = set_leaves mem out s rc (completed_of op (reg s.regs ra) (source_value s.regs src) Wrap) h
-quiet_leaves image (address op ra rb disp) mem out s e h = set_leaves mem out s ra _ h
-quiet_leaves image (load extension at ra) mem out s e h = cc
-quiet_leaves image (store at ra) mem out s e h = cc
-quiet_leaves image (load_locked extension at ra) mem out s e h = cc
-quiet_leaves image (store_conditional at ra) mem out s e h = cc
-quiet_leaves image (branch condition ra disp) mem out s e h = cc
-quiet_leaves image (jump ra rb) mem out s e h = cc
-quiet_leaves image (barrier None) mem out s e h = (idle_leaves mem out s image h).1
-quiet_leaves image (barrier (Some call)) mem out s e h = cc
-quiet_leaves image idle mem out s e h = (idle_leaves mem out s image h).0
+    by true = log_leaves mem s rc (completed_of op (reg s.regs ra) (source_value s.regs src) Wrap) h
+    by false = set_leaves mem s rc (completed_of op (reg s.regs ra) (source_value s.regs src) Wrap) h
+quiet_leaves image (address op ra rb disp) mem s e h = set_leaves mem s ra _ h
+quiet_leaves image (load extension at ra) mem s e h = cc
+quiet_leaves image (store at ra) mem s e h = cc
+quiet_leaves image (load_locked extension at ra) mem s e h = cc
+quiet_leaves image (store_conditional at ra) mem s e h = cc
+quiet_leaves image (branch condition ra disp) mem s e h = cc
+quiet_leaves image (jump ra rb) mem s e h = cc
+quiet_leaves image (barrier None) mem s e h = (idle_leaves mem s image h).1
+quiet_leaves image (barrier (Some call)) mem s e h = cc
+quiet_leaves image idle mem s e h = (idle_leaves mem s image h).0
 
 -- ---- the words of the blocks
 
@@ -144,13 +143,12 @@ ending_class n j = behind_blocks n j (seeded n) ending_words
 
 -- ---- the blocks' steps
 
-start_holds : (n : ℕ) → n ≤ 20000 → Holds base (start_memory (trial_image n)) [] (start (trial n) [])
+start_holds : (n : ℕ) → n ≤ 20000 → Holds base (start_memory (trial_image n)) (start (trial n))
 unfolding start_regs reg put
 start_holds n most = record {
-  size = (ready_start (trial n) [] (image_good n most)).size;
+  size = (ready_start (trial n) (image_good n most)).size;
   known = (refl, tt);
   memory = refl;
-  devices = refl;
 }
 
 quiet_program : (n k : ℕ) → k < 9 * n → Quiet (class_at (program_words n) k)
@@ -159,10 +157,10 @@ quiet_program n k low = quiet_at n k (seeded n) ending_words low
 
 -- where the run stands in the blocks, and behind the last one
 pub blocks_stage : (n k : ℕ) → n ≤ 20000 → k ≤ 9 * n → Stage n k base (start_memory (trial_image n)) []
-blocks_stage n zero most low = record { steps = refl; going = refl; pc = refl; here = start_holds n most }
+blocks_stage n zero most low = record { steps = refl; going = refl; pc = refl; none = refl; puts = refl; here = start_holds n most }
 blocks_stage n (suc k) most low =
     let q = quiet_program n k (omega arith) in
     let s = blocks_stage n k most (omega arith) in
     let mem = start_memory (trial_image n) in
     next_stage n most k (suc k) q.class base base mem mem [] [] (sym (add-one k)) q.is s
-    (quiet_leaves (trial_image n) q.class mem [] (after (trial n) (start (trial n) []) k).state q.quiet s.here)
+    (quiet_leaves (trial_image n) q.class mem (after (trial n) (start (trial n)) [] k).at.state q.quiet s.here)

@@ -1,5 +1,5 @@
 -- Where the sequential run of a trial stands after so many steps, over no input.
-use Rattle.std.proofs.Common.{◌≡◌, ◌≢◌, ◌<◌, ◌≤◌, ◌+◌, ◌%◌, ◌^◌, ◌&&◌, not, ℕ, ℤ, Bool, true, false, eqb, List, [], ◌∷◌, length, Option, Some, refl, sym, ap, subst, ◌∙◌, add-one}
+use Rattle.std.proofs.Common.{◌≡◌, ◌≢◌, ◌<◌, ◌≤◌, ◌+◌, ◌%◌, ◌^◌, ◌&&◌, not, ℕ, ℤ, zero, suc, Bool, true, false, eqb, List, [], ◌∷◌, length, Option, Some, refl, sym, ap, subst, ◌∙◌, ◌++◌, drop, append-nil, length-append, add-one, arith}
 use Rattle.std.proofs.lemmas.Bool.{eq-eqb, and_parts}
 use Rattle.alpha_words.specs.Regs.{reg, put}
 use Rattle.alpha_words.proofs.RegLemmas.{length-put}
@@ -7,12 +7,12 @@ use Rattle.alpha_table.specs.declared.rows.MemOp.{MemOp}
 use Rattle.alpha_table.specs.Class.{Class, address}
 use Rattle.alpha_table.specs.Code.{class_at}
 use Rattle.alpha_mem.specs.Block.{Block}
-use Rattle.alpha_pal.specs.Call.{outside}
 use Rattle.alpha_seq.specs.State.{Program, State, Stepped}
 use Rattle.alpha_seq.specs.Start.{start}
 use Rattle.alpha_seq.specs.Step.{next_pc, setting, went, computed, step}
-use Rattle.alpha_seq.specs.Run.{Run, is_over, extended_by, advance, after}
-use Rattle.alpha_seq.proofs.RunSteps.{advance-extended}
+use Rattle.alpha_seq.specs.Run.{put as put_by, output, given, Run, is_over, extended_by, advance, after}
+use Rattle.alpha_seq.proofs.Sequence.{advance-going}
+use Rattle.alpha_run.proofs.Rows.{output-append}
 use Rattle.alpha_imprecise.specs.Step.{address_at}
 use Rattle.alpha_restart.proofs.Registers.{reg-put_other, reg-put_same}
 use Rattle.alpha_restart.proofs.Words.{class_within}
@@ -51,71 +51,81 @@ known_after (f ∷ facts) regs r v e h =
 
 -- ---- where a run stands
 
--- these facts, this memory and this output, and nothing is left of the input
-pub record Holds (facts : List Fact) (mem : List Block) (out : List ℕ) (s : State) : Type 0 where
+-- these facts and this memory
+pub record Holds (facts : List Fact) (mem : List Block) (s : State) : Type 0 where
   pub size : length s.regs ≡ 32
   pub known : Known facts s.regs
   pub memory : s.mem ≡ mem
-  pub devices : s.outside ≡ outside 0 [] out
 
 abbrev pub trial : ℕ → Program
 trial n = wrapping (trial_image n)
 
 pub record Stands (n k : ℕ) (facts : List Fact) (mem : List Block) (out : List ℕ) (r : Run) : Type 0 where
-  pub steps : r.steps ≡ k
-  pub going : is_over r.last ≡ false
-  pub pc : r.state.pc ≡ address_at (trial_image n) k
-  pub here : Holds facts mem out r.state
+  pub steps : length r.events ≡ k
+  pub going : is_over r.at.event ≡ false
+  pub pc : r.at.state.pc ≡ address_at (trial_image n) k
+  pub none : r.left ≡ []
+  pub puts : output r.events ≡ out
+  pub here : Holds facts mem r.at.state
 
--- what a step leaves that goes on to the next word
-pub record Leaves (facts : List Fact) (mem : List Block) (out : List ℕ) (old : State) (t : Stepped) : Type 0 where
+-- what a step leaves that goes on to the next word, and the bytes that it puts
+pub record Leaves (facts : List Fact) (mem : List Block) (more : List ℕ) (old : State) (t : Stepped) : Type 0 where
   pub going : is_over t.event ≡ false
   pub pc : t.state.pc ≡ next_pc old
-  pub there : Holds facts mem out t.state
+  pub puts : put_by t.event ≡ more
+  pub there : Holds facts mem t.state
 
 -- the run of so many steps
 abbrev pub Stage : ℕ → ℕ → List Fact → List Block → List ℕ → Type 0
-Stage n k facts mem out = Stands n k facts mem out (after (trial n) (start (trial n) []) k)
+Stage n k facts mem out = Stands n k facts mem out (after (trial n) (start (trial n)) [] k)
+
+none_left : (k : ℕ) (l : List ℕ) → l ≡ [] → drop k l ≡ []
+none_left zero l none = none
+none_left (suc k) l none = ap (drop (suc k)) none
 
 module _ (n : ℕ) (most : n ≤ 20000) where
-  -- a step at a word of this class
-  pub advanced : (k : ℕ) (r : Run) (c : Class) → class_at (program_words n) k ≡ Some c → is_over r.last ≡ false → r.state.pc ≡ address_at (trial_image n) k
-      → advance (trial n) r ≡ extended_by r (step (trial n) (Some c) r.state)
-  advanced k r c there going at =
-      advance-extended (trial n) r (step (trial n) (Some c) r.state) going
-      (ap (λ (o : Option Class). step (trial n) o r.state) (class_here (trial n) (image_good n most) k r.state.pc at ∙ there))
+  -- a step at a word of this class, with no input
+  pub advanced : (k : ℕ) (r : Run) (c : Class) → class_at (program_words n) k ≡ Some c → is_over r.at.event ≡ false → r.at.state.pc ≡ address_at (trial_image n) k
+      → r.left ≡ [] → advance (trial n) r ≡ extended_by r (step (trial n) (Some c) r.at.state [])
+  advanced k r c there going at none =
+      advance-going (trial n) r going
+      ∙ (ap (λ (o : Option Class). extended_by r (step (trial n) o r.at.state r.left)) (class_here (trial n) (image_good n most) k r.at.state.pc at ∙ there)
+      ∙ ap (λ (l : List ℕ). extended_by r (step (trial n) (Some c) r.at.state l)) none)
 
-  one_more : (k : ℕ) (c : Class) (facts later : List Fact) (mem new : List Block) (out put : List ℕ) (r : Run) → class_at (program_words n) k ≡ Some c
-      → Stands n k facts mem out r → Leaves later new put r.state (step (trial n) (Some c) r.state) → Stands n (k + 1) later new put (advance (trial n) r)
-  one_more k c facts later mem new out put r there s l =
-      subst (λ (q : Run). Stands n (k + 1) later new put q) (sym (advanced k r c there s.going s.pc))
+  one_more : (k : ℕ) (c : Class) (facts later : List Fact) (mem new : List Block) (out more : List ℕ) (r : Run) → class_at (program_words n) k ≡ Some c
+      → Stands n k facts mem out r → Leaves later new more r.at.state (step (trial n) (Some c) r.at.state []) → Stands n (k + 1) later new (out ++ more) (advance (trial n) r)
+  one_more k c facts later mem new out more r there s l =
+      let t = step (trial n) (Some c) r.at.state [] in
+      subst (λ (q : Run). Stands n (k + 1) later new (out ++ more) q) (sym (advanced k r c there s.going s.pc s.none))
       (record {
-        steps = ap (λ (m : ℕ). m + 1) s.steps;
+        steps = omega (arith, length-append r.events (t.event ∷ []), s.steps);
         going = l.going;
         pc = l.pc ∙ (ap (λ (a : ℕ). (a + 4) % 2 ^ 64) s.pc ∙ next_address (trial_image n) (image_good n most) k (class_within (program_words n) k c there));
+        none = none_left (length (given t.event)) r.left s.none;
+        puts = output-append r.events (t.event ∷ []) ∙ (ap (λ l. l ++ (put_by t.event ++ [])) s.puts ∙ ap (λ l. out ++ l) (append-nil (put_by t.event) ∙ l.puts));
         here = l.there;
       })
 
-  pub next_stage : (k j : ℕ) (c : Class) (facts later : List Fact) (mem new : List Block) (out put : List ℕ) → j ≡ k + 1 → class_at (program_words n) k ≡ Some c
-      → Stage n k facts mem out → Leaves later new put (after (trial n) (start (trial n) []) k).state (step (trial n) (Some c) (after (trial n) (start (trial n) []) k).state)
-      → Stage n j later new put
-  next_stage k j c facts later mem new out put e there s l =
-      subst (λ (m : ℕ). Stage n m later new put) (sym e)
-      (subst (λ (q : Run). Stands n (k + 1) later new put q) (sym (ap (after (trial n) (start (trial n) [])) (add-one k)))
-      (one_more k c facts later mem new out put (after (trial n) (start (trial n) []) k) there s l))
+  pub next_stage : (k j : ℕ) (c : Class) (facts later : List Fact) (mem new : List Block) (out more : List ℕ) → j ≡ k + 1 → class_at (program_words n) k ≡ Some c
+      → Stage n k facts mem out → Leaves later new more (after (trial n) (start (trial n)) [] k).at.state (step (trial n) (Some c) (after (trial n) (start (trial n)) [] k).at.state [])
+      → Stage n j later new (out ++ more)
+  next_stage k j c facts later mem new out more e there s l =
+      subst (λ (m : ℕ). Stage n m later new (out ++ more)) (sym e)
+      (subst (λ (q : Run). Stands n (k + 1) later new (out ++ more) q) (sym (ap (after (trial n) (start (trial n)) []) (add-one k)))
+      (one_more k c facts later mem new out more (after (trial n) (start (trial n)) [] k) there s l))
 
 -- ---- a value in a register
 
-pub setting_leaves : (facts : List Fact) (mem : List Block) (out : List ℕ) (s : State) (r v w : ℕ) → r < 31 → spares r facts ≡ true → v ≡ w
-    → Holds facts mem out s → Leaves (fact r w ∷ facts) mem out s (went (setting s r v))
-setting_leaves facts mem out s r v w small e same h = record {
+pub setting_leaves : (facts : List Fact) (mem : List Block) (s : State) (r v w : ℕ) → r < 31 → spares r facts ≡ true → v ≡ w
+    → Holds facts mem s → Leaves (fact r w ∷ facts) mem [] s (went (setting s r v))
+setting_leaves facts mem s r v w small e same h = record {
   going = refl;
   pc = refl;
+  puts = refl;
   there = record {
     size = length-put s.regs r v ∙ h.size;
     known = (reg-put_same s.regs r v small h.size ∙ same, known_after facts s.regs r v e h.known);
     memory = h.memory;
-    devices = h.devices;
   };
 }
 
@@ -125,6 +135,7 @@ pub address_stage : (n k j : ℕ) (op : MemOp) (ra rb : ℕ) (disp : ℤ) (w : �
     → ((regs : List ℕ) → Known facts regs → computed op (reg regs rb) disp ≡ w)
     → Stage n k facts mem out → Stage n j (fact ra w ∷ facts) mem out
 address_stage n k j op ra rb disp w facts mem out most e there small free value s =
-    let s0 : State = (after (trial n) (start (trial n) []) k).state in
-    next_stage n most k j (address op ra rb disp) facts (fact ra w ∷ facts) mem mem out out e there s
-    (setting_leaves facts mem out s0 ra (computed op (reg s0.regs rb) disp) w small free (value s0.regs s.here.known) s.here)
+    let s0 : State = (after (trial n) (start (trial n)) [] k).at.state in
+    subst (Stage n j (fact ra w ∷ facts) mem) (append-nil out)
+    (next_stage n most k j (address op ra rb disp) facts (fact ra w ∷ facts) mem mem out [] e there s
+    (setting_leaves facts mem s0 ra (computed op (reg s0.regs rb) disp) w small free (value s0.regs s.here.known) s.here))

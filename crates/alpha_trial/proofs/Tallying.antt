@@ -7,16 +7,17 @@ use Rattle.alpha_seq.specs.declared.machine.Machine.{Machine}
 use Rattle.alpha_seq.specs.declared.event.Event.{Event}
 use Rattle.alpha_seq.specs.State.{Program, State}
 use Rattle.alpha_seq.specs.Start.{start}
-use Rattle.alpha_seq.specs.Run.{after}
+use Rattle.alpha_seq.specs.Run.{output, after}
 use Rattle.alpha_seq.specs.Machine.{program_of, state_of}
 use Rattle.alpha_seq.specs.Devices.{Drawn}
 use Rattle.alpha_imprecise.specs.declared.pending.Pending.{Pending}
 use Rattle.alpha_imprecise.specs.Pcg.{pcg_word, seeded}
+use Rattle.alpha_imprecise.specs.Run.{seen}
 use Rattle.alpha_imprecise.specs.Made.{Making, begun, made, first_words, most_words}
 use Rattle.alpha_imprecise.specs.Telling.{Telling}
 use Rattle.alpha_imprecise.specs.Wild.{WildState, trap_in, waited_in, begun_at}
 use Rattle.alpha_imprecise.proofs.Fresh.{told_starts}
-use Rattle.alpha_run.specs.SeqRun.{run_from, SeqRan}
+use Rattle.alpha_run.specs.SeqRun.{SeqRan}
 use Rattle.alpha_run.specs.WildRan.{WildRanAs}
 use Rattle.alpha_run.proofs.SeqShown as sequential
 use Rattle.alpha_run.proofs.WildShown as imprecise
@@ -38,26 +39,25 @@ pub runs_to : (last : Option Event) (units left : ℕ) (old new : Machine) (inpu
     → SeqRan last units left false old new input out notes → input.old ≡ Some [] → out.old ≡ Some [] → out.new ≡ Some bytes
     → RunsTo units old new bytes (units - left)
 runs_to last units left old new input out notes bytes ran told from to =
-    let stands = ran.is [] in
-    let used = ran.used in
-    let many : ran.steps ≡ units - left = omega arith in
+    let fed = ran.told [] told in
+    let many : length ran.events ≡ units - left = omega (arith, ran.used) in
     record {
       is =
-          ap run_tally (sym (sequential.told_all last units left false old new input out notes ran [] told))
-          ∙ (ap (λ (s : State). record { overflows = s.count; steps = (run_from old [] ran.inputs).steps; output = s.outside.output; drawn = 0 }) stands.state
-          ∙ (ap (λ (n : ℕ). record { overflows = new.overflows; steps = n; output = ran.put; drawn = 0 }) (stands.steps ∙ many)
+          ap run_tally (sequential.told_all last units left false old new input out notes ran [] fed.0 fed.1)
+          ∙ (ap (λ (s : State). record { overflows = s.count; steps = length ran.events; output = output ran.events; drawn = 0 }) (sym ran.stands)
+          ∙ (ap (λ (n : ℕ). record { overflows = new.overflows; steps = n; output = output ran.events; drawn = 0 }) many
           ∙ ap (λ (l : List ℕ). record { overflows = new.overflows; steps = units - left; output = l; drawn = 0 })
-          (all_written out.old out.new ran.put bytes from to ran.wrote.written)));
-      program = stands.program;
+          (all_written out.old out.new (output ran.events) bytes from to ran.wrote.written)));
+      program = ran.program;
     }
 
 pub sequential_counted : (units : ℕ) (image : Parts) (old new : Machine) (bytes : List ℕ) (steps : ℕ)
-    → program_of old ≡ wrapping image → ((input : List ℕ) → state_of old input [] ≡ start (program_of old) input) → RunsTo units old new bytes steps
+    → program_of old ≡ wrapping image → state_of old ≡ start (program_of old) → RunsTo units old new bytes steps
     → run_tally (sequential_run units image) ≡ record { overflows = new.overflows; steps = steps; output = bytes; drawn = 0 }
 unfolding sequential_run
 sequential_counted units image old new bytes steps program begins r =
-    ap run_tally (ap (λ (g : Program). after g (start g []) units) (sym program)
-    ∙ ap (λ (s : State). after (program_of old) s units) (sym (begins [])))
+    ap run_tally (ap (λ (g : Program). after g (start g) [] units) (sym program)
+    ∙ ap (λ (s : State). after (program_of old) s [] units) (sym begins))
     ∙ r.is
 
 -- ---- the imprecise run
@@ -72,34 +72,35 @@ makes_to last units left old new before after input out notes bytes count ahead 
     let words = whole.ran.words in
     let few = imprecise.few_drawn last units left false old new before after input out notes whole calm in
     let s = told_starts before after ahead words (most_words units) tells whole.ran.drew few in
-    let stands = whole.ran.is [] s.coming in
+    let fed = whole.ran.told [] told in
+    let there = imprecise.told_from last units left false old new before after input out notes whole [] s.coming fed.0 fed.1 in
     let uses = whole.used in
-    let many : whole.units ≡ units - left = omega arith in
+    let many : whole.count ≡ units - left = omega arith in
     record {
       drawn = length words;
       is =
-          ap (λ (l : List ℕ). making_tally (made (program_of old.machine) (begun_at old [] [] l) units)) s.is
-          ∙ (ap making_tally (sym (imprecise.told_all last units left false old new before after input out notes whole calm [] s.coming told) ∙ stands.is)
-          ∙ (ap (λ (n : ℕ). record { overflows = new.machine.overflows; steps = n; output = whole.ran.put; drawn = length words }) (stands.units ∙ many)
+          ap (λ (l : List ℕ). making_tally (made (program_of old.machine) (begun_at old [] l) units)) s.is
+          ∙ (ap making_tally there.1
+          ∙ (ap (λ (n : ℕ). record { overflows = new.machine.overflows; steps = n; output = output (seen whole.ran.steps); drawn = length words }) many
           ∙ ap (λ (l : List ℕ). record { overflows = new.machine.overflows; steps = units - left; output = l; drawn = length words })
-          (all_written out.old out.new whole.ran.put bytes from to whole.ran.wrote.written)));
+          (all_written out.old out.new (output (seen whole.ran.steps)) bytes from to whole.ran.wrote.written)));
       few = few;
       counted = imprecise.drawn_from_none before.count after.count count (length words) zero now whole.ran.drew.counted;
-      program = stands.program;
+      program = whole.ran.program;
     }
 
 pub imprecise_counted : (units : ℕ) (image : Parts) (seed : ℕ) (old new : WildState) (bytes : List ℕ) (used count : ℕ)
-    → program_of old.machine ≡ wrapping image → ((input : List ℕ) → state_of old.machine input [] ≡ start (program_of old.machine) input) → old.pending ≡ None
+    → program_of old.machine ≡ wrapping image → state_of old.machine ≡ start (program_of old.machine) → old.pending ≡ None
     → units ≤ 2 ^ 32 → count < 2 ^ 64 → MakesTo units (pcg_word (seeded seed)) old new bytes used count
     → making_tally (imprecise_run units image seed) ≡ record { overflows = new.machine.overflows; steps = used; output = bytes; drawn = count }
 unfolding imprecise_run
 imprecise_counted units image seed old new bytes used count program begins calm few small r =
     let words = first_words (most_words units) (pcg_word (seeded seed)) in
-    let begin : begun_at old [] [] words ≡ begun (start (program_of old.machine) []) None 0 words =
-    ap (λ (p : Option Pending). begun (state_of old.machine [] []) (trap_in p) (waited_in p) words) calm ∙ ap (λ (s : State). begun s None 0 words) (begins []) in
+    let begin : begun_at old [] words ≡ begun (start (program_of old.machine)) [] None 0 words =
+    ap (λ (p : Option Pending). begun (state_of old.machine) [] (trap_in p) (waited_in p) words) calm ∙ ap (λ (s : State). begun s [] None 0 words) begins in
     let low = r.few in
     let modulo = r.counted in
     let drawn : r.drawn ≡ count = omega arith in
-    ap making_tally (ap (λ (g : Program). made g (begun (start g []) None 0 words) units) (sym program)
+    ap making_tally (ap (λ (g : Program). made g (begun (start g) [] None 0 words) units) (sym program)
     ∙ ap (λ (k : Making). made (program_of old.machine) k units) (sym begin))
     ∙ (r.is ∙ ap (λ (n : ℕ). record { overflows = new.machine.overflows; steps = used; output = bytes; drawn = n }) drawn)

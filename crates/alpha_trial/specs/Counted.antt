@@ -10,7 +10,7 @@ use Rattle.alpha_trial.specs.Report.{Tally, run_tally, making_tally}
 
 -- The run of at most n steps, over an empty input: it made so many steps, and put these bytes.
 pub record RunsTo (n : ℕ) (old new : Machine) (bytes : List ℕ) (steps : ℕ) : Type 0 where
-  pub is : run_tally (after (program_of old) (state_of old [] []) n)
+  pub is : run_tally (after (program_of old) (state_of old) [] n)
       ≡ record { overflows = new.overflows; steps = steps; output = bytes; drawn = 0 }
   pub program : program_of new ≡ program_of old
 
@@ -18,7 +18,7 @@ pub record RunsTo (n : ℕ) (old new : Machine) (bytes : List ℕ) (steps : ℕ)
 -- words, modulo 2 ^ 64, and put these bytes.
 pub record MakesTo (n : ℕ) (ahead : ℕ → ℕ) (old new : WildState) (bytes : List ℕ) (units count : ℕ) : Type 0 where
   pub drawn : ℕ
-  pub is : making_tally (made (program_of old.machine) (begun_at old [] [] (first_words (most_words n) ahead)) n)
+  pub is : making_tally (made (program_of old.machine) (begun_at old [] (first_words (most_words n) ahead)) n)
       ≡ record { overflows = new.machine.overflows; steps = units; output = bytes; drawn = drawn }
   pub few : drawn ≤ most_words n
   pub counted : count % 2 ^ 64 ≡ drawn % 2 ^ 64

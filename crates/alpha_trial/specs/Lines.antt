@@ -2,25 +2,27 @@
 use Rattle.std.specs.Prelude.{◌≡◌, ◌≤◌, ◌+◌, ◌*◌, ℕ, List, ◌++◌, length, codes}
 use Rattle.alpha_seq.specs.declared.end.End.TheVariants.{Exit}
 use Rattle.alpha_seq.specs.State.{Ends}
-use Rattle.alpha_seq.specs.Run.{Run}
+use Rattle.alpha_seq.specs.Run.{Run, output}
 use Rattle.alpha_imprecise.specs.Moment.{Precisely}
+use Rattle.alpha_imprecise.specs.Run.{seen}
 use Rattle.alpha_imprecise.specs.Made.{Making}
 use Rattle.alpha_trial.specs.Words.{program_words}
 use Rattle.alpha_trial.specs.Report.{Tally, line}
 
 -- the run exits with 0 after so many steps, and has put eight bytes
 pub record Exits (steps : ℕ) (r : Run) : Type 0 where
-  pub last : r.last ≡ Ends (Exit 0)
-  pub steps_are : r.steps ≡ steps
-  pub eight : length r.state.outside.output ≡ 8
+  pub last : r.at.event ≡ Ends (Exit 0)
+  pub steps_are : length r.events ≡ steps
+  pub eight : length (output r.events) ≡ 8
 
--- The imprecise run ends as the sequential run does, after as many units, and in the same state: with the same count of
--- overflows and the same output. It draws a word at least for each overflow.
+-- The imprecise run ends as the sequential run does, after as many units, with the same events and in the same state: with the
+-- same count of overflows and the same output. It draws a word at least for each overflow.
 pub record EndsAlike (r : Run) (k : Making) : Type 0 where
-  pub last : k.run.last ≡ Precisely r.last
-  pub units : k.run.units ≡ r.steps
-  pub state : k.run.state ≡ r.state
-  pub drawn : k.run.state.count ≤ k.count
+  pub last : k.run.at.happened ≡ Precisely r.at.event
+  pub units : k.run.units ≡ length r.events
+  pub events : seen k.run.steps ≡ r.events
+  pub state : k.run.at.state ≡ r.at.state
+  pub drawn : k.run.at.state.count ≤ k.count
 
 -- the tally of a run with a step for each word of n blocks and the ending
 abbrev pub tally : ℕ → ℕ → List ℕ → ℕ → Tally

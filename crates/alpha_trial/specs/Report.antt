@@ -8,8 +8,9 @@ use Rattle.alpha_table.specs.Columns.{trap_op_of}
 use Rattle.alpha_image.specs.Parts.{Parts}
 use Rattle.alpha_seq.specs.State.{Program}
 use Rattle.alpha_seq.specs.Start.{start}
-use Rattle.alpha_seq.specs.Run.{Run, after}
+use Rattle.alpha_seq.specs.Run.{Run, output, after}
 use Rattle.alpha_imprecise.specs.Pcg.{pcg_word, seeded}
+use Rattle.alpha_imprecise.specs.Run.{seen}
 use Rattle.alpha_imprecise.specs.Made.{Making, begun, made, first_words, most_words}
 use Rattle.alpha_trial.specs.Words.{trial_image}
 
@@ -22,13 +23,13 @@ pub record Tally : Type 0 where
 
 -- a sequential run draws no word
 abbrev pub run_tally : Run → Tally
-run_tally r = record { overflows = r.state.count; steps = r.steps; output = r.state.outside.output; drawn = 0 }
+run_tally r = record { overflows = r.at.state.count; steps = length r.events; output = output r.events; drawn = 0 }
 
 abbrev pub making_tally : Making → Tally
 making_tally k = record {
-  overflows = k.run.state.count;
+  overflows = k.run.at.state.count;
   steps = k.run.units;
-  output = k.run.state.outside.output;
+  output = output (seen k.run.steps);
   drawn = k.count;
 }
 
@@ -50,13 +51,13 @@ wrapping image = record { image = image; how = Wrap }
 
 -- the run of so many steps at most, over an empty input
 unfoldable pub sequential_run : ℕ → Parts → Run
-sequential_run units image = after (wrapping image) (start (wrapping image) []) units
+sequential_run units image = after (wrapping image) (start (wrapping image)) [] units
 
 -- the run of so many units at most, over an empty input, by the words of the chooser that a number seeds
 unfoldable pub imprecise_run : ℕ → Parts → ℕ → Making
 imprecise_run units image seed =
     made (wrapping image)
-    (begun (start (wrapping image) []) None 0 (first_words (most_words units) (pcg_word (seeded seed)))) units
+    (begun (start (wrapping image)) [] None 0 (first_words (most_words units) (pcg_word (seeded seed)))) units
 
 -- both lines, of runs of so many units
 unfoldable pub text_within : ℕ → ℕ → List ℕ

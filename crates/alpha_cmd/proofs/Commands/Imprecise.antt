@@ -1,5 +1,5 @@
 -- The laws of `run --imprecise`, and what leads to its answers.
-use Rattle.std.proofs.Common.{◌≡◌, ◌∙◌, ◌*◌, ℕ, suc, ◌%◌, ◌^◌, Bool, true, false, List, [], Option, None, Some, IsSome, refl, sym, ap, subst, inl, arith}
+use Rattle.std.proofs.Common.{◌≡◌, ◌∙◌, ℕ, ◌%◌, ◌^◌, Bool, true, false, List, [], Option, None, Some, IsSome, refl, sym, ap, subst, inl, arith}
 use Rattle.alpha_io.specs.Files.{Files}
 use Rattle.alpha_image.specs.Parts.{Parts}
 use Rattle.alpha_shadow.specs.Broken.{IsAccepted}
@@ -11,10 +11,12 @@ use Rattle.alpha_seq.specs.declared.end.End.TheVariants as ends
 use Rattle.alpha_seq.specs.Start.{start}
 use Rattle.alpha_trap.specs.declared.handler.Lost.{Lost}
 use Rattle.alpha_imprecise.specs.Pcg.{pcg_word, seeded}
-use Rattle.alpha_imprecise.specs.Made.{begun, ShownWild, LostTrap, shown_making, first_words, most_words}
-use Rattle.alpha_imprecise.specs.Free.{run_making_over}
-use Rattle.alpha_imprecise.proofs.FreeFilling.{filled}
-use Rattle.alpha_imprecise.proofs.FreeDrawing.{free_draws}
+use Rattle.alpha_imprecise.specs.Used.{HasUsed}
+use Rattle.alpha_imprecise.specs.Made.{begun, made, ShownWild, LostTrap, first_words, most_words}
+use Rattle.alpha_imprecise.proofs.Drawing.{drawn}
+use Rattle.alpha_imprecise.proofs.Drawn.{making-made, begun-made, made-draws}
+use Rattle.alpha_imprecise.proofs.Exactly.{drawn_exactly}
+use Rattle.alpha_imprecise.proofs.Settling.{made_is}
 use Rattle.alpha_cmd.specs.declared.status.Status.TheVariants as statuses
 use Rattle.alpha_cmd.specs.Outcome.{goes, Then, Gives}
 use Rattle.alpha_cmd.specs.Image.{Reads, ImageOf, Judges}
@@ -24,7 +26,7 @@ use Rattle.alpha_cmd.specs.Answer.{Answer}
 use Rattle.alpha_cmd.specs.AnswerBy.{World, AnswerBy, HaveBytes}
 use Rattle.alpha_cmd.specs.Form.{IsThere}
 use Rattle.alpha_cmd.specs.RunAnswer.{program_by}
-use Rattle.alpha_cmd.specs.Commands.Imprecise.{Plan, plan_by, PlanOf, Passes, Planned, MayRun, with_drawn, run_by, MadeByReads, MayShowWild, drawn_status, wild_status, answer_wild, RunsWild, MayLose, IsEndStatus, HasChoices, steps, form, there}
+use Rattle.alpha_cmd.specs.Commands.Imprecise.{Plan, plan_by, PlanOf, Passes, Planned, MayRun, with_drawn, run_by, begins_plan, MadeByReads, shown_wild, MayShowWild, drawn_status, wild_status, answer_wild, RunsWild, MayLose, IsEndStatus, HasChoices, steps, form, there}
 use Rattle.alpha_cmd.proofs.Lawful.{Lawful, Then-lawful, Goes-lawful, Gives-lawful}
 use Rattle.alpha_cmd.proofs.Stages.{Reads-lawful, ImageOf-lawful, Judges-lawful}
 use Rattle.alpha_cmd.proofs.Forms.{IsLawfulForm, is_fault}
@@ -56,24 +58,32 @@ Planned-lawful told whole there w choices force file is_told is_whole has_file h
     (λ ahead given. Gives-lawful (plan_by image ahead))))
     (λ plan found. Passes-lawful told whole there force plan)
 
--- a run by the plan's words, whose reads find nothing
+-- a run by the plan's words over no input
 some_made : (options : RunOptions) (plan : Plan) → MadeByReads options plan
 some_made options plan =
     let n = options.steps in
     let g = program_by options plan.image in
+    let a = begins_plan options plan in
     let words = first_words (most_words n) plan.ahead in
-    let k = begun (start g []) None 0 words in
-    let run = filled g n (suc (n * 1026)) k (omega arith) (omega arith) in
-    let draws = free_draws g (start g []) words run.inputs in
-    let most = run.used.most in
-    record { reads = run.inputs; given = most_words n; making = run_making_over g run.inputs k; is = refl; used = run.used; enough = omega arith }
+    let from = begun (start g) [] None 0 words in
+    let k = made g from n in
+    let h = making-made g a [] words 0 from n (begun-made g (start g) [] words None 0) in
+    let most = made-draws g (start g) [] words n in
+    record {
+      steps = k.run.steps;
+      at = k.run.at;
+      drawn = drawn g a 0 words k.run.steps;
+      runs = h.runs;
+      draws = drawn_exactly g k.run.steps a 0 (most_words n) plan.ahead k.words h.draws (omega (arith, h.count, most));
+      used = subst (λ u. HasUsed n u k.run.at) (sym h.used) (made_is g from n refl refl);
+    }
 
 pub some_shown : (options : RunOptions) (force : Bool) (input : Option (List ℕ)) (plan : Plan) → (s : ShownWild) × MayShowWild options force input plan s
-some_shown options true None plan = let m = some_made options plan in (shown_making options.watch m.making, (m, refl))
+some_shown options true None plan = let m = some_made options plan in (shown_wild options plan m, (m, refl))
 some_shown options false None plan =
     let m = some_made options plan in
     let t = some_run options None plan.image in
-    (with_drawn t.0 m.making.count, (m, (t.0, t.1, refl)))
+    (with_drawn t.0 m.drawn, (m, (t.0, t.1, refl)))
 some_shown options force (Some input) plan =
     (run_by force (program_by options plan.image) input plan.ahead options.steps options.watch, refl)
 

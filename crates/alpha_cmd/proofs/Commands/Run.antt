@@ -5,14 +5,14 @@ use Rattle.alpha_request.specs.declared.options.RunOptions.{RunOptions}
 use Rattle.alpha_seq.specs.declared.end.End.{End}
 use Rattle.alpha_seq.specs.declared.end.End.TheVariants as ends
 use Rattle.alpha_seq.specs.Start.{start}
-use Rattle.alpha_seq.specs.Run.{started, Shown, shown, sequential}
-use Rattle.alpha_seq.proofs.Filling.{filled}
+use Rattle.alpha_seq.specs.Run.{begins, Shown, sequential}
+use Rattle.alpha_seq.proofs.Sequence.{filled}
 use Rattle.alpha_cmd.specs.Outcome.{goes}
 use Rattle.alpha_cmd.specs.Image.{ImageOf}
 use Rattle.alpha_cmd.specs.Answer.{Answer}
 use Rattle.alpha_cmd.specs.AnswerBy.{World, AnswerBy}
 use Rattle.alpha_cmd.specs.Form.{MayTakeBy}
-use Rattle.alpha_cmd.specs.Commands.Run.{run_by_reads, MayShow, Runs, steps, kind, form, there}
+use Rattle.alpha_cmd.specs.Commands.Run.{RunByReads, shown_by, MayShow, Runs, steps, kind, form, there}
 use Rattle.alpha_cmd.specs.Commands.Imprecise.{drawn_status}
 use Rattle.alpha_cmd.specs.RunAnswer.{run_status, program_by, answer_shown}
 use Rattle.alpha_cmd.proofs.Lawful.{Lawful, Goes-lawful}
@@ -21,8 +21,9 @@ use Rattle.alpha_cmd.proofs.Forms.{IsLawfulForm, is_fault, of_file_lawful}
 pub some_shown : (options : RunOptions) (input : Option (List ℕ)) (image : Parts) → (s : Shown) × MayShow options input image s
 some_shown options None image =
     let g = program_by options image in
-    let run = filled g options.steps options.steps (started (start g [])) (omega arith) in
-    (shown options.watch (run_by_reads options image run.inputs), (run.inputs, run.made, refl))
+    let run = filled g options.steps options.steps (begins (start g)) [] (begins (start g)) refl (omega arith) in
+    let r : RunByReads options image = record { events = run.more; at = run.at; runs = run.runs; made = run.made } in
+    (shown_by options.watch run.more run.at, (r, refl))
 some_shown options (Some input) image = (sequential (program_by options image) input options.steps options.watch, refl)
 
 same_shown : (options : RunOptions) (input : Option (List ℕ)) (image : Parts) (s t : Shown) → IsSome input → MayShow options input image s → MayShow options input image t → s ≡ t

@@ -1,6 +1,6 @@
 -- `run --imprecise FILE`: what a run of the imprecise machine shows, the status and the line of its end, and the stages that
 -- lead to it.
-use Rattle.std.specs.Prelude.{◌≡◌, ◌≤◌, ℕ, ◌%◌, ◌^◌, Bool, true, false, List, [], Option, Some, None, option_map}
+use Rattle.std.specs.Prelude.{◌≡◌, ℕ, ◌%◌, ◌^◌, Bool, true, false, List, [], ◌++◌, Option, Some, None, option_map}
 use Rattle.alpha_io.specs.Files.{Files}
 use Rattle.alpha_image.specs.Parts.{Parts, IsImage}
 use Rattle.alpha_request.specs.declared.options.RunOptions.{RunOptions}
@@ -13,10 +13,12 @@ use Rattle.alpha_seq.specs.declared.event.Event.TheVariants as events
 use Rattle.alpha_seq.specs.Notes.{end_line}
 use Rattle.alpha_seq.specs.State.{Program}
 use Rattle.alpha_seq.specs.Start.{start}
-use Rattle.alpha_seq.specs.Run.{Shown, sequential}
+use Rattle.alpha_seq.specs.Run.{Shown, output, notes, sequential}
+use Rattle.alpha_imprecise.specs.Moment.{Happening, Moment}
+use Rattle.alpha_imprecise.specs.Run.{seen, begins_wild, RunsWild as RunsBy, units}
 use Rattle.alpha_imprecise.specs.Used.{HasUsed}
-use Rattle.alpha_imprecise.specs.Made.{Making, begun, first_words, LostTrap, ShownWild, shown_making, imprecise_by}
-use Rattle.alpha_imprecise.specs.Free.{run_making_over}
+use Rattle.alpha_imprecise.specs.Chosen.{Draws}
+use Rattle.alpha_imprecise.specs.Made.{first_words, wild_end, lost_trap, LostTrap, ShownWild, imprecise_by}
 use Rattle.alpha_imprecise.specs.Wild.{IsFresh}
 use Rattle.alpha_shadow.specs.Broken.{IsAccepted}
 use Rattle.alpha_cmd.specs.declared.imprecise.Begun.{Begun}
@@ -72,23 +74,39 @@ abbrev pub run_by : Bool → Program → List ℕ → (ℕ → ℕ) → ℕ → 
 run_by true g input ahead n watch = imprecise_by g input ahead n watch
 run_by false g input ahead n watch = with_drawn (sequential g input n watch) (imprecise_by g input ahead n watch).drawn
 
--- A run from the start over some inputs, one a step, by the words of a plan: it has used as many units as were asked for, or
--- is over before. It is given so many words and draws no more.
+-- no step was made of a plan
+abbrev pub begins_plan : RunOptions → Plan → Moment
+begins_plan options plan = begins_wild (start (program_by options plan.image))
+
+-- A run from the start by the words of a plan, whatever each read was given: it has used as many units as were asked for, or is
+-- over before. It draws so many words, whatever comes behind them.
 pub record MadeByReads (options : RunOptions) (plan : Plan) : Type 0 where
-  pub reads : List (List ℕ)
-  pub given : ℕ
-  pub making : Making
-  pub is : run_making_over (program_by options plan.image) reads
-      (begun (start (program_by options plan.image) []) None 0 (first_words given plan.ahead)) ≡ making
-  pub used : HasUsed options.steps making.run
-  pub enough : making.count ≤ given
+  pub steps : List Happening
+  pub at : Moment
+  pub drawn : ℕ
+  pub runs : RunsBy (program_by options plan.image) (begins_plan options plan) steps at
+  pub draws : (coming : List ℕ)
+      → Draws (program_by options plan.image) (begins_plan options plan) 0 (first_words drawn plan.ahead ++ coming) steps coming
+  pub used : HasUsed options.steps (units (program_by options plan.image) (begins_plan options plan) steps) at
+
+-- what it shows, of an input of which nothing is told
+abbrev pub shown_wild : (options : RunOptions) → (plan : Plan) → MadeByReads options plan → ShownWild
+shown_wild options plan m = record {
+  end = wild_end m.at.happened;
+  lost = lost_trap m.at.happened;
+  units = units (program_by options plan.image) (begins_plan options plan) m.steps;
+  output = output (seen m.steps);
+  left = [];
+  notes = notes options.watch (seen m.steps);
+  drawn = m.drawn;
+}
 
 -- Over an input that tells nothing, it shows what such a run does, where the verdict is passed over. Else it shows what the
 -- sequential run may show there, and only the number of words is that of such a run.
 abbrev pub MayShowBy : RunOptions → Bool → Plan → ShownWild → Type 0
-MayShowBy options true plan s = (m : MadeByReads options plan) × (s ≡ shown_making options.watch m.making)
+MayShowBy options true plan s = (m : MadeByReads options plan) × (s ≡ shown_wild options plan m)
 MayShowBy options false plan s =
-    (m : MadeByReads options plan) × ((t : Shown) × MayShow options None plan.image t × (s ≡ with_drawn t m.making.count))
+    (m : MadeByReads options plan) × ((t : Shown) × MayShow options None plan.image t × (s ≡ with_drawn t m.drawn))
 
 -- what a run shows, over an input that is told or another
 abbrev pub MayShowWild : RunOptions → Bool → Option (List ℕ) → Plan → ShownWild → Type 0

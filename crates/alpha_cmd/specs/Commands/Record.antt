@@ -1,5 +1,5 @@
 -- `record FILE OUT`: the run of `run --imprecise FILE`, whose journal is kept as OUT.
-use Rattle.std.specs.Prelude.{◌≡◌, ◌⊎◌, ⊤, ℕ, ◌≤◌, ◌%◌, ◌^◌, Bool, false, true, List, [], length, Option, Some, None, option_map, IfSome, Result}
+use Rattle.std.specs.Prelude.{◌≡◌, ◌⊎◌, ⊤, ℕ, ◌≤◌, ◌%◌, ◌^◌, Bool, false, true, List, [], ◌++◌, length, Option, Some, None, option_map, IfSome, Result}
 use Rattle.alpha_io.specs.declared.Failed.{Failed}
 use Rattle.alpha_io.specs.Files.{Files, HasFile}
 use Rattle.alpha_io.specs.Shelved.{Shelved}
@@ -8,13 +8,14 @@ use Rattle.alpha_request.specs.declared.options.RunOptions.{RunOptions}
 use Rattle.alpha_request.specs.Command.{Command, record_run}
 use Rattle.alpha_request.specs.Origin.{Origin}
 use Rattle.alpha_seq.specs.declared.end.End.{End}
-use Rattle.alpha_seq.specs.Run.{notes_of}
-use Rattle.alpha_seq.specs.Start.{start}
-use Rattle.alpha_imprecise.specs.Made.{Making, begun, first_words, wild_end, lost_trap, LostTrap, ShownWild}
+use Rattle.alpha_seq.specs.Run.{output, notes}
+use Rattle.alpha_imprecise.specs.Moment.{Happening, Moment}
+use Rattle.alpha_imprecise.specs.Run.{seen, RunsWild, units}
+use Rattle.alpha_imprecise.specs.Chosen.{Draws}
+use Rattle.alpha_imprecise.specs.Made.{Making, first_words, wild_end, lost_trap, LostTrap, ShownWild}
 use Rattle.alpha_replay.specs.Journal.{Parts, IsJournal, spelling}
 use Rattle.alpha_replay.specs.JournalEnd.{IsRecorded, IsPast}
-use Rattle.alpha_replay.specs.Journaled.{is_within}
-use Rattle.alpha_replay.specs.Recorded.{Recorded, unrecorded, recorded_over, journal_in, stops_at, GoesOver}
+use Rattle.alpha_replay.specs.Journaled.{journal_of, is_within, stops_at, GoesOver}
 use Rattle.alpha_cmd.specs.declared.decision.Decision.{Decision}
 use Rattle.alpha_cmd.specs.declared.record.Recorded.{Recorded as Ran}
 use Rattle.alpha_cmd.specs.declared.record.Recorded.TheVariants as ends
@@ -22,7 +23,7 @@ use Rattle.alpha_cmd.specs.declared.status.Status.{Status}
 use Rattle.alpha_cmd.specs.declared.status.Status.TheVariants.{ShelfFault, InputFault, SinkFault, NoMemory, JournalFull}
 use Rattle.alpha_cmd.specs.Answer.{Answer}
 use Rattle.alpha_cmd.specs.AnswerBy.{World, said}
-use Rattle.alpha_cmd.specs.Commands.Imprecise.{Plan, Planned, MayShowWild, wild_status, wild_line, answer_wild, HasChoices}
+use Rattle.alpha_cmd.specs.Commands.Imprecise.{Plan, Planned, begins_plan, MayShowWild, wild_status, wild_line, answer_wild, HasChoices}
 use Rattle.alpha_cmd.specs.Commands.Imprecise as wilds
 use Rattle.alpha_cmd.specs.RunAnswer.{program_by}
 use Rattle.alpha_cmd.specs.Decision.{answer_in, SaysAlone}
@@ -39,53 +40,53 @@ unwatched options = record options { watch = false }
 
 -- ---- the run
 
--- a run from the start by so many words of a plan, of which no step was made
-abbrev pub unstarted : RunOptions → Plan → ℕ → Recorded
-unstarted options plan given =
-    unrecorded (begun (start (program_by options plan.image) []) None 0 (first_words given plan.ahead))
-
--- A run from the start over some inputs, one a step, by the words of a plan, as one that gets a journal: it goes on before each
--- of these inputs, and has stopped behind them. It has used no more units than were asked for, and draws no more words than it
--- is given.
-pub record RecordedByReads (options : RunOptions) (plan : Plan) (r : Recorded) : Type 0 where
-  pub reads : List (List ℕ)
-  pub given : ℕ
-  pub goes : GoesOver options.steps (program_by options plan.image) reads (unstarted options plan given)
-  pub is : recorded_over (program_by options plan.image) reads (unstarted options plan given) ≡ r
-  pub stopped : stops_at options.steps options.complete r ≡ true
-  pub most : r.making.run.units ≤ options.steps
-  pub enough : r.making.count ≤ given
+-- A run from the start by the words of a plan, whatever each read was given, as one that gets a journal: it goes on before each
+-- of these steps, and has stopped behind them. It has used no more units than were asked for, and draws so many words, whatever
+-- comes behind them.
+pub record RecordedByReads (options : RunOptions) (plan : Plan) : Type 0 where
+  pub steps : List Happening
+  pub at : Moment
+  pub drawn : ℕ
+  pub runs : RunsWild (program_by options plan.image) (begins_plan options plan) steps at
+  pub draws : (coming : List ℕ)
+      → Draws (program_by options plan.image) (begins_plan options plan) 0 (first_words drawn plan.ahead ++ coming) steps coming
+  pub goes : GoesOver options.steps (program_by options plan.image) 0 [] (begins_plan options plan) steps
+  pub stopped : stops_at options.steps options.complete (units (program_by options plan.image) (begins_plan options plan) steps) steps at ≡ true
+  pub most : units (program_by options plan.image) (begins_plan options plan) steps ≤ options.steps
 
 -- within the limits of journals, and this is its journal
-pub record HasRecorded (options : RunOptions) (plan : Plan) (p : Parts) (r : Recorded) : Type 0 where
-  pub by : RecordedByReads options plan r
+pub record HasRecorded (options : RunOptions) (plan : Plan) (p : Parts) (r : RecordedByReads options plan) : Type 0 where
   pub within : is_within p ≡ true
-  pub is : p ≡ journal_in options.complete r
+  pub is : p ≡ journal_of options.complete r.at.happened r.steps
 
 -- The journal that a plan's run has: over an input that is told, that of the place where the run by the plan's words stops.
--- Over another, that of such a run over some inputs, one a step.
+-- Over another, that of such a run, whatever its reads were given.
 abbrev pub HasJournal : RunOptions → Option (List ℕ) → Plan → Parts → Type 0
-HasJournal options None plan p = (r : Recorded) × HasRecorded options plan p r
+HasJournal options None plan p = (r : RecordedByReads options plan) × HasRecorded options plan p r
 HasJournal options (Some input) plan p = IsRecorded options.steps (program_by options plan.image) input plan.ahead p
 
 -- what is shown is what this run shows
-pub record ShowsMaking (s : ShownWild) (k : Making) : Type 0 where
-  pub end : s.end ≡ wild_end k.run.last
-  pub lost : s.lost ≡ lost_trap k.run.last
-  pub output : s.output ≡ k.run.state.outside.output
-  pub notes : s.notes ≡ notes_of false k.run.trace
-  pub drawn : s.drawn ≡ k.count
+pub record ShowsRecorded (options : RunOptions) (plan : Plan) (s : ShownWild) (r : RecordedByReads options plan) : Type 0 where
+  pub end : s.end ≡ wild_end r.at.happened
+  pub lost : s.lost ≡ lost_trap r.at.happened
+  pub output : s.output ≡ output (seen r.steps)
+  pub notes : s.notes ≡ notes false (seen r.steps)
+  pub drawn : s.drawn ≡ r.drawn
 
 -- the journal of the run that is shown
 abbrev pub HasItsJournal : RunOptions → Option (List ℕ) → Plan → ShownWild → Parts → Type 0
-HasItsJournal options None plan s p = (r : Recorded) × HasRecorded options plan p r × ShowsMaking s r.making
+HasItsJournal options None plan s p =
+    (r : RecordedByReads options plan) × HasRecorded options plan p r × ShowsRecorded options plan s r
 HasItsJournal options (Some input) plan s p = HasJournal options (Some input) plan p
 
--- The run was stopped there: directly behind its first step past a limit of a journal.
-abbrev pub IsStopped : RunOptions → Option (List ℕ) → Plan → Making → Type 0
-IsStopped options None plan k =
-    (r : Recorded) × RecordedByReads options plan r × (is_within (journal_in options.complete r) ≡ false) × (k ≡ r.making)
-IsStopped options (Some input) plan k = IsPast options.steps (program_by options plan.image) input plan.ahead k
+-- The run was stopped behind these steps: directly behind its first step past a limit of a journal. This is left of an input
+-- that is told.
+abbrev pub IsStopped : RunOptions → Option (List ℕ) → Plan → List Happening → List ℕ → Type 0
+IsStopped options None plan steps left =
+    (r : RecordedByReads options plan) × (is_within (journal_of options.complete r.at.happened r.steps) ≡ false) × (steps ≡ r.steps)
+IsStopped options (Some input) plan steps left =
+    (k : Making) × IsPast options.steps (program_by options plan.image) input plan.ahead k
+    × (steps ≡ k.run.steps) × (left ≡ k.run.left)
 
 -- ---- the keep
 
@@ -105,22 +106,23 @@ pub record IsKeptRun (options : RunOptions) (force : Bool) (out : List ℕ) (w :
   pub has : HasItsJournal options w.input plan shown journal
   pub keeps : KeepsBehind w out (spelling journal) (answer_wild w.input shown) a
 
--- what a run that was stopped has put and noted
-abbrev pub full_answer : Option (List ℕ) → Making → Answer
-full_answer input k = record {
+-- what a run that was stopped behind these steps has put and noted
+abbrev pub full_answer : Option (List ℕ) → List Happening → List ℕ → Answer
+full_answer input steps left = record {
   status = JournalFull;
-  output = k.run.state.outside.output;
-  trace = notes_of false k.run.trace;
+  output = output (seen steps);
+  trace = notes false (seen steps);
   line = status_line JournalFull;
-  left = option_map (λ bytes. k.run.state.outside.input) input;
+  left = option_map (λ bytes. left) input;
   kept = nothing;
 }
 
 -- or it is stopped
 pub record IsFullRun (options : RunOptions) (w : World) (plan : Plan) (a : Answer) : Type 0 where
-  pub making : Making
-  pub stopped : IsStopped options w.input plan making
-  pub is : a ≡ full_answer w.input making
+  pub steps : List Happening
+  pub left : List ℕ
+  pub stopped : IsStopped options w.input plan steps left
+  pub is : a ≡ full_answer w.input steps left
 
 abbrev pub Records : RunOptions → Bool → List ℕ → World → Plan → Outcome Answer → Type 0
 Records options force out w plan = Either (λ a. IsKeptRun options force out w plan a ⊎ IsFullRun options w plan a) Never

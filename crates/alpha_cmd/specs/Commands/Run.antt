@@ -1,11 +1,12 @@
 -- `run FILE`: what the run of an image's program shows, and the status and the line of its end.
-use Rattle.std.specs.Prelude.{◌≡◌, ℕ, List, [], Option, Some, None}
+use Rattle.std.specs.Prelude.{◌≡◌, ℕ, Bool, List, [], Option, Some, None}
 use Rattle.alpha_image.specs.Parts.{Parts}
 use Rattle.alpha_request.specs.declared.options.RunOptions.{RunOptions}
 use Rattle.alpha_seq.specs.declared.end.End.{End}
+use Rattle.alpha_seq.specs.State.{Event, Stepped}
 use Rattle.alpha_seq.specs.Start.{start}
-use Rattle.alpha_seq.specs.Run.{Run, started, Shown, shown, sequential}
-use Rattle.alpha_seq.specs.Inputs.{run_over, HasMade}
+use Rattle.alpha_seq.specs.Run.{begins, Runs as RunsBy, Shown, shown, sequential}
+use Rattle.alpha_seq.specs.Fronts.{HasMade}
 use Rattle.alpha_cmd.specs.declared.status.Status.{Status}
 use Rattle.alpha_cmd.specs.Outcome.{Outcome, Either, Never, Then}
 use Rattle.alpha_cmd.specs.Image.{ImageOf}
@@ -14,18 +15,22 @@ use Rattle.alpha_cmd.specs.AnswerBy.{World}
 use Rattle.alpha_cmd.specs.RunAnswer.{run_status, program_by, answer_shown}
 use Rattle.alpha_cmd.specs.Form.{Form, Kind, IsThere, needs_files_and_input, streams}
 
--- The run from the start over some inputs, one a step: what each read found, since a source that tells nothing may answer
--- each of them anew.
-abbrev pub run_by_reads : RunOptions → Parts → List (List ℕ) → Run
-run_by_reads options image reads =
-    run_over (program_by options image) reads (started (start (program_by options image) []))
+-- A run from the start with as many steps as were asked for, or to the program's end, whatever each read was given: a source
+-- that tells nothing may answer each of them anew.
+pub record RunByReads (options : RunOptions) (image : Parts) : Type 0 where
+  pub events : List Event
+  pub at : Stepped
+  pub runs : RunsBy (program_by options image) (begins (start (program_by options image))) events at
+  pub made : HasMade options.steps events at
 
--- Over an input that is told, a run shows what the sequential run from the start does. Over another there are inputs, one a
--- step, over which that run does so, with as many steps as were asked for or to the program's end.
+-- what it shows, of an input of which nothing is told
+abbrev pub shown_by : Bool → List Event → Stepped → Shown
+shown_by watch events at = shown watch (record { at = at; events = events; left = [] })
+
+-- Over an input that is told, a run shows what the sequential run from the start does. Over another it shows what such a run
+-- does.
 abbrev pub MayShow : RunOptions → Option (List ℕ) → Parts → Shown → Type 0
-MayShow options None image s =
-    (reads : List (List ℕ)) × HasMade options.steps (run_by_reads options image reads)
-    × (s ≡ shown options.watch (run_by_reads options image reads))
+MayShow options None image s = (r : RunByReads options image) × (s ≡ shown_by options.watch r.events r.at)
 MayShow options (Some input) image s = s ≡ sequential (program_by options image) input options.steps options.watch
 
 -- the run of an image, over this input

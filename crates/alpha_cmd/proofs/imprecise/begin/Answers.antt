@@ -1,4 +1,4 @@
-use Rattle.std.proofs.Common.{◌≡◌, ◌∙◌, [], sym, ap, subst}
+use Rattle.std.proofs.Common.{◌≡◌, ◌∙◌, sym, ap, subst}
 use Rattle.alpha_seq.specs.declared.machine.Machine.{Machine}
 use Rattle.alpha_seq.specs.State.{Program}
 use Rattle.alpha_seq.specs.Start.{start}
@@ -19,7 +19,7 @@ returns-in-Ok-clause-begun c =
     record {
       fresh = record {
         calm = c.new-wild.ensures.pending;
-        start = λ input. subst (λ (m : Machine). state_of m input [] ≡ start (program_of m) input) (sym m) (c.in-Ok.ensures.start input);
+        start = subst (λ (m : Machine). state_of m ≡ start (program_of m)) (sym m) c.in-Ok.ensures.start;
       };
       how = ap (λ (m : Machine). m.how) m ∙ ap (λ (p : Program). p.how) c.in-Ok.ensures.program;
       none = c.new-chooser.ensures.drawn;

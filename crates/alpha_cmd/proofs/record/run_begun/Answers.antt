@@ -1,6 +1,8 @@
 use Rattle.std.proofs.Common.{◌≡◌, ℕ, Some, refl, sym, ap, inl, inr, ⊎_elim}
 use Rattle.alpha_io.specs.Sunk.{sunk}
 use Rattle.alpha_seq.specs.Devices.{drawn}
+use Rattle.alpha_imprecise.specs.Run.{seen}
+use Rattle.alpha_run.proofs.Turning.{end_of_fed, end_of_cut}
 use Rattle.alpha_cmd.specs.declared.status.Status.TheVariants.{InputFault, SinkFault}
 use Rattle.alpha_cmd.specs.AnswerBy.{world}
 use Rattle.alpha_cmd.specs.Chooser.{ahead_in}
@@ -31,7 +33,9 @@ pub returns-in-Made-clause-calm : goal.returns-in-Made-clause-calm
 returns-in-Made-clause-calm g c = c.in-Made.ensures.made.stops.ran.same
 
 pub returns-in-Made-clause-rest : goal.returns-in-Made-clause-rest
-returns-in-Made-clause-rest g c = c.in-Made.ensures.made.stops.ran.rest
+returns-in-Made-clause-rest g c =
+    let ran = c.in-Made.ensures.made.stops.ran in
+    end_of_fed (drawn g.S.Source c.args.devices.now.input c.make_journal.new.input) (seen ran.steps) ran.told
 
 pub returns-in-Failed-clause-over : goal.returns-in-Failed-clause-over
 returns-in-Failed-clause-over g c = λ force name may.
@@ -48,10 +52,10 @@ returns-in-Failed-clause-over g c = λ force name may.
     let cut = did.made.cut in
     does_cut g.H.Shelf g.S.Source g.K.Sink g.N.Sink old new.input new.out new.notes (on c.args.options force name (plan_in begun)) c.in-Failed.fault c.cut_short.result refl
     (fronts_by c.args.options from ahead c.requires.how c.requires.fresh force name c.in-Failed.fault w _ _ input out notes
-    (λ judges. (may_alone force (plan_in begun) may judges).free) refl did.made (λ bytes told. did.told bytes ahead told refl c.requires.fresh)
+    (may_alone force (plan_in begun) may) refl did.made (λ bytes told. did.told bytes ahead told refl c.requires.fresh)
     (cut_begins (unwatched c.args.options) from ahead c.requires.how c.requires.fresh force c.in-Failed.fault _ _ input out notes cut refl
     (may_alone force (plan_in begun) may) w.input refl))
-    c.cut_short.ensures cut.cause cut.rest
+    c.cut_short.ensures cut.cause (end_of_cut input cut.left (seen cut.steps) cut.told cut.leaves_end)
 
 pub returns-in-Failed-clause-status : goal.returns-in-Failed-clause-status
 returns-in-Failed-clause-status g c =
@@ -75,7 +79,7 @@ returns-in-Full-clause-over g c = λ force name may.
     (stopped_by c.args.options from ahead c.requires.how c.requires.fresh input.old input.new input.before input.now out notes
     (λ bytes told. did.told bytes ahead told refl c.requires.fresh)
     (moment c.args.options from ahead c.requires.how c.requires.fresh new.wild _ _ input out notes refl did.made))
-    did.made.stops.ran.same did.made.stops.ran.rest
+    did.made.stops.ran.same (end_of_fed input (seen did.made.stops.ran.steps) did.made.stops.ran.told)
 
 pub returns-in-NoMemory-clause-over : goal.returns-in-NoMemory-clause-over
 returns-in-NoMemory-clause-over g c = λ force name may.

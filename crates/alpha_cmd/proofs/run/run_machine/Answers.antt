@@ -1,9 +1,9 @@
-use Rattle.std.proofs.Common.{◌∙◌, refl}
+use Rattle.std.proofs.Common.{refl}
 use Rattle.alpha_io.specs.Sunk.{sunk}
 use Rattle.alpha_seq.specs.Devices.{drawn}
-use Rattle.alpha_run.specs.SeqRun.{end_by}
+use Rattle.alpha_run.proofs.Turning.{end_of_fed, end_of_cut}
 use Rattle.alpha_cmd.specs.Commands.Run.{on}
-use Rattle.alpha_cmd.proofs.Ran.{ran_shows, says_end, ran_whole, cut_fronts}
+use Rattle.alpha_cmd.proofs.Ran.{ran_shows, ran_whole, cut_fronts}
 use Rattle.alpha_cmd.proofs.Streaming.{does_cut}
 use Rattle.alpha_cmd.proofs.run.run_machine.Goals as goal
 
@@ -12,11 +12,11 @@ returns-in-Ok g c =
     let old = c.args.devices.now in
     let new = c.run_sequential.new in
     let ran = c.in-Ok.ensures.made in
-    ran_whole g.H.Shelf g.S.Source g.K.Sink g.N.Sink old new.input new.out new.notes c.args.options c.args.machine.now (end_by c.in-Ok.last) c.behind.result
-    (λ left. c.behind.ensures left ∙ says_end left c.in-Ok.last ran.ended)
+    ran_whole g.H.Shelf g.S.Source g.K.Sink g.N.Sink old new.input new.out new.notes c.args.options c.args.machine.now c.in-Ok.last c.behind.result
+    c.behind.ensures
     (ran_shows c.args.options c.in-Ok.last new.left c.args.machine.now new.machine (drawn g.S.Source old.input new.input) (sunk g.K.Sink old.out new.out)
     (sunk g.N.Sink old.notes new.notes) (record { how = c.requires.how; state = c.requires.start }) ran)
-    ran.same ran.rest
+    ran.same (end_of_fed (drawn g.S.Source old.input new.input) ran.events ran.told)
 
 pub returns-in-Err : goal.returns-in-Err
 returns-in-Err g c =
@@ -26,4 +26,4 @@ returns-in-Err g c =
     does_cut g.H.Shelf g.S.Source g.K.Sink g.N.Sink old new.input new.out new.notes (on c.args.options c.args.machine.now.image) c.in-Err.fault c.cut_short.result refl
     (cut_fronts c.args.options c.args.machine.now _ c.in-Err.fault (drawn g.S.Source old.input new.input) (sunk g.K.Sink old.out new.out) (sunk g.N.Sink old.notes new.notes)
     (record { how = c.requires.how; state = c.requires.start }) cut refl)
-    c.cut_short.ensures cut.cause cut.rest
+    c.cut_short.ensures cut.cause (end_of_cut (drawn g.S.Source old.input new.input) cut.left cut.events cut.told cut.leaves_end)

@@ -7,11 +7,11 @@ returns-in-Outside c =
     let m = c.args.machine.now in
     record {
       found = tt;
-      none = waits-none m c.next.result (c.next.ensures.value [] [])
+      none = waits-none m c.next.result (c.next.ensures.value [])
           (⊎_elim (λ e. ap waiting e) (⊎_elim (λ (i, e). ap waiting e) (λ (end, e). ap waiting e)) c.in-Outside.is);
     }
 
 pub returns-in-Plain-clause-found : goal.returns-in-Plain-clause-found
 returns-in-Plain-clause-found c =
     let m = c.args.machine.now in
-    waits-found m c.next.result c.in-Plain.insn (c.next.ensures.value [] []) (⊎_elim (λ e. ap waiting e) (λ e. ap waiting e) c.in-Plain.is)
+    waits-found m c.next.result c.in-Plain.insn (c.next.ensures.value []) (⊎_elim (λ e. ap waiting e) (λ e. ap waiting e) c.in-Plain.is)

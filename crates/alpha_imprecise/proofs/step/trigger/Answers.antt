@@ -12,6 +12,6 @@ returns-clause-step c =
     let m = c.args.machine.now in
     let o = c.args.overflow.now in
     let left : Option Pending = Some (record { trigger = o.place; mask = c.mask_with.result; waited = 0 }) in
-    subst (λ (p : Option Pending). StepsBy Triggered (triggering c.args.value).choice (wild_state m p) (wild_state c.set.new.self left)) (sym c.requires.none)
+    subst (λ (p : Option Pending). StepsBy (Triggered c.args.value) (triggering c.args.value).choice (wild_state m p) (wild_state c.set.new.self left)) (sym c.requires.none)
     (trigger-steps m c.set.new.self o.place o.rc c.args.value c.mask_with.result c.requires.overflows c.set.ensures
     (c.mask_with.ensures ∙ ap (λ n. with_register n o.rc) c.empty.ensures.value))

@@ -1,6 +1,5 @@
 use Rattle.std.specs.Prelude.{◌&&◌}
 use Rattle.std.proofs.Common.{◌≡◌, ◌+◌, Bool, Option, Some, refl, sym, ap, subst, ◌∙◌}
-use Rattle.alpha_table.specs.Class.{Class}
 use Rattle.alpha_table.specs.ClassOf.{class_of}
 use Rattle.alpha_seq.specs.declared.event.Event.TheVariants as events
 use Rattle.alpha_imprecise.specs.declared.pending.Pending.{Pending}
@@ -26,8 +25,9 @@ returns-clause-step c =
     let left : Option Pending = Some (record { trigger = trap.trigger; mask = c.mask_after.result; waited = trap.waited + 1 }) in
     subst (λ (p : Option Pending). StepsAs (events.Waited (record { adds = c.if-how.adds; value = how.value })) (wild_state m p) (wild_state c.spoil.new.machine left) (choice_by (Some how))) (sym c.requires.trap)
     (record {
-      happened = Waited;
-      event_is = ap (λ (b : Bool). events.Waited (record { adds = b; value = how.value })) (adds ∙ ap (λ (o : Option Class). how.adds && adds_here o) (sym c.requires.waits.here));
+      happened = Waited (how.adds && adds_here (Some class)) how.value how.value;
+      event_is = ap (λ (b : Bool). events.Waited (record { adds = b; value = how.value })) adds;
+      still = tt;
       steps = wait-steps m c.spoil.new.machine trap class how c.mask_after.result (trap.waited + 1) c.requires.waits c.spoil.ensures
           (c.mask_after.ensures ∙ ap (mask_after (Some class) trap.mask) adds) refl;
     })

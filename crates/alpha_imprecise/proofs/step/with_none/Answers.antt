@@ -53,4 +53,4 @@ returns-in-Some-overflow_of-clause-made g c =
     value-chose g.P.Picks.picks g.P.Picks.values m c.args.pending.now value c.args.picks.now c.value-value.new.self
     (λ choice. Makes (GoesBy choice) wild_uses wild_core no_words (events.Triggered value) old new (resting left faults) (idle_sink written count))
     c.requires.none c.in-Some-overflow_of.ensures.found.overflows c.value-value.ensures
-    (alone (events.Triggered value) old new (triggering value).choice left written faults count (record { happened = Triggered; event_is = refl; steps = c.trigger.ensures.step }))
+    (alone (events.Triggered value) old new (triggering value).choice left written faults count (record { happened = Triggered value; event_is = refl; still = tt; steps = c.trigger.ensures.step }))

@@ -1,4 +1,5 @@
-use Rattle.alpha_pal.proofs.LawLemmas.{shapes-call, length-call, GoesOnTold-from}
+use Rattle.alpha_pal.proofs.LawLemmas.{shapes-call, length-call}
+use Rattle.alpha_pal.proofs.Asking.{GoesOnTold-from}
 use Rattle.alpha_pal.proofs.Callsys.{callsys-does}
 use Rattle.alpha_pal.proofs.laws.laws_of_calls.Goals as goal
 

@@ -2,6 +2,7 @@ use Rattle.alpha_replay.proofs.JournaledRuns.{one_place, journaled_run}
 use Rattle.alpha_replay.proofs.Stopping.{some_place, few_words}
 use Rattle.alpha_replay.proofs.Feeding.{list_feeds}
 use Rattle.alpha_replay.proofs.JournaledReplays.{journaled_lists, journaled_replays}
+use Rattle.alpha_replay.proofs.Told.{stops_told}
 use Rattle.alpha_replay.proofs.laws.laws_of_journaled_runs.Goals as goal
 
 pub returns : goal.returns
@@ -14,4 +15,5 @@ returns c = record {
   taken = λ n g items p q front rest. list_feeds g n items p q front rest;
   replayed = λ n image how input words k is within.
       journaled_replays n image how input words k is within (journaled_lists n (record { image = image; how = how }) input words k is);
+  told = λ n last old new before after input out sink s bytes coming tells. stops_told n last old new before after input out sink s bytes coming tells;
 }

@@ -1,22 +1,21 @@
 use Rattle.std.proofs.Common.{rules, ◌≡◌, ◌++◌, ℕ, List, false, sym, ap, subst, ◌∙◌}
-use Rattle.alpha_imprecise.specs.Run.{finished}
+use Rattle.alpha_seq.specs.Print.{is_over}
 use Rattle.alpha_seq.specs.declared.machine.Machine.{Machine}
 use Rattle.alpha_replay.specs.Compared.{Sees}
-use Rattle.alpha_replay.specs.Events.{move_of, happened_of, put_by}
+use Rattle.alpha_replay.specs.Events.{move_by, put_by}
 use Rattle.alpha_replay.proofs.Doing.{fails_fitting, did_move}
-use Rattle.alpha_replay.proofs.Moving.{over-finished}
 use Rattle.alpha_replay.proofs.play.make.Goals as goal
 
 pub returns-then-ne-clause-refused : goal.returns-then-ne-clause-refused
 returns-then-ne-clause-refused c =
     fails_fitting c.args.m.now c.args.wild.now c.args.input.now c.args.from.now c.step-last.new.wild c.step-last.new.input c.step-last.result c.step-last.ensures
-    (λ (is : move_of c.step-last.result ≡ c.args.m.now). let other : (c.of.result ≡ c.args.m.now → ⊥) = search rules in other (c.of.ensures ∙ is))
+    (λ (is : move_by c.step-last.result ≡ c.args.m.now). let other : (c.of.result ≡ c.args.m.now → ⊥) = search rules in other (c.of.ensures ∙ is))
 
 pub returns-clause-made : goal.returns-clause-made
 returns-clause-made c =
     let last = c.step-last.result in
     let new = c.step-last.new.wild in
-    let goes : finished (happened_of c.args.from.now.last) ≡ false = over-finished c.args.from.now.last ∙ (sym c.is_over.ensures ∙ c.if-is_over.false) in
+    let goes : is_over c.args.from.now.last ≡ false = sym c.is_over.ensures ∙ c.if-is_over.false in
     did_move c.args.m.now c.args.wild.now c.args.input.now c.args.from.now new c.step-last.new.input last c.step-last.ensures c.args.expected.now c.with-seen.result goes
     (let same : c.of.result ≡ c.args.m.now = search rules in sym c.of.ensures ∙ same)
     (λ output before.

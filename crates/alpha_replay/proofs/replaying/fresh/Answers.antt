@@ -1,4 +1,4 @@
-use Rattle.std.proofs.Common.{◌≡◌, [], sym, subst}
+use Rattle.std.proofs.Common.{◌≡◌, sym, subst}
 use Rattle.alpha_seq.specs.declared.machine.Machine.{Machine}
 use Rattle.alpha_seq.specs.Start.{start}
 use Rattle.alpha_seq.specs.Machine.{program_of, state_of}
@@ -7,5 +7,5 @@ use Rattle.alpha_replay.proofs.replaying.fresh.Goals as goal
 pub returns-in-Ok-clause-fresh : goal.returns-in-Ok-clause-fresh
 returns-in-Ok-clause-fresh c = record {
   calm = c.new-wild.ensures.pending;
-  start = λ input. subst (λ (m : Machine). state_of m input [] ≡ start (program_of m) input) (sym c.new-wild.ensures.machine) (c.in-Ok.ensures.start input);
+  start = subst (λ (m : Machine). state_of m ≡ start (program_of m)) (sym c.new-wild.ensures.machine) c.in-Ok.ensures.start;
 }

@@ -1,3 +1,4 @@
+use Rattle.std.proofs.Common.{◌++◌}
 use Rattle.alpha_run.proofs.SeqShown as seq_shown
 use Rattle.alpha_run.proofs.WildShown as wild_shown
 use Rattle.alpha_run.proofs.laws.laws_of_cut_runs.Goals as goal
@@ -7,7 +8,7 @@ returns-clause-sequential c fault n watch m new input out notes cut = seq_shown.
 
 pub returns-clause-imprecise : goal.returns-clause-imprecise
 returns-clause-imprecise c fault n watch w new before after input out notes cut = record {
-  words = cut.drawn;
+  words = cut.words ++ cut.print.words;
   drew = cut.drew;
   fronts = wild_shown.cut_any fault n watch w before after input out notes cut;
 }

@@ -9,8 +9,8 @@ returns-clause-sequential_part c fault n watch m new input out notes bytes cut t
 
 pub returns-clause-imprecise : goal.returns-clause-imprecise
 returns-clause-imprecise c last n left watch w new before after input out notes bytes ran tells low =
-    made_shows last n left watch w new before after input out notes bytes ran tells low
+    made_shows last n left watch w new before after input out notes bytes ran tells
 
 pub returns-clause-imprecise_part : goal.returns-clause-imprecise_part
 returns-clause-imprecise_part c fault n watch w new before after input out notes bytes cut tells low =
-    made_part fault n watch w new before after input out notes bytes cut tells low
+    made_part fault n watch w new before after input out notes bytes cut tells

@@ -1,4 +1,4 @@
-use Rattle.std.proofs.Common.{◌≡◌, ◌<◌, ◌^◌, ◌++◌, ℕ, List, [], codes, sym, ap, subst, ◌∙◌}
+use Rattle.std.proofs.Common.{◌≡◌, ◌<◌, ◌^◌, ◌++◌, ℕ, List, codes, sym, ap, subst, ◌∙◌}
 use Rattle.rand_pcg.specs.Lcg.{Lcg}
 use Rattle.alpha_seq.specs.declared.machine.Machine.{Machine}
 use Rattle.alpha_seq.specs.State.{Program}
@@ -19,8 +19,8 @@ returns c =
     let steps = c.in_ok-steps.steps in
     let r = subst (λ (g : Lcg). MakesTo c.args.units (pcg_word g) old new written steps count) (c.new-chooser.ensures.chooser ∙ c.new-2.ensures) c.in_ok-steps.ensures.counts in
     let program : program_of old.machine ≡ wrapping c.args.image = ap program_of c.new-wild.ensures.machine ∙ c.in_ok-new.ensures.program in
-    let begins : (input : List ℕ) → state_of old.machine input [] ≡ start (program_of old.machine) input =
-    λ input. subst (λ (m : Machine). state_of m input [] ≡ start (program_of m) input) (sym c.new-wild.ensures.machine) (c.in_ok-new.ensures.start input) in
+    let begins : state_of old.machine ≡ start (program_of old.machine) =
+    subst (λ (m : Machine). state_of m ≡ start (program_of m)) (sym c.new-wild.ensures.machine) c.in_ok-new.ensures.start in
     let small : count < 2 ^ 64 = subst (λ n. n < 2 ^ 64) c.drawn.ensures c.drawn.type_inv in
     let tally = imprecise_counted c.args.units c.args.image c.args.seed old new written steps count program begins c.new-wild.ensures.pending c.requires.few small r in
     let words : new.machine.image.words ≡ c.args.image.words = ap (λ (g : Program). g.image.words) (r.program ∙ program) in

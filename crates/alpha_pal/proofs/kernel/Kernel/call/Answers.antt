@@ -4,13 +4,13 @@ use Rattle.alpha_pal.proofs.Calling.{imb_goes_on, rdunique_goes_on, wrunique_goe
 use Rattle.alpha_pal.proofs.kernel.Kernel.call.Goals as goal
 
 pub returns-in-Bpt-clause-effect : goal.returns-in-Bpt-clause-effect
-returns-in-Bpt-clause-effect g c = rw c.in-Bpt.is (bpt_signals c.args.regs.now c.args.mem.now, refl)
+returns-in-Bpt-clause-effect g c = rw c.in-Bpt.is (bpt_signals c.args.regs.now c.args.mem.now c.args.unique.now, refl)
 
 pub returns-in-Bugchk-clause-effect : goal.returns-in-Bugchk-clause-effect
-returns-in-Bugchk-clause-effect g c = rw c.in-Bugchk.is (bugchk_signals c.args.regs.now c.args.mem.now, refl)
+returns-in-Bugchk-clause-effect g c = rw c.in-Bugchk.is (bugchk_signals c.args.regs.now c.args.mem.now c.args.unique.now, refl)
 
 pub returns-in-Gentrap-clause-effect : goal.returns-in-Gentrap-clause-effect
-returns-in-Gentrap-clause-effect g c = rw c.in-Gentrap.is (gentrap_signals c.args.regs.now c.args.mem.now, refl)
+returns-in-Gentrap-clause-effect g c = rw c.in-Gentrap.is (gentrap_signals c.args.regs.now c.args.mem.now c.args.unique.now, refl)
 
 pub returns-in-Imb-clause-effect : goal.returns-in-Imb-clause-effect
 returns-in-Imb-clause-effect g c =

@@ -6,9 +6,9 @@ use Rattle.alpha_pal.specs.CallEffect.{kernel_after}
 use Rattle.alpha_seq.specs.declared.end.End.TheVariants as ends
 use Rattle.alpha_seq.specs.declared.machine.Machine.{Machine}
 use Rattle.alpha_seq.specs.State.{Barriered, Ends}
-use Rattle.alpha_seq.specs.Step.{lock_after}
+use Rattle.alpha_seq.specs.Step.{next_pc, lock_after}
 use Rattle.alpha_seq.specs.Devices.{drawn}
-use Rattle.alpha_seq.specs.Machine.{program_of}
+use Rattle.alpha_seq.specs.Machine.{program_of, state_of}
 use Rattle.alpha_seq.proofs.Calls.{called_machine, call-goes, call-exits, call-signals, call-breaks}
 use Rattle.alpha_seq.proofs.Executing.{called-kernel}
 use Rattle.alpha_seq.proofs.Making.{makes}
@@ -20,7 +20,7 @@ returns-in-Goes-clause-made g c =
     let m = c.args.self.now in
     let n = c.call.new in
     let called = called_machine m n.self n.regs n.mem n.unique in
-    makes Barriered c.in-Goes.passed m c.go_on.new.self (drawn g.S.Source c.args.input.now n.input)
+    makes (Barriered did.effect.traffic (next_pc (state_of m)) n.regs) c.in-Goes.passed m c.go_on.new.self (drawn g.S.Source c.args.input.now n.input)
     (sunk g.K.Sink c.args.out.now n.out)
     (call-goes c.args.function m n.self n.regs n.mem n.unique (g.S.Source.left c.args.input.now) (g.S.Source.left n.input) (g.K.Sink.written c.args.out.now) (g.K.Sink.written n.out) (g.S.Source.faults c.args.input.now) (g.S.Source.faults n.input) (g.K.Sink.faults c.args.out.now) (g.K.Sink.faults n.out)
     c.requires.class c.in-Goes.passed c.go_on.new.self did.effect did.input did.sink

@@ -5,13 +5,18 @@ use Rattle.alpha_table.specs.declared.form.Form.{Form}
 use Rattle.alpha_table.specs.declared.form.Form.TheVariants.{Mem}
 use Rattle.alpha_table.specs.ClassOf.{class_of}
 use Rattle.alpha_seq.specs.Executed.{row_access, NeverGoes}
-use Rattle.alpha_seq.proofs.Executing.{Does-plain, trap-never, fault-never, misc-never, barrier-never}
+use Rattle.alpha_seq.proofs.Executing.{Does-plain, Does-trap, trap-never, fault-never, misc-never, barrier-never}
 use Rattle.alpha_seq.proofs.machine.Machine.goes.Goals as goal
 
 pub returns-in-None-clause-went : goal.returns-in-None-clause-went
 returns-in-None-clause-went c = λ h.
     let i = c.in-Operate in
     Does-plain i.op i.ra i.src i.rc c.args.insn.now c.args.self.now c.operate.new.self (sym c.trap.ensures ∙ c.in-None.is) i.ensures.value c.operate.ensures
+
+pub returns-in-Some-clause-went : goal.returns-in-Some-clause-went
+returns-in-Some-clause-went c = λ h.
+    let i = c.in-Operate in
+    Does-trap i.op c.in-Some.op i.ra i.src i.rc c.args.insn.now c.args.self.now c.exactly.new.self (sym c.trap.ensures ∙ c.in-Some.is) i.ensures.value (c.exactly.ensures.went h)
 
 pub returns-in-Some-clause-refused : goal.returns-in-Some-clause-refused
 returns-in-Some-clause-refused c = λ h.

@@ -14,13 +14,13 @@ use Rattle.alpha_seq.proofs.Looking.{by_class-memory}
 use Rattle.alpha_seq.proofs.machine.Machine.next_at.Goals as goal
 
 pub returns-in-Some : goal.returns-in-Some
-returns-in-Some c = λ input output.
+returns-in-Some c = λ input.
     let m = c.args.self.now in
     let i = c.in-Mem in
     let form = Mem i.op i.ra i.rb i.disp in
-    let event = (step (program_of m) (Some (class_of form)) (state_of m input output)).event in
+    let event = (step (program_of m) (Some (class_of form)) (state_of m) input).event in
     let same = by_class-memory (mem_row i.op).role i.op (row_access i.op i.rb i.disp) i.ra form event in
     let fits : FitsSigned w16 i.disp = search rules in
     let plain : to_z w16 (of_z w16 i.disp) ≡ i.disp = to_z-of_z w16 i.disp fits in
-    let answer = rw plain at (c.in-Some.ensures form input output) in
-    subst (λ (f : Form). Faults c.in-Some.end ≡ by_class (class_of f) f (step (program_of m) (Some (class_of f)) (state_of m input output)).event) c.in-Mem.ensures.value (sym (same ∙ answer))
+    let answer = rw plain at (c.in-Some.ensures form input) in
+    subst (λ (f : Form). Faults c.in-Some.end ≡ by_class (class_of f) f (step (program_of m) (Some (class_of f)) (state_of m) input).event) c.in-Mem.ensures.value (sym (same ∙ answer))

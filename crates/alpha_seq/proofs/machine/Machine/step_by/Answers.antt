@@ -1,4 +1,4 @@
-use Rattle.std.proofs.Common.{◌≡◌, [], None, Some, refl, sym, ap, ◌∙◌}
+use Rattle.std.proofs.Common.{◌≡◌, None, Some, refl, sym, ap, ◌∙◌}
 use Rattle.alpha_io.specs.Sunk.{sunk}
 use Rattle.alpha_table.specs.declared.form.Form.{Form}
 use Rattle.alpha_table.specs.Class.{barrier}
@@ -21,14 +21,14 @@ returns-in_default-clause-made g c =
     let here = class_here-insn m None (sym c.in_default.is ∙ c.requires.here) in
     makes (Ends (Fetch m.pc)) Nothing m m (drawn g.S.Source c.args.input.now c.args.input.now)
     (sunk g.K.Sink c.args.out.now c.args.out.now)
-    (Steps-quiet (Ends (Fetch m.pc)) None m m (g.S.Source.left c.args.input.now) (g.K.Sink.written c.args.out.now) (g.S.Source.faults c.args.input.now) (g.K.Sink.faults c.args.out.now) here (λ input output. refl))
-    (ap (λ class. kernel_left class (next_pc (state_of m [] [])) m.regs m.kernel) (sym here)) refl
+    (Steps-quiet (Ends (Fetch m.pc)) None m m (g.S.Source.left c.args.input.now) (g.K.Sink.written c.args.out.now) (g.S.Source.faults c.args.input.now) (g.K.Sink.faults c.args.out.now) refl here (λ input. refl))
+    (ap (λ class. kernel_left class (next_pc (state_of m)) m.regs m.kernel) (sym here)) refl
 
 pub returns-in_default-clause-kernel : goal.returns-in_default-clause-kernel
 returns-in_default-clause-kernel g c =
     let m = c.args.self.now in
     let here = class_here-insn m None (sym c.in_default.is ∙ c.requires.here) in
-    ap (λ class. kernel_left class (next_pc (state_of m [] [])) m.regs m.kernel) (sym here)
+    ap (λ class. kernel_left class (next_pc (state_of m)) m.regs m.kernel) (sym here)
 
 -- a PAL call
 
