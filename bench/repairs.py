@@ -1,7 +1,7 @@
 #!/usr/bin/env python3
 """Repairs random C programs in both ways, and runs what comes of it beside what gcc made.
 
-    bench/repairs.py [PROGRAM] [--count N] [--first N] [--levels 0,1,2,3,s] [--keep FOLDER]
+    bench/repairs.py [PROGRAM] [--count N] [--first N] [--levels 0,1,2,3,s] [--jobs N] [--keep FOLDER]
 
 Each program of bench/programs.py goes, at each level of gcc with -ftrapv, through `shadowfix` as text and as a linked file with
 --aside, to an image that `check` must accept, and back to ELF. qemu-alpha runs gcc's own file and the repaired one: the
@@ -11,22 +11,26 @@ that weren't accepted with the same output are kept.
 """
 import argparse
 import collections
+import multiprocessing
 import os
 import re
+import runpy
 import shutil
+import signal
 import subprocess
 import sys
 import tempfile
-from concurrent.futures import ThreadPoolExecutor
 
 import programs
 from measure import TOP
 
+sys.dont_write_bytecode = True
 COMPANIONS = os.path.join(TOP, "companions")
 COMPILE = ["alpha-linux-gnu-gcc", "-ftrapv", "-ffreestanding", "-mno-fp-regs", "-w"]
 LINK = ["-static", "-nostdlib", "-Wl,-z,separate-code,-z,max-page-size=8192,-Ttext-segment=0x10000,--build-id=none"]
 BESIDE = [os.path.join(COMPANIONS, "start.s"), os.path.join(COMPANIONS, "divide.s")]
 SECONDS = 20
+PARTS = ("back", "codes", "elf", "files", "held", "image", "loaded", "program", "regions", "repair")
 SAME, OTHER, SLOW = "the same", "OTHER OUTPUT", "too slow by itself"
 
 
@@ -58,6 +62,30 @@ def outcome(path):
     return done.stdout, done.returncode
 
 
+def load_parts():
+    """Loads what the companions have in common, once for all that are run."""
+    sys.path.insert(0, COMPANIONS)
+    for name in PARTS:
+        __import__(f"parts.{name}")
+
+
+def be_companion(name, words, notes):
+    """Becomes a companion, which writes its notes to a file, and ends by its status."""
+    status = 1
+    try:
+        for number, path in ((0, os.devnull), (1, os.devnull), (2, notes)):
+            os.dup2(os.open(path, os.O_RDWR | os.O_CREAT | os.O_TRUNC, 0o600), number)
+        signal.alarm(30 * SECONDS)
+        sys.argv = [os.path.join(COMPANIONS, name), *words]
+        sys.stderr = open(2, "w", encoding="utf-8", closefd=False)
+        runpy.run_path(sys.argv[0], run_name="__main__")
+    except SystemExit as ended:
+        status = ended.code or 0
+    finally:
+        sys.stderr.flush()
+        os._exit(status)
+
+
 class Trial:
     """A program at a level, in a folder of its own."""
 
@@ -74,7 +102,15 @@ class Trial:
         return os.path.join(self.folder, name)
 
     def companion(self, name, *words):
-        call(os.path.join(COMPANIONS, name), *words)
+        """Runs a companion in a process of its own, in which its parts are loaded already."""
+        notes = self.path("notes")
+        child = os.fork()
+        if child == 0:
+            be_companion(name, words, notes)
+        _, status = os.waitpid(child, 0)
+        if status:
+            with open(notes, encoding="utf-8", errors="replace") as file:
+                raise Refused(f"{name}: {cause(file.read())}")
 
     def link(self, text, out):
         call(COMPILE[0], *LINK, *BESIDE, self.path(text), "-o", self.path(out))
@@ -103,8 +139,9 @@ class Trial:
         return SAME if outcome(out) == self.wanted else OTHER
 
 
-def tried(program, number, level, keep):
+def tried(trial):
     """What becomes of a program at a level, by way."""
+    program, number, level, keep = trial
     with tempfile.TemporaryDirectory() as folder:
         try:
             trial = Trial(program, folder, number, level)
@@ -129,20 +166,21 @@ def main():
     parser.add_argument("--count", type=int, default=20)
     parser.add_argument("--first", type=int, default=0)
     parser.add_argument("--levels", default="0,1,2,3,s")
+    parser.add_argument("--jobs", type=int, default=2)
     parser.add_argument("--keep")
     options = parser.parse_args()
     missing = [name for name in (COMPILE[0], "qemu-alpha") if shutil.which(name) is None]
     if missing:
         sys.exit(f"there is no {missing[0]} on the path")
     counts = collections.Counter()
-    for level in options.levels.split(","):
-        with ThreadPoolExecutor(2) as pool:
-            numbers = range(options.first, options.first + options.count)
-            for number, found in zip(numbers, pool.map(lambda one: tried(os.path.abspath(options.program), one, level, options.keep), numbers)):
-                for way, what in found.items():
-                    counts[level, way, what] += 1
-                    if what != SAME:
-                        print(f"program {number} at -O{level}, {way}: {what}", flush=True)
+    trials = [(os.path.abspath(options.program), number, level, options.keep)
+              for number in range(options.first, options.first + options.count) for level in options.levels.split(",")]
+    with multiprocessing.Pool(options.jobs, load_parts) as pool:
+        for (_, number, level, _), found in zip(trials, pool.imap(tried, trials)):
+            for way, what in found.items():
+                counts[level, way, what] += 1
+                if what != SAME:
+                    print(f"program {number} at -O{level}, {way}: {what}", flush=True)
     print(f"\n| Level | Way | What became of {options.count} programs | Count |\n|---|---|---|---|")
     for (level, way, what), count in sorted(counts.items()):
         print(f"| -O{level} | {way} | {what} | {count} |")

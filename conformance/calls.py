@@ -1,4 +1,5 @@
 """Calls of an emulator, each with an end: what takes too long, or writes too much, is stopped."""
+import functools
 import os
 import re
 import select
@@ -24,9 +25,13 @@ def limit_files():
         pass
 
 
+# The words of a command line.
+split = functools.lru_cache(shlex.split)
+
+
 def words_of(command, names):
     """The words of a command line, with what its names in braces stand for."""
-    return [re.sub(r"\{(\w+)\}", lambda found: str(names.get(found[1], found[0])), word) for word in shlex.split(command)]
+    return [re.sub(r"\{(\w+)\}", lambda found: str(names.get(found[1], found[0])), word) for word in split(command)]
 
 
 def call(words, pieces, seconds):

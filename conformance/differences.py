@@ -1,4 +1,5 @@
 """What is otherwise between what an emulator wrote and what it should have written, in a line, and lines that say where."""
+import functools
 import os
 
 import telling
@@ -12,10 +13,13 @@ ENDS = ("exit", "signal", "fetch", "access", "align", "stop", "steps", "lost")
 
 
 class Told:
-    """A difference, and lines that say more."""
+    """A difference, and calls that answer lines that say more. They are called where it is told alone: they may run the program."""
 
-    def __init__(self, text, lines=()):
-        self.text, self.lines = text, [line for line in lines if line]
+    def __init__(self, text, *calls):
+        self.text, self.calls = text, calls
+
+    def lines(self):
+        return [line for call in self.calls for line in call() if line]
 
 
 def last(notes):
@@ -54,7 +58,7 @@ def notes_difference(ran_notes, wanted, parts, barrier_lines):
     passed = 0
     for number, wanted_one in enumerate(want):
         if number == len(have):
-            return Told(f"the notes end before `{wanted_one[0]}`", barrier_lines(passed + 1) if wanted_one[0].startswith("barrier ") else ())
+            return Told(f"the notes end before `{wanted_one[0]}`", *lines_of(wanted_one, passed, barrier_lines))
         if have[number] != wanted_one:
             return note_difference(have[number], wanted_one, passed, barrier_lines)
         passed += wanted_one[0].startswith("barrier ")
@@ -64,14 +68,20 @@ def notes_difference(ran_notes, wanted, parts, barrier_lines):
 def note_difference(have, want, passed, barrier_lines):
     if have[0] != want[0] or len(want) == 1:
         behind = f", behind {passed} barrier{'s' * (passed != 1)}" if passed else ""
-        return Told(f"`{have[0]}`, and `{want[0]}` is wanted{behind}", barrier_lines(passed + 1) if want[0].startswith("barrier ") else ())
+        return Told(f"`{have[0]}`, and `{want[0]}` is wanted{behind}", *lines_of(want, passed, barrier_lines))
     have_regs, want_regs = (" ".join(one[1:]).split() for one in (have, want))
     wrong = [(register, one, other) for register, (one, other) in enumerate(zip(have_regs, want_regs)) if one != other]
     if not wrong or len(have_regs) != 32:
         return Told(f"the registers at `{want[0]}` aren't eight lines of four")
     others = ", and further registers are otherwise" if len(wrong) > 1 else ""
     register, one, other = wrong[0]
-    return Told(f"behind barrier {passed + 1}, at `{want[0]}`, ${register} is {one}, and {other} is wanted{others}", barrier_lines(passed + 1))
+    return Told(f"behind barrier {passed + 1}, at `{want[0]}`, ${register} is {one}, and {other} is wanted{others}",
+                functools.partial(barrier_lines, passed + 1))
+
+
+def lines_of(want, passed, barrier_lines):
+    """What answers the lines before a note, where that is a barrier."""
+    return [functools.partial(barrier_lines, passed + 1)] if want[0].startswith("barrier ") else []
 
 
 def is_end(line):

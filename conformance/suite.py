@@ -50,10 +50,9 @@ class Suite:
     def __init__(self, options, folder, tables=None):
         self.options, self.folder = options, folder
         tables = tables or Tables()
-        # How many traps the recorded runs report, and how many words they execute while one is pending; how many calls had no
-        # end; and which runs that don't exit ended with status 0, and which with their own.
+        # How many traps the recorded runs report, and how many words they execute while one is pending; and how many calls had
+        # no end.
         self.reports = self.waits = self.hangs = 0
-        self.zeroes, self.numbered = [], []
         self.images = {line.image: line for line in tables.lines if line.kind == "image"}
         lines = [line for line in tables.lines if self.is_meant(line.file)]
         self.notes = [line for line in lines if line.kind == "notes"]
@@ -103,23 +102,14 @@ class Suite:
         if found is None and "end" in parts:
             found = end_difference(ran, wanted, "")
         wrong = output_difference(line, ran.out, output, given) if "output" in parts else None
-        if wrong and (found is None or ran.status == 0 and last(ran.notes).startswith("exit") and not found.lines):
-            found = Told(wrong if found is None else f"{wrong}; {found.text}", found.lines if found else ())
+        if wrong and (found is None or ran.status == 0 and last(ran.notes).startswith("exit") and not found.calls):
+            found = Told(wrong if found is None else f"{wrong}; {found.text}")
         if found is None and "end" in parts:
-            found = notes_difference(ran.notes, wanted, parts, barrier_lines) or self.status_difference(line, ran.status, wanted)
+            found = notes_difference(ran.notes, wanted, parts, barrier_lines) or status_difference(ran.status, last(wanted))
             crashed = ""
         if found is not None:
             found.text += crashed
         return found
-
-    def status_difference(self, line, status, wanted):
-        """What is wrong with the status of a run whose notes are right."""
-        number = wanted_status(last(wanted))
-        if status not in (0, number):
-            return Told(f"{calls.end_text(status)} behind `{last(wanted)}`, and {number} is wanted")
-        if number:
-            (self.numbered if status else self.zeroes).append(line.file)
-        return None
 
     # ---- cases of the table
 
@@ -149,8 +139,7 @@ class Suite:
     def of_block(case, difference):
         """A difference, with the lines of the block that the input chooses."""
         if difference is not None and case.image != "-":
-            line = telling.block(case.image, b"".join(case.given))
-            difference.lines += [line] if line else []
+            difference.calls += (lambda: [telling.block(case.image, b"".join(case.given))],)
         return difference
 
     # ---- journals
@@ -174,14 +163,14 @@ class Suite:
             if ran.status == 0:
                 return None if said in ("", wanted) else Told(f"`{said}`, and `{wanted}` is wanted")
             about = self.images[line.image].about
-            return Told(f"a run is refused: {said or last(ran.notes)}. {line.image}: {about}", [where_refused(line, whole, said), died(ran)])
+            return Told(f"a run is refused: {said or last(ran.notes)}. {line.image}: {about}", lambda: [where_refused(line, whole, said), died(ran)])
         if ran.status == 0 or not said.startswith(("norun", "journal")):
             return Told(f"it is accepted, and should be refused: {line.about}" if ran.status == 0 else
-                        f"{calls.end_text(ran.status)} without a line that refuses it: {last(ran.notes)}", [where_wanted(line, whole, wanted)])
+                        f"{calls.end_text(ran.status)} without a line that refuses it: {last(ran.notes)}", lambda: [where_wanted(line, whole, wanted)])
         expected = wanted if said.strip() not in ("norun", "journal") else wanted.split()[0]
         if ran.status < 0:
             return Told(f"`{said}`, and then {calls.end_text(ran.status)}")
-        return None if said.strip() == expected else Told(f"`{said}`, and `{wanted}` is wanted: {line.about}", [where_wanted(line, whole, wanted)])
+        return None if said.strip() == expected else Told(f"`{said}`, and `{wanted}` is wanted: {line.about}", lambda: [where_wanted(line, whole, wanted)])
 
     # ---- recorded runs
 
@@ -200,7 +189,8 @@ class Suite:
             return Told(f"the journal is refused: {said or last(judged.notes)}")
         try:
             whole = content(journal)
-            return self.recorded(line, whole, said, given) or told_of_record(line, ran, whole, self.images[line.image].answer == "accepted")
+            is_accepted = self.images[line.image].answer == "accepted"
+            return self.recorded(line, whole, said, given) or told_of_record(line, ran, whole, is_accepted) or status_difference(ran.status, end_of(whole))
         except (struct.error, IndexError, ValueError):
             return Told("the judge accepts it, and it is no journal (docs/journals.md)")
         finally:
@@ -208,7 +198,7 @@ class Suite:
 
     def recorded(self, line, whole, said, given):
         """What is wrong with a journal that is a run, but not one that goes to the end as it should."""
-        _, completion, ending, first, second, taken, put, _ = HEAD.unpack_from(whole)
+        _, completion, ending, _, _, taken, put, _ = HEAD.unpack_from(whole)
         self.count(whole[HEAD.size + taken + put:])
         if COMPLETIONS[completion] != line.completion:
             return Told(f"the journal is of a run by {COMPLETIONS[completion]}")
@@ -219,7 +209,7 @@ class Suite:
             return Told(f"the journal has {units[1]} units, and {line.steps} are made at most")
         if self.images[line.image].answer == "accepted":
             # What is accepted runs the same however late its traps come.
-            end, wanted = ENDINGS[ending].format(first, second), last(content(line.file).decode("ascii"))
+            end, wanted = end_of(whole), last(content(line.file).decode("ascii"))
             if end != wanted:
                 return Told(f"the journal ends by `{end}`, and `{wanted}` is wanted")
             if whole[HEAD.size + taken:HEAD.size + taken + put] != content(f"answers/{line.image}.{line.completion}.out"):
@@ -324,6 +314,18 @@ def where_wanted(line, whole, wanted):
     return telling.item_text(line.image, whole, int(found[1])) if found else None
 
 
+def status_difference(status, end):
+    """What is wrong with the status behind the line of an end."""
+    number = wanted_status(end)
+    return None if status == number else Told(f"{calls.end_text(status)} behind `{end}`, and {number} is wanted")
+
+
+def end_of(whole):
+    """The line of the end of a journal's run."""
+    _, _, ending, first, second, *_ = HEAD.unpack_from(whole)
+    return ENDINGS[ending].format(first, second)
+
+
 def refusal_difference(ran, wanted):
     """What is wrong with the refusal of a bad image."""
     lines = ran.notes.splitlines()
@@ -351,6 +353,5 @@ def told_of_record(line, ran, whole, is_accepted):
         at = next((n for n, (one, other) in enumerate(zip(have, want)) if one != other), min(len(have), len(want)))
         one, other = (f"`{rows[at]}`" if at < len(rows) else "none" for rows in (have, want))
         return Told(f"overflow {at + 1} that is told while it is recorded is {one}, and {other} is wanted")
-    _, _, ending, first, second, *_ = HEAD.unpack_from(whole)
-    ends, wanted = [one for one in lines if is_end(one)], ENDINGS[ending].format(first, second)
+    ends, wanted = [one for one in lines if is_end(one)], end_of(whole)
     return Told(f"the end that is told while it is recorded is `{ends[-1]}`, and `{wanted}` is wanted") if ends and ends[-1] != wanted else None

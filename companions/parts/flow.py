@@ -4,6 +4,8 @@ A return is shown to go back behind a call where the register that it goes by ha
 what a register had there: it was never set, or was kept in the stack and loaded from there. A store of which the flow
 doesn't show that it goes there counts as one elsewhere.
 """
+import functools
+
 from . import steps, table
 
 # What a function of the calling standard keeps.
@@ -189,8 +191,9 @@ class Returns:
             for other in self.code.next[place]:
                 if other is None:
                     continue
-                joined = after if other not in states else meet(states[other], after)
-                if other not in states or joined != states[other]:
+                known = states.get(other)
+                joined = after if known is None or known == after else meet(known, after)
+                if joined != known:
                     states[other] = joined
                     left.append(other)
         return states
@@ -235,9 +238,8 @@ class Returns:
             return self.behind_call(place, step, state)
         after = dict(state)
         value = value_of(step, state)
-        for register in range(31):
-            if step.spoils >> register & 1:
-                after.pop(register, None)
+        for register in registers_in(step.spoils):
+            after.pop(register, None)
         if value is not None:
             after[step.insn.sets.bit_length() - 1] = value
         if step.word is not None and step.insn.kind in (table.STORE, table.LOCKED):
@@ -279,6 +281,12 @@ class Returns:
     def callable_by(self, link):
         """The functions that a call may lead to of which the flow doesn't show where: those that return by its register."""
         return [entry for entry, left in self.left.items() if left is None or link in left.links or None in left.links]
+
+
+@functools.lru_cache(maxsize=None)
+def registers_in(bits):
+    """The registers of a set."""
+    return tuple(register for register in range(31) if bits >> register & 1)
 
 
 def meet(one, two):

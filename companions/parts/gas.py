@@ -1,4 +1,5 @@
 """Text for GNU as, as gcc writes it for alpha: statements, operands and numbers."""
+import functools
 import re
 from collections import namedtuple
 
@@ -10,7 +11,11 @@ Statement = namedtuple("Statement", "line start end labels name operands relocat
 # A number, or a symbol with a number added.
 Expression = namedtuple("Expression", "symbol number")
 
+# What a line has that isn't one statement alone.
+PARTING = re.compile(r'["#;]|/\*')
 LABEL = re.compile(r"\s*([A-Za-z_.$][\w.$]*|[0-9]+):(?!=)")
+# Operands with a string, or with a parenthesis before a comma.
+NESTED = re.compile(r'"|[()].*,', re.S)
 NAME = re.compile(r"\s*([A-Za-z_.$][\w.$/]*)")
 ASSIGNED = re.compile(r"\s*([A-Za-z_.$][\w.$]*)\s*==?\s*(.*)\Z", re.S)
 RELOCATION = re.compile(r"\s*!([a-z_0-9]+)(?:![0-9]+)?\s*\Z")
@@ -31,6 +36,9 @@ def pieces(text):
     """
     in_comment = False
     for number, line in enumerate(text.split("\n"), 1):
+        if not in_comment and not PARTING.search(line):
+            yield number, 0, len(line), line
+            continue
         start, at, kept = 0, 0, []
         while at < len(line):
             if in_comment:
@@ -92,6 +100,9 @@ def statement_of(line, start, piece):
 
 def split(text):
     """The operands: parted by commas outside strings and parentheses."""
+    if NESTED.search(text) is None:
+        parts = [part.strip() for part in text.split(",")]
+        return parts if parts != [""] else []
     operands, depth, start, at = [], 0, 0, 0
     while at < len(text):
         if text[at] == '"':
@@ -106,6 +117,7 @@ def split(text):
     return operands + [last] if last or operands else []
 
 
+@functools.lru_cache(maxsize=1 << 14)
 def number_of(text):
     """The value of a number as GNU as reads it, or None."""
     digits = text.lstrip("+-~ \t")

@@ -1,4 +1,5 @@
 """The instructions of a text or of an image one by one, each as a word of the table, for whoever follows what code does."""
+import functools
 from collections import namedtuple
 
 from . import gas, instructions, table
@@ -46,7 +47,7 @@ def of_statement(statement):
     """The step of an instruction of a text, for GNU as or for `asm`."""
     name = instructions.ALIASES.get(statement.name, statement.name)
     try:
-        found = encoded(name, statement.operands, statement.relocation)
+        found = encoded(name, tuple(statement.operands), statement.relocation)
     except (instructions.Untold, ValueError, IndexError):
         found = None
     try:
@@ -55,6 +56,7 @@ def of_statement(statement):
         return Step(None, table.Insn(name, "unknown", ALL, 0, None), f"{statement.name} {','.join(statement.operands)}", None, ALL)
 
 
+@functools.lru_cache(maxsize=1 << 14)
 def encoded(name, operands, relocation):
     """The step of an instruction that is one word, else None."""
     if name in FIXED and not operands:

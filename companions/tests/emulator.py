@@ -188,6 +188,7 @@ WRONG = [
     ("a load into R31 makes its access while a trap is pending", "machine.py", "        if self.fault(word) is not None:",
      '        if self.fault(word) is not None or word.name == "ldq" and word.ra == 31:', "follow", "/late-orders"),
     ("a journal's output isn't compared", "playing.py", "if put != wanted:", "if False:", "follow", "refused/output"),
+    ("its status is always 0", "emulate", "    return status\n\n\ndef record", "    return DONE\n\n\ndef record", "run", "/end-bpt"),
     ("a word without /V joins the mask", "emulate", 'int(word.kind == "trigger" and word.rc != 31 and chosen.randrange(2))',
      "chosen.randrange(2)", "record", "/late-loop"),
 ]

@@ -18,6 +18,8 @@ OTHER_RUNS = [
      "late-loop by stop with seed 1: the journal has 0 bytes of another output than the run without late traps"),
     ("it has another end", "m.end or (", "(\"fetch\", m.end[1], 0) if m.end[0] == \"signal\" else m.end or (", "/end-bpt",
      "end-bpt by wrap with seed 1: the journal is refused: norun kind 3 at 0"),
+    ("its status is always 0", "    return status\n\n\ndef late", "    return DONE\n\n\ndef late", "/end-bpt",
+     "end-bpt by wrap with seed 1: its status is 0 behind `signal 0 at 0000000000010008`, and 5 is wanted"),
 ]
 
 
