@@ -41,7 +41,7 @@ class Elf(Linked):
             self.look_for_loader(programs, *self.fields("<HH", 54))
         self.read_sections(kind == OBJECT, table, *self.fields("<HHH", 58))
         if kind != OBJECT:
-            self.loads = loaded.Loads(self, programs, *self.fields("<HH", 54))
+            self.loads = loaded.of_headers(self, programs, *self.fields("<HH", 54))
             self.loads.hold(self.sections)
 
     def look_for_loader(self, at, size, count):

@@ -35,7 +35,7 @@ def pieces(text):
     A comment goes from `#` to the line's end, or from /* to */; statements are parted by `;` and by the line's end.
     """
     in_comment = False
-    for number, line in enumerate(text.split("\n"), 1):
+    for number, line in enumerate(lines_of(text), 1):
         if not in_comment and not PARTING.search(line):
             yield number, 0, len(line), line
             continue
@@ -61,6 +61,15 @@ def pieces(text):
                 kept.append(line[at])
                 at += 1
         yield number, start, at, "".join(kept)
+
+
+def lines_of(text):
+    """The lines of a text one by one: all of them at once take many times its memory, where they are short."""
+    start = 0
+    while (end := text.find("\n", start)) >= 0:
+        yield text[start:end]
+        start = end + 1
+    yield text[start:]
 
 
 def string_end(line, at):
@@ -178,25 +187,29 @@ class Faults:
     """The lines that can't be taken: one for each cause, with how many there are of it. A cause is what is said of a line, or the
     option of the compiler that it names."""
 
-    MOST = 50
+    MOST, MOST_KNOWN = 50, 1_000
     OPTION = re.compile(r": compile with (-\S+)\Z")
 
     def __init__(self):
-        # By path and cause: the first line, and the numbers of all.
-        self.causes = {}
+        # By path and cause: what is said of the first line, how many there are, and the last of them.
+        self.causes, self.is_cut = {}, False
 
     def add(self, path, line, why):
         option = self.OPTION.search(why)
-        first, lines = self.causes.setdefault((path, option[1] if option else why), (f"{path}:{line}: {why}", set()))
-        lines.add(line)
+        cause = path, option[1] if option else why
+        if cause not in self.causes and len(self.causes) == self.MOST_KNOWN:
+            self.is_cut = True
+            return
+        first, count, last = self.causes.get(cause, (f"{path}:{line}: {why}", 0, None))
+        self.causes[cause] = first, count + (line != last), line
 
     def stop(self):
         """Refuses where there was any."""
         said = []
-        for (_, cause), (first, lines) in list(self.causes.items())[:self.MOST]:
+        for (_, cause), (first, count, _) in list(self.causes.items())[:self.MOST]:
             alike = "which that option leaves out" if cause.startswith("-") else "alike"
-            said.append(first + (f" ({len(lines)} lines {alike})" if len(lines) > 1 else ""))
+            said.append(first + (f" ({count} lines {alike})" if count > 1 else ""))
         if len(self.causes) > self.MOST:
-            said.append(f"and {len(self.causes) - self.MOST} causes more")
+            said.append(f"and {'more than ' * self.is_cut}{len(self.causes) - self.MOST} causes more")
         if said:
             raise files.Refused("\n".join(said))

@@ -2,6 +2,7 @@
 
 A symbol in a line is marked: MARK, its name, MARK, and the number added; who writes the lines puts names there.
 """
+import itertools
 import re
 
 from . import gas, table
@@ -87,14 +88,19 @@ def namers(statements, wanted):
     it. Behind these nothing is in it that anybody needs."""
     names = sorted(name for name, number_of_it in gas.REGISTERS.items() if number_of_it == wanted)
     named = re.compile("(?:" + "|".join(map(re.escape, names)) + r")(?![\w$])")
-    said = [statement for statement in statements if statement.name]
-    repaired = set()
-    for n in range(len(said) - 2):
-        one, barrier, move = said[n:n + 3]
-        if TRIGGER.match(one.name) and barrier.name in BARRIERS and move.name == "mov" and move.operands[:1] == one.operands[-1:]:
-            repaired |= {n, n + 2}
-    return [statement for n, statement in enumerate(said) if n not in repaired and
-            any(named.search(text) for text in statement.operands if not text.startswith('"'))]
+    said = (statement for statement in statements if statement.name)
+    # Whether a repair begins at the one before, and at the one before that.
+    ahead, before = list(itertools.islice(said, 3)), (False, False)
+    while ahead:
+        begins = len(ahead) == 3 and is_repair(*ahead)
+        if not begins and not before[1] and any(named.search(text) for text in ahead[0].operands if not text.startswith('"')):
+            yield ahead[0]
+        before = begins, before[0]
+        ahead = [*ahead[1:], *itertools.islice(said, 1)]
+
+
+def is_repair(one, barrier, move):
+    return TRIGGER.match(one.name) and barrier.name in BARRIERS and move.name == "mov" and move.operands[:1] == one.operands[-1:]
 
 
 def high_of(statement):
@@ -110,13 +116,20 @@ class Translator:
     in `lda` alone, as the source of a module has them."""
 
     def __init__(self, statements, splits=False):
-        self.spare_at = not namers(statements, AT)
-        self.has_gp = any(map(sets_up_gp, statements))
-        self.splits, self.is_level_two = splits, False
+        self.has_gp, self.splits, self.is_level_two = False, splits, False
         # The symbols, with the numbers added, whose halves stand in words apart: (symbol, number) of each. Of the lower
         # halves it is those that may lie behind the upper half of another number.
-        self.highs = {high for statement in statements if (high := high_of(statement)) is not None}
-        self.lows = set()
+        self.highs, self.lows = set(), set()
+        self.spare_at = sum(1 for _ in namers(self.looked_at(statements), AT)) == 0
+
+    def looked_at(self, statements):
+        """The statements, each looked at for what the translation of all depends on."""
+        for statement in statements:
+            self.has_gp |= sets_up_gp(statement)
+            high = high_of(statement)
+            if high is not None:
+                self.highs.add(high)
+            yield statement
 
     def lines(self, statement):
         """The lines for an instruction; none where it only sets up $29, which nothing here needs."""

@@ -121,14 +121,16 @@ class Joined:
     def look_at_halves(self, lines):
         """Two words that make an address by its halves may name one symbol with two numbers added: then the upper halves
         must be the same in the source, as they were where the compiler laid out the data."""
+        lows = {unit: unit.translator.lows - (unit.translator.highs if self.prefix is None else set()) for unit in self.units}
+        if not any(lows.values()):
+            return
         laid = places.Source("the source", "\n".join(lines))
         at = {name: address for names in (laid.names, laid.functions) for address, name, _ in names.rows}
         half = upper if self.prefix is None else page
         for unit in self.units:
-            highs, lows = unit.translator.highs, unit.translator.lows
-            for low in sorted(lows - highs if self.prefix is None else lows):
+            for low in sorted(lows[unit]):
                 address = at.get(self.resolved(unit, low.symbol))
-                for high in highs:
+                for high in unit.translator.highs:
                     if high.symbol == low.symbol and (address is None or
                                                       half(address + high.number) != half(address + low.number)):
                         self.faults.add(unit.path, 1, f"{low.symbol}{low.number:+d} is reached by the upper half of the address "

@@ -1,4 +1,4 @@
-"""What a system loads of an ELF file, by its program headers, held against the sections by which code and data are told apart."""
+"""What a system loads of a file, by the headers that it goes by, held against the sections by which code and data are told apart."""
 import bisect
 import itertools
 import struct
@@ -14,18 +14,23 @@ FILLERS = {0x47FF041F, 0x2FFE0000, 0x5FFF041F, 0}
 Load = namedtuple("Load", "flags offset address held size")
 
 
-class Loads:
-    """The parts of memory that a file's program headers say, by rising address."""
+def of_headers(whole, at, size, count):
+    """The parts of memory that the program headers of an ELF file say."""
+    if count and size != struct.calcsize(ROW):
+        raise ValueError("program headers of another size")
+    rows = whole.rows(ROW, at, count)
+    loads = Loads(whole, [Load(flags, offset, address, held, memory) for kind, flags, offset, address, _, held, memory, _ in rows
+                          if kind == LOAD and memory])
+    loads.look_at_rows()
+    return loads
 
-    def __init__(self, whole, at, size, count):
-        self.whole = whole
-        if count and size != struct.calcsize(ROW):
-            raise ValueError("program headers of another size")
-        rows = whole.rows(ROW, at, count)
-        self.loads = [Load(flags, offset, address, held, memory) for kind, flags, offset, address, _, held, memory, _ in rows
-                      if kind == LOAD and memory]
-        self.look_at_rows()
-        self.ends = [one.address + one.size for one in self.loads]
+
+class Loads:
+    """The parts of memory that a file's headers say, by rising address."""
+
+    def __init__(self, whole, loads):
+        self.whole, self.loads = whole, loads
+        self.ends = [one.address + one.size for one in loads]
 
     def look_at_rows(self):
         """Linux maps whole pages, a later part's over an earlier one's: so where two share a page, it must be the same of both."""

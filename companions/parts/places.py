@@ -54,15 +54,16 @@ class Source:
     def __init__(self, path, text=None, code=CODE_BASE, data=DATA_BASE):
         self.path, self.lines, self.names, self.functions = path, {}, Names(), Names()
         self.text = (files.read_text(path) if text is None else text).split("\n")
-        statements = list(gas.statements("\n".join(line.removesuffix("\r") for line in self.text)))
-        at = {"code": code, "data": data}
-        self.has_entry = any(statement.name == ".entry" for statement in statements)
-        for statement in statements:
+        whole = "\n".join(line.removesuffix("\r") for line in self.text)
+        at, self.has_entry = {"code": code, "data": data}, False
+        # They are read twice, since all of them at once take many times the memory of the text.
+        for statement in gas.statements(whole):
+            self.has_entry |= statement.name == ".entry"
             if statement.name in FIELDS[:2]:
                 at["code" if statement.name == ".codebase" else "data"] = self.number(statement)
         self.begin, section = at["data"], "code"
         self.code_base, self.ends = at["code"], {}
-        for statement in statements:
+        for statement in gas.statements(whole):
             section = self.lay(statement, at, section)
             self.ends[self.code_base], self.ends[self.begin] = at["code"], at["data"]
 

@@ -3,7 +3,7 @@ import os
 import re
 from collections import namedtuple
 
-from . import gas, instructions
+from . import files, gas, instructions
 
 CODE, DATA, ZEROED, DROPPED = "code", "data", "zeroed", "dropped"
 # What stands in a section. `note` says where it comes from, as `sum.s:12 sum.c:9`.
@@ -20,6 +20,8 @@ SETTINGS = {"noreorder", "reorder", "volatile", "novolatile", "noat", "at", "nom
 SIZES = {".byte": 1, ".word": 2, ".short": 2, ".hword": 2, ".2byte": 2, ".uword": 2, ".long": 4, ".int": 4, ".4byte": 4,
          ".ulong": 4, ".quad": 8, ".8byte": 8, ".uquad": 8}
 ALIGNED_BY_ITSELF = {".word", ".short", ".hword", ".long", ".int", ".quad"}
+# How many names, and how many bytes of a source, are made of a file at most. `asm` takes no longer source, and no more words.
+MOST_NAMES, MOST_BYTES, LINES_BETWEEN_LOOKS = 524_288, files.MOST_SOURCE, 1_000
 STARTERS = (".init", ".fini", ".ctors", ".dtors", ".preinit_array")
 
 
@@ -38,11 +40,13 @@ class Unit:
         self.globals, self.labels, self.synonyms, self.common = set(), {}, {}, {}
         self.sections, self.stack = {}, []
         self.numbered, self.sources, self.place, self.functions, self.locals = {}, {}, "", set(), set()
-        statements = list(gas.statements(text))
-        self.translator = instructions.Translator(statements, is_module)
+        # How many bytes of a source are made of it at least.
+        self.bytes = 0
+        # They are read twice, since all of them at once take many times the memory of the text.
+        self.translator = instructions.Translator(gas.statements(text), is_module)
         self.section = self.before = self.known(".text", CODE)
         self.last_label = None
-        for statement in statements:
+        for statement in gas.statements(text):
             try:
                 self.take(statement)
             except instructions.Untold as untold:
@@ -52,7 +56,17 @@ class Unit:
     def note(self, line):
         return f"{self.name}:{line}" + (self.place if self.section.kind == CODE else "")
 
+    def look_at_sizes(self):
+        """Refuses a file that is too large while what is known of it still is small."""
+        names = sum(map(len, (self.globals, self.labels, self.synonyms, self.common, self.sections, self.sources, self.functions, self.locals)))
+        if names > MOST_NAMES:
+            raise files.Refused(f"{self.path}: has more than {MOST_NAMES:,} names")
+        if self.bytes > MOST_BYTES:
+            raise files.Refused(f"{self.path}: makes more than the {MOST_BYTES:,} bytes that a source may have")
+
     def take(self, statement):
+        if statement.line % LINES_BETWEEN_LOOKS == 0:
+            self.look_at_sizes()
         for label in statement.labels:
             self.label(label, statement.line)
         name = statement.name
@@ -90,8 +104,10 @@ class Unit:
         if self.section.kind != CODE:
             raise instructions.Untold(f"an instruction in the section {self.section.name}")
         operands = [re.sub(r"\b([0-9]+[fb])\b", lambda match: self.symbol(match[1]), text) for text in statement.operands]
+        note = self.note(statement.line)
         for text in self.translator.lines(statement._replace(operands=operands)):
-            self.section.items.append(Line(text, self.note(statement.line)))
+            self.section.items.append(Line(text, note))
+            self.bytes += len(text.replace(instructions.MARK, "")) + len(note)
 
     def remark(self, statement):
         """Directives that mean nothing to an image, but for the names and the lines that they tell."""
@@ -174,6 +190,7 @@ class Unit:
             raise instructions.Untold("data among instructions")
         section.size += size[type(item)]()
         section.items.append(item)
+        self.bytes += len(item.note) + (2 * len(item.items) if isinstance(item, Values) else 0)
 
     def align(self, name, operands, note):
         value = self.count(operands[:1], 8192)

@@ -170,9 +170,9 @@ CODE = struct.pack("<III", 0x40220C01, 0x6BFA8001, 0x6BFA8001)
 
 def written_ecoff(flags=0x1007, code=CODE):
     """An ECOFF file with the symbols of a compiled file, laid out by the declarations of binutils."""
-    text_at, symbols_at = 24 + 80 + 64, 256
+    text_at, symbols_at = 176, 256
     head = struct.pack("<HHIQIHH", 0x183, 1, 0, symbols_at, 144, 80, flags)
-    optional = struct.pack("<HHHHQQQQQQQIIQ", 0x10B, 0, 0, 0, len(code), 0, 0, AWAY, AWAY, 0, 0, 0, 0, 0)
+    optional = struct.pack("<HHHHQQQQQQQIIQ", 0x107, 0, 0, 0, len(code), 0, 0, AWAY, AWAY, 0, 0, 0, 0, 0)
     section = struct.pack("<8sQQQQQQHHI", b".text", AWAY, AWAY, len(code), text_at, 0, 0, 0, 0, 0x20)
     texts, externals = b"\0first\0hidden\0", b"first\0"
     kinds = [(AWAY, 1, 6, 1), (AWAY + 8, 7, 14, 1), (0, 0, 11, 1)]
@@ -185,7 +185,8 @@ def written_ecoff(flags=0x1007, code=CODE):
     counts = [0, 0, 0, len(kinds), 0, 0, len(texts), len(externals), 1, 0, 1]
     offsets = [0, 0, 0, 0, symbols_at + 144, 0, 0, texts_at, texts_at + len(texts), files_at, 0, externals_at]
     header = struct.pack("<HH11I12Q", 0x1992, 0, *counts, *offsets)
-    front = head + optional + section + code
+    front = head + optional + section
+    front += bytes(text_at - len(front)) + code
     return front + bytes(symbols_at - len(front)) + header + rows_of + file + texts + externals + external
 
 

@@ -5,7 +5,7 @@ import subprocess
 import sys
 
 from parts import ecoff, elf, files, image, places, program, shown, written
-from .helpers import ASKED, HERE, TOP, companion, data, needs_program, read, want, write
+from .helpers import ASKED, HERE, TOP, Failed, companion, data, needs_program, read, want, write
 
 AWAY = 0x120000000
 # `addq/v $1,$2,$1` and `ret`, which is broken by C2, and the same without /V.
@@ -26,15 +26,21 @@ def header_of(content, name):
                 if content[text + struct.unpack_from("<I", content, at)[0]:].startswith(name + b"\0"))
 
 
-def refused_in_one_line(name, *words):
-    """The line of a refusal, for which no more than 200 MB may be taken."""
+def measured(name, *words):
+    """The status of a companion, its output, its notes, and the kilobytes of memory that it took."""
     with subprocess.Popen([sys.executable, os.path.join(HERE, name), *words], stdout=subprocess.PIPE, stderr=subprocess.PIPE,
                           env=os.environ | {"ALPHA": ASKED}) as call:
         out, notes = (stream.read().decode("utf-8", "replace") for stream in (call.stdout, call.stderr))
         _, status, used = os.wait4(call.pid, 0)
         call.returncode = os.waitstatus_to_exitcode(status)
-    want((call.returncode, out, notes.count("\n"), "Traceback" in notes), (1, "", 1, False), f"{name} {' '.join(words)}: {notes[-300:]}")
-    want(used.ru_maxrss < 200 << 10, True, f"{used.ru_maxrss} kB of memory for {name} {' '.join(words)}")
+    return call.returncode, out, notes, used.ru_maxrss
+
+
+def refused_in_one_line(name, *words):
+    """The line of a refusal, for which no more than 200 MB may be taken."""
+    status, out, notes, kilobytes = measured(name, *words)
+    want((status, out, notes.count("\n"), "Traceback" in notes), (1, "", 1, False), f"{name} {' '.join(words)}: {notes[-300:]}")
+    want(kilobytes < 200 << 10, True, f"{kilobytes} kB of memory for {name} {' '.join(words)}")
     return notes
 
 
@@ -67,6 +73,37 @@ def test_a_file_of_two_faces_is_refused(folder):
         write(path, bytes(content))
         want(said in refused_in_one_line("elf2image", path, out), True, said)
     want(os.path.exists(out), False, "OUT")
+
+
+def test_an_ecoff_file_of_two_faces_is_refused(folder):
+    """A section of other words than a system loads by the sizes and addresses of the program."""
+    path, whole, text = os.path.join(folder, "a.ecoff"), read(data("sort.ecoff"), "rb"), 24 + 80
+    at, = struct.unpack_from("<Q", whole, text + 32)
+    length, = struct.unpack_from("<Q", whole, text + 24)
+
+    def refuses(say, *numbers, more=b""):
+        content = bytearray(whole)
+        for offset, layout, number in numbers:
+            struct.pack_into(layout, content, offset, number)
+        write(path, bytes(content) + more)
+        try:
+            ecoff.Ecoff(path, files.Parts(path))
+        except files.Refused as why:
+            want(say in str(why), True, str(why))
+            return
+        raise Failed(f"{say}: it is taken")
+
+    other = bytearray(whole[at:at + length])
+    struct.pack_into("<I", other, 0, 0x40220C01)
+    write(path, whole)
+    ecoff.Ecoff(path, files.Parts(path))
+    refuses("has other bytes than are loaded there", (text + 32, "<Q", len(whole)), more=bytes(other))
+    refuses("isn't loaded, or not all of it", (24 + 8, "<Q", 0x10))
+    refuses("has instructions, and isn't loaded as code", (text + 64 + 60, "<I", 0x20))
+    refuses("share addresses", (24 + 48, "<Q", 0x13000))
+    refuses("neither OMAGIC", (24, "<H", 0x10A))
+    # Words between the headers and the text, which a system that goes from the first byte on would run.
+    refuses("has other bytes than are loaded there", (0x1000, "<I", 0x40220C01))
 
 
 @needs_program
@@ -164,6 +201,18 @@ def test_files_with_holes_are_not_read_whole(folder):
         write(path, front)
         os.truncate(path, 4 << 30)
         refused_in_one_line(*words)
+    want(os.path.exists(out), False, "OUT")
+
+
+def test_a_text_takes_a_few_times_its_memory(folder):
+    """Many lines, and more names and more bytes than a source may have."""
+    path, out = os.path.join(folder, "a.s"), os.path.join(folder, "a.out")
+    write(path, b"\t.globl f\nf:\n" + b"\taddq $1,$2,$3\n" * 60_000)
+    status, _, notes, kilobytes = measured("gas2source", "--entry", "f", path, "-o", out)
+    want((status, kilobytes < 60 << 10), (0, True), f"{kilobytes} kB of memory: {notes}")
+    os.unlink(out)
+    write(path, "".join(f"a{n}:\n" for n in range(530_000)).encode())
+    refused_in_one_line("gas2source", path, "-o", out)
     want(os.path.exists(out), False, "OUT")
 
 

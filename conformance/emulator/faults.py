@@ -53,7 +53,7 @@ def of_operates():
         if name not in table.UNARY:
             yield Fault(f"first-{name}", "values", f"`{name}` takes $1 for its second operand", RESULT, f"    if ({here}) b = a;\n{RESULT}", "answers/values-forms")
             yield Fault(f"low-{name}", "values", f"`{name}` takes 32 bits of its first operand", RESULT, f"    if ({here}) a = (unsigned)a;\n{RESULT}", "answers/values",
-                        "it uses the low 32 bits alone" if re.match(r"(s[48])?(add|sub|mul)l", name) or name in ("insbl", "inswl", "insll", "inswh", "inslh", "cmovlbs", "cmovlbc") else None)
+                        "it uses the low 32 bits alone" if re.match(r"(s[48])?(add|sub|mul)l", name) or name in ("extwh", "extlh", "insbl", "inswl", "insll", "inswh", "inslh", "cmovlbs", "cmovlbc") else None)
         if name != "implver":
             yield Fault(f"literal-{name}", "values", f"a literal of `{name}` has a sign", "    return w->has_literal ? w->literal : m.reg[w->rb];",
                         f"    return w->has_literal ? ({here} ? extended(w->literal, 8) : w->literal) : m.reg[w->rb];", "answers/values-forms",
