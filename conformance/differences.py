@@ -51,24 +51,23 @@ def of_parts(notes, parts, with_barriers):
     return [one for one in cut(notes) if kinds.get(one[0].split(" ")[0], "end" in parts)]
 
 
-def notes_difference(ran_notes, wanted, parts, barrier_lines):
-    """The first difference of the notes, or None. `barrier_lines` answers the lines of the source before a barrier."""
+def notes_difference(ran_notes, wanted, parts, lines):
+    """The first difference of the notes, or None. `lines` answers the lines of the source before a barrier, or of an overflow."""
     has_barriers = any(one[0].startswith("barrier ") for one in cut(wanted))
     have, want = (of_parts(notes, parts, has_barriers) for notes in (ran_notes, wanted))
-    passed = 0
     for number, wanted_one in enumerate(want):
         if number == len(have):
-            return Told(f"the notes end before `{wanted_one[0]}`", *lines_of(wanted_one, passed, barrier_lines))
+            return Told(f"the notes end before `{wanted_one[0]}`", *lines_of(None, wanted_one, want[:number], lines))
         if have[number] != wanted_one:
-            return note_difference(have[number], wanted_one, passed, barrier_lines)
-        passed += wanted_one[0].startswith("barrier ")
+            return note_difference(have[number], wanted_one, want[:number], lines)
     return Told(f"`{have[len(want)][0]}` is a line too many") if len(have) > len(want) else None
 
 
-def note_difference(have, want, passed, barrier_lines):
+def note_difference(have, want, before, lines):
+    passed = sum(one[0].startswith("barrier ") for one in before)
     if have[0] != want[0] or len(want) == 1:
         behind = f", behind {passed} barrier{'s' * (passed != 1)}" if passed else ""
-        return Told(f"`{have[0]}`, and `{want[0]}` is wanted{behind}", *lines_of(want, passed, barrier_lines))
+        return Told(f"`{have[0]}`, and `{want[0]}` is wanted{behind}", *lines_of(have, want, before, lines))
     have_regs, want_regs = (" ".join(one[1:]).split() for one in (have, want))
     wrong = [(register, one, other) for register, (one, other) in enumerate(zip(have_regs, want_regs)) if one != other]
     if not wrong or len(have_regs) != 32:
@@ -76,22 +75,31 @@ def note_difference(have, want, passed, barrier_lines):
     others = ", and further registers are otherwise" if len(wrong) > 1 else ""
     register, one, other = wrong[0]
     return Told(f"behind barrier {passed + 1}, at `{want[0]}`, ${register} is {one}, and {other} is wanted{others}",
-                functools.partial(barrier_lines, passed + 1))
+                *lines_of(have, want, before, lines))
 
 
-def lines_of(want, passed, barrier_lines):
-    """What answers the lines before a note, where that is a barrier."""
-    return [functools.partial(barrier_lines, passed + 1)] if want[0].startswith("barrier ") else []
+def lines_of(have, want, before, lines):
+    """What answers the lines of the source that say more of two notes that aren't the same."""
+    kind = want[0].split(" ")[0]
+    passed = sum(one[0].startswith(f"{kind} ") for one in before)
+    if kind == "barrier":
+        return [functools.partial(lines.barrier, passed + 1)]
+    return [functools.partial(lines.overflow, passed, have and have[0], want[0])]
 
 
 def is_end(line):
     return line.split(" ")[0] in ENDS
 
 
-def end_difference(ran, wanted, text):
+def end_difference(ran, wanted, image):
     """The difference of the line of the end, or None. It is the last line of the notes."""
     have, want = last(ran.notes), last(wanted)
-    return None if have == want else Told(f"the end is `{have}`, and `{want}` is wanted{text}")
+    if have == want:
+        return None
+    notes = cut(ran.notes)
+    if notes and notes[-1][0].startswith("barrier "):
+        return Told(f"there is no end behind `{notes[-1][0]}`, and `{want}` is wanted", lambda: telling.named(image, want))
+    return Told(f"the end is `{have}`, and `{want}` is wanted", lambda: telling.named(image, have, want))
 
 
 # ---- output

@@ -93,19 +93,16 @@ class Suite:
             return Told(ran.notes)
         parts, how = self.options.parts, calls.end_text(ran.status)
         crashed = f"; {how}" if ran.status < 0 or ran.status not in (0, 5, 6, 7) else ""
-
-        def barrier_lines(number):
-            return [f"since barrier {number - 1}:" if number > 1 else "from the start on:", *telling.between(line.image, line.completion, given, number)]
-
+        lines = telling.Lines(line.image, line.completion, given)
         without_end = [part for part in parts if part != "end"]
-        found = notes_difference(ran.notes, wanted, without_end, barrier_lines)
+        found = notes_difference(ran.notes, wanted, without_end, lines)
         if found is None and "end" in parts:
-            found = end_difference(ran, wanted, "")
+            found = end_difference(ran, wanted, line.image)
         wrong = output_difference(line, ran.out, output, given) if "output" in parts else None
-        if wrong and (found is None or ran.status == 0 and last(ran.notes).startswith("exit") and not found.calls):
-            found = Told(wrong if found is None else f"{wrong}; {found.text}")
+        if wrong and (found is None or ran.status == 0 and last(ran.notes).startswith("exit") and "barrier " not in found.text):
+            found = Told(wrong if found is None else f"{wrong}; {found.text}", *(found.calls if found else ()))
         if found is None and "end" in parts:
-            found = notes_difference(ran.notes, wanted, parts, barrier_lines) or status_difference(ran.status, last(wanted))
+            found = notes_difference(ran.notes, wanted, parts, lines) or status_difference(ran.status, last(wanted))
             crashed = ""
         if found is not None:
             found.text += crashed
@@ -186,7 +183,8 @@ class Suite:
         judged = self.call(self.options.judge, image=self.image(line), journal=journal)
         said = verdict_of(judged)
         if judged.status != 0:
-            return Told(f"the journal is refused: {said or last(judged.notes)}")
+            whole = content(journal)
+            return Told(f"the journal is refused: {said or last(judged.notes)}", lambda: [where_wanted(line, whole, said)])
         try:
             whole = content(journal)
             is_accepted = self.images[line.image].answer == "accepted"

@@ -1,6 +1,7 @@
 """Where something happened: the lines of the source that an address, a barrier or an item of a journal stands for."""
 import functools
 import os
+import re
 import sys
 
 HERE = os.path.dirname(os.path.abspath(__file__))
@@ -40,18 +41,57 @@ def short(lines):
     return lines if len(lines) <= MOST_LINES else [*lines[:half], f".. {len(lines) - MOST_LINES} lines ..", *lines[-half:]]
 
 
-def between(image, completion, given, number):
-    """The lines of the source that a right run makes between barrier `number`, counted from 1, and the one before."""
-    if places is None:
+class Lines:
+    """The lines of the source that say more of a note, by a right run of an image over an input."""
+
+    def __init__(self, image, completion, given):
+        self.image, self.completion, self.given = image, completion, given
+
+    def is_known(self):
+        return places is not None and self.image != "-"
+
+    def barrier(self, number):
+        """What a right run makes between barrier `number`, counted from 1, and the one before."""
+        if not self.is_known():
+            return []
+        made, passed, found = machine.Machine(image_of(self.image), self.completion, self.given), 0, []
+        while made.end is None and passed < number:
+            pc = made.pc
+            is_barrier = made.step() == "barrier"
+            if passed == number - 1:
+                found.append(line_at(self.image, pc))
+            passed += is_barrier
+        return [f"since barrier {number - 1}:" if number > 1 else "from the start on:", *short(found)]
+
+    def overflow(self, passed, have, want):
+        """What two notes are of, behind so many overflows: the one that is told, and the one that is wanted."""
+        if not self.is_known():
+            return []
+        made, right, plain = machine.Machine(image_of(self.image), self.completion, self.given), [], set()
+        while made.end is None and len(right) < passed + 2:
+            pc, word = made.pc, made.word()
+            values = word and ", ".join(f"${register} = {made.regs[register]:#x}" for register in sorted({word.ra, word.rb} - {31}))
+            if made.step() == "overflow":
+                right.append((pc, values))
+            elif len(right) == passed:
+                plain.add(pc)
+        told = int(have.split()[1], 16) if have is not None and have.startswith("overflow ") else None
+        is_left_out = told is not None and [pc for pc, _ in right[passed + 1:]] == [told]
+        lines = []
+        if told is not None and not is_left_out:
+            lines.append(f"told: {line_at(self.image, told)}" + (", which doesn't overflow there" if told in plain else ""))
+        if want.startswith("overflow "):
+            address, values = right[passed]
+            lines.append(f"{'left out' if is_left_out else 'wanted'}: {line_at(self.image, address)}, with {values}")
+        return lines or named(self.image, have or "", want)
+
+
+def named(image, *notes):
+    """The lines of the source that notes name by the address of a word."""
+    if places is None or image == "-":
         return []
-    made, passed, found = machine.Machine(image_of(image), completion, given), 0, []
-    while made.end is None and passed < number:
-        pc = made.pc
-        is_barrier = made.step() == "barrier"
-        if passed == number - 1:
-            found.append(line_at(image, pc))
-        passed += is_barrier
-    return short(found)
+    found = [re.match(r"(?:fetch|access|align|stop at|signal \d+ at|lost) ([0-9a-f]{16})", note) for note in notes]
+    return list(dict.fromkeys(f"{match[1]}: {line_at(image, int(match[1], 16))}" for match in found if match))
 
 
 def block(image, given):
