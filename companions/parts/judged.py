@@ -20,10 +20,12 @@ def verdicts(asked, found, jobs, of_all=False):
     lines = [[f"no verdict: {why}"] if row is None else [said(one.symbol.address, by_row.get(id(row)), row)]
              for one, (row, why) in zip(found, told)]
     if of_all:
-        wanted = [n for n, (row, _) in enumerate(told) if row is not None and (has_shaded(row) or by_row.get(id(row)))]
+        wanted = {id(row): (one.symbol.address, row) for one, (row, _) in zip(found, told)
+                  if row is not None and (has_shaded(row) or by_row.get(id(row)))}
         with ThreadPoolExecutor(max(1, jobs)) as pool:
-            for n, more in zip(wanted, pool.map(lambda n: every_line(asked, found[n].symbol.address, told[n][0]), wanted)):
-                lines[n] += more
+            more = dict(zip(wanted, pool.map(lambda one: every_line(asked, *one), wanted.values())))
+        for line, (row, _) in zip(lines, told):
+            line += more.get(id(row), [])
     return lines
 
 

@@ -1,5 +1,6 @@
 """Files that nobody vouches for: of two faces, with sizes that can't be, and with names that a terminal would obey."""
 import os
+import shlex
 import struct
 import subprocess
 import sys
@@ -190,6 +191,16 @@ def test_a_symbol_of_impossible_size_has_no_verdict(folder):
     write(path, written_elf(BROKEN, [(AWAY, "f", 1 << 63)]))
     out, _ = companion("elf2image", "--functions", path)
     want(out.splitlines()[0], f"{AWAY:016x} {1 << 63:08x} f: no verdict: no row of words: {1 << 63} bytes in .text", "the line")
+
+
+@needs_program
+def test_many_names_of_one_function_are_judged_once(folder):
+    path, asked, log = (os.path.join(folder, name) for name in ("a.elf", "asked", "log"))
+    write(path, written_elf(symbols=[(AWAY, f"f{n}", 8) for n in range(300)]))
+    write(asked, f'#!/bin/sh\necho >> {shlex.quote(log)}\nexec {shlex.quote(ASKED)} "$@"\n'.encode())
+    os.chmod(asked, 0o755)
+    told, _ = companion("elf2image", "--functions", "--all", "--alpha", asked, path, status=3)
+    want((told.count("broken trigger"), read(log).count("\n") < 10), (600, True), told[-300:])
 
 
 def test_files_with_holes_are_not_read_whole(folder):
