@@ -3,8 +3,8 @@
 A clause must hold of a call as it was, and of one with another status, output, line or input left it mustn't.
 """
 from . import drawn
-from .moments import row_of
-from .reference import NONE, Late, broken_in, image, parts_of, some
+from .moments import moments_of, steps_of
+from .reference import COMPLETIONS, NONE, Late, broken_in, image, parts_of, some
 from .runs import options_of
 from .translate import record
 
@@ -143,18 +143,18 @@ class Checked:
     def cases(self, chooser, count, asked):
         for n in range(count):
             whole = drawn.program(chooser, n % 2 == 0)
-            choices = [tuple((chooser.random() < 0.3, number, number, chooser.random() < 0.5)
-                             for number in (drawn.number(chooser) for _ in range(chooser.choice((0, 9, 40))))) for _ in range(2)]
+            rows = [steps_of(chooser, chooser.choice((0, 9, 40))) for _ in range(2)]
+            # By a completion that isn't theirs they may be no run.
+            steps = [tuple(moment[0] for moment in moments_of(whole, how, row)) for row in rows for how in COMPLETIONS]
             status = asked.call("check", "FILE", FILE=whole.spelled())[0]
-            yield whole, tuple(choices), status, not broken_in(whole.words)
+            yield whole, steps, status, not broken_in(whole.words)
 
     def difference(self, d, case):
-        whole, choices, status, is_accepted = case
+        whole, steps, status, is_accepted = case
         d.forget()
         parts, content = parts_of(whole), tuple(whole.spelled())
         halves = (content[:-1], content[-1:])
-        d.given(images=[parts], inputs=[(), (1, 2)], choices=[row_of(row) for row in choices], names=words_of(*NAMES),
-                pieces=[(content,), halves])
+        d.given(images=[parts], steps=steps, names=words_of(*NAMES), pieces=[(content,), halves])
         if (status == 0) != is_accepted:
             return f"{whole.spelled().hex()}: status {status}"
         if is_accepted and not d("alpha_imprecise.Restart.IsRestartable")(parts):

@@ -9,16 +9,14 @@ ANSWERS = [("Rattle.alpha_cmd.specs.Commands.Imprecise", "answer_wild"),
            ("Rattle.alpha_cmd.specs.Commands.Imprecise", "run_by")]
 
 # The domain of a variable, by DEFINITION.VARIABLE: an expression over variables in braces, and `given`, by which the runner
-# hands in what is tried, and over the functions of running.py that go along a list of steps.
+# hands in what is tried.
 DOMAINS = {
     # No place past the end of the code holds a word, and the last that a condition speaks of is the end itself.
     "IsAccepted.trigger": "range(len({code}) + 1)", "IsAccepted.at": "range(len({code}) + 2)",
     # Any element: it is never looked at, since the places are those of elements.
     "AllPairs.d": "{xs}[:1]", "All.d": "{xs}[:1]",
-    # What is said of every run is tried on those by choices and over inputs that are handed in; where a list of steps or of
-    # events leads, if anywhere, follows from it.
-    "RestartsFrom.steps": "tried({g}, {s})", "RestartsFrom.w": "ends({g}, {s}, {steps})", "Follows.last": "lasts({g}, {s}, {events})",
-    # What is said of every image is tried on those that are handed in.
+    # What is said of all lists of steps and of every image is tried on those that are handed in.
+    "RestartsFrom.steps": "given['steps']",
     "ReadsImage.image": "given['images']", "IsReadWhole.pieces": "given['pieces']",
     "Ran.image": "given['images']", "Alike.image": "given['images']",
     # The file is one of the words.

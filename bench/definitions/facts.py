@@ -1,7 +1,7 @@
 """Worked facts: small definitions at values that no run of a program brings about, and the scan at any place."""
 from . import drawn
 from .calls import SHELF, SINK, SOURCE, Device, told
-from .reference import MASK, NONE, Late, image, option, parts_of, program_of, some
+from .reference import COMPLETIONS, MASK, NONE, Late, image, option, parts_of, program_of, some
 from .translate import record
 
 FILE, OTHER, WORD = tuple(b"FILE"), tuple(b"other"), drawn.operate("addq", 1, 2, 3)
@@ -15,7 +15,7 @@ def shelved(old, new):
 
 def state(**changed):
     """A state of no program, with a count of overflows that is about to pass its last value."""
-    fields = {"regs": REGS, "pc": drawn.CODE, "mem": (), "lock": some(3), "count": MASK, "logged": 5, "unique": 0}
+    fields = {"regs": REGS, "pc": drawn.CODE, "mem": (), "unique": 9, "lock": some(3), "count": MASK, "logged": 5}
     return record(**{**fields, **changed})
 
 
@@ -100,27 +100,45 @@ def called(function, count, arguments):
     return given
 
 
-class Stops:
-    name, about = "stops", "a late run of which more was seen than the precise run has events doesn't agree at its end"
-    counts = {"sample": 6, "whole": 100}
+class Follows:
+    """A precise run as a late one: they agree, and where one thing is another one only if nothing says that it is the same."""
+
+    name, about = "follows", "what `Agrees` says of events, unique value, PC and registers, each changed alone"
+    counts = {"sample": 120, "whole": 3_000}
     is_quick = True
+    WAYS = ("as it was", "more", "another", "lost", "unique", "pc", "regs", "count")
 
     def cases(self, chooser, count, asked):
-        while count:
-            whole = drawn.program(chooser, True)
-            if Late(whole, "wrap", b"").ends_within(300):
-                count -= 1
-                yield whole, chooser.choice((0, 1, 2))
+        for n in range(count):
+            how, steps = chooser.choice(list(COMPLETIONS)), chooser.choice((1, 9, 20, 60))
+            yield drawn.program(chooser, True), how, steps, self.WAYS[n % len(self.WAYS)]
 
     def difference(self, d, case):
-        whole, more = case
+        whole, how, steps, way = case
         d.forget()
-        program = program_of(whole, "wrap")
+        program = program_of(whole, how)
         start = d("alpha_seq.Start.start")(program)
-        precise = d("alpha_seq.Run.after")(program, start, (), 300)
-        late = record(state=precise.at.state, pending=NONE, happened=("Precisely", precise.at.event))
-        given = d("alpha_imprecise.Restart.Agrees")(program, start, precise.events + (precise.at.event,) * more, late)
-        return "" if given == (more == 0) else f"{whole.spelled().hex()}: {more} events more, and agrees is {given}"
+        run = d("alpha_seq.Run.after")(program, start, (), steps)
+        events, state, happened = run.events, run.at.state, ("Precisely", run.at.event)
+        if way == "more":
+            events += (("Overflowed", 3),)
+        elif way == "another":
+            events = events[:-1] + (("Overflowed", 3),)
+        elif way == "lost":
+            happened = ("Lost", 3, 4)
+        elif way == "regs":
+            state = state._replace(regs=state.regs[:1] + (state.regs[1] ^ 1,) + state.regs[2:])
+        elif way != "as it was":
+            state = state._replace(**{way: getattr(state, way) + 1})
+        late = record(state=state, pending=NONE, happened=happened)
+        given, wanted = d("alpha_imprecise.Restart.Agrees")(program, start, events, late), self.wanted(way, run.at.event)
+        return "" if given == wanted else f"{whole.spelled().hex()} by {how}: {way} at {run.at.event}: agrees is {given}"
+
+    def wanted(self, way, event):
+        """Whether they still agree."""
+        is_stop = event[0] == "Ends" and event[1][0] == "Overflow"
+        goes_on = event[0] not in ("Barriered", "Ends")
+        return way == "as it was" or way == "pc" and goes_on or way in ("regs", "count") and (goes_on or is_stop)
 
 
 class Scans:

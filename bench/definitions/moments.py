@@ -1,11 +1,12 @@
 """Moments: the states of both machines step by step, and whether late runs agree with precise ones.
 
-Against the models of the companions, by choices that are free: the bytes of a store and the value of a register each.
+Against the models of the companions, by choices that are free: the bytes of a store and the value of a register each,
+and what each step is given to read.
 """
 from collections import Counter
 
 from . import calls, drawn
-from .reference import NONE, Late, agrees, broken_in, image, parts_of, program_of
+from .reference import NONE, Follower, Late, agrees, broken_in, image, parts_of, program_of, state_shown
 from .translate import record
 
 MOST = 60
@@ -17,28 +18,27 @@ def choice_of(chooser):
     return chooser.random() < 0.3, number, chooser.choice((number, drawn.number(chooser))), chooser.random() < 0.6
 
 
-def row_of(choices):
-    """Choices in the definitions' words."""
-    return tuple(record(**dict(zip(("report", "value", "bytes", "adds"), choice))) for choice in choices)
+def steps_of(chooser, count=MOST):
+    """Choices, each with what there is to be read at its step."""
+    lengths = [chooser.choice((0, 2, 9, 40)) for _ in range(count)]
+    return tuple((choice_of(chooser), bytes(chooser.randrange(256) for _ in range(length))) for length in lengths)
 
 
-def moments_of(whole, how, given, choices):
-    """What the models say of each moment: (kind of the step, PC, registers, mask, trigger's place, whether it agrees)."""
-    late, precise, before = Late(whole, how, given), Late(whole, how, given), False
-    for choice in choices:
-        if late.choose(choice):
-            before = precise.is_over()
-            precise.advance()
-        waits = late.waited is not None
-        yield (kind_of(late), late.pc, tuple(late.regs), late.mask if waits else None, late.place if waits else None,
-               agrees(late, precise, before))
+def moments_of(whole, how, steps):
+    """What the models say of each moment until the run is over: how the last step went, the state, the pending trap, and
+    whether it agrees."""
+    late, precise = Late(whole, how), Follower(whole, how)
+    for choice, given in steps:
+        if late.is_over():
+            return
+        late.hand(given)
+        late.choose(choice)
+        precise.follow(late.happened)
+        yield late.happened, late.state(), late.pending(), agrees(late, precise)
 
 
-def kind_of(late):
-    """How the last step went, as the definitions call it."""
-    if late.end is not None:
-        return "Lost" if late.end[0] == "lost" else "Ends"
-    return {"went": "Went", "barrier": "Barriered", "triggered": "Triggered", "waited": "Waited", "reported": "Reported"}[late.last]
+def case_of(whole, how, steps):
+    return whole, how, steps, tuple(moments_of(whole, how, steps))
 
 
 class Moments:
@@ -49,26 +49,38 @@ class Moments:
     def cases(self, chooser, count, asked):
         for n in range(count):
             whole = drawn.program(chooser, n % 2 == 0)
-            how, given = chooser.choice(("wrap", "wrap", "saturate", "stop")), bytes(chooser.randrange(256) for _ in range(chooser.choice((0, 40))))
-            choices = [choice_of(chooser) for _ in range(MOST)]
-            yield whole, how, given, tuple(choices), tuple(moments_of(whole, how, given, choices))
+            yield case_of(whole, chooser.choice(("wrap", "wrap", "saturate", "stop")), steps_of(chooser))
 
     def difference(self, d, case):
-        whole, how, given, choices, wanted = case
+        whole, how, steps, wanted = case
         d.forget()
-        program, given = program_of(whole, how), tuple(given)
+        program = program_of(whole, how)
         start = d("alpha_seq.Start.start")(program)
-        for (moment, steps), said in zip(d.late(program, start, row_of(choices), given), wanted):
-            events = d("alpha_imprecise.Run.seen")(steps)
-            found = self.seen(moment) + (d("alpha_imprecise.Restart.Agrees")(program, start, events, moment),)
-            if found != said:
-                return f"{whole.spelled().hex()} by {how}: {found}, and {said} is wanted"
-        return ""
+        begun = at = d("alpha_imprecise.Run.begins_wild")(start)
+        agrees = d("alpha_imprecise.Restart.Agrees")
+        went, seen = (), ()
+        for (choice, given), moment in zip(steps, wanted):
+            choice = record(**dict(zip(("report", "value", "bytes", "adds"), choice)))
+            before, at = at, d("alpha_imprecise.Step.wild")(program, at.state, at.pending, choice, tuple(given))
+            went, seen = went + (at.happened,), seen + d("alpha_imprecise.Run.seen_of")(at.happened)
+            found = at.happened, state_shown(at.state), self.trap(at), agrees(program, start, seen, at)
+            if found != moment:
+                return f"{whole.spelled().hex()} by {how}: {found}, and {moment} is wanted"
+            if d("alpha_imprecise.Run.next_wild")(program, before, at.happened) != at:
+                return f"{whole.spelled().hex()} by {how}: {at.happened} says another step"
+        return self.run(d, whole, program, begun, went, at)
 
-    def seen(self, moment):
-        kind = moment.happened[1][0] if moment.happened[0] == "Precisely" else moment.happened[0]
-        trap = moment.pending[1] if moment.pending[0] == "Some" else None
-        return kind, moment.state.pc, moment.state.regs, trap and trap.mask, trap and trap.place
+    def trap(self, at):
+        return None if at.pending == ("None",) else (at.pending[1].place, at.pending[1].mask)
+
+    def run(self, d, whole, program, begun, went, at):
+        """The steps are a run to the last moment and to no other, and none follows its end."""
+        is_run = d("alpha_imprecise.Run.RunsWild")
+        is_over = went[-1][0] == "Lost" or went[-1][0] == "Precisely" and went[-1][1][0] == "Ends"
+        another, elsewhere = went[:-1] + (("Lost", 1, 1),), at._replace(pending=some(record(place=0, mask=0)))
+        found = (is_run(program, begun, went, at), is_run(program, begun, went, elsewhere), is_run(program, begun, another, at),
+                 is_over and is_run(program, begun, went + went[-1:], at))
+        return "" if found == (True, False, False, False) else f"{whole.spelled().hex()}: runs are {found}"
 
 
 class Waits:
@@ -86,10 +98,9 @@ class Waits:
                          drawn.memory(name, 8, base, displacement), drawn.TRAPB]
                 segment = image.Segment(drawn.DATA, ((1 << 63) - 1).to_bytes(8, "little") * 3)
                 whole = image.Image(words, drawn.CODE, drawn.CODE, [segment], drawn.STACK, 0)
-                choices = ((False, 3, 4, False),) * 8
-                yield whole, "wrap", b"", choices, tuple(moments_of(whole, "wrap", b"", choices))
+                yield case_of(whole, "wrap", (((False, 3, 4, False), b""),) * 8)
 
-    difference, seen = Moments.difference, Moments.seen
+    difference, trap, run = Moments.difference, Moments.trap, Moments.run
 
 
 class Each:
@@ -108,11 +119,10 @@ class Each:
             conditions = {condition for _, _, condition in broken_in(whole.words)}
             if len(conditions) != 1 or found[min(conditions)] >= count or min(conditions) > 7:
                 continue
-            choices = [choice_of(chooser) for _ in range(MOST)]
-            moments = tuple(moments_of(whole, "wrap", b"", choices))
-            if not all(moment[-1] for moment in moments):
+            case = case_of(whole, "wrap", steps_of(chooser))
+            if not all(moment[-1] for moment in case[-1]):
                 found[min(conditions)] += 1
-                yield whole, "wrap", b"", tuple(choices), moments
+                yield case
         lacking = [f"C{n}" for n in range(1, 8) if not found[n]]
         if lacking:
             raise SystemExit(f"no code was found that breaks {', '.join(lacking)} alone and fails")
@@ -133,18 +143,22 @@ class Each:
         at = chooser.choice([5] + [n + 1 for n, word in enumerate(whole.words) if word == drawn.TRAPB])
         whole.words[at:at] = [*before, trigger, *behind, drawn.TRAPB]
 
-    seen = Moments.seen
+    trap, run = Moments.trap, Moments.run
 
     def difference(self, d, case):
         return Moments.difference(self, d, case) or self.clause(d, case)
 
     def clause(self, d, case):
-        """The clause of `check` is false of such code where a list of choices is tried that ends where it doesn't agree."""
-        whole, _, _, choices, wanted = case
+        """The clause of `check` is false of such code where steps are tried that end where it doesn't agree, and not where
+        they are no run."""
+        whole, _, _, wanted = case
         end = next(n for n, moment in enumerate(wanted, 1) if not moment[-1])
-        parts = parts_of(whole)
+        steps = tuple(moment[0] for moment in wanted[:end])
         content = tuple(whole.spelled())
-        d.given(images=[parts], inputs=[()], choices=[row_of(choices[:end])], names=[], pieces=[(content,)])
         words, shelf = (tuple(b"check"), tuple(b"FILE")), calls.shelf_that_gave(d, NONE, *calls.pieces_of(b"FILE", (content, ())))
-        given = [d(name)(words, calls.DONE, shelf) for name in calls.CHECKS]
-        return "" if given == [False, False] else f"{whole.spelled().hex()}: the clause of check is {given}"
+        for row, holds in ((steps, False), (steps[:-1] + (("Lost", 1, 1),), True)):
+            d.given(images=[parts_of(whole)], steps=[row], names=[], pieces=[(content,)])
+            given = [d(name)(words, calls.DONE, shelf) for name in calls.CHECKS]
+            if given != [holds, holds]:
+                return f"{whole.spelled().hex()}: the clause of check is {given}"
+        return ""

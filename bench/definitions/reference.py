@@ -104,52 +104,83 @@ def status_of(status):
     return {"Done": 0, "Stopped": 5, "StepsSpent": 6, "Lost": 7}[status[0]]
 
 
-class Late(machine.Machine):
-    """The model of the imprecise machine by a choice a step: (report, value, bytes, adds). It keeps what was noted."""
+WENT, SILENT = ("Went",), ("Silent",)
+ENDS = {"exit": 1, "signal": 2, "fetch": 1, "access": 2, "align": 2, "overflow": 1}
 
-    def __init__(self, whole, how, given):
+
+class Late(machine.Machine):
+    """The model of the imprecise machine by a choice a step: (report, value, bytes, adds). It tells in the definitions'
+    words how its last step went."""
+
+    def __init__(self, whole, how, given=b""):
         super().__init__(whole, how, given)
-        self.trace, self.last, self.bytes, self.place = [], "went", 0, None
+        self.event, self.traffic, self.happened = WENT, SILENT, ("Precisely", WENT)
+        self.bytes, self.place, self.count = 0, None, 0
+
+    def hand(self, given):
+        """Gives it other bytes to read."""
+        self.given, self.taken = bytes(given), 0
+
+    def choose(self, choice):
+        """One step; a run that is over stays."""
+        if self.is_over():
+            return
+        report, value, self.bytes, adds = choice
+        word = self.word()
+        if self.waited is None:
+            self.begin(value)
+        elif report or word is None or word.kind == table.BARRIER or self.fault(word) is not None:
+            self.tell()
+        else:
+            adds = adds and word.kind == table.TRIGGER and word.rc != 31
+            self.wait(adds, value)
+            self.happened = ("Waited", adds, value, self.bytes)
+
+    def begin(self, value):
+        if self.overflows():
+            self.place = self.image.place(self.pc)
+            self.trigger(value)
+            self.happened = ("Triggered", value)
+        else:
+            self.advance()
+            self.happened = ("Precisely", self.event)
+
+    def tell(self):
+        """Reports the pending trap."""
+        if self.report() == "overflow":
+            self.happened = ("Reported", self.overflowed_at)
+        elif self.end[0] == "lost":
+            self.happened = ("Lost", *self.end[1:])
+        else:
+            self.happened = ("Precisely", ("Ends", ("Overflow", self.pc)))
 
     def spoil(self, word, value):
         super().spoil(word, self.bytes)
 
-    def choose(self, choice):
-        """One step; a run that is over stays. It answers whether a unit was used."""
-        if self.end is not None:
-            return False
-        report, value, self.bytes, adds = choice
-        word = self.word()
-        if self.waited is None:
-            self.begin(word, value)
-            return True
-        waits = word is not None and word.kind != table.BARRIER and self.fault(word) is None
-        if report or not waits:
-            self.last = self.report()
-            if self.last == "overflow":
-                self.trace.append(("over", self.overflowed_at))
-                self.last = "reported"
-        else:
-            self.wait(adds and word.kind == table.TRIGGER, value)
-            self.last = "waited"
-        return False
+    def complete(self, place):
+        super().complete(place)
+        self.count += 1
 
-    def begin(self, word, value):
-        if self.overflows():
-            self.place = self.image.place(self.pc)
-            self.trigger(value)
-            self.last = "triggered"
-        else:
-            self.advance()
+    def call(self):
+        number, count, taken, put = self.regs[0], self.regs[18], self.taken, len(self.put)
+        super().call()
+        given, wrote = tuple(self.given[taken:self.taken]), tuple(self.put[put:])
+        if self.regs[19] == 0:
+            self.traffic = ("Read", count, given) if number == 3 else ("Wrote", wrote)
 
     def advance(self):
         """A step of the sequential machine."""
-        if self.end is None:
-            self.last = self.step()
-            if self.last == "barrier":
-                self.trace.append(("passed", self.pc, tuple(self.regs)))
-            elif self.last == "overflow":
-                self.trace.append(("over", self.overflowed_at))
+        if self.is_over():
+            return
+        self.traffic = SILENT
+        way = self.step()
+        if way == "barrier":
+            self.event = ("Barriered", self.traffic, self.pc, tuple(self.regs))
+        elif way == "ended":
+            name, *numbers = self.end
+            self.event = ("Ends", (name.capitalize(), *numbers[:ENDS[name]]))
+        else:
+            self.event = ("Overflowed", self.overflowed_at) if way == "overflow" else WENT
 
     def ends_within(self, steps):
         """Whether the precise run ends within so many steps."""
@@ -157,27 +188,61 @@ class Late(machine.Machine):
             self.advance()
         return self.is_over()
 
-    def outside(self):
-        return self.unique, self.taken, bytes(self.put)
-
-    def state(self):
-        regions = [(region.base, bytes(region.content)) for region in self.regions]
-        return self.regs, self.pc, regions, self.lock, self.outside(), self.overflowed_at
-
     def is_over(self):
         return self.end is not None
 
+    def state(self):
+        """All that a state has."""
+        regions = tuple((region.base, bytes(region.content), region.is_writable) for region in self.regions)
+        return tuple(self.regs), self.pc, regions, self.unique, option(self.lock), self.count, self.overflowed_at or 0
 
-def agrees(late, precise, ended_before):
-    """Whether a late run agrees with the precise one of as many steps as it used units. `ended_before` says that this one was
-    over before its last step."""
-    if late.end is not None and late.end[0] == "lost":
+    def pending(self):
+        """The place and the mask of the pending trap, or None."""
+        return None if self.waited is None else (self.place, self.mask)
+
+
+def state_shown(state):
+    """The same of a state of the definitions."""
+    blocks = tuple((block.first, bytes(block.bytes), block.writable) for block in state.mem)
+    return state.regs, state.pc, blocks, state.unique, state.lock, state.count, state.logged
+
+
+def seen_of(happened):
+    """What a precise machine shows of a step."""
+    if happened[0] == "Reported":
+        return (("Overflowed", happened[1]),)
+    return happened[1:] if happened[0] == "Precisely" else ()
+
+
+def given_in(event):
+    """The bytes that a step with this event was given to read."""
+    return event[1][2] if event[0] == "Barriered" and event[1][0] == "Read" else ()
+
+
+class Follower(Late):
+    """The precise machine, each of whose reads is given what the same read of a late run was. `follows` says whether all of
+    its events so far are those of the late run."""
+
+    follows = True
+
+    def follow(self, happened):
+        for event in seen_of(happened):
+            self.follows = self.follows and not self.is_over()
+            if self.follows:
+                self.hand(given_in(event))
+                self.advance()
+                self.follows = self.event == event
+
+
+def agrees(late, precise):
+    """Whether a late run agrees with the precise one that goes by its events."""
+    if late.happened[0] == "Lost":
         return False
     if late.waited is not None:
         return late.scan() == late.place
-    if late.last == "barrier":
-        return precise.last == "barrier" and late.state() == precise.state() and late.trace == precise.trace
-    if late.end is not None:
-        same = late.end == precise.end and late.outside() == precise.outside() and late.trace == precise.trace
-        return same and late.pc == precise.pc and not ended_before and (late.end[0] == "overflow" or late.state() == precise.state())
-    return precise.end is None and late.trace == precise.trace and late.outside() == precise.outside()
+    if not precise.follows or precise.unique != late.unique:
+        return False
+    event = late.happened[1] if late.happened[0] == "Precisely" else WENT
+    if event[0] == "Ends" and event[1][0] == "Overflow":
+        return precise.pc == late.pc
+    return event[0] not in ("Barriered", "Ends") or precise.state() == late.state()

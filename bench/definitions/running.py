@@ -34,7 +34,6 @@ class Definitions:
             if not is_data(item.of, NATIVES):
                 self.translation.add(module, name)
         self.by_name = {key_of(declaration): declaration for declaration in self.translation.functions}
-        self.translation.space.update(tried=self.tried, ends=self.ends, lasts=self.lasts)
 
     def __call__(self, name):
         if name not in self.by_name:
@@ -53,40 +52,6 @@ class Definitions:
             function = self(name)
             if hasattr(function, "cache_clear"):
                 function.cache_clear()
-
-    # ---- runs, which the definitions have as lists of steps
-
-    def late(self, program, state, choices, given):
-        """The moments of the imprecise run by these choices, each with the steps so far; one that is over stays."""
-        wild, finished, taken = (self(f"alpha_imprecise.{name}") for name in ("Step.wild", "Run.finished", "Run.given_to"))
-        moment, steps = self("alpha_imprecise.Run.begins_wild")(state), ()
-        for choice in choices:
-            if not finished(moment.happened):
-                moment = wild(program, moment.state, moment.pending, choice, given)
-                given = given[len(taken(moment.happened)):]
-                steps += (moment.happened,)
-            yield moment, steps
-
-    def tried(self, program, state):
-        """The steps of the runs by the choices and over the inputs that were handed in."""
-        handed = self.translation.space["given"]
-        for given in handed["inputs"]:
-            for choices in handed["choices"]:
-                yield ((), *(steps for _, steps in self.late(program, state, choices, given)))[-1]
-
-    def ends(self, program, state, steps):
-        """The only moment to which these steps can lead."""
-        moment = self("alpha_imprecise.Run.begins_wild")(state)
-        for step in steps:
-            moment = self("alpha_imprecise.Run.next_wild")(program, moment, step)
-        return (moment,)
-
-    def lasts(self, program, state, events):
-        """The only place to which these events can lead the precise machine."""
-        last = self("alpha_seq.Run.begins")(state)
-        for event in events:
-            last = self("alpha_seq.Run.next")(program, last, event)
-        return (last,)
 
     def given(self, **values):
         """Hands in the members of domains."""

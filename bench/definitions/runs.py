@@ -71,7 +71,22 @@ class Sequential:
         if found[:3] != (status, out, notes):
             return f"{whole.spelled().hex()} by {how}: {found[:3]}, and {(status, out, notes)} is wanted"
         taken = len(given) - len(answer.left[1])
-        return "" if answer.left == some(tuple(given)[taken:]) else f"{answer.left} is left of {given}"
+        if answer.left != some(tuple(given)[taken:]):
+            return f"{answer.left} is left of {given}"
+        return self.listed(d, program_of(whole, how), tuple(given), steps)
+
+    def listed(self, d, program, given, steps):
+        """The run as a list of events, which this input fed and no other one, and of which each front is a run too."""
+        start = d("alpha_seq.Start.start")(program)
+        run = d("alpha_seq.Run.after")(program, start, given, steps)
+        is_run, fed = d("alpha_seq.Run.Runs"), d("alpha_seq.Run.Fed")
+        begun, events, taken = d("alpha_seq.Run.begins")(start), run.events, d("alpha_seq.Run.taken")(run.events)
+        reads = any(event[0] == "Barriered" and event[1][0] == "Read" for event in events)
+        found = (is_run(program, begun, events, run.at), d("alpha_seq.Run.ReadNothing")(events), fed(given, events, run.left),
+                 fed(given, events, run.left + (1,)), fed(tuple(byte ^ 1 for byte in given), events, run.left),
+                 run.at.event[0] == "Ends" and is_run(program, begun, events + events[-1:], run.at), taken + run.left == given)
+        wanted = True, not reads, True, False, not given, False, True
+        return "" if found == wanted else f"{program.image} over {given}: {found}, and {wanted} is wanted"
 
 
 class Late:
@@ -96,8 +111,23 @@ class Late:
         whole, how, steps, watch, is_forced, given, chosen, answered = case
         d.forget()
         program, given = program_of(whole, how), tuple(given)
+        start = d("alpha_seq.Start.start")(program)
+        begun = d("alpha_imprecise.Made.begun")(start, given, NONE, 0, chosen)
+        making = d("alpha_imprecise.Made.made")(program, begun, steps)
         run = d("alpha_imprecise.Made.imprecise")(program, given, chosen, steps, watch)
+        is_shown = run == d("alpha_imprecise.Made.shown_making")(watch, making)
+        if not is_shown or not self.is_listed(d, program, start, given, chosen, making):
+            return f"{whole.spelled().hex()} by {how}: the list of its steps is another run"
         if not is_forced:
             run = d("alpha_cmd.Commands.Imprecise.with_drawn")(d("alpha_seq.Run.sequential")(program, given, steps, watch), run.drawn)
         found = shown(d("alpha_cmd.Commands.Imprecise.answer_wild")(some(given), run))[:3]
         return "" if found == answered else f"{whole.spelled().hex()} by {how}: {found}, and {answered} is wanted"
+
+    def is_listed(self, d, program, start, given, chosen, making):
+        """Whether the list of its steps is a run over this input by these words, and over no other input and no others."""
+        run, begun = making.run, d("alpha_imprecise.Run.begins_wild")(start)
+        runs_over, draws = d("alpha_imprecise.Run.RunsOver"), d("alpha_imprecise.Chosen.Draws")
+        others = run._replace(units=run.units + 1), run._replace(left=run.left + (1,))
+        found = [runs_over(program, start, given, one) for one in (run, *others)]
+        found += [draws(program, begun, 0, chosen, run.steps, left) for left in (making.words, making.words + (0,))]
+        return found == [True, False, False, True, False]

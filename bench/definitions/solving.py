@@ -3,7 +3,8 @@
 `(x : T) → P → Q` holds where Q does for every x with P; `(x : T) × P` where some x has P. Which x may have P is read off P: a
 solution of an equation, numbers below a bound, the cases of an enum; else the members of a domain that data.py gives for
 DEFINITION.VARIABLE. To see more of P, definitions of one equation and records of facts are put in the place of their
-names. What has no such bound is refused.
+names; one of several equations, as a run, becomes a function of its other arguments that gives all x with P. What has
+no such bound is refused.
 """
 from . import data
 from .core import Binder, Both, Call, Case, Implies, Native, Quantified, Tuple, Use, Value, Var, free, fresh, is_data, put
@@ -11,6 +12,7 @@ from .natives import NATIVES
 from .reader import Unknown
 
 DEEPEST = 8
+GATHERED = {"some": "any", "all": "all", "each": "tuple"}
 EQUATION, INEQUATION, LESS, MOST, SUM, NOT, FALSE = "◌≡◌", "◌≢◌", "◌<◌", "◌≤◌", "◌+◌", "¬◌", "⊥"
 
 
@@ -24,9 +26,9 @@ def native(term):
 class Search:
     """One loop: its variables, what they must have, and what is said of those that have it."""
 
-    def __init__(self, translation, kind, premises, conclusion, is_whole=False):
+    def __init__(self, translation, kind, premises, conclusion, is_whole=False, binders=()):
         self.translation, self.kind, self.is_whole = translation, kind, is_whole
-        self.binders, self.premises, self.rows = [], [], []
+        self.binders, self.premises, self.rows = list(binders), [], []
         for premise in premises:
             self.enter(premise, 0, is_whole)
         self.conclusion = self.peeled(conclusion)
@@ -96,12 +98,11 @@ class Search:
     def enter_record(self, of, arguments, depth):
         """The fields of a record: those that are things are variables, the others premises."""
         known = dict(zip(self.translation.parameters(of), arguments))
-        scope = dict(zip((name for name, _ in of.parts().parameters), arguments))
         for line in self.translation.lines_of(of):
             name, own, sort = line.left
             if sort:
                 known[own] = Var(fresh(name))
-                self.binders.append(Binder(known[own].name, sort, f"{of.name}.{name}", scope))
+                self.binders.append(Binder(known[own].name, sort, f"{of.name}.{name}", {}))
             elif line.body is not None:
                 self.note(line)
                 self.enter(put(line.body, known), depth + 1)
@@ -118,7 +119,7 @@ class Search:
             self.filter(unknown)
             if not unknown:
                 break
-            self.solve(unknown) or self.bound(unknown) or self.run_through(unknown)
+            self.solve(unknown) or self.bound(unknown) or self.found(unknown) or self.run_through(unknown)
         return self.joined()
 
     def joined(self):
@@ -129,7 +130,7 @@ class Search:
                 return "(" + (" and ".join(tests) or "True") + ")"
             return f"({conclusion} if {' and '.join(tests)} else True)" if tests else conclusion
         rows = self.rows if self.rows[0].startswith("for") else ["for _ in (0,)"] + self.rows
-        return f"{'any' if self.kind == 'some' else 'all'}({conclusion} {' '.join(rows)})"
+        return f"{GATHERED[self.kind]}({conclusion} {' '.join(rows)})"
 
     def filter(self, unknown):
         """Premises without an unknown variable are tests."""
@@ -206,6 +207,32 @@ class Search:
         if sign == SUM and len(parts) == 2 and parts[0] == Var(name) and not free(parts[1]) & set(unknown):
             return f" - {self.translation.code(parts[1])}"
         return None
+
+    def found(self, unknown):
+        """What a fact by equations leaves for the one argument of it that is looked for."""
+        for premise in self.premises:
+            at = self.place_sought(premise, unknown)
+            if at is None:
+                continue
+            of, parts = premise.head.of, premise.arguments
+            others = ", ".join(self.translation.code(part) for n, part in enumerate(parts) if n != at)
+            self.rows.append(f"for {parts[at].name} in {self.translation.finder(of, at)}({others})")
+            self.premises.remove(premise)
+            del unknown[parts[at].name]
+            return True
+        return False
+
+    def place_sought(self, premise, unknown):
+        """Which argument of a premise is the one variable in it that is looked for, without a domain; else None."""
+        if not (isinstance(premise, Call) and isinstance(premise.head, Use)):
+            return None
+        of, parts = premise.head.of, premise.arguments
+        at, *more = [n for n, part in enumerate(parts) if free(part) & set(unknown)]
+        if more or not isinstance(parts[at], Var):
+            return None
+        binder = unknown[parts[at].name]
+        is_bound = binder.sort != "data" or binder.key in data.DOMAINS
+        return None if is_bound or not self.translation.can_find(of, at, len(parts)) else at
 
     def run_through(self, unknown):
         """All cases of the first variable that has cases, or its domain."""

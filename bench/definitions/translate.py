@@ -9,9 +9,11 @@ import keyword
 from collections import namedtuple
 
 from . import data
-from .core import KINDS, Call, Case, Native, Put, Resolver, Tuple, Use, Value, Var, explicit, free, fresh, is_data, replaced, text_of
+from .core import (KINDS, Binder, Call, Case, Native, Put, Resolver, Tuple, Use, Value, Var, explicit, free, fresh, is_data,
+                   replaced, text_of)
 from .natives import HELPERS, NATIVES
 from .reader import Unknown
+from .rows import Rows
 from .solving import Search
 from .sources import Missing, Sources
 
@@ -43,40 +45,13 @@ class Unmatched(Exception):
     """No equation fits, as a case is left out."""
 
 
-class Rows:
-    """A function of a number that goes by its value at the one below it. For the latest other arguments its latest value is
-    kept, and not each, since a value may be a long list. A value that is the one below it is that of every number above."""
-
-    def __init__(self, function):
-        self.function, self.known = function, {}
-
-    def __call__(self, *arguments):
-        *others, n = arguments
-        key = tuple(map(id, others))
-        if key not in self.known and len(self.known) > 7:
-            self.known.clear()
-        _, at, value, is_last = self.known.get(key, (others, n + 1, None, False))
-        if n < at:
-            at, value, is_last = 0, self.function(*others, 0), False
-        while at < n and not is_last:
-            self.known[key] = others, at, value, False
-            below, at = value, at + 1
-            value = self.function(*others, at)
-            is_last = value is below
-        self.known[key] = others, at, value, is_last
-        return value
-
-    def cache_clear(self):
-        self.known.clear()
-
-
 class Translation:
     """All that is reached from some declarations, as functions of Python."""
 
     def __init__(self, sources=None, is_watched=False):
         self.sources = sources or Sources(NATIVES)
         self.is_watched, self.seen = is_watched, set()
-        self.known, self.functions, self.refused, self.waiting, self.inlined = {}, {}, {}, [], {}
+        self.known, self.functions, self.refused, self.waiting, self.inlined, self.finders = {}, {}, {}, [], {}, {}
         self.space = dict(HELPERS, Unmatched=Unmatched, record_type=record_type, seen=self.saw, data=data, given={})
         self.current = None
 
@@ -112,8 +87,8 @@ class Translation:
         try:
             if reason:
                 raise Unknown(f"{declaration.place()}: {declaration.name}: {reason}")
-            source = self.source(declaration, name)
-            exec(compile(source, f"<{declaration}>", "exec"), self.space)
+            for source in (self.source(declaration, name), *self.finders_of(declaration)):
+                exec(compile(source, f"<{declaration}>", "exec"), self.space)
         except (Unknown, Missing) as error:
             self.refused[declaration] = str(error)
             self.space[name] = refusal(str(error))
@@ -166,13 +141,16 @@ class Translation:
         for line in self.lines_of(declaration):
             if len(line.left) != len(names):
                 raise Unknown(f"{declaration.module.path}:{line.first}: an equation with another number of patterns")
-            tests, bound = [], []
-            for subject, pattern in zip(names, line.left):
-                self.match(pattern, subject, tests, bound)
-            rows.append(f"    if {' and '.join(tests) or 'True'}:")
-            rows += [f"        {variable} = {code}" for variable, code in bound]
-            rows += self.returning(line)
+            rows += self.matched(names, line.left) + self.returning(line)
         return "\n".join(rows + [f"    raise Unmatched({str(declaration)!r})", ""])
+
+    def matched(self, subjects, patterns):
+        """The test of an equation, and what the parts of its subjects are called behind it."""
+        tests, bound = [], []
+        for subject, pattern in zip(subjects, patterns):
+            self.match(pattern, subject, tests, bound)
+        row = f"    if {' and '.join(tests) or 'True'}:"
+        return [row] + [f"        {variable} = {code}" for variable, code in bound]
 
     def returning(self, line):
         rows, body = [], line.body
@@ -181,6 +159,39 @@ class Translation:
             body = body.body
         seen = [f"        seen({line.number})"] if self.is_watched else []
         return rows + seen + [f"        return {self.code(body)}"]
+
+    # ---- what an argument may be
+
+    def can_find(self, declaration, at, count):
+        """Whether a declaration is a fact by equations of so many arguments, each of which takes this one as it is."""
+        if declaration.parts().kind != "function" or count != self.count(declaration) or is_data(declaration, NATIVES):
+            return False
+        return all(isinstance(line.left[at], Var) for line in self.lines_of(declaration))
+
+    def finder(self, declaration, at):
+        """The name of the function that gives the values of this argument by which a fact holds, by the other ones."""
+        if (declaration, at) not in self.finders:
+            self.finders[declaration, at] = f"{self.reach(declaration)}_by_{at}"
+            self.waiting.append(declaration)
+        return self.finders[declaration, at]
+
+    def finders_of(self, declaration):
+        for (of, at), name in list(self.finders.items()):
+            if of is declaration:
+                yield self.finding(declaration, at, name)
+
+    def finding(self, declaration, at, name):
+        names = [fresh("a") for _ in range(self.count(declaration) - 1)]
+        rows = [f"def {name}({', '.join(names)}):"]
+        for line in self.lines_of(declaration):
+            rows += self.matched(names, line.left[:at] + line.left[at + 1:])
+            rows += [f"        seen({line.number})"] if self.is_watched else []
+            sought = line.left[at]
+            found = Search(self, "each", [line.body], sought, binders=[Binder(sought.name, "data", None, {})]).code()
+            rows.append(f"        return {found}")
+        return "\n".join(rows + [f"    raise Unmatched({str(declaration)!r})", ""])
+
+    # ---- what lines say
 
     def lines_of(self, declaration):
         """The equations or fields of a declaration, resolved."""
