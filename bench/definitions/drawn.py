@@ -118,8 +118,9 @@ def call(chooser):
             chooser.choice((0, 4, 8))), memory("lda", 18, 31, count), CALLSYS]
 
 
-def program(chooser, is_accepted, level=1):
-    """An image whose code loads registers from its data and goes on with random words, some of them system calls."""
+def program(chooser, is_accepted, level=1, front=0):
+    """An image whose code loads registers from its data and goes on with random words, some of them system calls. So many
+    words stand in front of its entry."""
     start = [memory("ldah", 5, 31, 0x1000)] + [memory("ldq", n, 5, 8 * n) for n in (1, 2, 3, 4)]
     body = []
     for _ in range(chooser.randrange(3, 22)):
@@ -133,4 +134,4 @@ def program(chooser, is_accepted, level=1):
     segments = [image.Segment(DATA, data, chooser.choice((0, 8, 24)))]
     if level == 2 and chooser.random() < 0.5:
         segments.append(image.Segment(DATA + 0x10000, b"\1\2\3", 5))
-    return image.Image(words, CODE, CODE, segments, STACK, 0 if level == 1 else 2)
+    return image.Image([TRAPB] * front + words, CODE, CODE + 4 * front, segments, STACK, 0 if level == 1 else 2)

@@ -7,6 +7,7 @@ from .translate import record
 FILE, OTHER, WORD = tuple(b"FILE"), tuple(b"other"), drawn.operate("addq", 1, 2, 3)
 ONE, TWO, NO_FILES = told({b"FILE": b"x"}), told({b"FILE": b"x", b"other": b""}), told({})
 REGS = tuple(range(32))
+REGISTERS = "".join(" ".join(f"{n:016x}" for n in REGS[first:first + 4]) + "\n" for first in range(0, 32, 4))
 
 
 def shelved(old, new):
@@ -17,6 +18,17 @@ def state(**changed):
     """A state of no program, with a count of overflows that is about to pass its last value."""
     fields = {"regs": REGS, "pc": drawn.CODE, "mem": (), "unique": 9, "lock": some(3), "count": MASK, "logged": 5}
     return record(**{**fields, **changed})
+
+
+def front(segments):
+    """The numbers of an image with so many data segments, all else of which is good."""
+    rows = tuple(record(base=drawn.DATA + 8192 * n, filled=0, zeroed=1) for n in range(segments))
+    return record(level=1, code_base=drawn.CODE, entry=drawn.CODE, words=1, stack=16, segments=rows)
+
+
+def put(before, now):
+    """A sink behind a call that wrote a byte, with its count of faults before it and behind it."""
+    return record(old=some((1,)), new=some((1, 2)), before=before, now=now)
 
 
 SMALL = record(image=parts_of(image.Image([drawn.operate("addq/v", 1, 2, 3)], drawn.CODE, drawn.CODE, [], 64, 1)), how=("Wrap",))
@@ -44,6 +56,9 @@ WORKED = [
     ("alpha_image.Parts.IsByte", (255,), True), ("alpha_image.Parts.IsByte", (256,), False),
     ("alpha_image.Parts.IsCodeWord", (("One",), WORD), True), ("alpha_image.Parts.IsCodeWord", (("One",), WORD + (1 << 32)), False),
     ("alpha_image.Parts.IsCodeWord", (("One",), drawn.operate("ctpop", 31, 2, 2)), False), ("alpha_image.Parts.IsCodeWord", (("Two",), drawn.operate("ctpop", 31, 2, 2)), True),
+    ("alpha_image.Rules.FieldsFit", (front(8),), True), ("alpha_image.Rules.FieldsFit", (front(9),), False),
+    ("alpha_io.Sunk.Puts", (put(0, 0), (2,)), True), ("alpha_io.Sunk.Puts", (put(0, 1), (2,)), False),
+    ("alpha_io.Sunk.Puts", (put(0, 0), (3,)), False), ("alpha_seq.Notes.register_lines", (REGS,), tuple(REGISTERS.encode())),
     ("alpha_trap.Completed.completed_regs", (("Wrap",), NONE, REGS), REGS),
     ("alpha_trap.Completed.completed_regs", (("Wrap",), some(("idle",)), REGS), REGS),
     ("alpha_values.Bits.pairwise", (lambda x: lambda y: x + y, (1, 2, 3), (4, 5)), (5, 7)),

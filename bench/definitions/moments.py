@@ -48,7 +48,7 @@ class Moments:
 
     def cases(self, chooser, count, asked):
         for n in range(count):
-            whole = drawn.program(chooser, n % 2 == 0)
+            whole = drawn.program(chooser, n % 2 == 0, front=n % 3)
             yield case_of(whole, chooser.choice(("wrap", "wrap", "saturate", "stop")), steps_of(chooser))
 
     def difference(self, d, case):

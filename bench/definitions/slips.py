@@ -2,7 +2,8 @@
 
 A number becomes another, a sign, a test or a case its neighbour, a variable or a field one of the same type; arguments of one
 type change places, a part of a fact or a whole case is left out. A change that the language would refuse, since an
-argument has another type, a recursion has no end or a case is missing, is no slip and isn't counted.
+argument has another type, a recursion has no end or a case is missing, is no slip and isn't counted; nor is one behind
+which nothing bounds what is looked for.
 """
 import gc
 import os
@@ -309,7 +310,7 @@ def told(slips, found):
         print(f"not found: {slips[number][3]}" + (f" ({explained(slips[number][3])})" if number not in unknown else ""))
     tries = len(found) - len(refused)
     print(f"{tries:,} slips: {tries - len(missed):,} found, {len(missed)} not, {len(missed) - len(unknown)} of them explained; "
-          f"{len(refused)} changes more that the language would refuse")
+          f"{len(refused)} changes more that the language would refuse, or that no loop can try")
     return not unknown
 
 
