@@ -32,6 +32,9 @@ def put(before, now):
 
 
 SMALL = record(image=parts_of(image.Image([drawn.operate("addq/v", 1, 2, 3)], drawn.CODE, drawn.CODE, [], 64, 1)), how=("Wrap",))
+BEHIND = parts_of(image.Image([WORD] * 4, drawn.CODE, drawn.CODE + 8, [], 64, 1))
+# A load and a store behind a trigger, by one base and with no byte in common.
+APART = (drawn.operate("addq/v", 1, 2, 7), drawn.memory("ldq", 8, 5, 8), drawn.memory("stq", 3, 5, 16), drawn.TRAPB)
 LOGGED = {"pc": drawn.CODE + 4, "lock": NONE, "logged": drawn.CODE, "regs": REGS}
 
 # A definition, its arguments, and what it is there.
@@ -57,8 +60,12 @@ WORKED = [
     ("alpha_image.Parts.IsCodeWord", (("One",), WORD), True), ("alpha_image.Parts.IsCodeWord", (("One",), WORD + (1 << 32)), False),
     ("alpha_image.Parts.IsCodeWord", (("One",), drawn.operate("ctpop", 31, 2, 2)), False), ("alpha_image.Parts.IsCodeWord", (("Two",), drawn.operate("ctpop", 31, 2, 2)), True),
     ("alpha_image.Rules.FieldsFit", (front(8),), True), ("alpha_image.Rules.FieldsFit", (front(9),), False),
+    ("alpha_image.Parts.place_of", (BEHIND, drawn.CODE - 4), NONE), ("alpha_image.Parts.place_of", (BEHIND, drawn.CODE), some(0)),
+    ("alpha_image.Parts.place_of", (BEHIND, drawn.CODE + 2), NONE), ("alpha_image.Parts.place_of", (BEHIND, drawn.CODE + 12), some(3)),
+    ("alpha_image.Parts.place_of", (BEHIND, drawn.CODE + 16), NONE),
     ("alpha_io.Sunk.Puts", (put(0, 0), (2,)), True), ("alpha_io.Sunk.Puts", (put(0, 1), (2,)), False),
     ("alpha_io.Sunk.Puts", (put(0, 0), (3,)), False), ("alpha_seq.Notes.register_lines", (REGS,), tuple(REGISTERS.encode())),
+    ("alpha_shadow.Broken.IsAccepted", (APART,), True),
     ("alpha_trap.Completed.completed_regs", (("Wrap",), NONE, REGS), REGS),
     ("alpha_trap.Completed.completed_regs", (("Wrap",), some(("idle",)), REGS), REGS),
     ("alpha_values.Bits.pairwise", (lambda x: lambda y: x + y, (1, 2, 3), (4, 5)), (5, 7)),

@@ -6,7 +6,7 @@ and what each step is given to read.
 from collections import Counter
 
 from . import calls, drawn
-from .reference import NONE, Follower, Late, agrees, broken_in, image, parts_of, program_of, state_shown
+from .reference import NONE, Follower, Late, agrees, broken_in, image, parts_of, program_of, some, state_shown
 from .translate import record
 
 MOST = 60

@@ -202,7 +202,8 @@ def chosen(made, ran, number):
     for group, case in ran.get(number, ()):
         by_group.setdefault(group, []).append(made[group][case])
     first = [(group, case) for group, cases in by_group.items() for case in cases[::max(1, len(cases) // FIRST)][:FIRST]]
-    more = [(group, case) for group, cases in by_group.items() for case in (cases if group.is_quick else cases[:MOST])]
+    more = [(group, case) for group, cases in by_group.items()
+            for case in (cases if group.is_quick else cases[::max(1, len(cases) // MOST)])]
     return first + more
 
 
