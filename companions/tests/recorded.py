@@ -45,9 +45,10 @@ def test_runs_without_late_traps_are_told(folder):
 
 
 def test_no_call_of_alpha_begins_to_prove_it(folder):
-    """A copy of the suite in which no program was built."""
-    shutil.copytree(SUITE, os.path.join(folder, "conformance"))
-    done = subprocess.run([sys.executable, os.path.join(folder, "conformance", "run"), "--record", "false"], capture_output=True, text=True,
+    """A copy of the suite, so deep in the folder that no program was built or installed where it looks for one."""
+    copy = os.path.join(folder, "lib", "bantamtinsel", "conformance")
+    shutil.copytree(SUITE, copy)
+    done = subprocess.run([sys.executable, os.path.join(copy, "run"), "--record", "false"], capture_output=True, text=True,
                           check=False, cwd=TOP)
     want((done.returncode, "isn't built yet: say another --judge" in done.stderr), (2, True), done.stderr)
 
