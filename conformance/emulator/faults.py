@@ -155,7 +155,7 @@ def of_turns():
         here = there.replace("w.", "w->")
         yield Fault(f"scan-over-{name}", "late", f"the handler looks back over `{name}`", SCANNED, SCANNED.replace("w.kind == TURN", f"(w.kind == TURN && !({there}))"), "late-scans")
         yield Fault(f"no-wait-{name}", "late", f"a trap is reported at `{name}`", WAITING, WAITING.replace("return ", f"return !({there}) && "), "late-")
-        yield Fault(f"flag-{name}", "runs", f"`{name}` clears the lock flag", TURNING, f"{TURNING}\n    if ({here}) m.is_locked = 0;", "answers/values-flags")
+        yield Fault(f"flag-{name}", "runs", f"`{name}` clears the lock flag", TURNING, f"{TURNING}\n    if ({here}) m.is_locked = 0;", "locks-turns")
         if name in BRANCHES:
             for bits in (16, 20):
                 yield Fault(f"{name}-{bits}-bits", "runs", f"a displacement of `{name}` has {bits} bits", TURNING, f"{TURNING}\n    if ({here}) target = next + extended(w->number, {bits}) * 4;", "places")

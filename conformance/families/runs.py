@@ -209,5 +209,16 @@ def overflows():
     return made
 
 
+def turns():
+    """The lock flag over each jump, and over each branch, taken or not."""
+    made = Blocks("locks-turns", "A jump or a branch between a locked load and its conditional store, which tells whether the flag is still set.")
+    for name in (*late.JUMPS, "br", "bsr", *late.BRANCHES):
+        turn = f"{name} $6,($7)" if name in late.JUMPS else f"{name} $6,.+8"
+        made.add(name, ["ldq_l $5,64($9)", "lda $7,16($8)", turn, "nop", "stq_c $5,64($9)", "trapb", "br dump"])
+        for value in (0, 1, 1 << 63) if name in late.BRANCHES else (0,):
+            made.run(f"{name}-{value:x}", name, f"`{turn}` with $6 = {value:#x} leaves the lock flag", {6: value})
+    return made
+
+
 def families():
-    return [accesses(), displacements(), places(), calls(), steps(), overflows()]
+    return [accesses(), displacements(), places(), calls(), steps(), overflows(), turns()]
