@@ -558,7 +558,7 @@ static void turn(const struct word *w, const u64 *drawn)
 static void access_memory(const struct word *w, const u64 *drawn)
 {
     u64 address = address_of(w), loaded;
-    int size = size_of(w), is_stored = w->kind == STORE || (m.is_locked && m.lock == address / 16);
+    int size = size_of(w), is_stored = w->kind == STORE || (m.is_locked && m.lock / 16 == address / 16);
     if (is_store(w)) {
         if (is_stored)
             put_little(bytes_at(address, (u64)size, 1), drawn ? *drawn : m.reg[w->ra], size);
@@ -571,7 +571,7 @@ static void access_memory(const struct word *w, const u64 *drawn)
     loaded = little(bytes_at(address, (u64)size, 0), size);
     set(w->ra, drawn ? *drawn : size == 4 ? longword(loaded) : loaded);
     if (w->kind == LOCKED_LOAD)
-        m.is_locked = 1, m.lock = address / 16;
+        m.is_locked = 1, m.lock = address;
 }
 
 /* Executes a word that is no barrier, faults nowhere and completes nothing. While a trap is pending its destination, or the bytes

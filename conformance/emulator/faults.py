@@ -124,9 +124,9 @@ def of_loads(name, here, there, size):
     if name.endswith("_l"):
         yield Fault(f"{name}-late-flag", "late", f"`{name}` sets no lock flag while a trap is pending", "    if (w->kind == LOCKED_LOAD)\n        m.is_locked",
                     f"    if (w->kind == LOCKED_LOAD && !(drawn && {here}))\n        m.is_locked", "late-")
-        for what, text in (("8 bytes", "8"), ("32 bytes", "32"), ("all", "1ull << 40")):
-            yield Fault(f"{name}-block-{what}", "runs", f"the lock flag is set by `{name}` with a block of {what}", "m.lock = address / 16;\n}", f"m.lock = {here} ? address / ({text}) * ({text}) / 16 : address / 16;\n}}", "answers/values-flags",
-                        None)
+        for what, text in (("32 bytes", "32"), ("all", "1ull << 40")):
+            yield Fault(f"{name}-block-{what.replace(' ', '-')}", "runs", f"the lock flag is set by `{name}` with the start of a block of {what}", "m.lock = address;\n}",
+                        f"m.lock = {here} ? address / ({text}) * ({text}) : address;\n}}", "answers/values-flags")
 
 
 def of_stores(name, here, size):
@@ -142,11 +142,15 @@ def of_stores(name, here, size):
         yield Fault(f"{name}-failed-keeps", "runs", f"`{name}` leaves the flag where it doesn't store", clear, f"            m.is_locked = !is_stored && {here} ? m.is_locked : 0;", "answers/")
         yield Fault(f"{name}-late-told", "late", f"`{name}` tells whether it stored while a trap is pending", "            set(w->ra, drawn ? *drawn : (u64)is_stored);",
                     f"            set(w->ra, drawn && !({here}) ? *drawn : (u64)is_stored);", "late-stores")
-        yield Fault(f"{name}-always", "runs", f"`{name}` stores where any flag is set", "(m.is_locked && m.lock == address / 16)", f"(m.is_locked && ({here} || m.lock == address / 16))", "answers/")
-        yield Fault(f"{name}-late-always", "late", f"`{name}` always stores while a trap is pending", "(m.is_locked && m.lock == address / 16)", f"(m.is_locked && m.lock == address / 16) || (drawn && {here})", "late-stores")
-        yield Fault(f"{name}-unset", "runs", f"`{name}` faults only where it would store", "        return NONE;\n    if (address_of(w) %", f"        return NONE;\n    if ({here} && !(m.is_locked && m.lock == address_of(w) / 16))\n        return NONE;\n    if (address_of(w) %", "answers/end")
+        yield Fault(f"{name}-always", "runs", f"`{name}` stores where any flag is set", "(m.is_locked && m.lock / 16 == address / 16)", f"(m.is_locked && ({here} || m.lock / 16 == address / 16))", "answers/")
+        for size_of_block in (4, 8, 32, 64):
+            block = f"({here} ? {size_of_block} : 16)"
+            yield Fault(f"{name}-block-{size_of_block}", "runs", f"`{name}` stores where the flag is set in its {size_of_block} bytes", "m.lock / 16 == address / 16);",
+                        f"m.lock / {block} == address / {block});", "answers/values-flags")
+        yield Fault(f"{name}-late-always", "late", f"`{name}` always stores while a trap is pending", "(m.is_locked && m.lock / 16 == address / 16)", f"(m.is_locked && m.lock / 16 == address / 16) || (drawn && {here})", "late-stores")
+        yield Fault(f"{name}-unset", "runs", f"`{name}` faults only where it would store", "        return NONE;\n    if (address_of(w) %", f"        return NONE;\n    if ({here} && !(m.is_locked && m.lock / 16 == address_of(w) / 16))\n        return NONE;\n    if (address_of(w) %", "answers/end")
     else:
-        yield Fault(f"{name}-flag", "runs", f"`{name}` clears the lock flag of its block", STORED, f"{{\n{STORED}\n            if ({here} && m.lock == address / 16) m.is_locked = 0; }}", "answers/values-flags")
+        yield Fault(f"{name}-flag", "runs", f"`{name}` clears the lock flag of its block", STORED, f"{{\n{STORED}\n            if ({here} && m.lock / 16 == address / 16) m.is_locked = 0; }}", "answers/values-flags")
 
 
 def of_turns():
