@@ -253,9 +253,15 @@ EQUAL = {"limit-least_stack-1": SIXTEENS, "limit-least_stack-8": SIXTEENS, "limi
          "zeroed-32": "segments that end below 2^30 have fewer bytes than 2^32"}
 
 
+# Where faults are caught whose names begin so, and else those of a group.
+NEAR = {"call-": "calls", "read-": "reads", "write-": "calls", "unique-": "calls", "exit-": "calls", "place-": "places", "region-": "accesses",
+        "unaligned-": "accesses", "steps-": "steps"}
+OF_GROUP = {"images": "images.", "late": "late-", "following": "refused/", "recording": "", "runs": "answers/", "values": "answers/"}
+
+
 def faults():
     yield from of_limits()
     for row in RULES:
         name, group, what, right, wrong = row
-        near = {"images": "images.", "late": "late-", "following": "refused/", "recording": "", "runs": "answers/", "values": "answers/"}[group]
+        near = next((near for front, near in NEAR.items() if name.startswith(front)), OF_GROUP[group])
         yield Fault(name, group, what, right, wrong, near, EQUAL.get(name))
