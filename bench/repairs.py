@@ -107,7 +107,9 @@ class Trial:
         child = os.fork()
         if child == 0:
             be_companion(name, words, notes)
-        _, status = os.waitpid(child, 0)
+        status = os.waitstatus_to_exitcode(os.waitpid(child, 0)[1])
+        if status == -signal.SIGALRM:
+            raise Refused(f"{name}: took more than {30 * SECONDS} seconds")
         if status:
             with open(notes, encoding="utf-8", errors="replace") as file:
                 raise Refused(f"{name}: {cause(file.read())}")
