@@ -4,6 +4,7 @@ import shlex
 import struct
 import subprocess
 import sys
+import tempfile
 
 from parts import ecoff, elf, files, image, places, program, shown, written
 from .helpers import ASKED, HERE, TOP, Failed, companion, data, needs_program, read, want, write
@@ -27,14 +28,22 @@ def header_of(content, name):
                 if content[text + struct.unpack_from("<I", content, at)[0]:].startswith(name + b"\0"))
 
 
+# Calls a companion and says what memory it took. What a process is said to take counts from where it was forked, so it is
+# called by a small one.
+CALLS = """import resource, subprocess, sys
+status = subprocess.call(sys.argv[2:])
+with open(sys.argv[1], "w") as taken:
+    taken.write(str(resource.getrusage(resource.RUSAGE_CHILDREN).ru_maxrss))
+sys.exit(status)"""
+
+
 def measured(name, *words):
     """The status of a companion, its output, its notes, and the kilobytes of memory that it took."""
-    with subprocess.Popen([sys.executable, os.path.join(HERE, name), *words], stdout=subprocess.PIPE, stderr=subprocess.PIPE,
-                          env=os.environ | {"ALPHA": ASKED}) as call:
-        out, notes = (stream.read().decode("utf-8", "replace") for stream in (call.stdout, call.stderr))
-        _, status, used = os.wait4(call.pid, 0)
-        call.returncode = os.waitstatus_to_exitcode(status)
-    return call.returncode, out, notes, used.ru_maxrss
+    with tempfile.NamedTemporaryFile("r") as taken:
+        call = subprocess.run([sys.executable, "-c", CALLS, taken.name, sys.executable, os.path.join(HERE, name), *words],
+                              capture_output=True, env=os.environ | {"ALPHA": ASKED})
+        out, notes = (text.decode("utf-8", "replace") for text in (call.stdout, call.stderr))
+        return call.returncode, out, notes, int(taken.read())
 
 
 def refused_in_one_line(name, *words):
