@@ -15,7 +15,7 @@ USERS = ((1, 1), (65_534, 65_534), (2, 0))
 LINKS = 40
 MOST_TURNS = 10
 # So many KiB of stack each command does with.
-MOST_STACK, MOST_STACK_OF_DEBUG = 112, 140
+MOST_STACK, MOST_STACK_OF_DEBUG = 112, 152
 
 
 def as_user(user):
