@@ -1,7 +1,7 @@
 #!/usr/bin/env python3
 """Runs the definitions that the clauses of accepted code reach, and holds them against what is from elsewhere.
 
-    bench/definitions/check.py [--whole] [--seed N] [--lines] [--write] [--slips [N]] [PROGRAM]
+    bench/definitions/check.py [--whole] [--seed N] [--lines] [--write] [--slips [N] [--named TEXT]] [PROGRAM]
 
 A program of Python translates the text of the definitions, those of the clauses that data.py names and of answers of `run`,
 into functions; nothing of them is written by hand. These are held against words that GNU as made, results that were
@@ -11,7 +11,7 @@ some fifty.
 
 How many lines of each file were run is held against the reading order of docs/theorems.md; --lines tells which weren't, and
 --write writes the numbers there. --slips changes N of the definitions' lines, all where N is left out,
-and tells which changes no case of the sample finds.
+and tells which changes no case of the sample finds; with --named those alone that it tells by a name with this text.
 """
 import argparse
 import os
@@ -79,7 +79,7 @@ def work(options, asked):
     if options.lines:
         lines.tell(watch)
     if options.slips is not None:
-        fine = slips.tell(made, watch, options.slips, random.Random(options.seed)) and fine
+        fine = slips.tell(made, watch, options.slips, options.named, random.Random(options.seed)) and fine
     return fine
 
 
@@ -91,6 +91,7 @@ def main():
     parser.add_argument("--lines", action="store_true", help="tell how many lines of each file were run")
     parser.add_argument("--write", action="store_true", help="write these numbers into docs/theorems.md")
     parser.add_argument("--slips", type=int, nargs="?", const=0, metavar="N", help="change N lines, or each")
+    parser.add_argument("--named", action="append", default=[], metavar="TEXT", help="only slips by names with it")
     options = parser.parse_args()
     if not os.access(options.program, os.X_OK) or os.path.isdir(options.program):
         parser.error(f"{options.program}: no program is there")

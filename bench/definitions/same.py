@@ -1,11 +1,36 @@
-"""Slips that no run finds, by crate, definition and change, and why: they mean the same, or no case can go so far."""
+"""Slips that no run finds, by crate, definition, line and change, and why: they mean the same, or take too long."""
 
 STEPS = "a run of a hundred million steps isn't tried; docs/commands.md has the number, and cases of words do"
+KEPT = "which files are told before and which after is the same to `KeepsFiles` and `KeepsOtherFiles`"
+FILLED = "`zeroed` bounds the data bytes of all segments together"
+ABOVE = "code that ends above 2 ^ 30 shares an address with the stack, which `regions` forbids"
+UNSEEN = "a report and a step with nothing pending look at no value that is chosen, nor at `adds`"
+TRIGGER = "a trigger looks at neither `report` nor `adds`; of a word that waits it is found"
+ALONE = "`destination_at` is that of a trigger alone, and `IsBroken` asks for one before"
+EVEN = "the opcode, whose lowest bit is the next one, is even"
+BRANCH = "a word whose opcode has bit 5 more is a branch, and is taken for one before"
+NUMBER = "bit 25 is the highest of the call's number, and no call has it"
+LOW = "the low 32 bits of a sum, a difference or a product are by the low 32 bits of the sources alone"
+BYTES = "a register has eight bytes, and a mask eight bits"
+# The longword operations, whose sources may be read as quadwords.
+LONGWORDS = ("Addl", "AddlV", "S4addl", "S8addl", "Subl", "SublV", "S4subl", "S8subl", "Mull", "MullV")
+
 SAME = {
     "alpha_cmd:answer_plain: 100000000 becomes 100000001": STEPS,
     "alpha_cmd:answer_plain: 100000000 becomes 99999999": STEPS,
-    "alpha_cmd:HasKept: arguments 1 and 2 change places": "which files are told before and which after is the same to `KeepsOtherFiles`",
-    "alpha_imprecise:choice_of: 0 becomes 1": "a report and a step with nothing pending look at no value that is chosen",
-    "alpha_imprecise:choice_of: false becomes true": "nor at `adds`, and a trigger not at `report`; of a word that waits it is found",
-    "alpha_image:FieldsFit: part 3 is left out": "code that ends above 2 ^ 30 shares an address with the stack, which `regions` forbids",
+    **{f"alpha_cmd:HasKept {kept}: arguments 1 and 2 change places": KEPT for kept in ("nothing", "file", "spoilt")},
+    "alpha_image:FieldsFit filled: filled is left out": FILLED,
+    "alpha_image:FieldsFit filled: 16777216 becomes 16777217": FILLED,
+    "alpha_image:FieldsFit words: part 3 is left out": ABOVE,
+    "alpha_imprecise:choice_of: 0 becomes 1": UNSEEN,
+    "alpha_imprecise:choice_of: 0 becomes 1 (2)": UNSEEN,
+    "alpha_imprecise:choice_of: false becomes true": UNSEEN,
+    "alpha_imprecise:choice_of Triggered: false becomes true": TRIGGER,
+    "alpha_imprecise:choice_of Triggered: false becomes true (2)": TRIGGER,
+    "alpha_shadow:Holds SameDestination: part 2 is left out": ALONE,
+    **{f"alpha_table:{one}_in: 25 becomes 26": EVEN for one in ("fetch", "jump", "misc", "pal")},
+    **{f"alpha_table:{one}_in: 31 becomes 30": BRANCH for one in ("fetch", "jump", "misc")},
+    "alpha_table:pal_in: 26 becomes 25": NUMBER,
+    **{f"alpha_values:result_of {op}: w32 becomes w64 ({n})": LOW for op in LONGWORDS for n in (2, 3)},
+    **{f"alpha_values:result_of {op}: 8 becomes 9": BYTES for op in ("Extql", "Extqh", "Insql", "Insqh", "Mskql")},
 }

@@ -11,6 +11,7 @@ import resource
 import select
 import sys
 import time
+from collections import Counter
 
 from . import data
 from .core import KINDS, Both, Call, Case, Native, Part, Quantified, Use, Value, Var, explicit, is_data, text_of
@@ -18,7 +19,7 @@ from .lines import reached
 from .natives import NATIVES
 from .running import Definitions
 from .sources import TOP, Declaration
-from .translate import key_of
+from .translate import Left, key_of
 from .same import SAME
 
 TURNED = {"◌+◌": "◌-◌", "◌-◌": "◌+◌", "◌*◌": "◌+◌", "◌/◌": "◌%◌", "◌%◌": "◌/◌", "◌^◌": "◌*◌", "◌<◌": "◌≤◌", "◌≤◌": "◌<◌",
@@ -170,10 +171,21 @@ def all_slips(d):
         declaration = d.translation.sources.module(module).declared(name)
         if is_data(declaration, NATIVES):
             continue
+        alike = Counter()
         for line, what, lines in slips_of(d.translation, declaration, fields):
-            place = f"{declaration.module.path.relative_to(TOP)}:{line.first}: {name}: {what}"
-            found.append((declaration, line.number, lines, place))
+            alike[line.number, what] += 1
+            what += f" ({alike[line.number, what]})" * (alike[line.number, what] > 1)
+            place = f"{declaration.module.path.relative_to(TOP)}:{line.first}"
+            found.append((declaration, line.number, lines, f"{place}: {' '.join([name, *named(line.left)])}: {what}"))
     return found
+
+
+def named(left):
+    """What tells a line of a definition from the others: the name of its field, or the cases that its patterns have."""
+    if isinstance(left, Left):
+        return [left.name]
+    return [pattern.head.name if isinstance(pattern, Call) else pattern.name for pattern in left
+            if isinstance(pattern.head if isinstance(pattern, Call) else pattern, Case)]
 
 
 # ---- trying them
@@ -287,8 +299,9 @@ def results(numbers, known):
     return {number: what for worker in workers for number, what in worker.results.items()}
 
 
-def tell(made, watch, count, chooser):
-    """Tries so many slips, all where it is 0, and tells which no case finds and nobody has explained."""
+def tell(made, watch, count, names, chooser):
+    """Tries so many slips of those with these names, all where it is 0, and tells which no case finds and nobody has
+    explained."""
     (watch, ran), d = watch, Definitions()
     slips = all_slips(d)
     # Both translations number their lines alike, since they read the same text in the same order.
@@ -296,7 +309,7 @@ def tell(made, watch, count, chooser):
     numbers_by_name = {name: number for number, name in names.items()}
     own = {line.number: (key_of(line.of), line.first) for known in d.translation.known.values() for line in known}
     ran = {number: ran.get(numbers_by_name.get(name), []) for number, name in own.items()}
-    numbers = list(range(len(slips)))
+    numbers = [number for number, slip in enumerate(slips) if not names or any(name in slip[3] for name in names)]
     if count:
         numbers = sorted(chooser.sample(numbers, min(count, len(numbers))))
     found = results(numbers, (d, slips, made, ran))
