@@ -232,6 +232,7 @@ WORKED = [
     ("run --steps 5 FILE", ("run", options_of("wrap", 5, False), FILE)), ("run FILE --steps=005", ("run", options_of("wrap", 5, False), FILE)),
     ("run --complete stop --watch FILE", ("run", options_of("stop", 100_000_000, True), FILE)), ("run --complete=up FILE", None),
     ("run --complete saturate FILE", ("run", options_of("saturate", 100_000_000, False), FILE)), ("run --seed 1 FILE", None),
+    ("run --steps 18446744073709551615 FILE", ("run", options_of("wrap", LAST_COUNT, False), FILE)),
     ("run --steps 18446744073709551616 FILE", None), ("run --steps 000000000000000000001 FILE", None), ("run --steps -3 FILE", None),
     ("run --force FILE", None), ("run --choices X FILE", None), ("run --watch= FILE", None), ("run --steps 5 --steps 5 FILE", None),
     ("run --imprecise FILE", ("imprecise", DEFAULT, ("seed", 0), False, FILE)),

@@ -63,6 +63,10 @@ WORKED = [
     ("alpha_image.Parts.place_of", (BEHIND, drawn.CODE - 4), NONE), ("alpha_image.Parts.place_of", (BEHIND, drawn.CODE), some(0)),
     ("alpha_image.Parts.place_of", (BEHIND, drawn.CODE + 2), NONE), ("alpha_image.Parts.place_of", (BEHIND, drawn.CODE + 12), some(3)),
     ("alpha_image.Parts.place_of", (BEHIND, drawn.CODE + 16), NONE),
+    ("alpha_trap.Scan.place_or_end", (BEHIND, drawn.CODE + 16), some(4)),
+    # Register 30 is the last that a mask may name.
+    ("alpha_trap.Scan.fits", (APART, 1 << 7 | 1 << 31, 0, 3), True),
+    ("alpha_trap.Scan.fits", (APART, 1 << 7 | 1 << 30, 0, 3), False),
     ("alpha_io.Sunk.Puts", (put(0, 0), (2,)), True), ("alpha_io.Sunk.Puts", (put(0, 1), (2,)), False),
     ("alpha_io.Sunk.Puts", (put(0, 0), (3,)), False), ("alpha_seq.Notes.register_lines", (REGS,), tuple(REGISTERS.encode())),
     ("alpha_shadow.Broken.IsAccepted", (APART,), True),

@@ -50,12 +50,20 @@ class Words:
     name, about = "words", "classes of words that GNU as made, and of random ones; their columns"
     counts = {"sample": 12_000, "whole": 500_000}
     is_quick = True
+    # A word of each format, of which each bit is changed.
+    FORMS = (drawn.memory("ldq", 1, 2, 8), drawn.branch("br", 31, 1), drawn.jump(0, 26, 27),
+             drawn.operate("bis", 1, 2, 3), drawn.TRAPB, 0x63E88000, drawn.CALLSYS)
 
     def cases(self, chooser, count, asked):
         made = [(int(number, 16), class_by_line(line)) for line, number in rows("encodings.tsv")]
         for number, wanted in made:
             if wanted is not None:
                 yield number, ("Some", wanted), columns_of(number)
+                # No field has a bit above the 32 of a word.
+                yield number | 1 << 32, ("Some", wanted), columns_of(number)
+        for number in self.FORMS:
+            for bit in range(32):
+                yield number ^ 1 << bit, class_of(number ^ 1 << bit), columns_of(number ^ 1 << bit)
         for _ in range(count):
             number = self.draw(chooser, chooser.choice(made)[0])
             yield number, class_of(number), columns_of(number)
@@ -96,7 +104,7 @@ class Words:
         return "" if given == (kind, uses, sets, span) else f"{found}: {given}, and {columns} is wanted"
 
     def level(self, d, number, found):
-        wanted = table.level_of([number])
+        wanted = table.level_of([number & (1 << 32) - 1])
         given = d("alpha_words.Levels.level_number")(d("alpha_table.Words.level_in")(found[1]))
         return "" if given == wanted else f"{number:08x}: level {given}, and {wanted} is wanted"
 
