@@ -1,22 +1,23 @@
 """What is otherwise between what an emulator wrote and what it should have written, in a line, and lines that say where."""
 import functools
-import os
+from collections import Counter
 
+import rows
 import telling
 
-HERE = os.path.dirname(os.path.abspath(__file__))
-ROW = 24
 # The status of a run by the first word of its end; `docs/machines.md` has them.
 STATUSES = {"exit": 0, "steps": 6, "lost": 7}
 ENDED = 5
+MOST_OFTEN = 4
 ENDS = ("exit", "signal", "fetch", "access", "align", "stop", "steps", "lost")
 
 
 class Told:
-    """A difference, and calls that answer lines that say more. They are called where it is told alone: they may run the program."""
+    """A difference, and calls that answer lines that say more. They are called where it is told alone: they may run the
+    program. `is_short` says that something is missing, of which the end of the run may say why."""
 
-    def __init__(self, text, *calls):
-        self.text, self.calls = text, calls
+    def __init__(self, text, *calls, is_short=False):
+        self.text, self.calls, self.is_short = text, calls, is_short
 
     def lines(self):
         return [line for call in self.calls for line in call() if line]
@@ -57,10 +58,18 @@ def notes_difference(ran_notes, wanted, parts, lines):
     have, want = (of_parts(notes, parts, has_barriers) for notes in (ran_notes, wanted))
     for number, wanted_one in enumerate(want):
         if number == len(have):
-            return Told(f"the notes end before `{wanted_one[0]}`", *lines_of(None, wanted_one, want[:number], lines))
+            return Told(f"the notes end before `{wanted_one[0]}`", *lines_of(None, wanted_one, want[:number], lines), is_short=True)
         if have[number] != wanted_one:
-            return note_difference(have[number], wanted_one, want[:number], lines)
+            found = note_difference(have[number], wanted_one, want[:number], lines)
+            return Told(found.text, *found.calls, functools.partial(often, lines.image, have, want))
     return Told(f"`{have[len(want)][0]}` is a line too many") if len(have) > len(want) else None
+
+
+def often(image, *notes):
+    """Which words overflow more often or less than they should, where some do again and again."""
+    told, wanted = (Counter(one[0] for one in some if one[0].startswith("overflow ")) for some in notes)
+    wrong = [note for note in {**wanted, **told} if told[note] != wanted[note] and told[note] + wanted[note] > 2]
+    return [f"{telling.noted(image, note)}: told {told[note]} times in all, and wanted {wanted[note]} times" for note in wrong[:MOST_OFTEN]]
 
 
 def note_difference(have, want, before, lines):
@@ -72,10 +81,10 @@ def note_difference(have, want, before, lines):
     wrong = [(register, one, other) for register, (one, other) in enumerate(zip(have_regs, want_regs)) if one != other]
     if not wrong or len(have_regs) != 32:
         return Told(f"the registers at `{want[0]}` aren't eight lines of four")
-    others = ", and further registers are otherwise" if len(wrong) > 1 else ""
+    others = f", and {len(wrong) - 1} more registers are otherwise" if len(wrong) > 1 else ""
     register, one, other = wrong[0]
     return Told(f"behind barrier {passed + 1}, at `{want[0]}`, ${register} is {one}, and {other} is wanted{others}",
-                *lines_of(have, want, before, lines))
+                functools.partial(lines.barrier, passed + 1, {register: one for register, one, _ in wrong}))
 
 
 def lines_of(have, want, before, lines):
@@ -83,7 +92,7 @@ def lines_of(have, want, before, lines):
     kind = want[0].split(" ")[0]
     passed = sum(one[0].startswith(f"{kind} ") for one in before)
     if kind == "barrier":
-        return [functools.partial(lines.barrier, passed + 1)]
+        return [functools.partial(lines.barrier, passed + 1, {})]
     return [functools.partial(lines.overflow, passed, have and have[0], want[0])]
 
 
@@ -111,22 +120,12 @@ def output_difference(case, out, wanted, given):
         return None
     at = next((n for n, (one, other) in enumerate(zip(out, wanted)) if one != other), min(len(out), len(wanted)))
     if at == len(out):
-        return f"the output ends at byte {at}, and {len(wanted)} bytes are wanted"
+        return Told(f"the output ends at byte {at}, and {len(wanted)} bytes are wanted")
     if at == len(wanted):
-        return f"the output has more than the {at} bytes that are wanted"
+        return Told(f"the output has more than the {at} bytes that are wanted")
     if case.image.startswith("values-"):
-        return value_difference(case.image, out, wanted, given, at)
+        values = rows.Values(case.image, out, wanted, given)
+        return Told(values.first(at), values.more)
     if len(wanted) == telling.SHOWN and len(out) == telling.SHOWN and not case.file.startswith("answers/"):
-        return telling.shown(at, out, wanted)
-    return f"byte {at} of the output is {out[at]:02x}, and {wanted[at]:02x} is wanted"
-
-
-def value_difference(image, out, wanted, given, at):
-    """Of an image that gives a quadword for each of its lines and each row of its input."""
-    with open(os.path.join(HERE, "sources", f"{image}.s"), encoding="ascii") as file:
-        head = [text[2:] for text in file.read().splitlines() if text.startswith("# ")][1:]
-    lines = "; ".join(head).split("; ")
-    row, number = divmod(at // 8, len(lines))
-    operands = [int.from_bytes(given[ROW * row + n:ROW * row + n + 8], "little") for n in (0, 8, 16)]
-    values = [int.from_bytes(content[at // 8 * 8:at // 8 * 8 + 8], "little") for content in (out, wanted)]
-    return "{} with $1 = {:#x}, $2 = {:#x}, $3 = {:#x} gives {:#x}, and {:#x} is wanted".format(lines[number], *operands, *values)
+        return Told(telling.shown(at, out, wanted))
+    return Told(f"byte {at} of the output is {out[at]:02x}, and {wanted[at]:02x} is wanted")

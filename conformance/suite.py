@@ -93,14 +93,15 @@ class Suite:
             return Told(ran.notes)
         parts, how = self.options.parts, calls.end_text(ran.status)
         crashed = f"; {how}" if ran.status < 0 or ran.status not in (0, 5, 6, 7) else ""
-        lines = telling.Lines(line.image, line.completion, given)
+        lines = telling.Lines(line.image, line.completion, given, line.kind == "late")
         without_end = [part for part in parts if part != "end"]
         found = notes_difference(ran.notes, wanted, without_end, lines)
-        if found is None and "end" in parts:
-            found = end_difference(ran, wanted, line.image)
+        if "end" in parts and (found is None or found.is_short):
+            ended = end_difference(ran, wanted, line.image)
+            found = ended if found is None or ended is None else Told(f"{found.text}; {ended.text}", *ended.calls, *found.calls)
         wrong = output_difference(line, ran.out, output, given) if "output" in parts else None
         if wrong and (found is None or ran.status == 0 and last(ran.notes).startswith("exit") and "barrier " not in found.text):
-            found = Told(wrong if found is None else f"{wrong}; {found.text}", *(found.calls if found else ()))
+            found = wrong if found is None else Told(f"{wrong.text}; {found.text}", *wrong.calls, *found.calls)
         if found is None and "end" in parts:
             found = notes_difference(ran.notes, wanted, parts, lines) or status_difference(ran.status, last(wanted))
             crashed = ""
@@ -160,14 +161,14 @@ class Suite:
             if ran.status == 0:
                 return None if said in ("", wanted) else Told(f"`{said}`, and `{wanted}` is wanted")
             about = self.images[line.image].about
-            return Told(f"a run is refused: {said or last(ran.notes)}. {line.image}: {about}", lambda: [where_refused(line, whole, said), died(ran)])
+            return Told(f"a run is refused: {said or last(ran.notes)}. {line.image}: {about}", lambda: [*where_refused(line, whole, said), died(ran)])
         if ran.status == 0 or not said.startswith(("norun", "journal")):
             return Told(f"it is accepted, and should be refused: {line.about}" if ran.status == 0 else
-                        f"{calls.end_text(ran.status)} without a line that refuses it: {last(ran.notes)}", lambda: [where_wanted(line, whole, wanted)])
+                        f"{calls.end_text(ran.status)} without a line that refuses it: {last(ran.notes)}", lambda: where_wanted(line, whole, wanted))
         expected = wanted if said.strip() not in ("norun", "journal") else wanted.split()[0]
         if ran.status < 0:
             return Told(f"`{said}`, and then {calls.end_text(ran.status)}")
-        return None if said.strip() == expected else Told(f"`{said}`, and `{wanted}` is wanted: {line.about}", lambda: [where_wanted(line, whole, wanted)])
+        return None if said.strip() == expected else Told(f"`{said}`, and `{wanted}` is wanted: {line.about}", lambda: where_wanted(line, whole, wanted))
 
     # ---- recorded runs
 
@@ -184,7 +185,7 @@ class Suite:
         said = verdict_of(judged)
         if judged.status != 0:
             whole = content(journal)
-            return Told(f"the journal is refused: {said or last(judged.notes)}", lambda: [where_wanted(line, whole, said)])
+            return Told(f"the journal is refused: {said or last(judged.notes)}", lambda: [*where_wanted(line, whole, said), *self.where_put(line, whole, said, given)])
         try:
             whole = content(journal)
             is_accepted = self.images[line.image].answer == "accepted"
@@ -193,6 +194,13 @@ class Suite:
             return Told("the judge accepts it, and it is no journal (docs/journals.md)")
         finally:
             os.unlink(journal)
+
+    @staticmethod
+    def where_put(line, whole, said, given):
+        """What the output of a recorded run has otherwise, where that is known without its traps."""
+        put, wanted = output_of(whole), content(f"answers/{line.image}.{line.completion}.out")
+        found = output_difference(line, put, wanted, given) if said.startswith("norun kind 2") else None
+        return [found.text, *found.lines()] if found else []
 
     def recorded(self, line, whole, said, given):
         """What is wrong with a journal that is a run, but not one that goes to the end as it should."""
@@ -210,7 +218,7 @@ class Suite:
             end, wanted = end_of(whole), last(content(line.file).decode("ascii"))
             if end != wanted:
                 return Told(f"the journal ends by `{end}`, and `{wanted}` is wanted")
-            if whole[HEAD.size + taken:HEAD.size + taken + put] != content(f"answers/{line.image}.{line.completion}.out"):
+            if output_of(whole) != content(f"answers/{line.image}.{line.completion}.out"):
                 return Told(f"the journal has {put} bytes of another output than the run without late traps")
         return None if whole[HEAD.size:HEAD.size + taken] == given[:taken] else Told("the journal has another input than it was given")
 
@@ -296,20 +304,27 @@ def where_refused(line, whole, said):
     """Where the step of a run is that an emulator refuses, as far as its line says it."""
     found = re.match(r"norun kind (\d) at (\d+)", said)
     if not found:
-        return None
+        return []
     kind, at = int(found[1]), int(found[2])
     if kind == 1:
-        return telling.item_text(line.image, whole, at)
-    _, _, ending, first, second, taken, put, _ = HEAD.unpack_from(whole)
-    if kind == 2 and put == telling.SHOWN and isinstance(line, packed.Case):
-        return f"that byte shows {telling.shown_name(at)}" if at < put else None
-    return f"the run ends by `{ENDINGS[ending].format(first, second)}`" if kind == 3 else None
+        return telling.item_lines(line.image, whole, at)
+    _, _, ending, first, second, *_ = HEAD.unpack_from(whole)
+    put = output_of(whole)
+    if kind == 2 and len(put) == telling.SHOWN and isinstance(line, packed.Case):
+        return [f"that byte shows {telling.shown_name(at, put)}"] if at < len(put) else []
+    return [f"the run ends by `{ENDINGS[ending].format(first, second)}`"] if kind == 3 else []
 
 
 def where_wanted(line, whole, wanted):
     """Where the item is that can't be."""
     found = re.match(r"norun kind 1 at (\d+)", wanted)
-    return telling.item_text(line.image, whole, int(found[1])) if found else None
+    return telling.item_lines(line.image, whole, int(found[1])) if found else []
+
+
+def output_of(whole):
+    """The output that a journal has."""
+    *_, taken, put, _ = HEAD.unpack_from(whole)
+    return whole[HEAD.size + taken:HEAD.size + taken + put]
 
 
 def status_difference(status, end):

@@ -6,28 +6,44 @@ import subprocess
 import sys
 
 from .emulator import CHOOSE, FOLLOW, RECORD, RUN, SUITE, against
-from .helpers import TOP, Failed, Lacking, want, write
+from .helpers import TOP, Failed, Lacking, blocks, needs_program, runs_as_shown, want, write
 
 SAMPLE = 10
+EXAMPLE = os.path.join(TOP, "examples", "emulator", "emulator.c")
+
+
+def compiler():
+    """The C compiler that is asked for, or `cc`."""
+    if shutil.which(os.environ.get("CC", "cc")) is None:
+        raise Lacking("there is no C compiler")
+    return os.environ.get("CC", "cc")
 
 
 def faulty(*words):
     """The status and the output of conformance/faulty."""
-    if shutil.which(os.environ.get("CC", "cc")) is None:
-        raise Lacking("there is no C compiler")
+    compiler()
     done = subprocess.run([sys.executable, os.path.join(SUITE, "faulty"), *words], capture_output=True, text=True, check=False)
     if "Traceback" in done.stderr or done.returncode not in (0, 1):
         raise Failed(f"{words}: status {done.returncode}: {done.stderr}")
     return done.returncode, done.stdout
 
 
-def test_the_emulator_of_the_suite_passes_it(folder):
-    made = os.path.join(folder, "emulator")
-    want(faulty("--make", "none", made), (0, ""), "the right emulator")
+def test_the_example_passes_the_suite(folder):
+    """As its author compiles it, with no warning; and `faulty` makes its faults of the same text."""
+    made, right = (os.path.join(folder, name) for name in ("emulator", "right"))
+    done = subprocess.run([compiler(), "-Wall", "-Wextra", "-Werror", "-o", made, EXAMPLE], capture_output=True, text=True, check=False)
+    want((done.returncode, done.stderr), (0, ""), "the example")
+    want(faulty("--make", "none", right), (0, ""), "the right emulator")
     commands = {"--run": RUN, "--follow": FOLLOW, "--record": RECORD, "--choose": f"run {CHOOSE}", "--judge": FOLLOW}
     words = [word for name, text in commands.items() for word in (name, text if text.startswith(made) else f"{shlex.quote(made)} {text}")]
     status, said = against(*words, "--seeds", "1")
     want(status, 0, said)
+
+
+@needs_program
+def test_the_page_shows_what_the_example_does(folder):
+    compiler()
+    runs_as_shown(folder, "docs/emulator.md", [block for block in blocks("docs/emulator.md") if "$ cc " in block])
 
 
 def test_a_sample_of_wrong_emulators_is_caught(_):

@@ -5,7 +5,7 @@ import subprocess
 import sys
 
 from .emulator import FOLLOW, RECORD, SUITE, WRONG, against, changed, emulator
-from .helpers import TOP, want
+from .helpers import TOP, want, write
 
 # What a recorded run has wrong, the right text of `emulate` and the wrong one, the files, and what is told. Each of the journals
 # is one of a run.
@@ -44,13 +44,29 @@ def test_runs_without_late_traps_are_told(folder):
     want(against("--record", emulator() + RECORD, *words), (0, "1 tried, 0 otherwise\n"), "late")
 
 
+def without_judge(folder, *parts):
+    """What a copy of the driver says where no judge is named and no file is meant. `bin` has a program."""
+    os.makedirs(os.path.join(folder, "bin"), exist_ok=True)
+    write(os.path.join(folder, "bin", "alpha"), b"")
+    copy = os.path.join(folder, *parts, "conformance")
+    os.makedirs(copy, exist_ok=True)
+    for name in os.listdir(SUITE):
+        if os.path.isfile(os.path.join(SUITE, name)):
+            shutil.copy(os.path.join(SUITE, name), copy)
+    done = subprocess.run([sys.executable, os.path.join(copy, "run"), "--record", "false", "--only", "no such file"], capture_output=True,
+                          text=True, check=False, cwd=TOP)
+    want(done.returncode, 2, done.stderr)
+    return done.stderr
+
+
 def test_no_call_of_alpha_begins_to_prove_it(folder):
-    """A copy of the suite, so deep in the folder that no program was built or installed where it looks for one."""
-    copy = os.path.join(folder, "lib", "bantamtinsel", "conformance")
-    shutil.copytree(SUITE, copy)
-    done = subprocess.run([sys.executable, os.path.join(copy, "run"), "--record", "false"], capture_output=True, text=True,
-                          check=False, cwd=TOP)
-    want((done.returncode, "isn't built yet: say another --judge" in done.stderr), (2, True), done.stderr)
+    """A copy of the suite where no program was built or installed. One in a folder above it may be anybody's."""
+    want("isn't built yet: say another --judge" in without_judge(folder, "src", "checkout"), True, "a checkout")
+
+
+def test_the_judge_is_the_program_of_an_archive_or_an_installation(folder):
+    for what, parts in (("an archive", ()), ("an installation", ("lib", "bantamtinsel"))):
+        want("no file is meant" in without_judge(folder, *parts), True, what)
 
 
 def test_a_run_that_is_refused_says_what_its_image_is_for(folder):

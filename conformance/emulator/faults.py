@@ -1,11 +1,12 @@
-"""The faults of emulator.c: each an edit of its text, most of them made from tables of instructions, rules and limits."""
+"""The faults of the emulator in examples/emulator: each an edit of its text, most of them made from tables of instructions, rules and limits."""
 import os
 import re
 from collections import namedtuple
 
 from parts import files, table
 
-SOURCE = os.path.join(os.path.dirname(os.path.abspath(__file__)), "emulator.c")
+SOURCE = os.path.join(files.TOP, "examples", "emulator", "emulator.c")
+TAKEN_IN = re.compile(r'^#include "(.+)"\n', re.M)
 # `near` is how the names of the cases begin that are tried first. `equal` says why an emulator with the fault is right.
 Fault = namedtuple("Fault", "name group what right wrong near equal", defaults=("", None))
 
@@ -214,9 +215,14 @@ def all_faults():
     return found
 
 
+def right_text():
+    """The text of the emulator, with what it takes in of its other files."""
+    return TAKEN_IN.sub(lambda found: files.read_text(os.path.join(os.path.dirname(SOURCE), found[1])), files.read_text(SOURCE))
+
+
 def text_with(fault):
     """The text of the emulator with a fault."""
-    text = files.read_text(SOURCE)
+    text = right_text()
     if text.count(fault.right) != 1:
-        raise files.Refused(f"{fault.name}: the right text stands {text.count(fault.right)} times in emulator.c: {fault.right}")
+        raise files.Refused(f"{fault.name}: the right text stands {text.count(fault.right)} times in {SOURCE} and its files: {fault.right}")
     return text.replace(fault.right, fault.wrong)

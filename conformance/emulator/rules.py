@@ -1,4 +1,4 @@
-"""The faults of emulator.c that are no table's: each rule of the pages left out, and each limit one off."""
+"""The faults of that emulator that are no table's: each rule of the pages left out, and each limit one off."""
 from .faults import COUNTED, SCANNED, STORED, WAITING, Fault
 
 NO_RUN = "            no_run(1, n);"

@@ -7,12 +7,12 @@ FUNCTIONS = re.compile(r"^(?:static [\w *]*?|int )(\w+)\([^;]*\)\n\{", re.M)
 TAGS = re.compile(r"^(?:enum|struct) (\w+)", re.M)
 MEMBERS = re.compile(r"^enum[^{;]*\{([^}]*)\}", re.M)
 VALUES = re.compile(r"^(?:static .*\}|\}) (\w+);|^static int (\w+), (\w+) =", re.M)
-# Behind this line of emulator.c its names begin.
+# Behind this line of the emulator its names begin.
 HEAD = "typedef __int128 wide;\n"
 
 
 def names_of(text):
-    """The names of the whole file of a text of C that is laid out as emulator.c is."""
+    """The names of the whole file of a text of C that is laid out as that emulator is."""
     names = {*FUNCTIONS.findall(text), *TAGS.findall(text)}
     names.update(name for found in VALUES.findall(text) for name in found if name)
     names.update(member.split("=")[0].strip() for members in MEMBERS.findall(text) for member in members.split(","))
