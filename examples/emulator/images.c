@@ -59,6 +59,21 @@ static void add_region(u64 base, const byte *data, u64 count, u64 zeroed, int is
     memcpy(r->bytes, data, count);
 }
 
+/* Refuses what is no word, and makes the regions of an image that is good else. Its data stand behind its code. */
+static void lay_out(u64 words, const struct segment *part, unsigned count, u64 stack)
+{
+    for (u64 place = 0; place < words; place++)
+        if (word_in(place).kind == NO_WORD)
+            bad_image(5, place, little(m.code + 4 * place, 4));
+    add_region(m.code_base, m.code, 4 * words, 0, 0);
+    const byte *data = m.code + 4 * words;
+    for (unsigned n = 0; n < count; n++) {
+        add_region(part[n].base, data, part[n].data, part[n].zeroed, 1);
+        data += part[n].data;
+    }
+    add_region(TOP - stack, data, 0, stack, 1);
+}
+
 static void load_image(struct bytes file)
 {
     int is_second = file.count >= 8 && !memcmp(file.at, "ALPHAIM2", 8);
@@ -95,15 +110,6 @@ static void load_image(struct bytes file)
     if (file.count != wanted)
         bad_image(4, file.count, wanted);
     m.code = file.at + head, m.words = words;
-    for (u64 place = 0; place < words; place++)
-        if (word_in(place).kind == NO_WORD)
-            bad_image(5, place, little(m.code + 4 * place, 4));
-    add_region(m.code_base, m.code, 4 * words, 0, 0);
-    const byte *data = m.code + 4 * words;
-    for (unsigned n = 0; n < count; n++) {
-        add_region(part[n].base, data, part[n].data, part[n].zeroed, 1);
-        data += part[n].data;
-    }
-    add_region(TOP - stack, data, 0, stack, 1);
+    lay_out(words, part, count, stack);
     m.pc = m.reg[27] = entry, m.reg[30] = TOP;
 }
