@@ -60,6 +60,32 @@ def test_the_text_of_each_fault_stands_once(_):
         want(faults.text_with(fault) != fault.right, True, fault.name)
 
 
+# Of some faults, how they are run over which files, and what is told of the place.
+PLACES = [
+    ("first-inswh", "--run", RUN, "answers/values-extracts", [
+        "values-extracts.s:87: inswh $1,$2,$3 is otherwise in 21 of 42 rows\n    otherwise: $1 = 0x8877665544332211, $2 = 0x7 gives 0x0, and 0x22 is wanted\n",
+        "\n    right: $1 = 0x8877665544332211, $2 = 0x0 gives 0x0\n", "otherwise too: inswh $1,188,$3 in 21\n  right in all rows: 26 of 28 lines\n"]),
+    ("addq/v-saturate", "--run", RUN, "answers/completions.saturate", [
+        "$3 is set by completions.s:23: addq/v $2,1,$3, with $2 = 0x7fffffffffffffff\n"]),
+    ("addl/v-overflows-at-its-least", "--run", RUN, "answers/values-triggers.wrap", [
+        "told: values-triggers.s:18: addl/v $1,$2,$3, which doesn't overflow there, with $1 = 0x0, $2 = 0x80000000: exactly -2147483648\n",
+        "values-triggers.s:18: addl/v $1,$2,$3: told 19 times in all, and wanted 17 times\n"]),
+    ("report-here", "--follow", FOLLOW, "journals/late-loop.wrap.1.", [
+        "before it item 4, the report at late-loop.s:24: subl/v $2,$12,$6 with mask 16, completes late-loop.s:21: mulq/v $11,$2,$4, "
+        "whose $4 gets c000000000000000, and goes on behind that\n  item 5 is `units 25` at late-loop.s:22: ldl $5,8($9)\n"]),
+    ("jsr_coroutine-clears-no-low-bit", "--run", RUN, "answers/jumps.wrap", [
+        "the notes end before `barrier 000000000001005c`; the end is `fetch 000000000001005a`, and `exit 65688` is wanted\n"]),
+]
+
+
+def test_a_difference_is_told_with_its_place(folder):
+    made = os.path.join(folder, "emulator")
+    for name, way, words, only, told in PLACES:
+        want(faulty("--make", name, made), (0, ""), name)
+        _, said = against(way, f"{shlex.quote(made)} {words}", "--only", only)
+        want([part for part in told if part not in said], [], f"{name}: {said}")
+
+
 # What an emulator does, its command, and what is told of it.
 MISBEHAVED = [
     ("it hangs", "sleep 30", "no end within 0.5 seconds"),

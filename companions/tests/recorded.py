@@ -4,7 +4,7 @@ import shutil
 import subprocess
 import sys
 
-from .emulator import FOLLOW, RECORD, RUN, SUITE, WRONG, against, changed, emulator
+from .emulator import FOLLOW, RECORD, SUITE, WRONG, against, changed, emulator
 from .helpers import TOP, want, write
 
 # What a recorded run has wrong, the right text of `emulate` and the wrong one, the files, and what is told. Each of the journals
@@ -74,18 +74,3 @@ def test_a_run_that_is_refused_says_what_its_image_is_for(folder):
     made = emulator(changed(folder, what, file, right, wrong))
     _, said = against("--follow", made + FOLLOW, "--only", only + ".wrap.late", "--first")
     want("a run is refused: norun kind 3 at 0. late-orders: A trap waits at orders" in said, True, said)
-
-
-# What is wrong with an emulator, by the name of a row of WRONG, and what the driver says of where that is.
-PLACES = {
-    "mskqh clears a byte too many": ("values-masks.s:", "mskqh $1,$2,$3 is otherwise in ", "\n    right: $1 = ", "right in all rows: "),
-    "a saturated overflow wraps": ("$3 is set by completions.s:23: addq/v $2,1,$3, with $2 = 0x7fffffffffffffff\n",),
-    "the handler takes the nearest /V word": ("before it item ", " completes late-masks.s:", ", and goes on behind that"),
-}
-
-
-def test_a_difference_is_told_with_its_place(folder):
-    for number, (what, file, right, wrong, how, only) in enumerate(row for row in WRONG if row[0] in PLACES):
-        made = emulator(changed(os.path.join(folder, str(number)), what, file, right, wrong))
-        _, said = against(f"--{how}", made + (FOLLOW if how == "follow" else RUN), "--only", only, "--first")
-        want([part for part in PLACES[what] if part not in said], [], f"{what}: {said}")
