@@ -38,7 +38,7 @@ class Repair:
         elif self.is_aside and place in self.locked:
             self.left[place] = "lies between a locked load and its conditional store, where no branch may be"
         elif not needs_other:
-            self.changes[place] = Change([self.spelled(place), "trapb"], None, False)
+            self.changes[place] = self.change_through(place, None)
         else:
             self.through_another(place, step, destination)
 
@@ -58,24 +58,30 @@ class Repair:
 
     def through_another(self, place, step, destination):
         """The result goes through a register that nobody reads, or through one that is kept in the stack."""
-        taken = step.insn.uses | table.bit(destination)
-        register = self.free(taken | self.live.behind[place])
-        move = [] if destination == 31 else [self.move(register, destination)]
-        if register is not None:
-            self.changes[place] = Change([self.spelled(place, register), "trapb", *move], register, False)
+        free = self.free_at(place)
+        if free:
+            self.changes[place] = self.change_through(place, free[0])
             return
+        taken = step.insn.uses | table.bit(destination)
         why = self.why_not_kept(place, taken)
         if why is not None:
             self.left[place] = why
             return
         register = next(other for other in SPARE if not taken >> other & 1)
-        move = [] if destination == 31 else [self.move(register, destination)]
-        self.changes[place] = Change([f"lda $30,-{SLOT}($30)", f"stq ${register},0($30)", self.spelled(place, register), "trapb", *move,
+        self.changes[place] = Change([f"lda $30,-{SLOT}($30)", f"stq ${register},0($30)", *self.change_through(place, register).lines,
                                       f"ldq ${register},0($30)", f"lda $30,{SLOT}($30)"], register, True)
 
-    def free(self, taken):
-        tried = SPARE if self.asked is None else (self.asked,)
-        return next((register for register in tried if not taken >> register & 1), None)
+    def free_at(self, place):
+        """The registers that a /V word doesn't name and that nothing behind it reads before they are set, of those that are tried."""
+        step, tried = self.code.steps[place], SPARE if self.asked is None else (self.asked,)
+        taken = step.insn.uses | table.bit(step.word & 31) | self.live.behind[place]
+        return [register for register in tried if not taken >> register & 1]
+
+    def change_through(self, place, register):
+        """The change by a barrier, with a register for the result, or None where that goes to its destination at once."""
+        destination = self.code.steps[place].word & 31
+        move = [] if register is None or destination == 31 else [self.move(register, destination)]
+        return Change([self.spelled(place, register), "trapb", *move], register, False)
 
     def move(self, source, target):
         return f"bis $31,${source},${target}" if self.is_aside else f"mov ${source},${target}"

@@ -11,6 +11,7 @@ from . import flow, liveness, steps, symbolic
 # The words of a window, over all its branches.
 MOST_WORDS = 256
 END, GUARD = "the end", "a guard"
+CODE, ADDED = "code", "added"
 
 
 class Outcome:
@@ -21,10 +22,19 @@ class Outcome:
 
 
 class Walk:
-    """Runs a code as terms from a place on up to the next stop. `name_of` gives a place the name that both codes have."""
+    """Runs a code as terms from a place on up to the next stop. `name_of` gives a place the name that both codes have, and `images`
+    the place of this code for one of the old code. Words of a repair's own may call each other, and go back by an address that a
+    word of the window has left."""
 
-    def __init__(self, code, stops, name_of):
-        self.code, self.stops, self.name_of, self.fuel = code, stops, name_of, MOST_WORDS
+    def __init__(self, code, stops, name_of, images):
+        self.code, self.stops, self.name_of, self.images, self.fuel = code, stops, name_of, images, MOST_WORDS
+
+    def is_added(self, place):
+        return place is not None and self.name_of(place)[0] == ADDED
+
+    def place_of(self, name):
+        """The place of a name, None where it is none or another term."""
+        return self.images.get(name[1]) if name[0] == CODE else name[1] if name[0] == ADDED else None
 
     def start(self, place, state):
         self.fuel = MOST_WORDS
@@ -57,7 +67,7 @@ class Walk:
                 return self.turn(place, step, state, after, target)
             state.execute(step)
             # A repair guards the words behind the code by a `bugchk`, which ends a program that runs off its end.
-            is_guard = name == "bugchk" and self.name_of(place)[0] == "added"
+            is_guard = name == "bugchk" and self.is_added(place)
             if is_guard or not self.code.next[place]:
                 return Outcome("ends", GUARD if is_guard else name, state, place)
             if after is None or after in self.stops:
@@ -68,8 +78,11 @@ class Walk:
         by = state.get(steps.base_of(step)) if steps.is_jump(step) else None
         state.turns += 1
         state.set(steps.link_of(step), self.name_of(after))
-        if step.insn.name == "br":
+        if step.insn.name == "br" or step.insn.name == "bsr" and self.is_added(target):
             return self.go(place, target, state, step.label)
+        back = self.place_of(by) if by is not None and self.is_added(place) else None
+        if back is not None:
+            return self.go(place, back, state, END)
         if by is None:
             by = step.label if target is None else self.name_of(target)
         return Outcome("jump", (step.insn.name, by), state, place)
@@ -83,8 +96,8 @@ class Same:
         self.images = {image: place for place, image in pairs.items()}
         self.returns, self.live = old.returns(), live or liveness.Liveness(old)
         self.locked = flow.locked(old)
-        self.walks = (Walk(old, pairs, lambda place: ("code", place)),
-                      Walk(new, self.images, lambda place: ("code", self.images[place]) if place in self.images else ("added", place)))
+        self.walks = (Walk(old, pairs, lambda place: (CODE, place), {}),
+                      Walk(new, self.images, lambda place: (CODE, self.images[place]) if place in self.images else (ADDED, place), pairs))
         self.faults, self.equal, self.executed, self.unreached, self.spilled = [], 0, 0, 0, []
 
     def show(self):

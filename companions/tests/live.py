@@ -3,7 +3,7 @@ import os
 import shutil
 import subprocess
 
-from parts import image, program
+from parts import asides, gas, image, program
 from .helpers import ASKED, TOP, Lacking, companion, needs_program, read, want, write
 
 SPARE = (28, 22, 23, 24, 25, 8, 7, 6, 5, 4, 3, 2, 1)
@@ -103,9 +103,34 @@ def test_words_stand_before_the_code_where_there_is_no_room_behind(folder):
     want(asked.call("run", out)[2], "exit 1800\n", "run")
     # Without room on either side the words that are missing are counted: 600 times 4 and the one that ends them.
     text = text.replace(f"{code:#x}", "0x2000").replace(f"{code + 8192:#x}", "0x4000")
-    _, notes = repaired(folder, text, "--aside", status=1)
+    _, notes = repaired(folder, text, "--aside", "--scratch", "28", status=1)
     behind = 2048 - places - 4
     want(f"takes 2401 words, and there is room for {behind} behind the code and for 0 before it" in notes, True, notes)
+
+
+@needs_program
+def test_places_with_the_same_word_share_an_aside_where_each_its_own_has_no_room(folder):
+    asked, source, out, old = program.Program(ASKED), os.path.join(folder, "b.s"), os.path.join(folder, "b.img"), os.path.join(folder, "a.img")
+    # Behind the first words $28 alone is free, so these have an aside each.
+    few = "".join(f"addq $0,${register},$0\n" for register in (*SPARE[1:], 16))
+    words = "mulq/v $1,$2,$1\n" * 2 + few + "addq/v $1,$2,$1\nsubq/v $1,$2,$3\n" * 300 + "mulq/v $1,$2,$4\nbis $31,$1,$16\nlda $0,1($31)\ncallsys\n"
+    text = f".codebase 0x2000\n.database 0x4000\n.entry 0x2000\n.code\nlda $2,3($31)\n{words}.data\n.quad 5\n"
+    made, notes = repaired(folder, text, "--aside")
+    want("301 got one, 302 go through $28, 600 share 2 asides" in notes, True, notes)
+    want(asked.call("asm", source, out), (0, b"", ""), "asm")
+    want((asked.verdict(out), asked.call("run", out)[2]), (None, "exit 900\n"), "verdict and run")
+    want(asked.call("asm", os.path.join(folder, "a.s"), old), (0, b"", ""), "asm")
+    want("shown to do what they did" in companion("same", old, out)[0], True, "same")
+
+
+def test_an_image_has_no_room_for_more_than_its_most_words(_):
+    text, count = ".codebase 0x20000\n.code\n", image.MOST_WORDS - 3000
+    room = asides.Room(list(gas.statements(text)), count)
+    # Behind the code 749 asides of four words have room with the one that ends them, and then no page before it.
+    want((room.split([4] * 749), room.split([4] * 760)), ((749, 0), (749, 44)), "behind")
+    # With data behind the code, one page of 2,048 words.
+    room = asides.Room(list(gas.statements(f"{text}.database {0x20000 + 4 * count:#x}\n.data\n.quad 5\n")), count)
+    want((room.split([4] * 512), room.split([4] * 600)), ((0, 0), (0, 352)), "before")
 
 
 def test_a_listing_whose_numbers_are_addresses_of_code_is_repaired_aside_alone(folder):

@@ -36,8 +36,11 @@ NEW = OLD.replace(MULTIPLIED, FIRST).replace("\taddq/v $16,$18,$16\n", "\taddq/v
     .replace("\tsubl/v $1,$16,$0\n", "\tsubl/v $1,$16,$0\n\ttrapb\n")
 KEPT = "\tlda $30,-16($30)\n\tstq $28,0($30)\n\tmulq/v $16,$17,$28\n\ttrapb\n\tmov $28,$16\n\tldq $28,0($30)\n\tlda $30,16($30)\n"
 ASIDE = NEW.replace(FIRST, "\tbr fix\nback:\n").replace("\t.end g\n", "\t.end g\nfix:\tmulq/v $16,$17,$22\n\ttrapb\n\tmov $22,$16\n\tbr back\n")
+# An aside that several places may have: it goes back by a register.
+CALLED = NEW.replace(FIRST, "\tbsr $23,fix\n").replace(
+    "\t.end g\n", "\t.end g\nfix:\tmulq/v $16,$17,$22\n\ttrapb\n\tmov $22,$16\n\tret $31,($23),1\n")
 
-RIGHT = [NEW, OLD, NEW.replace(FIRST, KEPT), ASIDE, NEW.replace(FIRST, FIRST.replace("$22", "$2")),
+RIGHT = [NEW, OLD, NEW.replace(FIRST, KEPT), ASIDE, CALLED, CALLED.replace("fix:\tmulq", "fix:\tmov $23,$24\n\tmulq").replace("($23),1", "($24),1"), NEW.replace(FIRST, FIRST.replace("$22", "$2")),
          # A branch that is taken where the old one isn't, and the other way round, isn't wrong where each meets its image.
          NEW.replace("\ttrapb\n\tmov $22", "\texcb\n\ttrapb\n\tmov $22"),
          # The same is kept in two slots, and in one that is taken apart from the pointer's move.
@@ -60,6 +63,15 @@ WRONG = [
     ("the test is the other one", NEW.replace("beq", "bne"), 5, "goes on by beq, and the repair on by bne"),
     ("a branch to another place", ASIDE.replace("\tbr back\n", "\tbr L1\n"), 5, "goes on elsewhere, and the repair on elsewhere"),
     ("words that never end", ASIDE.replace("\tbr back\n", "\tbr fix\n"), 5, "more than 256 words"),
+    ("the way back is read later", CALLED.replace("$23,fix", "$19,fix").replace("($23),1", "($19),1"), 5, "$19 may be read behind it"),
+    ("another way back", CALLED.replace("($23),1", "($24),1"), 5, "goes on elsewhere, and the repair on by ret"),
+    ("a way back that is moved on", CALLED.replace("\tret $31,($23),1\n", "\tlda $23,4($23)\n\tret $31,($23),1\n"), 5, "and the repair on by ret"),
+    ("a way back to another place", CALLED.replace("fix:\t", "fix:\tbr $23,away\naway:\t"), 5, "more than 256 words"),
+    ("another's aside", CALLED.replace("fix:\tmulq/v $16,$17", "fix:\tmulq/v $16,$18"), 5, "does overflow, and the repair another overflow"),
+    ("an aside that calls itself", CALLED.replace("\tmov $22,$16\n\tret", "\tbsr $23,fix\n\tret"), 5, "more than 256 words"),
+    ("a call of the old code", CALLED.replace("\tbsr $23,fix\n", "\tbsr $23,L1\n"), 5, "goes on elsewhere, and the repair on by bsr"),
+    ("a shared aside between a locked load and its store", NEW.replace("\taddq/v $2,$16,$2\n", "\tbsr $23,fix\n").replace(
+        "\t.end g\n", "\t.end g\nfix:\taddq/v $2,$16,$22\n\ttrapb\n\tmov $22,$2\n\tret $31,($23),1\n"), 19, "between a locked load and its"),
     ("the return address is another one", NEW.replace("\tbsr $26,g\n", "\tbr $26,fix\nfix:\tbr $31,g\n"), 12, ""),
     ("another return", NEW.replace("\tret\n\t.end f", "\tret $31,($23)\n\t.end f"), 15, "goes on by ret, and the repair on by ret"),
     ("the slot lies below the stack pointer", NEW.replace(FIRST, "\tstq $28,-8($30)\n" + FIRST.replace("$22", "$28") + "\tldq $28,-8($30)\n"),
