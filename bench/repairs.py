@@ -14,6 +14,7 @@ import collections
 import multiprocessing
 import os
 import re
+import resource
 import runpy
 import shutil
 import signal
@@ -29,7 +30,8 @@ COMPANIONS = os.path.join(TOP, "companions")
 COMPILE = ["alpha-linux-gnu-gcc", "-ftrapv", "-ffreestanding", "-mno-fp-regs", "-w"]
 LINK = ["-static", "-nostdlib", "-Wl,-z,separate-code,-z,max-page-size=8192,-Ttext-segment=0x10000,--build-id=none"]
 BESIDE = [os.path.join(COMPANIONS, "start.s"), os.path.join(COMPANIONS, "divide.s")]
-SECONDS = 20
+# Of the processor's time, so that nothing counts as slow since others have the machine: for a run, and for a step of a repair.
+SECONDS, MORE_SECONDS = 20, 600
 PARTS = ("back", "codes", "elf", "files", "held", "image", "loaded", "program", "regions", "repair")
 SAME, OTHER, SLOW = "the same", "OTHER OUTPUT", "too slow by itself"
 
@@ -38,11 +40,19 @@ class Refused(Exception):
     """A step that didn't go well, and its first line."""
 
 
+class Slow(Exception):
+    """A run that took too much of the processor's time."""
+
+
+def limited(seconds):
+    """Ends this process by SIGXCPU when it has had so much of the processor's time."""
+    resource.setrlimit(resource.RLIMIT_CPU, (seconds, seconds + 1))
+
+
 def call(*words, given=None):
-    try:
-        done = subprocess.run(words, input=given, capture_output=True, check=False, timeout=30 * SECONDS)
-    except subprocess.TimeoutExpired as expired:
-        raise Refused(f"{os.path.basename(words[0])}: took more than {30 * SECONDS} seconds") from expired
+    done = subprocess.run(words, input=given, capture_output=True, check=False, preexec_fn=lambda: limited(MORE_SECONDS))
+    if done.returncode == -signal.SIGXCPU:
+        raise Refused(f"{os.path.basename(words[0])}: took more than {MORE_SECONDS} seconds")
     if done.returncode:
         raise Refused(f"{os.path.basename(words[0])}: {cause(done.stderr.decode(errors='replace'))}")
     return done.stdout
@@ -58,7 +68,9 @@ def cause(notes):
 
 def outcome(path):
     """The output and the status of a run under qemu-alpha."""
-    done = subprocess.run(["qemu-alpha", path], input=b"", capture_output=True, check=False, timeout=SECONDS)
+    done = subprocess.run(["qemu-alpha", path], input=b"", capture_output=True, check=False, preexec_fn=lambda: limited(SECONDS))
+    if done.returncode in (-signal.SIGXCPU, -signal.SIGKILL):
+        raise Slow
     return done.stdout, done.returncode
 
 
@@ -75,7 +87,7 @@ def be_companion(name, words, notes):
     try:
         for number, path in ((0, os.devnull), (1, os.devnull), (2, notes)):
             os.dup2(os.open(path, os.O_RDWR | os.O_CREAT | os.O_TRUNC, 0o600), number)
-        signal.alarm(30 * SECONDS)
+        limited(MORE_SECONDS)
         sys.argv = [os.path.join(COMPANIONS, name), *words]
         sys.stderr = open(2, "w", encoding="utf-8", closefd=False)
         runpy.run_path(sys.argv[0], run_name="__main__")
@@ -108,8 +120,8 @@ class Trial:
         if child == 0:
             be_companion(name, words, notes)
         status = os.waitstatus_to_exitcode(os.waitpid(child, 0)[1])
-        if status == -signal.SIGALRM:
-            raise Refused(f"{name}: took more than {30 * SECONDS} seconds")
+        if status == -signal.SIGXCPU:
+            raise Refused(f"{name}: took more than {MORE_SECONDS} seconds")
         if status:
             with open(notes, encoding="utf-8", errors="replace") as file:
                 raise Refused(f"{name}: {cause(file.read())}")
@@ -147,7 +159,7 @@ def tried(trial):
     with tempfile.TemporaryDirectory() as folder:
         try:
             trial = Trial(program, folder, number, level)
-        except subprocess.TimeoutExpired:
+        except Slow:
             return {"text": SLOW, "aside": SLOW}
         found = {}
         for way, run in (("text", trial.by_text), ("aside", trial.aside)):
@@ -155,7 +167,7 @@ def tried(trial):
                 found[way] = run()
             except Refused as refused:
                 found[way] = str(refused)
-            except subprocess.TimeoutExpired:
+            except Slow:
                 found[way] = OTHER
         if keep is not None and set(found.values()) - {SAME}:
             shutil.copytree(folder, os.path.join(keep, f"{number}-{level}"), dirs_exist_ok=True)
