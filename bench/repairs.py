@@ -161,6 +161,8 @@ def tried(trial):
             trial = Trial(program, folder, number, level)
         except Slow:
             return {"text": SLOW, "aside": SLOW}
+        except Refused as refused:
+            return {"text": str(refused), "aside": str(refused)}
         found = {}
         for way, run in (("text", trial.by_text), ("aside", trial.aside)):
             try:
