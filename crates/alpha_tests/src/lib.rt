@@ -2,8 +2,8 @@
 //! call succeeds where memory is there. They use the crates as whoever stands on them does, and are proved without proving
 //! these again.
 //!
-//! Tests of commands, and of what commands show of a crate, are cases in `alpha_vectors/data`, those of images lines of its
-//! `images.tsv`; what no case can be of the crates at the top is in `alpha_top_tests`.
+//! Tests of commands, and of what commands show of a crate, are cases in `alpha_cases/data`, those of images lines of
+//! `alpha_vectors/data/images.tsv`; what no case can be of the crates at the top is in `alpha_top_tests`.
 #![tactic(auto)]
 
 #[cfg(test)]

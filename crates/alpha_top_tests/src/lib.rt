@@ -1,4 +1,4 @@
-//! Tests of the crates at the top that no case of `alpha_vectors/data` can be: of devices and lists that no call has, and
+//! Tests of the crates at the top that no case of `alpha_cases/data` can be: of devices and lists that no call has, and
 //! of what a module and a journal give whoever stands on them. Those of the crates below are `alpha_tests`.
 #![tactic(auto)]
 

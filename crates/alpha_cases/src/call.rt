@@ -1,7 +1,7 @@
 //! One call of the program over devices in memory.
 
-use crate::cases::case::File;
-use crate::cases::lines::{Entry, bytes_of, number_of, numbers_of, spelled};
+use crate::case::File;
+use crate::lines::{Entry, bytes_of, number_of, numbers_of, spelled};
 use alpha_cmd::{Devices, Status, alpha_main};
 use alpha_io::{MemoryShelf, MemorySink, MemorySource, read_whole};
 use alpha_words::NoMemory;

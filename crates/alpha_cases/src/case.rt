@@ -1,7 +1,7 @@
 //! The cases of a file, and what differs.
 
-use crate::cases::call::{Answer, Call, Device, device_of, there};
-use crate::cases::lines::{Entry, bytes_of, entries_of, number_of, numbers_of, spelled};
+use crate::call::{Answer, Call, Device, device_of, there};
+use crate::lines::{Entry, bytes_of, entries_of, number_of, numbers_of, spelled};
 use alpha_asm::assemble;
 use alpha_cmd::Status;
 use alpha_image::image_bytes;

@@ -1,4 +1,5 @@
-//! Calls of the program over devices in memory: files of cases, each with what its calls should answer.
+//! Makes calls of the program over devices in memory, those of files of cases, and prints which of them answer otherwise
+//! than they should. A test of a command is such a case, in a file `data/*.cases`.
 //!
 //! A file is a list of cases. A case has files, of which a later one takes the place of one of its name, and calls of the
 //! program over them. Each line begins
@@ -29,6 +30,7 @@
 //! | `notes`, with lines | all of the notes; nothing where they are left out |
 //! | `keeps FILE SAME` | afterwards the file holds the bytes of this other one |
 //! | `until DEVICE` | the call is made over and over, with call 0, 1, .. of this device failing, until the status comes; each time before the device's own status came, with a front of the output |
+#![tactic(auto)]
 
 mod call;
 mod case;
@@ -55,12 +57,11 @@ const FILES: [&str; 15] = [
     "failing.cases",
 ];
 
-/// Makes the calls of all files of cases, and prints which of them answer otherwise than they should.
-pub fn run(rt: &HostRuntime) -> anyhow::Result<()> {
+fn main(rt: HostRuntime) -> anyhow::Result<()> {
     let mut right = 0u64;
     for file in FILES {
-        let text = fs::read_to_string(rt, file)?;
-        right = right.saturating_add(case::run(rt, rt.alloc(), text.as_str())?);
+        let text = fs::read_to_string(&rt, file)?;
+        right = right.saturating_add(case::run(&rt, rt.alloc(), text.as_str())?);
     }
     println!(rt; "{right} calls answered as they should")?;
     Ok(())
