@@ -198,7 +198,8 @@ class Spoken:
     def difference(self, d, case):
         texts, wanted, is_command = case
         words = words_of(*(text.encode() for text in texts))
-        spoken = d("alpha_request.Commands.Run.spoken")() if texts[0] == "run" else d("alpha_request.Commands.OfImage.spoken")(("Check",))
+        alone = {"run": "Run", "record": "Record"}.get(texts[0])
+        spoken = d(f"alpha_request.Commands.{alone}.spoken")() if alone else d("alpha_request.Commands.OfImage.spoken")(("Check",))
         rows = d("alpha_request.Matched.matches_on")(spoken.app, words)
         command = spoken.made(rows[1]) if rows != NONE else NONE
         if (command != NONE) != is_command:
@@ -217,6 +218,8 @@ class Spoken:
             options, origin, force, file = parts
             asks = d("alpha_request.Commands.Run.AsksImprecise")
             given = asks(words, options, origin, force, file), not asks(words, options, origin, not force, file)
+        elif kind == "record_run":
+            return ""
         else:
             given = d("alpha_request.Commands.OfImage.Asks")(("Check",), words, parts[1]), \
                 not d("alpha_request.Commands.OfImage.Asks")(("Dis",), words, parts[1])
@@ -239,5 +242,9 @@ WORKED = [
     ("run --imprecise --seed 3 --force FILE", ("imprecise", DEFAULT, ("seed", 3), True, FILE)),
     ("run FILE --imprecise --choices=-x", ("imprecise", DEFAULT, ("file", tuple(b"-x")), False, FILE)),
     ("run --imprecise --choices= FILE", ("imprecise", DEFAULT, ("file", ()), False, FILE)),
+    ("record FILE J", ("record_run", DEFAULT, ("seed", 0), False, FILE, (74,))),
+    ("record FILE --seed=5 --steps 9 J", ("record_run", options_of("wrap", 9, False), ("seed", 5), False, FILE, (74,))),
+    ("record --choices X FILE --force J", ("record_run", DEFAULT, ("file", (88,)), True, FILE, (74,))),
+    ("record --complete wrap -- FILE J", ("record_run", DEFAULT, ("seed", 0), False, FILE, (74,))),
     ("run --imprecise --seed 3 --choices X FILE", None), ("run --imprecise --seed x FILE", None), ("run --imprecise --imprecise FILE", None),
 ]

@@ -21,8 +21,6 @@ mod operands;
 #[cfg(test)]
 mod pal;
 #[cfg(test)]
-mod request;
-#[cfg(test)]
 mod table;
 #[cfg(test)]
 mod text;
