@@ -4,7 +4,7 @@ A clause must hold of a call as it was, and of one with another status, output, 
 """
 from . import drawn
 from .moments import moments_of, steps_of
-from .reference import COMPLETIONS, NONE, Late, broken_in, image, parts_of, some
+from .reference import COMPLETIONS, NONE, Late, broken_in, parts_of, some
 from .runs import options_of
 from .translate import record
 
@@ -23,7 +23,8 @@ class Device:
 # What can be told of a device, by the ghosts of its trait: each tells what it holds by a name of its own.
 FAULTS = {"faults": lambda device: device.faults}
 SHELF = record(files=lambda device: device.told, takes=lambda device: device.takes, replies=lambda device: device.replies, **FAULTS)
-SOURCE, SINK = record(left=lambda device: device.told, **FAULTS), record(written=lambda device: device.told, **FAULTS)
+SOURCE = record(left=lambda device: device.told, replies=lambda device: device.replies, **FAULTS)
+SINK = record(written=lambda device: device.told, **FAULTS)
 
 
 def told(files):
@@ -65,7 +66,7 @@ def status_by(number, end):
 
 
 class Ran:
-    name, about = "clauses of run", "`ran` and `alike` of calls of the program as they were, and with something else"
+    name, about = "clauses of run", "`ran_told` and `alike` of calls of the program as they were, and with something else"
     counts = {"sample": 50, "whole": 1_500}
     is_quick = False
     ASKED = ("run FILE", "run FILE", "run --imprecise FILE", "run --imprecise FILE", "run --imprecise --seed 7 FILE",
@@ -94,7 +95,7 @@ class Ran:
         self.hand_in(d, parts)
         status, call, wanted = self.altered(d, way, whole, files, given, left, number, out, notes, run.end)
         is_plain, words = len(words) == 2 or words[1:-1] == ("--imprecise",), words_of(*(text.encode() for text in words))
-        found = d("alpha_cmd.ToldRun.Ran")(words, status, call), d("alpha_cmd.Alike.Alike")(words, status, call)
+        found = d("alpha_cmd.ToldRun.RanTold")(words, status, call), d("alpha_cmd.Alike.Alike")(words, status, call)
         expected = wanted or not is_plain, wanted
         return "" if found == expected else f"{way} of {content.hex()}: {found}, and {expected} is wanted"
 
@@ -122,7 +123,7 @@ class Ran:
         if way == "full":
             return status, more._replace(**{part: getattr(more, part)._replace(before=LAST_COUNT, now=LAST_COUNT)}), True
         if way == "refused":
-            refused = image.Image([*whole.words, drawn.operate("addq/v", 1, 2, 3)], whole.code_base, whole.entry, whole.segments, whole.stack)
+            refused = drawn.refused(whole)
             self.hand_in(d, parts_of(refused))
             return status, call_of(d, {**files, b"FILE": refused.spelled()}, given, left, out + b"x", notes), True
         if way == "unknown":

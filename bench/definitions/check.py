@@ -22,7 +22,8 @@ import time
 sys.dont_write_bytecode = True
 HERE = os.path.dirname(os.path.abspath(__file__))
 sys.path = [path for path in sys.path if os.path.abspath(path or ".") != HERE] + [os.path.dirname(HERE)]
-from definitions import calls, facts, images, library, lines, moments, places, refused, runs, slips, words  # noqa: E402
+from definitions import (calls, facts, images, library, lines, moments, places, refused, replies, runs, slips,  # noqa: E402
+                         words)
 from definitions.asking import Asked  # noqa: E402
 from definitions.running import Definitions, deeply  # noqa: E402
 from definitions.sources import TOP  # noqa: E402
@@ -31,7 +32,7 @@ from definitions.translate import key_of  # noqa: E402
 GROUPS = [refused.Refused(), library.Library(), words.Words(), words.Values(), words.Taken(), places.Places(), places.Longest(),
           runs.Programs(), runs.Sequential(), runs.Late(), moments.Moments(), moments.Waits(), moments.Each(),
           images.Fronts(), images.Images(), calls.Ran(), calls.Checked(),
-          calls.Spoken(), facts.Facts(), facts.Follows(), facts.Scans()]
+          calls.Spoken(), replies.Readings(), replies.Replied(), facts.Facts(), facts.Follows(), facts.Scans()]
 MOST_SHOWN = 3
 
 

@@ -79,6 +79,9 @@ def put(term, known):
         inner = {**known, **names}
         binders = [Binder(names[b.name].name, b.sort, b.key, put(b.scope, inner)) for b in term.binders]
         return Quantified(term.kind, binders, put(term.body, inner))
+    if isinstance(term, Part):
+        of = put(term.of, known)
+        return of.fields[term.name] if isinstance(of, Make) and term.name in of.fields else Part(of, term.name)
     return type(term)(*(put(part, known) for part in term))
 
 
@@ -308,6 +311,11 @@ def enum_cases(declaration):
     if read.kind != "data" or any(count_of(of) for _, of, _ in read.parts):
         return None
     return tuple(name for name, _, _ in read.parts)
+
+
+def is_record(term):
+    """Whether a term is the fact of a record."""
+    return isinstance(term, Call) and isinstance(term.head, Use) and term.head.of.parts().kind == "record"
 
 
 def is_data(declaration, natives):

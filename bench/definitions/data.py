@@ -3,7 +3,8 @@
 # The clauses whose definitions are run: crate, function, clause. The first READ of them are those of the reading order.
 READ = 3
 CLAUSES = [("alpha_restart", "laws_of_restarts", "accepted"), ("alpha_cmd", "alpha_top", "checked"),
-           ("alpha_cmd", "alpha_top", "ran"), ("alpha_cmd", "alpha_top", "alike"), ("alpha_cmd", "alpha_top", "restarts")]
+           ("alpha_cmd", "alpha_top", "ran"), ("alpha_cmd", "alpha_top", "alike"),
+           ("alpha_cmd", "alpha_top", "restarts"), ("alpha_cmd", "alpha_top", "ran_told")]
 # Definitions of answers, which are run beside those.
 ANSWERS = [("Rattle.alpha_cmd.specs.Commands.Imprecise", "answer_wild"),
            ("Rattle.alpha_cmd.specs.Commands.Imprecise", "run_by")]
@@ -18,10 +19,17 @@ DOMAINS = {
     # What is said of all lists of steps and of every image is tried on those that are handed in.
     "RestartsFrom.steps": "given['steps']",
     "ReadsImage.image": "given['images']", "IsReadWhole.pieces": "given['pieces']",
-    "Ran.image": "given['images']", "Alike.image": "given['images']",
+    "RanTold.image": "given['images']", "Alike.image": "given['images']", "EndsWhere.image": "given['images']",
     # The file is one of the words.
     "Ran.file": "{words}", "Alike.file": "{words}", "Checked.file": "{words}", "Restarts.file": "{words}",
+    "RanTold.file": "{words}",
     "Alike.options": "given['options']", "HaveWords.bytes": "given['file_bytes']",
+    "IsRunEnd.end": "data.ends({status})", "RunByReads.events": "given['events']",
+    # The replies to some calls stand behind those before them: they are a front of what is new there.
+    "IsRead.takes": "data.fronts({new}[len({old}):])", "FailsToRead.takes": "data.fronts({new}[len({old}):])",
+    "HasGiven.takes": "data.fronts({new}[len({old}):])", "AnswersEach.mid": "data.fronts({new}, len({old}))",
+    # How many bytes the last call was asked for.
+    "EndsRead.n": "[reply[1] for reply in {new}[-1:]]", "FailsToRead.asked": "[reply[1] for reply in {new}[-1:]]",
     # Told files are compared by these names.
     "KeepsFiles.name": "given['names']", "KeepsOtherFiles.other": "given['names']",
 }
@@ -32,3 +40,13 @@ NAMED = {}
 # Functions whose values are remembered by their arguments, and those that go by the number below, row by row.
 REMEMBERED = {"alpha_table.Words.class_in"}
 BY_ROWS = {"alpha_seq.Run.after"}
+
+
+def fronts(items, least=0):
+    """The fronts of a list that have so many elements or more."""
+    return (items[:end] for end in range(least, len(items) + 1))
+
+
+def ends(status):
+    """The ends of which one has this status, if a run's end has it: none, an exit, and the one that it names."""
+    return ("None",), ("Some", ("Exit", 0)), *(("Some", end) for end in status[1:] if status[0] == "Stopped")

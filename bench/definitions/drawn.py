@@ -108,6 +108,11 @@ def repaired(words, most=400):
     return [TRAPB]
 
 
+def refused(whole):
+    """The image with code behind its own that breaks a condition."""
+    return image.Image([*whole.words, operate("addq/v", 1, 2, 3)], whole.code_base, whole.entry, whole.segments, whole.stack)
+
+
 def call(chooser):
     """A system call with registers that are set for it: a good one, or one of its errors."""
     which = chooser.choice((3, 3, 4, 4, 4, 5, 1))

@@ -93,7 +93,8 @@ WORKED = [
     ("alpha_imprecise.Step.completed", (SMALL, state(count=MASK >> 1), 0), state(count=1 << 63, **LOGGED)),
     ("alpha_io.Shelved.shelved", (SHELF, Device(1, 2, 3, 7), Device(4, 5, 6, 8)),
      record(old=1, new=4, took=3, takes=6, before=2, now=5, past=7, history=8)),
-    ("alpha_seq.Devices.drawn", (SOURCE, Device(1, 2), Device(4, 5)), record(old=1, new=4, before=2, now=5)),
+    ("alpha_seq.Devices.drawn", (SOURCE, Device(1, 2, replies=3), Device(4, 5, replies=6)),
+     record(old=record(left=1, replies=3), new=record(left=4, replies=6), before=2, now=5)),
     ("alpha_io.Sunk.sunk", (SINK, Device(1, 2), Device(4, 5)), record(old=1, new=4, before=2, now=5)),
     # No barrier waits.
     ("alpha_imprecise.Step.spoilt", (NONE, REGS, None), REGS), ("alpha_imprecise.Step.spoilt", (some(("barrier", NONE)), REGS, None), REGS),

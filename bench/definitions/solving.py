@@ -7,7 +7,8 @@ names; one of several equations, as a run, becomes a function of its other argum
 no such bound is refused.
 """
 from . import data
-from .core import Binder, Both, Call, Case, Implies, Native, Quantified, Tuple, Use, Value, Var, free, fresh, is_data, put
+from .core import (Binder, Both, Call, Case, Implies, Make, Native, Quantified, Tuple, Use, Value, Var, free, fresh,
+                   is_data, is_record, put)
 from .natives import NATIVES
 from .reader import Unknown
 
@@ -95,17 +96,30 @@ class Search:
         self.enter(put(lines[0].body, known), depth + 1)
         return True
 
-    def enter_record(self, of, arguments, depth):
-        """The fields of a record: those that are things are variables, the others premises."""
+    def enter_record(self, of, arguments, depth, is_named=False):
+        """The fields of a record: those that are things are variables, the others premises. Gives the things by their
+        names, and those of records among the fields, where a later field or who names this record may name them."""
         known = dict(zip(self.translation.parameters(of), arguments))
-        for line in self.translation.lines_of(of):
+        scope = dict(zip((name for name, _ in of.parts().parameters), arguments))
+        lines, things = self.translation.lines_of(of), {}
+        for n, line in enumerate(lines):
             name, own, sort = line.left
             if sort:
-                known[own] = Var(fresh(name))
-                self.binders.append(Binder(known[own].name, sort, f"{of.name}.{name}", {}))
+                things[name] = known[own] = Var(fresh(name))
+                self.binders.append(Binder(known[own].name, sort, f"{of.name}.{name}", {**scope, **things}))
             elif line.body is not None:
                 self.note(line)
-                self.enter(put(line.body, known), depth + 1)
+                fact = put(line.body, known)
+                if is_record(fact) and (is_named or any(own in free(later.body) for later in lines[n + 1:])):
+                    things[name] = known[own] = self.enter_named(fact, depth)
+                else:
+                    self.enter(fact, depth + 1)
+        return Make(things)
+
+    def enter_named(self, fact, depth):
+        """A record that is a premise, and whose things have names behind it."""
+        self.translation.inlined.setdefault(fact.head.of, set()).add(self.translation.current)
+        return self.enter_record(fact.head.of, fact.arguments, depth + 1, True)
 
     def note(self, line):
         if self.translation.is_watched:
@@ -241,7 +255,7 @@ class Search:
                 members = f"({', '.join(f'({case!r},)' for case in binder.sort)},)"
             elif binder.sort == "bool":
                 members = "(False, True)"
-            elif binder.key in data.DOMAINS:
+            elif binder.key in data.DOMAINS and not free(list(self.domain_of(binder).values())) & set(unknown):
                 members = self.domain(binder)
             else:
                 continue
@@ -251,8 +265,12 @@ class Search:
         current, keys = self.translation.current, ", ".join(binder.key for binder in unknown.values())
         raise Unknown(f"{current.place()}: {current.name}: nothing bounds {keys}")
 
+    def domain_of(self, binder):
+        """The terms by which the domain of a variable goes."""
+        return {name: term for name, term in binder.scope.items() if "{" + name + "}" in data.DOMAINS[binder.key]}
+
     def domain(self, binder):
-        codes = {name: self.translation.code(term) for name, term in binder.scope.items() if "{" + name + "}" in data.DOMAINS[binder.key]}
+        codes = {name: self.translation.code(term) for name, term in self.domain_of(binder).items()}
         return data.DOMAINS[binder.key].format(**codes)
 
 

@@ -10,7 +10,7 @@ from collections import namedtuple
 
 from . import data
 from .core import (KINDS, Binder, Call, Case, Native, Put, Resolver, Tuple, Use, Value, Var, explicit, free, fresh, is_data,
-                   replaced, text_of)
+                   is_record, replaced, text_of)
 from .natives import HELPERS, NATIVES
 from .reader import Unknown
 from .rows import Rows
@@ -215,7 +215,7 @@ class Translation:
             own = fresh(name)
             body = None if sort else resolver.term(of, scope)
             yield Line(declaration, self.next_number(), line, line, Left(name, own, sort), body)
-            scope = {**scope, name: Var(own)} if sort else scope
+            scope = {**scope, name: Var(own)} if sort or is_record(body) else scope
 
     def next_number(self):
         self.count_of_lines = getattr(self, "count_of_lines", 0) + 1

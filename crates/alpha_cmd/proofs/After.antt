@@ -149,7 +149,7 @@ module _ {H S K N : Type 0} (h : shelves.Ghosts H) (s : sources.Ghosts S) (k : s
         (tries_after R T needs kind x (h.files old.shelf) (h.files middle) (h.takes old.shelf) (h.takes middle) (s.left old.input) found
         (λ o. subst (λ (w : World). T w x o) (world_same stays reads)) _ _ _
         (Rose-earlier (h.faults old.shelf) (h.faults middle) (h.faults new.shelf) reads.later))
-        second.shelf both.shelf (HasKept-after h old.shelf middle new.shelf reads.files) r both.input.new both.out both.notes did.tried;
+        second.shelf both.shelf (HasKept-after h old.shelf middle new.shelf reads.files) r both.input.new.left both.out both.notes did.tried;
     shelf = Serves-after (shelved h old.shelf middle) (shelved h middle new.shelf) stays _ refl refl refl is reads did.shelf;
     files = SparesBy-after kind _ (h.files old.shelf) (h.files middle) (h.files new.shelf) reads.files did.files;
     input = did.input;

@@ -32,7 +32,7 @@ pub record Fronts (f : Form) (w : World) (out notes : Sunk) : Type 0 where
 
 module _ (shelf : Type 0) (f : Form) (w : World) (takes : IsTrue f.kind.takes) (s : Shelved) (same : KeepsFiles s.old s.new) (d : Drawn) (out notes : Sunk) (fronts : Fronts f w out notes) where
   -- one whose input failed, with the line of the fault still to be written
-  starved_tried : HasInputFault d out notes → Leaves (TriesBy shelf (Rose d.before d.now) f w) (said d.new InputFault (status_line InputFault)) s out notes
+  starved_tried : HasInputFault d out notes → Leaves (TriesBy shelf (Rose d.before d.now) f w) (said d.new.left InputFault (status_line InputFault)) s out notes
   starved_tried fault =
       let line = status_line InputFault in
       let t : Answer = record { status = InputFault; output = fronts.bytes.done; trace = fronts.lines.done; line = line; left = None; kept = nothing } in
@@ -95,9 +95,9 @@ module _ (shelf : Type 0) (f : Form) (w : World) (takes : IsTrue f.kind.takes) (
       })))) same refl refl fault)
       fronts.kept
 
-  pub cut_tried : (fault : Fault) (r : Result Decision Failed) → IsCutShort fault r → Causes fault d out notes → Decides (TriesBy shelf (Rose d.before d.now) f w) r d.new s out notes
+  pub cut_tried : (fault : Fault) (r : Result Decision Failed) → IsCutShort fault r → Causes fault d out notes → Decides (TriesBy shelf (Rose d.before d.now) f w) r d.new.left s out notes
   cut_tried faults.Input (Ok decision) says cause =
-      subst (λ (rest : Answer). Leaves (TriesBy shelf (Rose d.before d.now) f w) rest s out notes) (sym (says d.new)) (starved_tried cause)
+      subst (λ (rest : Answer). Leaves (TriesBy shelf (Rose d.before d.now) f w) rest s out notes) (sym (says d.new.left)) (starved_tried cause)
   cut_tried faults.Input (Err failed) says cause = absurd says
   cut_tried faults.Output (Ok decision) says cause = absurd says
   cut_tried faults.Output (Err failed) says cause = unwritten_tried (inl cause)

@@ -2,6 +2,7 @@
 use Rattle.std.proofs.Common.{◌≡◌, ◌⊎◌, ◌++◌, ◌∷◌, ◌∙◌, ◌<◌, ◌≤◌, ◌+◌, ◌-◌, length, ℕ, ◌^◌, Bool, true, false, List, [], Option, None, Some, IfSome, option_map, Ok, refl, sym, ap, subst, inl, inr, arith}
 use Rattle.std.specs.Io.KnownBytes.{Appends}
 use Rattle.std.proofs.KnownBytes.{Appends-nil}
+use Rattle.alpha_io.specs.Supply.{Supply}
 use Rattle.alpha_io.specs.declared.shelf.Shelf as shelves
 use Rattle.alpha_io.specs.declared.source.Source as sources
 use Rattle.alpha_io.specs.declared.sink.Sink as sinks
@@ -32,7 +33,8 @@ use Rattle.alpha_run.proofs.WildShown.{few_cut, runs, draws, fronts, Draws-appen
 use Rattle.alpha_words.specs.declared.Completion.{Completion}
 use Rattle.alpha_replay.specs.Journal.{Parts}
 use Rattle.alpha_replay.specs.Journaled.{journal_of, is_within, stops_at, GoesOver}
-use Rattle.alpha_replay.specs.JournalEnd.{Stops, Records, IsFull, IsShort, StopsAt, ShowsWildPart, IsRecorded, IsPast, Shows}
+use Rattle.alpha_run.specs.Shows.{ShowsWildPart}
+use Rattle.alpha_replay.specs.JournalEnd.{Stops, Records, IsFull, IsShort, StopsAt, IsRecorded, IsPast, Shows}
 use Rattle.alpha_replay.proofs.Going.{ends, GoesOver-append}
 use Rattle.alpha_replay.proofs.Making.{whole_of}
 use Rattle.alpha_cmd.specs.declared.decision.Decision.{Decision}
@@ -63,9 +65,9 @@ idle_puts s idle = record { written = subst (λ (l : Option (List ℕ)). Appends
 
 -- a call without memory, which has touched no device
 pub unbegun_tried : (P : Answer → Type 0) (w : World) (rest : Answer) (d : Drawn) (s : Shelved) (out notes : Sunk) → P (said w.input NoMemory (status_line NoMemory)) → KeepsFiles s.old s.new
-    → d.old ≡ w.input → Rests d → Idles out → Idles notes → rest ≡ said d.new NoMemory (status_line NoMemory) → Leaves P rest s out notes
+    → d.old.left ≡ w.input → Rests d → Idles out → Idles notes → rest ≡ said d.new.left NoMemory (status_line NoMemory) → Leaves P rest s out notes
 unbegun_tried P w rest d s out notes is same told rests put noted e =
-    let left : d.new ≡ w.input = rests.left ∙ told in
+    let left : d.new.left ≡ w.input = ap (λ (s : Supply). s.left) rests.left ∙ told in
     subst (λ (x : Answer). Leaves P x s out notes) (sym e)
     (record {
       tried = said w.input NoMemory (status_line NoMemory);
@@ -124,10 +126,10 @@ module _ (options : RunOptions) (m : WildState) (ahead : ℕ → ℕ) (how : m.m
 
   pub runs_on : (force : Bool) (last : Option Seen) (count : ℕ) (journal : Parts) (decision : Decision) (to : WildState) (before after : Telling) (d : Drawn) (out notes : Sunk)
       → Records options.steps last journal m to before after d out notes
-      → ((bytes : List ℕ) → d.old ≡ Some bytes → IsRecorded options.steps (program_of m.machine) bytes ahead journal)
-      → answer_in d.new decision ≡ said d.new (answer_status last count) (answer_line last)
+      → ((bytes : List ℕ) → d.old.left ≡ Some bytes → IsRecorded options.steps (program_of m.machine) bytes ahead journal)
+      → answer_in d.new.left decision ≡ said d.new.left (answer_status last count) (answer_line last)
       → before.ahead ≡ Some ahead → before.count ≡ Some 0 → after.count ≡ Some count → count < 2 ^ 64 → (force ≡ false → IsRestartable m.machine.image)
-      → RunsOn options force d.old (plan_by m.machine.image ahead) journal decision d.new out notes
+      → RunsOn options force d.old.left (plan_by m.machine.image ahead) journal decision d.new.left out notes
   unfolding whole_of
   runs_on force last count journal decision to before after d out notes r told says tells none now low alone =
       let n = options.steps in
@@ -136,8 +138,8 @@ module _ (options : RunOptions) (m : WildState) (ahead : ℕ → ℕ) (how : m.m
       record {
         shown = s.shows.what;
         may = s.shows.may;
-        has = has_journal force last count journal to before after d out notes r tells d.old told s.shows.what s.has;
-        says = says ∙ λ i. said d.new (s.shows.status_is i) (s.shows.line_is i);
+        has = has_journal force last count journal to before after d out notes r tells d.old.left told s.shows.what s.has;
+        says = says ∙ λ i. said d.new.left (s.shows.status_is i) (s.shows.line_is i);
         put = s.shows.bytes;
         noted = s.shows.lines;
         left_is = s.shows.left;
@@ -171,23 +173,24 @@ module _ (options : RunOptions) (m : WildState) (ahead : ℕ → ℕ) (how : m.m
     pub noted : Puts notes (notes_of false (seen steps))
     pub left_is : IfSome (option_map (λ (b : List ℕ). left) old) (λ rest. new ≡ Some rest)
 
-  pub stopped_by : (old new : Option (List ℕ)) (a b : ℕ) (out notes : Sunk)
-      → ((bytes : List ℕ) → old ≡ Some bytes
-      → (k : Making) × IsPast options.steps (program_of m.machine) bytes ahead k × Shows k (record { old = old; new = new; before = a; now = b }) out notes)
+  pub stopped_by : (d : Drawn) (out notes : Sunk)
+      → ((bytes : List ℕ) → d.old.left ≡ Some bytes → (k : Making) × IsPast options.steps (program_of m.machine) bytes ahead k × Shows k d out notes)
       → StoppedAt out notes
-      → Stopped old new out notes
-  stopped_by None new a b out notes told h =
-      record { steps = h.by.steps; left = []; stopped = (h.by, h.past, refl); put = h.put; noted = h.noted; left_is = tt }
-  stopped_by (Some bytes) new a b out notes told h =
-      let k = told bytes refl in
-      record {
-        steps = k.0.run.steps;
-        left = k.0.run.left;
-        stopped = (k.0, subst (λ (g : Program). IsPast options.steps g bytes ahead k.0) (same_program (unwatched options) m ahead how fresh) k.1, refl, refl);
-        put = k.2.bytes;
-        noted = k.2.lines;
-        left_is = k.2.left;
-      }
+      → Stopped d.old.left d.new.left out notes
+  stopped_by d out notes told h = by d.old.left refl
+    where
+      by : (left : Option (List ℕ)) → d.old.left ≡ left → Stopped left d.new.left out notes
+      by None is = record { steps = h.by.steps; left = []; stopped = (h.by, h.past, refl); put = h.put; noted = h.noted; left_is = tt }
+      by (Some bytes) is =
+          let k = told bytes is in
+          record {
+            steps = k.0.run.steps;
+            left = k.0.run.left;
+            stopped = (k.0, subst (λ (g : Program). IsPast options.steps g bytes ahead k.0) (same_program (unwatched options) m ahead how fresh) k.1, refl, refl);
+            put = k.2.bytes;
+            noted = k.2.lines;
+            left_is = k.2.left;
+          }
 
   -- ---- one that a device's fault cut short
 
@@ -292,4 +295,4 @@ module _ (options : RunOptions) (m : WildState) (ahead : ℕ → ℕ) (how : m.m
         (starts_not _ _ (on options force name (plan_by m.machine.image ahead)) w _ refl) (KeepsFiles-refl (h.files old.shelf)) refl rests put noted (says (s.left input)))
         (over_takes force name d.status (inr (inr (inr (ap (λ (a : Answer). a.status) (says None))))))
         (record { later = omega (arith, rests.same); calm = λ stays. rests.same })
-        (λ bytes tells. ([], bytes, refl, rests.left ∙ tells))
+        (λ bytes tells. ([], bytes, refl, ap (λ (x : Supply). x.left) rests.left ∙ tells))

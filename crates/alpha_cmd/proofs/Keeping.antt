@@ -77,14 +77,14 @@ module _ (Makes : World → Outcome (List ℕ) → Type 0) (out bytes : List ℕ
 
 -- what a command settles by its keep
 pub settled : {H : Type 0} (g : Ghosts H) (old middle new : H) (Makes : World → Outcome (List ℕ) → Type 0) (out bytes slice : List ℕ) (input : Drawn) (rest : Answer) (stays : Type 0)
-    → Makes (record { files = g.files old; takes = g.takes old; input = input.old }) (goes bytes) → OnlyReads (shelved g old middle) stays → slice ≡ bytes
-    → Settles (TriesKeep (Rose (g.faults middle) (g.faults new)) (record { files = g.files middle; takes = g.takes middle; input = input.old }) out slice) rest (shelved g middle new)
-    → Settles (TriesBy (Rose (g.faults old) (g.faults new)) (Rose input.before input.now) (making Makes out) (record { files = g.files old; takes = g.takes old; input = input.old })) rest
+    → Makes (record { files = g.files old; takes = g.takes old; input = input.old.left }) (goes bytes) → OnlyReads (shelved g old middle) stays → slice ≡ bytes
+    → Settles (TriesKeep (Rose (g.faults middle) (g.faults new)) (record { files = g.files middle; takes = g.takes middle; input = input.old.left }) out slice) rest (shelved g middle new)
+    → Settles (TriesBy (Rose (g.faults old) (g.faults new)) (Rose input.before input.now) (making Makes out) (record { files = g.files old; takes = g.takes old; input = input.old.left })) rest
     (shelved g old new)
 unfolding later
 settled g old middle new Makes out bytes slice input rest stays found read same (kept, tries, has) = (
   kept,
-  tried Makes out slice (record { files = g.files old; takes = g.takes old; input = input.old }) (g.files middle) (g.takes middle) (subst (λ b. Makes (record { files = g.files old; takes = g.takes old; input = input.old }) (goes b)) (sym same) found) read.files read.takes
+  tried Makes out slice (record { files = g.files old; takes = g.takes old; input = input.old.left }) (g.files middle) (g.takes middle) (subst (λ b. Makes (record { files = g.files old; takes = g.takes old; input = input.old.left }) (goes b)) (sym same) found) read.files read.takes
       (Rose input.before input.now) (Rose (g.faults middle) (g.faults new)) (Rose (g.faults old) (g.faults new)) (record rest { kept = kept })
       (Rose-earlier _ _ _ read.later) tries,
   HasKept-after g old middle new read.files kept has,

@@ -21,6 +21,8 @@ pub mod ModuleWords
 pub mod OfImage
 pub mod Promised
 pub mod Ran
+pub mod EndsWhere
+pub mod RunsOnReplies
 pub mod ReadsNothing
 pub mod RecordedRuns
 pub mod ReplayedRuns

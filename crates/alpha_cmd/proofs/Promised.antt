@@ -41,7 +41,7 @@ use Rattle.alpha_cmd.specs.Promises.{tried_in, EndsWhole, EndsCut, GivesOne, Giv
 use Rattle.alpha_cmd.specs.ReadsNothing.{answer_unread, Unread, UnreadAlike}
 use Rattle.alpha_cmd.specs.Replayed.{ShowsRuns}
 use Rattle.alpha_cmd.specs.Replied.{Replies}
-use Rattle.alpha_cmd.specs.ToldRun.{answer_told, Ran}
+use Rattle.alpha_cmd.specs.ToldRun.{answer_told, RanTold}
 use Rattle.alpha_cmd.specs.Tried.{IsAnswer}
 use Rattle.alpha_cmd.proofs.Accepted.{checked as checked_file}
 use Rattle.alpha_cmd.proofs.Endings as endings
@@ -59,26 +59,26 @@ use Rattle.alpha_cmd.proofs.Trying.{MayTake-sink, Spares-sink}
 
 -- all of what was tried was written, or a sink failed
 pub data Ended (words : List (List ℕ)) (status : Status) (c : Call) : Type 0 where
-  written : status ≢ SinkFault → Ends (tried_in words c) status c.input.new c.shelf c.out c.notes → Ended words status c
+  written : status ≢ SinkFault → Ends (tried_in words c) status c.input.new.left c.shelf c.out c.notes → Ended words status c
   failed : status ≡ SinkFault → EndsPart (tried_in words c) c.shelf c.out c.notes → Ended words status c
 
 -- ---- of a decision that is delivered
 
 -- it is never a sink's fault
-pub not_sink : (words : List (List ℕ)) (c : Call) (d : Decision) (out notes : Sunk) → Leaves (tried_in words c) (answer_in c.input.new d) c.shelf out notes → d.status ≢ SinkFault
+pub not_sink : (words : List (List ℕ)) (c : Call) (d : Decision) (out notes : Sunk) → Leaves (tried_in words c) (answer_in c.input.new.left d) c.shelf out notes → d.status ≢ SinkFault
 not_sink words c d out notes so_far =
-    Leaves-not_sink (Rose c.shelf.before c.shelf.now) (Rose c.input.before c.input.now) words (told c) (answer_in c.input.new d) c.shelf out notes so_far
+    Leaves-not_sink (Rose c.shelf.before c.shelf.now) (Rose c.input.before c.input.now) words (told c) (answer_in c.input.new.left d) c.shelf out notes so_far
 
 -- the output was o and p and is q, the notes were x and y and are z
 pub delivered : {K N : Type 0} (k : Ghosts K) (n : Ghosts N) (o p q : K) (x y z : N) (words : List (List ℕ)) (c : Call) (d : Decision) (status : Status)
-    → Leaves (tried_in words c) (answer_in c.input.new d) c.shelf (sunk k o p) (sunk n x y) → (status ≡ SinkFault) ⊎ (status ≡ d.status)
+    → Leaves (tried_in words c) (answer_in c.input.new.left d) c.shelf (sunk k o p) (sunk n x y) → (status ≡ SinkFault) ⊎ (status ≡ d.status)
     → (status ≢ SinkFault → Puts (sunk k p q) d.output) → (status ≢ SinkFault → Puts (sunk n y z) d.line) → Partly (sunk k p q) d.output → Partly (sunk n y z) d.line
     → (status ≡ SinkFault → HasFailed (sunk k p q) ⊎ HasFailed (sunk n y z)) → Ended words status (record c { out = sunk k o q; notes = sunk n x z })
 delivered k n o p q x y z words c d status so_far (inl e) puts notes output line cause =
-    failed e (endings.part k.written k.faults n.written n.faults o p q x y z c.shelf (tried_in words c) (answer_in c.input.new d) so_far output line (cause e))
+    failed e (endings.part k.written k.faults n.written n.faults o p q x y z c.shelf (tried_in words c) (answer_in c.input.new.left d) so_far output line (cause e))
 delivered k n o p q x y z words c d status so_far (inr e) puts notes output line cause =
     let calm : status ≢ SinkFault = λ is. not_sink words c d (sunk k o p) (sunk n x y) so_far (sym e ∙ is) in
-    written calm (endings.whole k.written k.faults n.written n.faults o p q x y z c.shelf (tried_in words c) (answer_in c.input.new d) so_far status e (puts calm) (notes calm))
+    written calm (endings.whole k.written k.faults n.written n.faults o p q x y z c.shelf (tried_in words c) (answer_in c.input.new.left d) so_far status e (puts calm) (notes calm))
 
 can_restart : (s : Shelved) (file : List ℕ) → ReadsImage s file (λ image. IsAccepted image.words) → ReadsImage s file IsRestartable
 can_restart s file r = record { image = r.image; good = r.good; read = r.read; told = r.told; has = accepted_restarts r.image r.good r.has }
@@ -130,14 +130,14 @@ module _ {words : List (List ℕ)} {status : Status} {c : Call} where
 
   pub given : Ended words status c → GivesOne words status c
   given (written calm ends) quiet =
-      given_whole (Rose c.shelf.before c.shelf.now) (Rose c.input.before c.input.now) words (told c) status c.input.new c.shelf c.out c.notes
+      given_whole (Rose c.shelf.before c.shelf.now) (Rose c.input.before c.input.now) words (told c) status c.input.new.left c.shelf c.out c.notes
       (λ p. Rose-not_calm _ _ p quiet.shelf) (λ p. Rose-not_calm _ _ p quiet.input) ends
   given (failed is ends) quiet = absurd (calm_part (tried_in words c) c.shelf c.out c.notes ends quiet.out quiet.notes)
 
 module _ {words : List (List ℕ)} {status : Status} {c : Call} (how : Ended words status c) where
   -- ---- of a call whose answer was written
 
-  ends_done : status ≡ Done 0 → Ends (tried_in words c) status c.input.new c.shelf c.out c.notes
+  ends_done : status ≡ Done 0 → Ends (tried_in words c) status c.input.new.left c.shelf c.out c.notes
   ends_done e = whole how (λ failed. let x : Done 0 ≡ SinkFault = sym e ∙ failed in cc)
 
   pub fixed : Fixes words status c.shelf.old c.shelf.new
@@ -169,7 +169,7 @@ module _ {words : List (List ℕ)} {status : Status} {c : Call} (how : Ended wor
 
   pub exact : GivesThe words status c
   exact a read quiet is =
-      given_as (λ s. s) words (told c) a status c.input.new c.shelf c.out c.notes (λ b also. IsAnswer-single words (told c) b a read also is) (given how quiet)
+      given_as (λ s. s) words (told c) a status c.input.new.left c.shelf c.out c.notes (λ b also. IsAnswer-single words (told c) b a read also is) (given how quiet)
 
   pub accepted : Accepts words status c
   accepted image name asks good safe files there quiet =
@@ -183,7 +183,7 @@ module _ {words : List (List ℕ)} {status : Status} {c : Call} (how : Ended wor
   gave_undrawn : (a : Answer) → ((b : Answer) → IsAnswer words (told c) b → undrawn b ≡ a) → Quiet c → Gave a (but_drawn status) c
   gave_undrawn a same quiet =
       ⊎_elim (λ h. inl h) (λ (memory : status ≡ NoMemory). inr (ap but_drawn memory))
-      (given_as but_drawn words (told c) a status c.input.new c.shelf c.out c.notes same (given how quiet))
+      (given_as but_drawn words (told c) a status c.input.new.left c.shelf c.out c.notes same (given how quiet))
 
   pub alike : Alike words status c
   alike options name bytes image (inl asks) h quiet =
@@ -194,7 +194,7 @@ module _ {words : List (List ℕ)} {status : Status} {c : Call} (how : Ended wor
       (wild_told image name bytes (told c) h.good h.accepted h.told h.there h.input options words choices force
       (asked_rows words (imprecise options choices force name) asks) has) quiet
 
-  pub ran : Ran words status c
+  pub ran : RanTold words status c
   ran name bytes image (inl is) plain h quiet =
       gave_undrawn (answer_told defaults image bytes)
       (run_told image name bytes (told c) h.good h.accepted h.told h.there h.input defaults words (ap asked is ∙ plain_run name plain)) quiet
@@ -205,11 +205,11 @@ module _ {words : List (List ℕ)} {status : Status} {c : Call} (how : Ended wor
 
   pub unread : Unread words status c
   unread options name image asks files found nothing quiet =
-      given_as (λ s. s) words (told c) (answer_unread options image c.input.old) status c.input.new c.shelf c.out c.notes
+      given_as (λ s. s) words (told c) (answer_unread options image c.input.old.left) status c.input.new.left c.shelf c.out c.notes
       (λ a is. one_unread options name image (told c) a files found nothing (asked_answer words (run options name) (told c) a (asked_rows words (run options name) asks) is)) (given how quiet)
 
   pub unread_alike : UnreadAlike words status c
   unread_alike options choices force name image asks files found nothing has checked quiet =
       let command = imprecise options choices force name in
-      gave_undrawn (answer_unread options image c.input.old)
+      gave_undrawn (answer_unread options image c.input.old.left)
       (λ b is. alike_unread options choices force name image (told c) b files found nothing has checked (asked_answer words command (told c) b (asked_rows words command asks) is)) quiet

@@ -23,9 +23,9 @@ use Rattle.alpha_cmd.specs.declared.decision.Decision.{Decision}
 use Rattle.alpha_cmd.specs.declared.devices.Devices.{Devices}
 use Rattle.alpha_cmd.specs.declared.status.Status.{Status}
 use Rattle.alpha_cmd.specs.Outcome.{goes}
-use Rattle.alpha_cmd.specs.Commands.Run.{RunByReads, shown_by, MayShow, on}
+use Rattle.alpha_cmd.specs.Commands.Run.{shown_by, MayShow, on}
 use Rattle.alpha_cmd.specs.Commands.Imprecise.{answer_status, answer_line}
-use Rattle.alpha_cmd.specs.RunAnswer.{run_status, run_line, program_by, answer_shown}
+use Rattle.alpha_cmd.specs.RunAnswer.{RunByReads, run_status, run_line, program_by, answer_shown}
 use Rattle.alpha_cmd.specs.AnswerBy.{World, said}
 use Rattle.alpha_cmd.specs.Decision.{answer_in}
 use Rattle.alpha_cmd.specs.Does.{Does}
@@ -60,11 +60,11 @@ started_shows options m bytes at =
 
 pub record Shows (options : RunOptions) (m : Machine) (last : Option Event) (input : Drawn) (out notes : Sunk) : Type 0 where
   pub what : Shown
-  pub may : MayShow options input.old m.image what
+  pub may : MayShow options input.old.left m.image what
   pub last_is : last ≡ ended_by what.end
   pub bytes : Puts out what.output
   pub lines : Puts notes what.notes
-  pub left : IfSome (option_map (λ (b : List ℕ). what.left) input.old) (λ rest. input.new ≡ Some rest)
+  pub left : IfSome (option_map (λ (b : List ℕ). what.left) input.old.left) (λ rest. input.new.left ≡ Some rest)
 
 going_none : (e : Option End) → e ≡ None → None ≡ ended_by e
 going_none None h = refl
@@ -75,7 +75,7 @@ module _ (options : RunOptions) (last : Option Event) (rest : ℕ) (old new : Ma
   made : HasMade options.steps ran.events ran.at
   made = record { most = omega (arith, ran.used); full = λ none. ran.full (ran.end ∙ ap ended_by none) }
 
-  by_told : (told : Option (List ℕ)) → input.old ≡ told → Shows options old last (record input { old = told }) out notes
+  by_told : (told : Option (List ℕ)) → input.old.left ≡ told → Shows options old last (record input { old = record input.old { left = told } }) out notes
   by_told None is = record {
     what = shown_by options.watch ran.events ran.at;
     may = reads_may options old ran.events ran.at at ran.runs made;
@@ -85,7 +85,7 @@ module _ (options : RunOptions) (last : Option Event) (rest : ℕ) (old new : Ma
     left = tt;
   }
   by_told (Some bytes) is =
-      let fed = ran.told bytes is in
+      let fed = ran.fed.told bytes is in
       let all = told_all last options.steps rest options.watch old new input out notes ran bytes fed.0 fed.1 in
       record {
         what = shown options.watch (record { at = ran.at; events = ran.events; left = fed.0 });
@@ -97,7 +97,7 @@ module _ (options : RunOptions) (last : Option Event) (rest : ℕ) (old new : Ma
       }
 
   pub ran_shows : Shows options old last input out notes
-  ran_shows = by_told input.old refl
+  ran_shows = by_told input.old.left refl
 
 -- ---- a run that was cut short: fronts of what it would have shown were written
 
@@ -107,8 +107,8 @@ record Begins (options : RunOptions) (m : Machine) (left : Option (List ℕ)) (o
   bytes : WritesPrefix out.old out.new what.output
   lines : WritesPrefix notes.old notes.new what.notes
 
-cut_begins : (options : RunOptions) (fault : Fault) (m : Machine) {new : Machine} (input : Drawn) (out notes : Sunk) → IsStarted options m
-    → SeqCut fault options.steps options.watch m new input out notes → (told : Option (List ℕ)) → input.old ≡ told → Begins options m told out notes
+cut_begins : (options : RunOptions) (fault : Fault) (m : Machine) {rest : ℕ} {new : Machine} (input : Drawn) (out notes : Sunk) → IsStarted options m
+    → SeqCut fault options.steps rest options.watch m new input out notes → (told : Option (List ℕ)) → input.old.left ≡ told → Begins options m told out notes
 cut_begins options fault m input out notes at cut None is =
     let front = cut_any fault options.steps options.watch m input out notes cut in
     record {
@@ -150,8 +150,8 @@ ran_whole h s k n old input out notes options m last d says did same rest =
     refl refl did.bytes did.lines did.left refl (takes_end end) same rest
 
 -- one that was cut short
-pub cut_fronts : (options : RunOptions) (m : Machine) (w : World) (fault : Fault) {new : Machine} (d : Drawn) (out notes : Sunk) → IsStarted options m
-    → SeqCut fault options.steps options.watch m new d out notes → d.old ≡ w.input → Fronts (on options m.image) w out notes
+pub cut_fronts : (options : RunOptions) (m : Machine) (w : World) (fault : Fault) {rest : ℕ} {new : Machine} (d : Drawn) (out notes : Sunk) → IsStarted options m
+    → SeqCut fault options.steps rest options.watch m new d out notes → d.old.left ≡ w.input → Fronts (on options m.image) w out notes
 cut_fronts options m w fault d out notes at cut told =
     let b = cut_begins options fault m d out notes at cut w.input told in
     record {

@@ -34,16 +34,16 @@ told_by : (image : Parts) (old now : Option (List ℕ)) (taken rest : List ℕ) 
 told_by image None now taken rest t took is = (taken ++ rest, is)
 told_by image (Some script) now taken rest t took is = subst (λ (bytes : List ℕ). IsTranscript image bytes t) (sym took.0) is
 
-pub may_tell : (image : Parts) (d : Drawn) (t : Transcript) → Follows image d t → MayTell d.old image t
-may_tell image d t follows = told_by image d.old d.new follows.taken follows.rest t follows.took follows.is
+pub may_tell : (image : Parts) (d : Drawn) (t : Transcript) → Follows image d t → MayTell d.old.left image t
+may_tell image d t follows = told_by image d.old.left d.new.left follows.taken follows.rest t follows.took follows.is
 
-pub tail : (image : Parts) (d : Drawn) (t : Transcript) → Follows image d t → LeavesTail script_most d.old d.new
+pub tail : (image : Parts) (d : Drawn) (t : Transcript) → Follows image d t → LeavesTail script_most d.old.left d.new.left
 tail image d t follows = record { taken = follows.taken; rest = follows.rest; took = follows.took; bound = follows.most }
 
 -- so an end of the script is left
-tail_end : (d : Drawn) → LeavesTail script_most d.old d.new → LeavesEnd d
+tail_end : (d : Drawn) → LeavesTail script_most d.old.left d.new.left → LeavesEnd d
 tail_end d tail = λ bytes tells.
-    let took = subst (λ (old : Option (List ℕ)). Takes old d.new tail.taken tail.rest) tells tail.took in
+    let took = subst (λ (old : Option (List ℕ)). Takes old d.new.left tail.taken tail.rest) tells tail.took in
     (tail.taken, tail.rest, took.0, took.1)
 
 took_none : (left : Option (List ℕ)) → LeavesTail script_most left left

@@ -98,7 +98,7 @@ told_back options name bytes w a files e check is =
 -- So what is said of accepted images is said by the answers of `check` and `run`.
 pub by_answers : (words : List (List ℕ)) (status : Status) (c : Call) → Alike words status c → AlikeByAnswers words status c
 by_answers words status c h options choices force name a asks files input has check is quiet =
-    let (bytes, tells) = some_bytes c.input.old input in
+    let (bytes, tells) = some_bytes c.input.old.left input in
     let good = told_back options name bytes (told c) a files tells check is in
     subst (λ (b : Answer). Gave b (but_drawn status) c) (sym good.is)
     (h options name bytes good.image (inr (choices, force, asks, have_words c.shelf.old choices has))

@@ -8,8 +8,8 @@ use Rattle.alpha_imprecise.specs.Run.{seen}
 use Rattle.alpha_imprecise.specs.Made.{wild_end, lost_trap, ShownWild}
 use Rattle.alpha_imprecise.specs.Restart.{IsRestartable}
 use Rattle.alpha_imprecise.proofs.Showing.{SameFree, same_free}
-use Rattle.alpha_cmd.specs.Commands.Run.{RunByReads, shown_by, MayShow}
-use Rattle.alpha_cmd.specs.RunAnswer.{program_by}
+use Rattle.alpha_cmd.specs.Commands.Run.{shown_by, MayShow}
+use Rattle.alpha_cmd.specs.RunAnswer.{RunByReads, program_by}
 use Rattle.alpha_cmd.specs.Commands.Imprecise.{Plan, with_drawn, MadeByReads, shown_wild, MayShowBy}
 
 -- the precise run of a plan's run

@@ -10,7 +10,9 @@ use Rattle.alpha_seq.specs.declared.event.Event.{Event as Seen}
 use Rattle.alpha_pal.specs.declared.fault.Fault.{Fault}
 use Rattle.alpha_seq.specs.State.{Program, Went}
 use Rattle.alpha_seq.specs.Start.{start}
-use Rattle.alpha_seq.specs.Run.{output, notes as notes_of, sequential}
+use Rattle.alpha_seq.specs.declared.end.End.{End}
+use Rattle.alpha_seq.specs.declared.end.End.TheVariants as ends
+use Rattle.alpha_seq.specs.Run.{end_of, output, notes as notes_of, sequential}
 use Rattle.alpha_seq.specs.Machine.{program_of}
 use Rattle.alpha_seq.specs.Devices.{Drawn, LeavesEnd, drawn as drawn_in}
 use Rattle.alpha_imprecise.specs.Moment.{Happening, Precisely, Moment}
@@ -34,7 +36,10 @@ use Rattle.alpha_run.proofs.WildShown.{drawn_from_none, Whole, used_all, few_dra
 use Rattle.alpha_cmd.specs.declared.decision.Decision.{Decision}
 use Rattle.alpha_cmd.specs.declared.devices.Devices.{Devices}
 use Rattle.alpha_cmd.specs.Outcome.{goes}
-use Rattle.alpha_cmd.specs.RunAnswer.{program_by}
+use Rattle.alpha_cmd.specs.Answer.{Answer}
+use Rattle.alpha_cmd.specs.Drawn.{but_drawn}
+use Rattle.alpha_cmd.specs.RunsAsked.{DecidesRun}
+use Rattle.alpha_cmd.specs.RunAnswer.{run_status, run_line, program_by}
 use Rattle.alpha_cmd.specs.Commands.Imprecise.{Plan, plan_by, MayRun, with_drawn, begins_plan, MadeByReads, MayShowWild, wild_status, wild_line, answer_status, answer_line, answer_wild, kind, on}
 use Rattle.alpha_cmd.specs.AnswerBy.{World, said}
 use Rattle.alpha_cmd.specs.Form.{MayTakeBy}
@@ -43,7 +48,7 @@ use Rattle.alpha_cmd.specs.Does.{Does}
 use Rattle.alpha_cmd.proofs.Commands.Imprecise.{may_lose}
 use Rattle.alpha_cmd.proofs.CutShort.{Fronts}
 use Rattle.alpha_cmd.proofs.Streaming.{streamed, does_whole}
-use Rattle.alpha_cmd.proofs.Untold.{HasShown, reads_show}
+use Rattle.alpha_cmd.proofs.Untold.{HasShown, made_same, reads_show}
 
 -- ---- the status and the line of a run's end
 
@@ -56,6 +61,16 @@ line_by : (h : Happening) → answer_line (ended_as h) ≡ wild_line (wild_end h
 line_by (Precisely Went) = refl
 line_by (Precisely event) = refl
 line_by moment = refl
+
+-- where no trap was lost they are those of the sequential run, but for the number of words
+undrawn_status : (end : Option End) (n : ℕ) → but_drawn (wild_status end None n) ≡ run_status end
+undrawn_status None n = refl
+undrawn_status (Some (ends.Exit v)) n = refl
+undrawn_status (Some end) n = refl
+
+same_line : (end : Option End) → wild_line end None ≡ run_line end
+same_line None = refl
+same_line (Some end) = refl
 
 -- whatever words are drawn, its runs are those of the sequential machine
 pub may_alone : (force : Bool) (plan : Plan) → MayRun force plan → force ≡ false → IsRestartable plan.image
@@ -176,9 +191,9 @@ module _ (options : RunOptions) (m : WildState) (ahead : ℕ → ℕ) (how : m.m
       what : ShownWild
       may : MayShowWild options force told (plan_by m.machine.image ahead) what
       has : HasShown options.watch what w.happened w.ran.steps (length w.ran.words)
-      left : IfSome (option_map (λ (b : List ℕ). what.left) told) (λ l. d.new ≡ Some l)
+      left : IfSome (option_map (λ (b : List ℕ). what.left) told) (λ l. d.new.left ≡ Some l)
 
-    may_show : (force : Bool) (told : Option (List ℕ)) → d.old ≡ told → (force ≡ false → IsRestartable m.machine.image) → Made force told
+    may_show : (force : Bool) (told : Option (List ℕ)) → d.old.left ≡ told → (force ≡ false → IsRestartable m.machine.image) → Made force told
     unfolding by_reads
     may_show force None is alone =
         let s = reads_show options force (plan_by m.machine.image ahead) (by_reads last rest new before after d out notes w tells) alone in
@@ -186,7 +201,7 @@ module _ (options : RunOptions) (m : WildState) (ahead : ℕ → ℕ) (how : m.m
     may_show force (Some bytes) is alone =
         let s = told_starts before after ahead w.ran.words (most_words options.steps) tells w.ran.drew
         (few_drawn last options.steps rest options.watch m new before after d out notes w fresh.calm) in
-        let fed = w.ran.told bytes is in
+        let fed = w.ran.fed.told bytes is in
         let there = told_from last options.steps rest options.watch m new before after d out notes w bytes s.coming fed.0 fed.1 in
         let k = making (moment_of new w.happened) w.ran.steps fed.0 w.count there.0 s.coming (length w.ran.words) in
         let all = sym there.1 ∙ ap (λ (l : List ℕ). made (program_of m.machine) (begun_at m bytes l) options.steps) (sym s.is) in
@@ -195,12 +210,12 @@ module _ (options : RunOptions) (m : WildState) (ahead : ℕ → ℕ) (how : m.m
 
     -- which is what these steps show
     pub record ShowsOf (force : Bool) (drawn : ℕ) : Type 0 where
-      pub shows : Shows force last drawn d.old d.new out notes
+      pub shows : Shows force last drawn d.old.left d.new.left out notes
       pub has : HasShown options.watch shows.what w.happened w.ran.steps (length w.ran.words)
 
     pub ran_shows_of : (force : Bool) (drawn : ℕ) → before.count ≡ Some 0 → after.count ≡ Some drawn → drawn < 2 ^ 64 → (force ≡ false → IsRestartable m.machine.image) → ShowsOf force drawn
     ran_shows_of force drawn none now low alone =
-        let may = may_show force d.old refl alone in
+        let may = may_show force d.old.left refl alone in
         let all = drawn_from_none before.count after.count drawn (length w.ran.words) none now w.ran.drew.counted in
         let many : drawn ≡ may.what.drawn % 2 ^ 64 = omega (arith, all, low, may.has.drawn) in
         record {
@@ -219,8 +234,33 @@ module _ (options : RunOptions) (m : WildState) (ahead : ℕ → ℕ) (how : m.m
           has = may.has;
         }
 
+    -- it is a run of the sequential machine, where the program can be restarted
+    pub wild_decides : (drawn : ℕ) → IsRestartable m.machine.image → (decision : Decision)
+        → ((left : Option (List ℕ)) → answer_in left decision ≡ said left (answer_status last drawn) (answer_line last))
+        → DecidesRun options m.machine.image decision d out notes
+    unfolding by_reads
+    wild_decides drawn restarts decision says =
+        let q = made_same options (plan_by m.machine.image ahead) restarts (by_reads last rest new before after d out notes w tells) in
+        let end = end_of q.last.event in
+        let e = says None in
+        let status : answer_status last drawn ≡ wild_status end None drawn =
+        ap (λ (o : Option Seen). answer_status o drawn) w.last_is ∙ (status_by w.happened drawn ∙ λ i. wild_status (q.end i) (q.lost i) drawn) in
+        let line : answer_line last ≡ wild_line end None =
+        ap answer_line w.last_is ∙ (line_by w.happened ∙ λ i. wild_line (q.end i) (q.lost i)) in
+        record {
+          ran = record {
+            run = record { events = seen w.ran.steps; at = q.last; runs = q.runs; made = q.made };
+            answers = w.ran.fed.answers;
+          };
+          status_is = ap (λ (a : Answer). but_drawn a.status) e ∙ (ap but_drawn status ∙ undrawn_status end drawn);
+          no_more = ap (λ (a : Answer). a.output) e;
+          line_is = ap (λ (a : Answer). a.line) e ∙ (line ∙ same_line end);
+          put = w.ran.wrote;
+          noted = w.ran.noted;
+        }
+
     pub ran_shows : (force : Bool) (drawn : ℕ) → before.count ≡ Some 0 → after.count ≡ Some drawn → drawn < 2 ^ 64 → (force ≡ false → IsRestartable m.machine.image)
-        → Shows force last drawn d.old d.new out notes
+        → Shows force last drawn d.old.left d.new.left out notes
     ran_shows force drawn none now low alone = (ran_shows_of force drawn none now low alone).shows
 
   -- ---- a run that was cut short: fronts of what it would have shown were written
@@ -231,8 +271,8 @@ module _ (options : RunOptions) (m : WildState) (ahead : ℕ → ℕ) (how : m.m
     pub bytes : WritesPrefix out.old out.new what.output
     pub lines : WritesPrefix notes.old notes.new what.notes
 
-  pub cut_begins : (force : Bool) (fault : Fault) {new : WildState} (before after : Telling) (d : Drawn) (out notes : Sunk) → WildCut fault options.steps options.watch m new before after d out notes
-      → before.ahead ≡ Some ahead → (force ≡ false → IsRestartable m.machine.image) → (told : Option (List ℕ)) → d.old ≡ told → Begins force told out notes
+  pub cut_begins : (force : Bool) (fault : Fault) {rest : ℕ} {new : WildState} (before after : Telling) (d : Drawn) (out notes : Sunk) → WildCut fault options.steps rest options.watch m new before after d out notes
+      → before.ahead ≡ Some ahead → (force ≡ false → IsRestartable m.machine.image) → (told : Option (List ℕ)) → d.old.left ≡ told → Begins force told out notes
   unfolding front_reads
   cut_begins force fault before after d out notes cut tells alone None is =
       let words = cut.words ++ cut.print.words in

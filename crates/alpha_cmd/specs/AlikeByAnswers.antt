@@ -36,5 +36,5 @@ HasWords files choices = (ahead : ℕ → ℕ) × ChoicesOf files choices (goes 
 abbrev pub AlikeByAnswers : List (List ℕ) → Status → Call → Type 0
 AlikeByAnswers words status c = (options : RunOptions) (choices : Origin) (force : Bool) (file : List ℕ) (a : Answer)
     → run_words.AsksImprecise words options choices force file
-    → IsSome c.shelf.old → IsSome c.input.old → HasWords c.shelf.old choices → IsChecked file (told c)
+    → IsSome c.shelf.old → IsSome c.input.old.left → HasWords c.shelf.old choices → IsChecked file (told c)
     → AnswerBy (runs.steps options file) (told c) a → Quiet c → Gave a (but_drawn status) c

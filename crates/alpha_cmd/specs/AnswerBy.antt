@@ -29,7 +29,7 @@ HaveBytes (Some files) = (name file : List ℕ) → files name ≡ Some file →
 
 -- what the devices of a call told before it
 abbrev pub told : Call → World
-told c = record { files = c.shelf.old; takes = c.shelf.took; input = c.input.old }
+told c = record { files = c.shelf.old; takes = c.shelf.took; input = c.input.old.left }
 
 -- a status that is said by its line alone, with the input as it is
 abbrev pub said : Option (List ℕ) → Status → List ℕ → Answer

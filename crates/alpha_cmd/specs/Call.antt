@@ -8,7 +8,7 @@ use Rattle.alpha_io.specs.Sunk.{Sunk, sunk}
 use Rattle.alpha_seq.specs.Devices.{Drawn, drawn}
 use Rattle.alpha_cmd.specs.declared.devices.Devices.{Devices}
 
--- what each device tells and its count of faults, before the call and after it
+-- what each device tells, its count of faults, and what shelf and source answered, before the call and after it
 pub record Call : Type 0 where
   pub shelf : Shelved
   pub input : Drawn

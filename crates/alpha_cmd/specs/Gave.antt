@@ -7,4 +7,4 @@ use Rattle.alpha_cmd.specs.Call.{Call}
 
 -- this answer, all of it, with this status; or memory ran out
 abbrev pub Gave : Answer → Status → Call → Type 0
-Gave a status c = IsAnswered a status c.input.new c.shelf c.out c.notes ⊎ (status ≡ NoMemory)
+Gave a status c = IsAnswered a status c.input.new.left c.shelf c.out c.notes ⊎ (status ≡ NoMemory)

@@ -25,6 +25,8 @@ pub mod Makings
 pub mod OfImage
 pub mod Outcome
 pub mod Promises
+pub mod Ran
+pub mod RunsAsked
 pub mod ReadsNothing
 pub mod RecordedRun
 pub mod Replayed

@@ -34,7 +34,7 @@ tried_in words c = TriedBy (Rose c.shelf.before c.shelf.now) (Rose c.input.befor
 -- The status, all that is written and the input left are an answer to the words, or what a fault of the shelf or of the input
 -- or want of memory leaves of it.
 abbrev pub EndsWhole : List (List ℕ) → Status → Call → Type 0
-EndsWhole words status c = status ≢ SinkFault → Ends (tried_in words c) status c.input.new c.shelf c.out c.notes
+EndsWhole words status c = status ≢ SinkFault → Ends (tried_in words c) status c.input.new.left c.shelf c.out c.notes
 
 -- Where something couldn't be written, a sink failed, and a prefix of that was written.
 abbrev pub EndsCut : List (List ℕ) → Status → Call → Type 0
@@ -42,7 +42,7 @@ EndsCut words status c = status ≡ SinkFault → EndsPart (tried_in words c) c.
 
 -- Where no device fails, one of the words' answers is given, or memory ran out.
 abbrev pub GivesOne : List (List ℕ) → Status → Call → Type 0
-GivesOne words status c = Quiet c → IsGiven words (told c) status c.input.new c.shelf c.out c.notes
+GivesOne words status c = Quiet c → IsGiven words (told c) status c.input.new.left c.shelf c.out c.notes
 
 -- Where what the words' command reads is told and no device fails, the words' answer is given, or memory ran out.
 abbrev pub GivesThe : List (List ℕ) → Status → Call → Type 0
@@ -68,7 +68,7 @@ DrawsUnder status d = CountStays d ((status ≢ InputFault) × (status ≢ SinkF
 
 -- Of a script no more is taken than the bytes that count and one.
 abbrev pub LeavesScript : List (List ℕ) → Drawn → Type 0
-LeavesScript words d = (file : List ℕ) → Asks words (debug file) → LeavesTail script_most d.old d.new
+LeavesScript words d = (file : List ℕ) → Asks words (debug file) → LeavesTail script_most d.old.left d.new.left
 
 -- ---- the status of a run
 

@@ -33,7 +33,7 @@ answer_unread options image input =
 abbrev pub Unread : List (List ℕ) → Status → Call → Type 0
 Unread words status c = (options : RunOptions) (file : List ℕ) (image : Parts) → run_words.Asks words options file
     → IsSome c.shelf.old → ImageOf c.shelf.old file (goes image) → ReadsNothing options image
-    → Quiet c → Gave (answer_unread options image c.input.old) status c
+    → Quiet c → Gave (answer_unread options image c.input.old.left) status c
 
 -- So does a run of the imprecise machine of such a file that a check accepts, but for the number of words that it draws.
 abbrev pub UnreadAlike : List (List ℕ) → Status → Call → Type 0
@@ -41,4 +41,4 @@ UnreadAlike words status c = (options : RunOptions) (choices : Origin) (force : 
     → run_words.AsksImprecise words options choices force file
     → IsSome c.shelf.old → ImageOf c.shelf.old file (goes image) → ReadsNothing options image
     → HasWords c.shelf.old choices → IsChecked file (told c)
-    → Quiet c → Gave (answer_unread options image c.input.old) (but_drawn status) c
+    → Quiet c → Gave (answer_unread options image c.input.old.left) (but_drawn status) c

@@ -5,8 +5,10 @@ use Rattle.alpha_request.specs.declared.options.RunOptions.{RunOptions}
 use Rattle.alpha_seq.specs.declared.end.End.{End}
 use Rattle.alpha_seq.specs.declared.end.End.TheVariants as ends
 use Rattle.alpha_seq.specs.Notes.{end_line}
-use Rattle.alpha_seq.specs.State.{Program}
-use Rattle.alpha_seq.specs.Run.{Shown}
+use Rattle.alpha_seq.specs.State.{Program, Event, Stepped}
+use Rattle.alpha_seq.specs.Start.{start}
+use Rattle.alpha_seq.specs.Run.{begins, Runs as RunsBy, Shown}
+use Rattle.alpha_seq.specs.Fronts.{HasMade}
 use Rattle.alpha_cmd.specs.declared.status.Status.{Status}
 use Rattle.alpha_cmd.specs.declared.status.Status.TheVariants.{Done, Stopped, StepsSpent}
 use Rattle.alpha_cmd.specs.SpentLine.{spent_line}
@@ -38,3 +40,11 @@ answer_shown input s = record {
   left = option_map (λ bytes. s.left) input;
   kept = nothing;
 }
+
+-- A run from the start with as many steps as were asked for, or to the program's end, whatever each read was given: a source
+-- that tells nothing may answer each of them anew.
+pub record RunByReads (options : RunOptions) (image : Parts) : Type 0 where
+  pub events : List Event
+  pub at : Stepped
+  pub runs : RunsBy (program_by options image) (begins (start (program_by options image))) events at
+  pub made : HasMade options.steps events at

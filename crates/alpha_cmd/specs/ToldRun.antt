@@ -24,7 +24,7 @@ pub record TellsAccepted (image : Parts) (file bytes : List ℕ) (c : Call) : Ty
   pub accepted : IsAccepted image.words
   pub told : IsSome c.shelf.old
   pub there : HasFile c.shelf.old file (spelling image)
-  pub input : c.input.old ≡ Some bytes
+  pub input : c.input.old.left ≡ Some bytes
 
 -- plain words that ask for a run of the file, by either machine
 abbrev pub AskRun : List (List ℕ) → List ℕ → Type 0
@@ -36,6 +36,6 @@ answer_plain image input = answer_shown (Some input) (sequential (record { image
 
 -- Where no device fails, such words give the answer of the sequential run, whichever machine they ask for. Only the number of
 -- words that the imprecise machine draws, which its status carries where the program has exited, is its own.
-abbrev pub Ran : List (List ℕ) → Status → Call → Type 0
-Ran words status c = (file bytes : List ℕ) (image : Parts) → AskRun words file → IsPlain file
+abbrev pub RanTold : List (List ℕ) → Status → Call → Type 0
+RanTold words status c = (file bytes : List ℕ) (image : Parts) → AskRun words file → IsPlain file
     → TellsAccepted image file bytes c → Quiet c → Gave (answer_plain image bytes) (but_drawn status) c

@@ -1,8 +1,9 @@
 //! The words by which the imprecise machine chooses.
 
-ghost use Rattle.std.specs.Prelude.{Some, None, Err};
+ghost use Rattle.std.specs.Prelude.{◌≡◌, ℕ, Some, None, Err, OnErr};
 ghost use Rattle.alpha_io.specs.Shelved.{shelved};
 ghost use Rattle.alpha_request.specs.Origin as choices;
+ghost use Rattle.alpha_request.specs.Origin.{seed};
 ghost use Rattle.alpha_request.specs.Options.{origin_of};
 ghost use Rattle.alpha_cmd.specs.Chooser.{ahead_in};
 ghost use Rattle.alpha_cmd.specs.Choosing.{ChoicesOf};
@@ -47,8 +48,10 @@ pub(crate) fn chooser_of<H: Shelf>(
     choices: &Choices<'_>,
     shelf: &mut H,
 ) -> Result<Choosing, Stop>
-    ensures { Stage (ChoicesOf (H.files shelf.old) (origin_of choices.now))
+    ensures stage { Stage (ChoicesOf (H.files shelf.old) (origin_of choices.now))
         (λ chooser. ahead_in chooser) result (shelved H.Shelf shelf.old shelf.new) }
+    ensures seeded { (n : ℕ) → origin_of choices.now ≡ seed n → shelf.new ≡ shelf.old }
+    ensures sure { (n : ℕ) → origin_of choices.now ≡ seed n → OnErr result ⊥ }
 {
     match *choices {
         Choices::Seed(seed) => Ok(Choosing::Seeded(PcgChooser::new(seed))),

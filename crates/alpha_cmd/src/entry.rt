@@ -14,12 +14,14 @@ ghost use Rattle.alpha_cmd.specs.Makings.Module.{KeepsModules};
 ghost use Rattle.alpha_cmd.specs.Commands.Record.{KeepsUnder};
 ghost use Rattle.alpha_cmd.specs.Fixed.{Fixes};
 ghost use Rattle.alpha_cmd.specs.Promises.{EndsWhole, EndsCut, GivesOne, GivesThe, ServesUnder, SparesFiles, TakesInput, DrawsUnder, LeavesScript, EndsAsked, LosesNone};
+ghost use Rattle.alpha_cmd.specs.Ran.{Ran};
+ghost use Rattle.alpha_cmd.specs.RunsAsked.{RunsAsked};
 ghost use Rattle.alpha_cmd.specs.ReadsNothing.{Unread, UnreadAlike};
 ghost use Rattle.alpha_cmd.specs.Replayed.{ShowsRuns};
 ghost use Rattle.alpha_cmd.specs.Replied.{Replies};
 ghost use Rattle.alpha_cmd.specs.Restarts.{Restarts};
 ghost use Rattle.alpha_cmd.specs.Accepts.{Accepts};
-ghost use Rattle.alpha_cmd.specs.ToldRun.{Ran};
+ghost use Rattle.alpha_cmd.specs.ToldRun.{RanTold};
 
 use crate::devices::Devices;
 use crate::{Status, alpha_top};
@@ -65,9 +67,13 @@ pub fn alpha_main<H: Shelf, S: Source, K: Sink, N: Sink>(
     ensures checked { Checked (words_in arguments.now) result (shelved H.Shelf devices.old.shelf devices.new.shelf) }
     ensures accepted { Accepts (words_in arguments.now) result
         (called H.Shelf S.Source K.Sink N.Sink devices.old devices.new) }
-    ensures ran { Ran (words_in arguments.now) result (called H.Shelf S.Source K.Sink N.Sink devices.old devices.new) }
+    ensures ran_told { RanTold (words_in arguments.now) result
+        (called H.Shelf S.Source K.Sink N.Sink devices.old devices.new) }
     ensures alike { Alike (words_in arguments.now) result
         (called H.Shelf S.Source K.Sink N.Sink devices.old devices.new) }
+    ensures runs { RunsAsked (words_in arguments.now) result
+        (called H.Shelf S.Source K.Sink N.Sink devices.old devices.new) }
+    ensures ran { Ran (words_in arguments.now) result (called H.Shelf S.Source K.Sink N.Sink devices.old devices.new) }
     ensures unread { Unread (words_in arguments.now) result
         (called H.Shelf S.Source K.Sink N.Sink devices.old devices.new) }
     ensures unread_alike { UnreadAlike (words_in arguments.now) result

@@ -1,10 +1,10 @@
 //! The stages that lead to a file and to its image.
 
-ghost use Rattle.std.specs.Prelude.{◌≡◌, ◌⊎◌, ◌^◌, ◌<◌, IfOk, IfErr, OnOk, None};
+ghost use Rattle.std.specs.Prelude.{◌≡◌, ◌⊎◌, ◌^◌, ◌<◌, ℕ, List, IfOk, IfErr, OnOk, OnErr, None};
 ghost use Rattle.alpha_io.specs.History.{IsReadWhole};
 ghost use Rattle.alpha_io.specs.Shelved.{shelved};
 ghost use Rattle.alpha_image.specs.ImageFault.{first_fault};
-ghost use Rattle.alpha_image.specs.Parts.{IsImage, spelling};
+ghost use Rattle.alpha_image.specs.Parts.{Parts, IsImage, spelling};
 ghost use Rattle.alpha_cmd.specs.Outcome.{goes, stops};
 ghost use Rattle.alpha_cmd.specs.Status.{status_line};
 ghost use Rattle.alpha_shadow.specs.Broken.{IsAccepted};
@@ -48,6 +48,8 @@ pub(crate) fn read_file<H: Shelf>(
     requires { limit < 2 ^ 32 }
     ensures read { IfOk result (λ bytes.
         IsReadWhole (H.replies shelf.old) (H.replies shelf.new) name.now bytes.items) }
+    ensures whole { (file : List ℕ) → IsReadWhole (H.replies shelf.old) (H.replies shelf.new) name.now file
+        → IfErr result (λ stop. stop ≡ Stop.Said Status.NoMemory) }
     ensures stage { Stage (Reads (H.files shelf.old) name.now limit) (λ bytes. bytes.items) result
         (shelved H.Shelf shelf.old shelf.new) }
 {
@@ -74,6 +76,9 @@ pub(crate) fn spelled(alloc: Global, image: &Image) -> Result<Vec<u8>, Stop>
 pub(crate) fn load<H: Shelf>(alloc: Global, shelf: &mut H, name: &str) -> Result<Image, Stop>
     ensures read { IfOk result (λ image. IsImage image
         × IsReadWhole (H.replies shelf.old) (H.replies shelf.new) name.now (spelling image)) }
+    ensures whole { (image : Parts) → IsImage image
+        → IsReadWhole (H.replies shelf.old) (H.replies shelf.new) name.now (spelling image)
+        → IfErr result (λ stop. stop ≡ Stop.Said Status.NoMemory) }
     ensures stage { Stage (ImageOf (H.files shelf.old) name.now) (λ image. image) result
         (shelved H.Shelf shelf.old shelf.new) }
 {
@@ -89,6 +94,7 @@ pub(crate) fn judged(image: &Image) -> Result<(), Stop>
     ensures ok { OnOk result (IsAccepted image.now.words) }
     ensures refused { IfErr result (λ stop.
         IsRefused image.now (stop_status stop) (stop_line stop)) }
+    ensures whole { IsAccepted image.now.words → OnErr result ⊥ }
 {
     match judge(&mut ImageCode::new(image)) {
         Ok(()) => Ok(()),

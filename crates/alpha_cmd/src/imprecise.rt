@@ -1,12 +1,22 @@
 //! `run --imprecise FILE`: a run of the image's program by the imprecise machine.
 
-ghost use Rattle.std.specs.Prelude.{◌≡◌, Bool, IfOk, IfErr};
+ghost use Rattle.std.specs.Prelude.{◌≡◌, ◌⊎◌, ℕ, Bool, false, IfOk, IfErr, OnErr};
+ghost use Rattle.alpha_io.specs.History.{IsReadWhole};
 ghost use Rattle.alpha_io.specs.Shelved.{shelved};
+ghost use Rattle.alpha_io.specs.Sunk.{sunk};
+ghost use Rattle.alpha_image.specs.Parts.{Parts, IsImage, spelling};
+ghost use Rattle.alpha_shadow.specs.Broken.{IsAccepted};
+ghost use Rattle.alpha_seq.specs.Devices.{drawn};
+ghost use Rattle.alpha_request.specs.Origin.{seed};
 ghost use Rattle.alpha_request.specs.Options.{origin_of};
 ghost use Rattle.alpha_cmd.specs.Chooser.{ahead_in};
 ghost use Rattle.alpha_cmd.specs.Commands.Imprecise as wilds;
 ghost use Rattle.alpha_cmd.specs.Commands.Imprecise.{IsBegun, MayRun, Passes, PlanOf, Planned, plan_by, plan_in};
+ghost use Rattle.alpha_cmd.specs.Checked.{ReadsImage};
 ghost use Rattle.alpha_cmd.specs.Does.{Does};
+ghost use Rattle.alpha_cmd.specs.Ends.{status_in};
+ghost use Rattle.alpha_cmd.specs.Ran.{EndsWhere, FailsOnTheWay, IsRunEnd};
+ghost use Rattle.alpha_cmd.specs.RunsAsked.{DecidesRun, WhereEnded};
 ghost use Rattle.alpha_cmd.specs.Stage.{Computes, Stage};
 
 use crate::Status;
@@ -60,9 +70,18 @@ pub(crate) fn imprecise<H: Shelf, S: Source, K: Sink, N: Sink>(
     asked: ImpreciseCall<'_>,
     devices: &mut Devices<H, S, K, N>,
 ) -> Result<Decision, Failed>
-    ensures { Does H.Shelf S.Source K.Sink N.Sink
+    ensures does { Does H.Shelf S.Source K.Sink N.Sink
         (wilds.form asked.entry.options (origin_of asked.entry.choices) asked.entry.force asked.entry.file.now)
         result devices.old devices.new }
+    ensures ran { (n : ℕ) → origin_of asked.entry.choices ≡ seed n → asked.entry.force ≡ false
+        → WhereEnded result (λ decision.
+        ReadsImage (shelved H.Shelf devices.old.shelf devices.new.shelf) asked.entry.file.now
+        (λ image. IsAccepted image.words × DecidesRun asked.entry.options image decision
+        (drawn S.Source devices.old.input devices.new.input)
+        (sunk K.Sink devices.old.out devices.new.out) (sunk N.Sink devices.old.notes devices.new.notes))) }
+    ensures ends { (n : ℕ) → origin_of asked.entry.choices ≡ seed n → asked.entry.force ≡ false
+        → EndsWhere (λ image. IsAccepted image.words) asked.entry.file.now (status_in result)
+        (shelved H.Shelf devices.old.shelf devices.new.shelf) }
 {
     match prepared(alloc, &asked, &mut devices.shelf) {
         Ok(mut begun) => run_begun(&mut begun, asked.options, devices),
@@ -82,6 +101,13 @@ pub(crate) fn prepared<H: Shelf>(
         (Planned (origin_of asked.now.choices) asked.now.force asked.now.file.now (H.files shelf.old))
         (λ begun. plan_in begun) result (shelved H.Shelf shelf.old shelf.new) }
     ensures begun { IfOk result (IsBegun asked.now.options) }
+    ensures read { (n : ℕ) → origin_of asked.now.choices ≡ seed n → IfOk result (λ begun.
+        IsImage (plan_in begun).image × IsReadWhole (H.replies shelf.old) (H.replies shelf.new)
+        asked.now.file.now (spelling (plan_in begun).image)) }
+    ensures whole { (n : ℕ) (image : Parts) → origin_of asked.now.choices ≡ seed n → IsImage image
+        → IsAccepted image.words
+        → IsReadWhole (H.replies shelf.old) (H.replies shelf.new) asked.now.file.now (spelling image)
+        → IfErr result (λ stop. stop ≡ Stop.Said Status.NoMemory) }
 {
     let plan = planned(alloc, asked.file, &asked.choices, shelf)?;
     passed(&plan, asked.force)?;
@@ -95,8 +121,13 @@ fn planned<H: Shelf>(
     choices: &Choices<'_>,
     shelf: &mut H,
 ) -> Result<Plan, Stop>
-    ensures { Stage (PlanOf (H.files shelf.old) file.now (origin_of choices.now))
+    ensures stage { Stage (PlanOf (H.files shelf.old) file.now (origin_of choices.now))
         (λ plan. plan_by plan.image (ahead_in plan.chooser)) result (shelved H.Shelf shelf.old shelf.new) }
+    ensures read { (n : ℕ) → origin_of choices.now ≡ seed n → IfOk result (λ plan. IsImage plan.image
+        × IsReadWhole (H.replies shelf.old) (H.replies shelf.new) file.now (spelling plan.image)) }
+    ensures whole { (n : ℕ) (image : Parts) → origin_of choices.now ≡ seed n → IsImage image
+        → IsReadWhole (H.replies shelf.old) (H.replies shelf.new) file.now (spelling image)
+        → IfErr result (λ stop. stop ≡ Stop.Said Status.NoMemory) }
 {
     let image = load(alloc, shelf, file)?;
     let chooser = chooser_of(alloc, choices, shelf)?;
@@ -105,7 +136,8 @@ fn planned<H: Shelf>(
 
 // Judges the image of a plan, unless the verdict is passed over.
 fn passed(plan: &Plan, force: bool) -> Result<(), Stop>
-    ensures { Computes (Passes force (plan_by plan.now.image (ahead_in plan.now.chooser)))
+    ensures whole { IsAccepted plan.now.image.words → OnErr result ⊥ }
+    ensures computes { Computes (Passes force (plan_by plan.now.image (ahead_in plan.now.chooser)))
         (λ _. plan_by plan.now.image (ahead_in plan.now.chooser)) result }
 {
     if force { Ok(()) } else { judged(&plan.image) }
@@ -134,9 +166,15 @@ fn run_begun<H: Shelf, S: Source, K: Sink, N: Sink>(
     devices: &mut Devices<H, S, K, N>,
 ) -> Result<Decision, Failed>
     requires { IsBegun options begun.old }
-    ensures { (force : Bool) → MayRun force (plan_in begun.old)
+    ensures does { (force : Bool) → MayRun force (plan_in begun.old)
         → Does H.Shelf S.Source K.Sink N.Sink (wilds.on options force (plan_in begun.old)) result
         devices.old devices.new }
+    ensures ran { MayRun false (plan_in begun.old)
+        → WhereEnded result (λ decision. DecidesRun options (plan_in begun.old).image decision
+        (drawn S.Source devices.old.input devices.new.input)
+        (sunk K.Sink devices.old.out devices.new.out) (sunk N.Sink devices.old.notes devices.new.notes)) }
+    ensures ends { MayRun false (plan_in begun.old) → IsRunEnd (status_in result) ⊎ FailsOnTheWay (status_in result) }
+    ensures shelf { devices.new.shelf ≡ devices.old.shelf }
 {
     let mut left = options.steps;
     match run_imprecise(

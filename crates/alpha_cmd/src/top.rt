@@ -22,12 +22,14 @@ ghost use Rattle.alpha_cmd.specs.Ends.{Decides, status_in};
 ghost use Rattle.alpha_cmd.specs.Fixed.{Fixes};
 ghost use Rattle.alpha_cmd.specs.Kept.{Serves};
 ghost use Rattle.alpha_cmd.specs.Promises.{EndsWhole, EndsCut, GivesOne, GivesThe, ServesUnder, SparesFiles, TakesInput, DrawsUnder, LeavesScript, EndsAsked, LosesNone};
+ghost use Rattle.alpha_cmd.specs.Ran.{Ran};
+ghost use Rattle.alpha_cmd.specs.RunsAsked.{DecidesAsked, EndsAsRun, RunsAsked, WhereEnded};
 ghost use Rattle.alpha_cmd.specs.ReadsNothing.{Unread, UnreadAlike};
 ghost use Rattle.alpha_cmd.specs.Replayed.{ShowsRuns};
 ghost use Rattle.alpha_cmd.specs.Replied.{Replied, Replies};
 ghost use Rattle.alpha_cmd.specs.Restarts.{Restarts};
 ghost use Rattle.alpha_cmd.specs.Accepts.{Accepts};
-ghost use Rattle.alpha_cmd.specs.ToldRun.{Ran};
+ghost use Rattle.alpha_cmd.specs.ToldRun.{RanTold};
 ghost use Rattle.alpha_cmd.specs.Tried.{TriedBy};
 ghost use Rattle.alpha_cmd.specs.Tries.{CountStays};
 
@@ -127,6 +129,16 @@ pub fn alpha_top<H: Shelf, S: Source, K: Sink, N: Sink>(
     // the verdict is passed over: only the number of words, which the status carries where the program
     // has exited, is its own. So it is of the plain words `run FILE` and `run --imprecise FILE`.
     ensures alike { Alike words.now result (called H.Shelf S.Source K.Sink N.Sink devices.old devices.new) }
+    ensures ran_told { RanTold words.now result (called H.Shelf S.Source K.Sink N.Sink devices.old devices.new) }
+
+    // Under the status of a run's end, the bytes that the shelf's calls gave of the file, from its start to
+    // its end and nothing else, spell an image, accepted where the imprecise machine ran it by a seed and
+    // unforced. Status, output and notes are those of a run of the sequential machine whose reads are what the
+    // source's calls gave, and nothing else was asked of it, but for the number of words in the status. And
+    // where those bytes spell such an image, the status is one of a run's end, but where memory ran out or the
+    // input or a sink failed. Whatever shelf and source tell. `ran` says so of the plain words `run FILE` and
+    // `run --imprecise FILE`.
+    ensures runs { RunsAsked words.now result (called H.Shelf S.Source K.Sink N.Sink devices.old devices.new) }
     ensures ran { Ran words.now result (called H.Shelf S.Source K.Sink N.Sink devices.old devices.new) }
 
     // A run of a told file whose program reads nothing in the steps that are asked for has the answer of
@@ -190,6 +202,12 @@ fn decide<H: Shelf, S: Source, K: Sink, N: Sink>(
         → LeavesTail script_most (S.left devices.old.input) (S.left devices.new.input) }
     ensures replied { Replies words.now (status_in result)
         (shelved H.Shelf devices.old.shelf devices.new.shelf) }
+    ensures ran { (command : Command) → Asks words.now command → WhereEnded result (λ decision.
+        DecidesAsked command decision (shelved H.Shelf devices.old.shelf devices.new.shelf)
+        (drawn S.Source devices.old.input devices.new.input)
+        (sunk K.Sink devices.old.out devices.new.out) (sunk N.Sink devices.old.notes devices.new.notes)) }
+    ensures ends { (command : Command) → Asks words.now command
+        → EndsAsRun command (status_in result) (shelved H.Shelf devices.old.shelf devices.new.shelf) }
     ensures recorded { KeepsUnder (Asks words.now) (status_in result)
         (world H.Shelf S.Source devices.old.shelf devices.old.input) (H.files devices.new.shelf) }
 {
@@ -213,6 +231,12 @@ fn perform<H: Shelf, S: Source, K: Sink, N: Sink>(
     ensures script { (file : List ℕ) → command_of request.entry ≡ commands.debug file
         → LeavesTail script_most (S.left devices.old.input) (S.left devices.new.input) }
     ensures replied { status_in result ≡ Status.Done 0 → Replied (command_of request.entry)
+        (shelved H.Shelf devices.old.shelf devices.new.shelf) }
+    ensures ran { WhereEnded result (λ decision. DecidesAsked (command_of request.entry) decision
+        (shelved H.Shelf devices.old.shelf devices.new.shelf)
+        (drawn S.Source devices.old.input devices.new.input)
+        (sunk K.Sink devices.old.out devices.new.out) (sunk N.Sink devices.old.notes devices.new.notes)) }
+    ensures ends { EndsAsRun (command_of request.entry) (status_in result)
         (shelved H.Shelf devices.old.shelf devices.new.shelf) }
     ensures recorded { KeepsUnder (λ command. command_of request.entry ≡ command) (status_in result)
         (world H.Shelf S.Source devices.old.shelf devices.old.input) (H.files devices.new.shelf) }

@@ -1,5 +1,5 @@
 -- A session from the start, against the transcript.
-use Rattle.std.proofs.Common.{◌≡◌, ℕ, List, [], ◌++◌, refl, sym, ap, subst}
+use Rattle.std.proofs.Common.{◌≡◌, ◌∙◌, ℕ, List, [], ◌++◌, refl, sym, ap, subst}
 use Rattle.alpha_io.specs.Sunk.{Sunk, Puts, Partly}
 use Rattle.alpha_io.proofs.Sinks.{Partly-whole}
 use Rattle.alpha_image.specs.Parts.{Parts}
@@ -24,16 +24,23 @@ follows image d script taken rest opens reads = record {
   rest = rest;
   is = record { setting = setting_of d; is_setting = opens.setting; is = told-is image d (taken ++ rest) opens };
   took = reads.took;
+  calls = reads.calls;
   most = reads.most;
 }
 
 whole : (end : DebugEnd) (image : Parts) (d : Debugger) (script : Drawn) (out : Sunk) → IsOpened image d → Tells d end script (unblocked out) → IsWhole end image script out
+unfolding follows
 whole end image d script out opens tells =
     let t : Transcript = told_from d [] script_limit [] (tells.taken ++ tells.rest) in
     let is : t ≡ record { text = tells.put; end = end } = tells.is [] in
     record {
       told = t;
       follows = follows image d script tells.taken tells.rest opens tells.reads;
+      alone = record {
+        setting = setting_of d;
+        is_setting = opens.setting;
+        is = is ∙ (sym (tells.alone []) ∙ told-is image d tells.taken opens);
+      };
       same = tells.same;
       wrote = subst (λ (u : Transcript). Puts out u.text) (sym is) (Puts-gathered (unblocked out) tells.put refl refl tells.wrote);
       end_is = ap (λ (u : Transcript). u.end) is;

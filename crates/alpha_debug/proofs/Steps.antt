@@ -185,7 +185,7 @@ bytes-last ps p mid new is =
 abbrev watched_by : Sunk → Watcher → Watcher → Gathered
 watched_by s old new = record { sink = s; old = old.block; new = new.block }
 
-module _ (w v : Watcher) (most left : ℕ) (old new : Machine) (before after : Telling) (input : Drawn) (out notes : Sunk) (empty : input.old ≡ Some []) where
+module _ (w v : Watcher) (most left : ℕ) (old new : Machine) (before after : Telling) (input : Drawn) (out notes : Sunk) (empty : input.old.left ≡ Some []) where
   kept : (ps : List Print) → v ≡ seen_by watched_after w ps → v ≡ record w { block = v.block }
   kept ps seen = seen ∙ (seen-kept w ps ∙ ap (λ (u : Watcher). record w { block = u.block }) (sym seen))
 
@@ -196,7 +196,7 @@ module _ (w v : Watcher) (most left : ℕ) (old new : Machine) (before after : T
       let one = ran.1 in
       let ps = one.prints in
       let all : most ≡ units_of ps + 0 = omega (arith, one.used, ran.0) in
-      let fed = one.did.fed [] empty in
+      let fed = one.did.fed.told [] empty in
       record {
         bytes = output (events_of ps);
         wrote = record {
@@ -221,7 +221,7 @@ module _ (w v : Watcher) (most left : ℕ) (old new : Machine) (before after : T
       let qs = ps ++ p ∷ [] in
       let row : Row SeqGoes old qs new = Row-append SeqGoes ps (p ∷ []) old one.mid new one.row (new, one.is, refl) in
       let all : most ≡ units_of ps + suc left = omega (arith, one.used, one.is.units) in
-      let fed = one.did.fed [] empty in
+      let fed = one.did.fed.told [] empty in
       let front = fed-front (events_of ps) p.seen [] fed.0 (subst (λ (l : List Event). Fed [] l fed.0) (seen_last ps p) fed.1) in
       let none : front.0 ≡ [] = fed-empty (events_of ps) [] front.0 refl front.1 in
       let gave = fed-none h [] fed.0 (subst (λ (l : List ℕ). Fed l (h ∷ []) fed.0) none (subst (λ (l : List Event). Fed front.0 l fed.0) one.is.seen front.2)) in
@@ -267,7 +267,7 @@ failed-by faults.Output input out notes a b c d cause = absurd (omega (arith, ca
 failed-by faults.Notes input out notes a b c d cause = (cause.later, cause.lines)
 
 pub walk_cut : (fault : Fault) (w : Watcher) (waits : List ℕ) (most left : ℕ) (old new : Machine) (before after : Telling) (input : Drawn) (out notes : Sunk)
-    → input.old ≡ Some [] → input.before ≡ 0 → input.now ≡ 0 → out.before ≡ 0 → out.now ≡ 0
+    → input.old.left ≡ Some [] → input.before ≡ 0 → input.now ≡ 0 → out.before ≡ 0 → out.now ≡ 0
     → IsCut fault SeqGoes SeqLeaves watches most left old new w before after input out notes
     → WalkBreaks w.until w.points.items most old (record { sink = notes; old = w.block; new = waits })
 walk_cut fault w waits most left old new before after input out notes empty a b c d one text =
@@ -278,7 +278,7 @@ walk_cut fault w waits most left old new before after input out notes empty a b 
     let s : Gathered = record { sink = notes; old = w.block; new = waits } in
     let row : Row SeqGoes old qs one.would = Row-append SeqGoes ps (p ∷ []) old one.mid one.would one.row (one.would, one.is, refl) in
     let all : most ≡ units_of ps + suc left = omega (arith, one.used, one.is.units) in
-    let fed = one.did.fed [] empty in
+    let fed = one.did.fed.told [] empty in
     let none : fed.0 ≡ [] = fed-empty (events_of ps) [] fed.0 refl fed.1 in
     let last = one.did.would_feed fed.0 fed.2 in
     let h = one.is.happened in

@@ -2,8 +2,11 @@
 use Rattle.std.proofs.Common.{◌≡◌, ◌∙◌, ℕ, ◌+◌, ◌-◌, ◌≤◌, List, [], ◌∷◌, ◌++◌, length, Option, Some, None, refl, sym, ap, subst, append_assoc, append-nil, arith}
 use Rattle.std.proofs.lemmas.List.{length-append}
 use Rattle.std.specs.Io.KnownBytes.{Consumes, Keeps, IsAtEnd}
-use Rattle.std.proofs.KnownBytes.{Consumes-trans, Consumes-kept}
+use Rattle.std.proofs.KnownBytes.{Consumes-nil, Consumes-trans, Consumes-kept}
 use Rattle.alpha_io.specs.Faults.{Rose}
+use Rattle.alpha_io.specs.History.{Took}
+use Rattle.alpha_io.specs.Supply.{Supply}
+use Rattle.alpha_io.proofs.Takes.{HasGiven-then, HasGiven-one, HasGiven-failed}
 use Rattle.alpha_io.proofs.Counts.{Rose-earlier}
 use Rattle.alpha_pal.specs.CallEffect.{Takes}
 use Rattle.alpha_seq.specs.Devices.{Drawn, drawn_by}
@@ -17,7 +20,7 @@ use Rattle.alpha_debug.specs.Command.{command_of}
 use Rattle.alpha_debug.specs.Session.{Session, text_of, answer}
 use Rattle.alpha_debug.specs.Script.{Transcript}
 use Rattle.alpha_debug.specs.Gathered.{Gathered, gathered_by, Gathers}
-use Rattle.alpha_debug.specs.Effects.{Grows, Breaks, session_of, setting_of, Remains, Answers, AnswerFails, IsHeld, told_from, Hears, HearFails, Closes, CloseFails, CloseEffect, Reads, Tells, ReadingFails, TellingFails, TellEffect}
+use Rattle.alpha_debug.specs.Effects.{Grows, Breaks, session_of, setting_of, Remains, Answers, AnswerFails, IsHeld, told_from, Hears, HearFails, Closes, CloseFails, CloseEffect, Gets, Reads, Tells, ReadingFails, TellingFails, TellEffect}
 use Rattle.alpha_debug.proofs.Sinks.{Breaks-after, Gathers-both}
 use Rattle.alpha_debug.proofs.Hearing.{told-end, told-large, told-grows, held-last}
 
@@ -68,7 +71,7 @@ pub record Underway (first d : Debugger) (held : List ℕ) (most : ℕ) (script 
   pub taken : List ℕ
   pub put : List ℕ
   pub line : List ℕ
-  pub took : Consumes script.old script.new taken
+  pub took : Gets script.old script.new taken
   pub same : script.now ≡ script.before
   pub count : length taken + most ≡ 1048576
   pub wrote : Gathers out put
@@ -76,7 +79,23 @@ pub record Underway (first d : Debugger) (held : List ℕ) (most : ℕ) (script 
   pub remains : Remains first d
   pub is : (text rest : List ℕ) → told_from first text 1048576 [] (taken ++ rest) ≡ told_from d (text ++ put) most line rest
 
-pub underway_start : (d : Debugger) (held : List ℕ) (script : Drawn) (out : Gathered) → held ≡ [] → Consumes script.old script.new [] → script.now ≡ script.before → Gathers out []
+pub Gets-then : (old mid new : Supply) (xs ys : List ℕ) → Gets old mid xs → Gets mid new ys → Gets old new (xs ++ ys)
+Gets-then old mid new xs ys one two = record {
+  consumed = Consumes-trans old.left mid.left new.left xs ys one.consumed two.consumed;
+  calls = HasGiven-then old.replies mid.replies new.replies xs ys one.calls two.calls;
+}
+
+-- by one call of the source, and by one that failed
+pub Gets-one : (old new : Supply) (asked : ℕ) (bytes : List ℕ) → Consumes old.left new.left bytes
+    → new.replies ≡ old.replies ++ Took asked (Some bytes) ∷ [] → Gets old new bytes
+Gets-one old new asked bytes consumed call = record { consumed = consumed; calls = HasGiven-one old.replies new.replies asked bytes call }
+
+pub Gets-failed : (old new : Supply) (asked : ℕ) → Keeps old.left new.left
+    → new.replies ≡ old.replies ++ Took asked None ∷ [] → Gets old new []
+Gets-failed old new asked kept call =
+    record { consumed = Consumes-kept old.left old.left new.left [] (Consumes-nil old.left) kept; calls = HasGiven-failed old.replies new.replies asked call }
+
+pub underway_start : (d : Debugger) (held : List ℕ) (script : Drawn) (out : Gathered) → held ≡ [] → Gets script.old script.new [] → script.now ≡ script.before → Gathers out []
     → Underway d d held 1048576 script out
 underway_start d held script out empty took same none = record {
   taken = [];
@@ -91,20 +110,34 @@ underway_start d held script out empty took same none = record {
   is = λ text rest. ap (λ (t : List ℕ). told_from d t 1048576 [] rest) (sym (append-nil text));
 }
 
-module _ {S K : Type 0} (left : S → Option (List ℕ)) (counts : S → ℕ) (written : K → Option (List ℕ)) (faults : K → ℕ) (r s t : S) (o p q : K × List ℕ)
-    (first d : Debugger) (held : List ℕ) (most : ℕ) (u : Underway first d held most (drawn_by left counts r s) (gathered_by written faults o p)) where
+module _ {S K : Type 0} (tells : S → Supply) (counts : S → ℕ) (written : K → Option (List ℕ)) (faults : K → ℕ) (r s t : S) (o p q : K × List ℕ)
+    (first d : Debugger) (held : List ℕ) (most : ℕ) (u : Underway first d held most (drawn_by tells counts r s) (gathered_by written faults o p)) where
   -- the transcript behind a piece of the script
   behind : (bytes text rest : List ℕ) → told_from first text 1048576 [] ((u.taken ++ bytes) ++ rest) ≡ told_from d (text ++ u.put) most u.line (bytes ++ rest)
   behind bytes text rest = ap (λ (l : List ℕ). told_from first text 1048576 [] l) (append_assoc u.taken bytes rest) ∙ u.is text (bytes ++ rest)
 
-  took-more : (bytes : List ℕ) → Consumes (left s) (left t) bytes → Consumes (left r) (left t) (u.taken ++ bytes)
-  took-more bytes took = Consumes-trans (left r) (left s) (left t) u.taken bytes u.took took
+  -- with nothing behind it
+  by-itself : (bytes text : List ℕ) → told_from first text 1048576 [] bytes ≡ told_from first text 1048576 [] (bytes ++ [])
+  by-itself bytes text = ap (λ (l : List ℕ). told_from first text 1048576 [] l) (sym (append-nil bytes))
 
-  reads-more : (bytes : List ℕ) → Consumes (left s) (left t) bytes → length bytes ≤ most + 1 → (l : Left (left r) (left t) (u.taken ++ bytes)) → Reads (drawn_by left counts r t) (u.taken ++ bytes) l.rest
-  reads-more bytes took fits l = record { took = l.took; most = omega (arith, u.count, length-append u.taken bytes) }
+  took-more : (bytes : List ℕ) → Gets (tells s) (tells t) bytes → Gets (tells r) (tells t) (u.taken ++ bytes)
+  took-more bytes took = Gets-then (tells r) (tells s) (tells t) u.taken bytes u.took took
 
-  pub underway_more : (bytes : List ℕ) (new : Debugger) (held_new : List ℕ) (less : ℕ) → Consumes (left s) (left t) bytes → counts t ≡ counts s → length bytes ≤ most → less ≡ most - length bytes
-      → Hears bytes u.line GoesOn d new held_new (gathered_by written faults p q) → Remains d new → Underway first new held_new less (drawn_by left counts r t) (gathered_by written faults o q)
+  reads-more : (bytes : List ℕ) → Gets (tells s) (tells t) bytes → length bytes ≤ most + 1 → (l : Left (tells r).left (tells t).left (u.taken ++ bytes)) → Reads (drawn_by tells counts r t) (u.taken ++ bytes) l.rest
+  reads-more bytes took fits l = record { took = l.took; calls = (took-more bytes took).calls; most = omega (arith, u.count, length-append u.taken bytes) }
+
+  -- the script has ended
+  ended-reads : Gets (tells s) (tells t) [] → IsAtEnd (tells s).left → Reads (drawn_by tells counts r t) u.taken []
+  ended-reads took ended =
+      let all : Gets (tells r) (tells t) u.taken = subst (Gets (tells r) (tells t)) (append-nil u.taken) (took-more [] took) in
+      record {
+        took = left_none (tells r).left (tells s).left (tells t).left u.taken u.took.consumed took.consumed ended;
+        calls = all.calls;
+        most = omega (arith, u.count);
+      }
+
+  pub underway_more : (bytes : List ℕ) (new : Debugger) (held_new : List ℕ) (less : ℕ) → Gets (tells s) (tells t) bytes → counts t ≡ counts s → length bytes ≤ most → less ≡ most - length bytes
+      → Hears bytes u.line GoesOn d new held_new (gathered_by written faults p q) → Remains d new → Underway first new held_new less (drawn_by tells counts r t) (gathered_by written faults o q)
   underway_more bytes new held_new less took same fits e hears remains = record {
     taken = u.taken ++ bytes;
     put = u.put ++ hears.put;
@@ -123,10 +156,10 @@ module _ {S K : Type 0} (left : S → Option (List ℕ)) (counts : S → ℕ) (w
   }
 
   -- `quit` came
-  pub underway_quit : (bytes : List ℕ) (new : Debugger) (held_new : List ℕ) → Consumes (left s) (left t) bytes → counts t ≡ counts s → length bytes ≤ most
-      → Hears bytes u.line Quits d new held_new (gathered_by written faults p q) → Tells first Done (drawn_by left counts r t) (gathered_by written faults o q)
+  pub underway_quit : (bytes : List ℕ) (new : Debugger) (held_new : List ℕ) → Gets (tells s) (tells t) bytes → counts t ≡ counts s → length bytes ≤ most
+      → Hears bytes u.line Quits d new held_new (gathered_by written faults p q) → Tells first Done (drawn_by tells counts r t) (gathered_by written faults o q)
   underway_quit bytes new held_new took same fits hears =
-      let l = left_of (left r) (left t) (u.taken ++ bytes) (took-more bytes took) in
+      let l = left_of (tells r).left (tells t).left (u.taken ++ bytes) (took-more bytes took).consumed in
       record {
         taken = u.taken ++ bytes;
         rest = l.rest;
@@ -138,13 +171,18 @@ module _ {S K : Type 0} (left : S → Option (List ℕ)) (counts : S → ℕ) (w
             behind bytes text l.rest
             ∙ (hears.is (text ++ u.put) most l.rest fits
             ∙ ap (λ (x : List ℕ). record { text = x; end = Done }) (append_assoc text u.put hears.put));
+        alone = λ text.
+            by-itself (u.taken ++ bytes) text
+            ∙ (behind bytes text []
+            ∙ (hears.is (text ++ u.put) most [] fits
+            ∙ ap (λ (x : List ℕ). record { text = x; end = Done }) (append_assoc text u.put hears.put)));
       }
 
   -- the sink failed
-  pub underway_fails : (bytes : List ℕ) → Consumes (left s) (left t) bytes → counts t ≡ counts s → length bytes ≤ most
-      → HearFails bytes u.line d (gathered_by written faults p q) → TellingFails first (drawn_by left counts r t) (gathered_by written faults o q)
+  pub underway_fails : (bytes : List ℕ) → Gets (tells s) (tells t) bytes → counts t ≡ counts s → length bytes ≤ most
+      → HearFails bytes u.line d (gathered_by written faults p q) → TellingFails first (drawn_by tells counts r t) (gathered_by written faults o q)
   underway_fails bytes took same fits fails =
-      let l = left_of (left r) (left t) (u.taken ++ bytes) (took-more bytes took) in
+      let l = left_of (tells r).left (tells t).left (u.taken ++ bytes) (took-more bytes took).consumed in
       record {
         taken = u.taken ++ bytes;
         rest = l.rest;
@@ -156,15 +194,15 @@ module _ {S K : Type 0} (left : S → Option (List ℕ)) (counts : S → ℕ) (w
       }
 
   -- the script failed
-  pub underway_unread : Keeps (left s) (left t) → counts s ≤ counts t → Rose (counts s) (counts t) → ReadingFails first (drawn_by left counts r t) (gathered_by written faults o p)
+  pub underway_unread : Gets (tells s) (tells t) [] → counts s ≤ counts t → Rose (counts s) (counts t) → ReadingFails first (drawn_by tells counts r t) (gathered_by written faults o p)
   underway_unread stays later cause =
-      let took : Consumes (left r) (left t) u.taken = Consumes-kept (left r) (left s) (left t) u.taken u.took stays in
-      let l = left_of (left r) (left t) u.taken took in
+      let took : Gets (tells r) (tells t) u.taken = subst (Gets (tells r) (tells t)) (append-nil u.taken) (took-more [] stays) in
+      let l = left_of (tells r).left (tells t).left u.taken took.consumed in
       record {
         taken = u.taken;
         rest = l.rest;
         put = u.put;
-        reads = record { took = l.took; most = omega (arith, u.count) };
+        reads = record { took = l.took; calls = took.calls; most = omega (arith, u.count) };
         later = omega (arith, later, u.same);
         cause = Rose-earlier (counts r) (counts s) (counts t) (omega (arith, u.same)) cause;
         wrote = u.wrote;
@@ -173,27 +211,32 @@ module _ {S K : Type 0} (left : S → Option (List ℕ)) (counts : S → ℕ) (w
       }
 
   -- the script has ended
-  pub underway_end : Consumes (left s) (left t) [] → IsAtEnd (left s) → counts t ≡ counts s → Closes u.line d (gathered_by written faults p q)
-      → Tells first Done (drawn_by left counts r t) (gathered_by written faults o q)
+  pub underway_end : Gets (tells s) (tells t) [] → IsAtEnd (tells s).left → counts t ≡ counts s → Closes u.line d (gathered_by written faults p q)
+      → Tells first Done (drawn_by tells counts r t) (gathered_by written faults o q)
   underway_end took ended same closes = record {
     taken = u.taken;
     rest = [];
     put = u.put ++ closes.put;
-    reads = record { took = left_none (left r) (left s) (left t) u.taken u.took took ended; most = omega (arith, u.count) };
+    reads = ended-reads took ended;
     same = same ∙ u.same;
     wrote = Gathers-both written faults o p q u.put closes.put u.wrote closes.wrote;
     is = λ text.
         u.is text []
         ∙ (closes.is (text ++ u.put) most
         ∙ ap (λ (x : List ℕ). record { text = x; end = Done }) (append_assoc text u.put closes.put));
+    alone = λ text.
+        by-itself u.taken text
+        ∙ (u.is text []
+        ∙ (closes.is (text ++ u.put) most
+        ∙ ap (λ (x : List ℕ). record { text = x; end = Done }) (append_assoc text u.put closes.put)));
   }
 
-  pub underway_end_fails : Consumes (left s) (left t) [] → IsAtEnd (left s) → counts t ≡ counts s → CloseFails u.line d (gathered_by written faults p q)
-      → TellingFails first (drawn_by left counts r t) (gathered_by written faults o q)
+  pub underway_end_fails : Gets (tells s) (tells t) [] → IsAtEnd (tells s).left → counts t ≡ counts s → CloseFails u.line d (gathered_by written faults p q)
+      → TellingFails first (drawn_by tells counts r t) (gathered_by written faults o q)
   underway_end_fails took ended same fails = record {
     taken = u.taken;
     rest = [];
-    reads = record { took = left_none (left r) (left s) (left t) u.taken u.took took ended; most = omega (arith, u.count) };
+    reads = ended-reads took ended;
     same = same ∙ u.same;
     breaks = λ text.
         Breaks-after written faults o p q u.put text (told_from first text 1048576 [] (u.taken ++ [])).text u.wrote
@@ -201,8 +244,8 @@ module _ {S K : Type 0} (left : S → Option (List ℕ)) (counts : S → ℕ) (w
   }
 
   -- the end of the script, by the answer
-  pub underway_closed : (end : DebugEnd) → Consumes (left s) (left t) [] → IsAtEnd (left s) → counts t ≡ counts s → CloseEffect end u.line d (gathered_by written faults p q)
-      → TellEffect end first (drawn_by left counts r t) (gathered_by written faults o q)
+  pub underway_closed : (end : DebugEnd) → Gets (tells s) (tells t) [] → IsAtEnd (tells s).left → counts t ≡ counts s → CloseEffect end u.line d (gathered_by written faults p q)
+      → TellEffect end first (drawn_by tells counts r t) (gathered_by written faults o q)
   underway_closed Done took ended same did = underway_end took ended same did
   underway_closed SinkFault took ended same did = underway_end_fails took ended same did
   underway_closed InputFault took ended same did = absurd did
@@ -210,9 +253,9 @@ module _ {S K : Type 0} (left : S → Option (List ℕ)) (counts : S → ℕ) (w
   underway_closed NoMemory took ended same did = absurd did
 
   -- the script goes on past the bytes that count
-  pub underway_large : (b : ℕ) → most ≡ 0 → Consumes (left s) (left t) (b ∷ []) → counts t ≡ counts s → Tells first TooLarge (drawn_by left counts r t) (gathered_by written faults o p)
+  pub underway_large : (b : ℕ) → most ≡ 0 → Gets (tells s) (tells t) (b ∷ []) → counts t ≡ counts s → Tells first TooLarge (drawn_by tells counts r t) (gathered_by written faults o p)
   underway_large b none took same =
-      let l = left_of (left r) (left t) (u.taken ++ b ∷ []) (took-more (b ∷ []) took) in
+      let l = left_of (tells r).left (tells t).left (u.taken ++ b ∷ []) (took-more (b ∷ []) took).consumed in
       record {
         taken = u.taken ++ b ∷ [];
         rest = l.rest;
@@ -224,4 +267,9 @@ module _ {S K : Type 0} (left : S → Option (List ℕ)) (counts : S → ℕ) (w
             behind (b ∷ []) text l.rest
             ∙ (ap (λ (n : ℕ). told_from d (text ++ u.put) n u.line (b ∷ l.rest)) none
             ∙ told-large d (text ++ u.put) b u.line l.rest u.held_is.line);
+        alone = λ text.
+            by-itself (u.taken ++ b ∷ []) text
+            ∙ (behind (b ∷ []) text []
+            ∙ (ap (λ (n : ℕ). told_from d (text ++ u.put) n u.line (b ∷ [])) none
+            ∙ told-large d (text ++ u.put) b u.line [] u.held_is.line));
       }

@@ -1,5 +1,6 @@
 -- What a session did, by its answer, where devices may tell nothing.
 use Rattle.std.specs.Prelude.{◌≡◌, ℕ, ◌+◌, ◌≤◌, List, ◌++◌, length}
+use Rattle.alpha_io.specs.History.{HasGiven}
 use Rattle.alpha_io.specs.Faults.{Rose}
 use Rattle.alpha_io.specs.Sunk.{Sunk, Puts, Partly, HasFailed}
 use Rattle.alpha_pal.specs.CallEffect.{Takes}
@@ -10,18 +11,20 @@ use Rattle.alpha_debug.specs.declared.end.DebugEnd.TheVariants.{Done, InputFault
 use Rattle.alpha_debug.specs.Script.{Transcript, IsTranscript, script_limit}
 
 -- The transcript of a script at an image. These bytes of the script were taken, no more than those that count and one, and
--- the rest is left. A script that is told is what was taken and the rest.
+-- the rest is left. A script that is told is what was taken and the rest. Told or not, its calls gave what was taken.
 pub record Follows (image : Parts) (script : Drawn) (t : Transcript) : Type 0 where
   pub taken : List ℕ
   pub rest : List ℕ
   pub is : IsTranscript image (taken ++ rest) t
-  pub took : Takes script.old script.new taken rest
+  pub took : Takes script.old.left script.new.left taken rest
+  pub calls : HasGiven script.old.replies script.new.replies taken
   pub most : length taken ≤ script_limit + 1
 
--- a session to its end: all of the transcript was written
+-- a session to its end: all of the transcript was written, which is that of the bytes that were taken, whatever follows them
 pub record IsWhole (end : DebugEnd) (image : Parts) (script : Drawn) (out : Sunk) : Type 0 where
   pub told : Transcript
   pub follows : Follows image script told
+  pub alone : IsTranscript image follows.taken told
   pub same : script.now ≡ script.before
   pub wrote : Puts out told.text
   pub end_is : told.end ≡ end

@@ -1,5 +1,8 @@
 -- What the code of a session did against its definition, where the sink may tell nothing. What was written may still wait in a block.
 use Rattle.std.specs.Prelude.{◌≡◌, ℕ, ◌+◌, ◌-◌, ◌≤◌, ◌==◌, Bool, true, false, IsTrue, List, [], ◌++◌, length, All, take, Option}
+use Rattle.std.specs.Io.KnownBytes.{Consumes}
+use Rattle.alpha_io.specs.History.{HasGiven}
+use Rattle.alpha_io.specs.Supply.{Supply}
 use Rattle.alpha_io.specs.Faults.{Rose}
 use Rattle.alpha_pal.specs.CallEffect.{Takes}
 use Rattle.alpha_image.specs.Parts.{Parts}
@@ -150,9 +153,15 @@ CloseEffect end begun d out = ⊥
 
 -- ---- a whole session
 
+-- these bytes were taken of a script
+pub record Gets (old new : Supply) (bytes : List ℕ) : Type 0 where
+  pub consumed : Consumes old.left new.left bytes
+  pub calls : HasGiven old.replies new.replies bytes
+
 -- these bytes of the script were taken, and the rest is left
 pub record Reads (script : Drawn) (taken rest : List ℕ) : Type 0 where
-  pub took : Takes script.old script.new taken rest
+  pub took : Takes script.old.left script.new.left taken rest
+  pub calls : HasGiven script.old.replies script.new.replies taken
   pub most : length taken ≤ script_limit + 1
 
 -- a session to its end
@@ -164,6 +173,7 @@ pub record Tells (d : Debugger) (end : DebugEnd) (script : Drawn) (out : Gathere
   pub same : script.now ≡ script.before
   pub wrote : Gathers out put
   pub is : (text : List ℕ) → told_from d text script_limit [] (taken ++ rest) ≡ record { text = text ++ put; end = end }
+  pub alone : (text : List ℕ) → told_from d text script_limit [] taken ≡ record { text = text ++ put; end = end }
 
 -- a session whose script failed: it has written a prefix of the transcript
 pub record ReadingFails (d : Debugger) (script : Drawn) (out : Gathered) : Type 0 where

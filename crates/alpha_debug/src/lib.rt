@@ -15,7 +15,7 @@
 //! was put and what waits, `specs/Watched.antt` what is made of each step, and `specs/DebugEffect.antt` what a session did.
 //!
 //! `src/command.rt` reads a line, `src/word.rt` its words and numbers. `src/debugger.rt` has the session and answers a
-//! command. `src/travel.rt` makes the steps, by the loop of `alpha_run` over the empty input of `src/input.rt`, and
+//! command. `src/travel.rt` makes the steps, by the loop of `alpha_run` over an empty input, and
 //! `src/watcher.rt` looks at each there: it stops the run at the breakpoints of `src/breakpoints.rt`, and takes what the
 //! program puts. `src/print.rt` writes the lines, and `src/block.rt` has the block that they wait in.
 //! `src/script.rt` cuts the script into lines, in pieces of a fixed size, and `src/transcript.rt` is the whole, whose ends
@@ -27,7 +27,6 @@ mod breakpoints;
 mod command;
 mod debugger;
 mod end;
-mod input;
 mod laws;
 mod print;
 mod script;

@@ -6,9 +6,8 @@ ghost use Rattle.alpha_debug.specs.Gathered.{gathered};
 ghost use Rattle.alpha_debug.specs.Watched.{end_by};
 ghost use Rattle.alpha_debug.specs.Effects.{Walks, WalkBreaks};
 
-use crate::input::NoInput;
 use crate::watcher::Watcher;
-use alpha_io::{Failed, NullSink, Sink};
+use alpha_io::{EmptySource, Failed, NullSink, Sink};
 use alpha_run::{NoWords, run};
 use alpha_seq::{End, Event, Machine};
 
@@ -35,7 +34,7 @@ pub(crate) fn walk<K: Sink>(
         machine,
         watcher,
         &mut NoWords,
-        &mut NoInput,
+        &mut EmptySource::new(),
         &mut NullSink::new(),
         out,
         &mut left,

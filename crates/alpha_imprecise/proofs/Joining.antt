@@ -1,15 +1,18 @@
 -- Steps that leave their devices alone, and a chooser that goes on twice.
 use Rattle.std.specs.Prelude.{slice_index, slice_index_or}
 use Rattle.std.proofs.Common.{◌≡◌, ◌<◌, ◌+◌, ◌^◌, ℕ, zero, suc, List, [], ◌∷◌, ◌++◌, length, take, drop, Option, None, Some, refl, sym, ap, subst, ◌∙◌, arith}
+use Rattle.alpha_io.specs.History.{Reply}
 use Rattle.alpha_io.specs.Sunk.{Sunk, Puts}
+use Rattle.alpha_io.specs.Supply.{Supply}
 use Rattle.alpha_io.proofs.Sinks.{Puts-none}
 use Rattle.alpha_mem.specs.Block.{Block}
 use Rattle.alpha_pal.specs.declared.pal_end.Passed.TheVariants.{Nothing}
 use Rattle.alpha_pal.specs.Call.{Traffic, asked_in, given_in, put_in}
+use Rattle.alpha_pal.specs.CallEffect.{Answers}
 use Rattle.alpha_seq.specs.State.{Went, Barriered, Overflowed, Ends}
 use Rattle.alpha_seq.specs.Run.{taken, output, Fed}
 use Rattle.alpha_seq.specs.Machine.{program_of, state_of}
-use Rattle.alpha_seq.specs.Devices.{Drawn}
+use Rattle.alpha_seq.specs.Devices.{Drawn, AnswersEach}
 use Rattle.alpha_seq.specs.Print.{HasPassed}
 use Rattle.alpha_seq.specs.StepEffect.{Makes}
 use Rattle.alpha_seq.specs.Sequential.{no_words}
@@ -22,7 +25,7 @@ use Rattle.alpha_imprecise.specs.Wild.{WildState, trap_in}
 use Rattle.alpha_imprecise.specs.WildEffect.{shown_as, IsStill, GoesBy, wild_uses, wild_core, StepsAs}
 
 -- a device that is left alone
-abbrev pub resting : Option (List ℕ) → ℕ → Drawn
+abbrev pub resting : Supply → ℕ → Drawn
 resting left faults = record { old = left; new = left; before = faults; now = faults }
 
 abbrev pub idle_sink : Option (List ℕ) → ℕ → Sunk
@@ -58,6 +61,14 @@ still-fed (Waited adds value bytes) input still = refl
 still-fed (Reported at) input still = (refl, refl)
 still-fed (Lost pc mask) input still = refl
 
+still-answers : (h : Happening) (replies : List Reply) → IsStill h → AnswersEach replies (seen_of h) replies
+still-answers (Precisely event) replies still =
+    (replies, subst (λ (t : Traffic). Answers replies t replies) (sym still) refl, refl)
+still-answers (Triggered value) replies still = refl
+still-answers (Waited adds value bytes) replies still = refl
+still-answers (Reported at) replies still = (replies, refl, refl)
+still-answers (Lost pc mask) replies still = refl
+
 passes-nothing : (happened : Happening) (mem : List Block) → HasPassed (shown_as Nothing happened) mem [] []
 passes-nothing (Precisely Went) mem = (refl, refl)
 passes-nothing (Precisely (Barriered traffic pc regs)) mem = (refl, refl)
@@ -66,7 +77,7 @@ passes-nothing (Precisely (Ends end)) mem = (refl, refl)
 passes-nothing happened mem = (refl, refl)
 
 -- a step that leaves the input and the output alone
-pub alone : (event : Seen) (old new : WildState) (choice : Choice) (left written : Option (List ℕ)) (faults count : ℕ)
+pub alone : (event : Seen) (old new : WildState) (choice : Choice) (left : Supply) (written : Option (List ℕ)) (faults count : ℕ)
     → StepsAs event old new choice → Makes (GoesBy choice) wild_uses wild_core no_words event old new (resting left faults) (idle_sink written count)
 alone event old new choice left written faults count s =
     let steps = s.steps in
@@ -92,7 +103,10 @@ alone event old new choice left written faults count s =
       event_is = refl;
       core_is = refl;
       drew = refl;
-      fed = λ bytes tells. (bytes, still-fed h bytes s.still, tells);
+      fed = record {
+        told = λ bytes tells. (bytes, still-fed h bytes s.still, tells);
+        answers = still-answers h left.replies s.still;
+      };
       same = refl;
       wrote = subst (Puts (idle_sink written count)) (sym (still-output h s.still)) (Puts-none written count);
     }

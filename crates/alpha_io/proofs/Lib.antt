@@ -7,4 +7,5 @@ pub mod Puts
 pub mod ReadAnswers
 pub mod Shelved
 pub mod Sinks
+pub mod Takes
 pub mod Writes

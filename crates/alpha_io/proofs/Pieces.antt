@@ -1,7 +1,8 @@
 -- A file that was read up to some place.
-use Rattle.std.proofs.Common.{◌≡◌, ◌≢◌, All, ℕ, ◌+◌, List, [], ◌∷◌, ◌++◌, length, Some, refl, sym, ap, ◌∙◌, append_assoc, append-nil, length-append, arith}
+use Rattle.std.proofs.Common.{◌≡◌, ◌≢◌, All, ℕ, ◌+◌, List, [], ◌∷◌, ◌++◌, length, drop, None, Some, refl, sym, ap, ◌∙◌, subst, append_assoc, append-nil, length-append, arith}
 use Rattle.std.specs.List.{concat}
-use Rattle.std.proofs.lemmas.List.Elements.{All-nil, All-cons, All-append}
+use Rattle.std.proofs.lemmas.List.{append_cancel_left}
+use Rattle.std.proofs.lemmas.List.Elements.{All-nil, All-cons, All-head, All-tail, All-append}
 use Rattle.std.proofs.lemmas.List.Folds.{concat-append}
 use Rattle.alpha_io.specs.History.{Reply, Piece, pieces_from, IsReadWhole}
 
@@ -51,3 +52,82 @@ IsReadTo-whole old new after name bytes so is = record {
   whole = so.whole;
   calls = is ∙ ap (λ l. l ++ Piece name (length bytes) (Some []) ∷ []) so.calls;
 }
+
+-- ---- how a file was read says what it holds
+
+-- the bytes of the first of these pieces
+abbrev first_bytes : List Reply → List ℕ
+first_bytes (Piece name at (Some bytes) ∷ replies) = bytes
+first_bytes replies = []
+
+-- 1 where the first of these pieces was given
+abbrev first_given : List Reply → ℕ
+first_given (Piece name at (Some bytes) ∷ replies) = 1
+first_given replies = 0
+
+-- the reply that says where a file ends
+abbrev ending : List ℕ → ℕ → List Reply
+ending name at = Piece name at (Some []) ∷ []
+
+-- behind the same first piece, the rest is the same
+rest_from : (name : List ℕ) (at : ℕ) (p q : List ℕ) (xs : List Reply) (qs : List (List ℕ)) (ys : List Reply)
+    → Piece name at (Some p) ∷ xs ≡ (Piece name at (Some q) ∷ pieces_from name (at + length q) qs) ++ ys
+    → xs ≡ pieces_from name (at + length p) qs ++ ys
+rest_from name at p q xs qs ys same =
+    subst (λ (l : List ℕ). xs ≡ pieces_from name (at + length l) qs ++ ys) (sym (ap first_bytes same)) (ap (λ (l : List Reply). drop 1 l) same)
+
+-- pieces that all have bytes don't end a file
+unended : (name : List ℕ) (at n : ℕ) (ps qs : List (List ℕ)) → All IsSome ps
+    → pieces_from name at ps ≡ pieces_from name at qs ++ ending name n → ⊥
+unended name at n [] [] some same = omega (arith, ap (λ (l : List Reply). length l) same)
+unended name at n [] (q ∷ qs) some same = omega (arith, ap first_given same)
+unended name at n (p ∷ ps) [] some same = All-head IsSome p ps some (ap first_bytes same)
+unended name at n (p ∷ ps) (q ∷ qs) some same =
+    unended name (at + length p) n ps qs (All-tail IsSome p ps some) (rest_from name at p q _ qs _ same)
+
+-- nor do pieces of which the last wasn't given
+ungiven : (name : List ℕ) (at m n : ℕ) (ps qs : List (List ℕ)) → All IsSome ps
+    → pieces_from name at ps ++ Piece name m None ∷ [] ≡ pieces_from name at qs ++ ending name n → ⊥
+ungiven name at m n [] [] some same = omega (arith, ap first_given same)
+ungiven name at m n [] (q ∷ qs) some same = omega (arith, ap first_given same)
+ungiven name at m n (p ∷ ps) [] some same = All-head IsSome p ps some (ap first_bytes same)
+ungiven name at m n (p ∷ ps) (q ∷ qs) some same =
+    ungiven name (at + length p) m n ps qs (All-tail IsSome p ps some) (rest_from name at p q _ qs _ same)
+
+-- files that the same pieces end are the same
+same_pieces : (name : List ℕ) (at m n : ℕ) (ps qs : List (List ℕ)) → All IsSome ps → All IsSome qs
+    → pieces_from name at ps ++ ending name m ≡ pieces_from name at qs ++ ending name n → concat ps ≡ concat qs
+same_pieces name at m n [] [] some more same = refl
+same_pieces name at m n [] (q ∷ qs) some more same = absurd (All-head IsSome q qs more (sym (ap first_bytes same)))
+same_pieces name at m n (p ∷ ps) [] some more same = absurd (All-head IsSome p ps some (ap first_bytes same))
+same_pieces name at m n (p ∷ ps) (q ∷ qs) some more same =
+    let rest : concat ps ≡ concat qs =
+    same_pieces name (at + length p) m n ps qs (All-tail IsSome p ps some) (All-tail IsSome q qs more) (rest_from name at p q _ qs _ same) in
+    ap (λ l. p ++ l) rest ∙ ap (λ l. l ++ concat qs) (ap first_bytes same)
+
+-- the calls behind those before
+from_end : {old new : List Reply} {name file : List ℕ} → (whole : IsReadWhole old new name file)
+    → new ≡ old ++ (pieces_from name 0 whole.pieces ++ ending name (length file))
+from_end {old} {new} {name} {file} whole = whole.calls ∙ append_assoc old (pieces_from name 0 whole.pieces) (ending name (length file))
+
+-- what was read whole between two moments is one file
+pub one_file : (old new : List Reply) (name first second : List ℕ) → IsReadWhole old new name first → IsReadWhole old new name second
+    → first ≡ second
+one_file old new name first second one other =
+    sym one.whole
+    ∙ same_pieces name 0 (length first) (length second) one.pieces other.pieces one.some other.some
+    (append_cancel_left old _ _ (sym (from_end one) ∙ from_end other))
+    ∙ other.whole
+
+-- a file that was read up to some place wasn't read whole
+pub unended_file : (old new : List Reply) (name bytes file : List ℕ) → IsReadTo old new name bytes → IsReadWhole old new name file → ⊥
+unended_file old new name bytes file so whole =
+    unended name 0 (length file) so.pieces whole.pieces so.some (append_cancel_left old _ _ (sym so.calls ∙ from_end whole))
+
+-- nor was one of which a piece couldn't be read
+pub ungiven_file : (old new after : List Reply) (name bytes file : List ℕ) (at : ℕ) → IsReadTo old new name bytes
+    → after ≡ new ++ Piece name at None ∷ [] → IsReadWhole old after name file → ⊥
+ungiven_file old new after name bytes file at so is whole =
+    let calls : after ≡ old ++ (pieces_from name 0 so.pieces ++ Piece name at None ∷ []) =
+    is ∙ ap (λ l. l ++ Piece name at None ∷ []) so.calls ∙ append_assoc old (pieces_from name 0 so.pieces) (Piece name at None ∷ []) in
+    ungiven name 0 at (length file) so.pieces whole.pieces so.some (append_cancel_left old _ _ (sym calls ∙ from_end whole))

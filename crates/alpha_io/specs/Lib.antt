@@ -10,5 +10,6 @@ pub mod Shelved
 pub mod SinkState
 pub mod SourceState
 pub mod Sunk
+pub mod Supply
 pub mod SureShelfState
 pub mod Written

@@ -128,12 +128,7 @@ impl<R: Files + RandomSource + AllocGlobal> Shelf for DiskShelf<R> {
 
     fn piece(&mut self, name: &str, at: u64, buf: &mut [u8]) -> Result<usize, Failed> {
         let answer = counted(self.read_at(name, at, buf), &mut self.faults);
-        match answer {
-            Ok(count) => self
-                .history
-                .note(&[0, at, 1], name.as_bytes(), &buf[..count]),
-            Err(_) => self.history.note(&[0, at, 0], name.as_bytes(), &[]),
-        }
+        self.history.piece(name, at, answer, buf);
         answer
     }
 
@@ -146,10 +141,7 @@ impl<R: Files + RandomSource + AllocGlobal> Shelf for DiskShelf<R> {
             spares_streams: self.spares_streams,
         };
         let answer = counted(keep.run(), &mut self.faults);
-        match answer {
-            Ok(()) => self.history.note(&[1, 0, 1], name.as_bytes(), bytes),
-            Err(_) => self.history.note(&[1, 0, 0], name.as_bytes(), bytes),
-        }
+        self.history.kept(name, bytes, answer);
         answer
     }
 }

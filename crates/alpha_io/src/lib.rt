@@ -4,12 +4,14 @@
 //!   a count of its faults. [`Failed`] is the one answer of a device that failed.
 //! - [`read_whole`] reads a file of a shelf up to a limit, [`write_whole`] writes all of some bytes.
 //! - [`Line`] is a line of text in the making, in a buffer of its own.
-//! - In memory: [`MemorySource`] and [`SureSource`], [`MemorySink`], [`TrickleSink`] and
-//!   [`NullSink`], [`MemoryShelf`] and [`SureShelf`]. The sure ones and the null one never fail.
+//! - In memory: [`MemorySource`], [`SureSource`] and [`EmptySource`], [`MemorySink`], [`TrickleSink`]
+//!   and [`NullSink`], [`MemoryShelf`] and [`SureShelf`]. The sure ones, the empty one and the null one
+//!   never fail.
 //! - On a real system: [`ReadSource`] over a reader, [`WriteSink`] over a writer, [`DiskShelf`] over
 //!   the file system. A read or a write that a signal interrupts is made again.
-//! - [`History`] is what a device's calls answered so far, in proofs alone. Each shelf has one, and
-//!   [`WriteSink`]: so clauses speak of what a real disk gave, which tells nothing beforehand.
+//! - [`History`] is what a device's calls answered so far, in proofs alone. Each source and each
+//!   shelf has one, and [`WriteSink`]: so clauses speak of what a real disk or a terminal gave, which
+//!   tells nothing beforehand.
 //!
 //! The laws: a count of faults never falls. An `Ok` leaves it, and a call answers `Failed` only
 //! where it rose or stands at the last value of a `u64`. Two refusals of a shelf that tells its
@@ -54,7 +56,7 @@ pub use laws::{laws_of_counts, laws_of_files, laws_of_prefixes, laws_of_reading,
 pub use line::{LINE_ROOM, Line};
 pub use memory::shelf::MemoryShelf;
 pub use memory::sink::{MemorySink, NullSink};
-pub use memory::source::{MemorySource, SureSource};
+pub use memory::source::{EmptySource, MemorySource, SureSource};
 pub use memory::sure_shelf::SureShelf;
 pub use memory::trickle::TrickleSink;
 pub use read::{ReadFault, read_whole};

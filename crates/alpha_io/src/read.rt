@@ -1,4 +1,4 @@
-ghost use Rattle.std.specs.Prelude.{◌≡◌, ◌^◌, ◌<◌, ◌≤◌, ◌++◌, ◌+◌, ◌∷◌, [], Some, take, length, vec_len, IfOk};
+ghost use Rattle.std.specs.Prelude.{◌≡◌, ◌⊎◌, ◌^◌, ◌<◌, ◌≤◌, ◌++◌, ◌+◌, ◌∷◌, ℕ, List, [], Some, None, take, length, vec_len, IfOk, IfErr};
 ghost use Rattle.std.specs.Io.{ReadsAtMost};
 ghost use Rattle.alpha_io.specs.History.{Piece, IsReadWhole};
 ghost use Rattle.alpha_io.specs.Files.{Lacks, KeepsFiles, IfTold, IsPiece};
@@ -57,6 +57,8 @@ pub fn read_whole<H: Shelf>(
     requires { limit < 2 ^ 32 }
     ensures read { IfOk result (λ v.
         IsReadWhole (H.replies shelf.old) (H.replies shelf.new) name.now v.items) }
+    ensures whole { (file : List ℕ) → IsReadWhole (H.replies shelf.old) (H.replies shelf.new) name.now file
+        → IfErr result (λ fault. fault ≡ NoMemory) }
     ensures cause { ReadCause (H.files shelf.old) name.now limit
         (H.faults shelf.old) (H.faults shelf.new) result }
     ensures later { H.faults shelf.old ≤ H.faults shelf.new }
@@ -94,6 +96,8 @@ fn append_piece<H: Shelf>(
     ensures items { IfOk result (λ n. bytes.new.items ≡ bytes.old.items ++ take n buffer.new) }
     ensures replies { IfOk result (λ n. H.replies shelf.new ≡ H.replies shelf.old
         ++ Piece name.now (length bytes.old.items) (Some (take n buffer.new)) ∷ []) }
+    ensures failed { IfErr result (λ fault. (fault ≡ NoMemory) ⊎ (H.replies shelf.new ≡ H.replies shelf.old
+        ++ Piece name.now (length bytes.old.items) None ∷ [])) }
     ensures piece { IfOk result (λ n. IfTold (H.files shelf.old) name.now
         (λ file. IsPiece file (length bytes.old.items) n buffer.new)) }
     ensures files { KeepsFiles (H.files shelf.old) (H.files shelf.new) }

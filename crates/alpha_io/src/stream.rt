@@ -8,28 +8,38 @@ use crate::{Failed, Sink, Source};
 use std::io::{Read, Write};
 use std::marker::Model;
 
-/// A real reader as a source, which tells nothing. Each error counts one fault. A clause sees
-/// the count of faults.
+/// A real reader as a source, which doesn't tell what is still to come. Each error counts one fault. A
+/// clause sees what its calls answered, and the count of faults.
 #[derive(Drop)]
 pub struct ReadSource<R: Read> {
     reader: R,
     faults: u64,
+    history: History,
 }
 
 impl<R: Read> Model for ReadSource<R> {
-    ghost use Rattle.std.specs.Prelude.{ℕ};
+    ghost use Rattle.alpha_io.specs.Heard.{Heard, heard_code};
 
-    ghost Value = { ℕ };
+    ghost Value = { Heard };
 
-    ghost view = { λ s. s.faults };
+    ghost coded = { heard_code };
+
+    ghost view = { λ s. record {
+      replies = s.history.replies;
+      faults = s.faults;
+    } };
 }
 
 impl<R: Read> ReadSource<R> {
     /// A source over the reader, without a fault so far.
     pub fn new(reader: R) -> ReadSource<R>
-        ensures { result ≡ 0 }
+        ensures { result ≡ heard_nothing }
     {
-        ReadSource { reader, faults: 0 }
+        ReadSource {
+            reader,
+            faults: 0,
+            history: History::new(),
+        }
     }
 }
 
@@ -38,11 +48,14 @@ impl<R: Read> Source for ReadSource<R> {
 
     ghost left = { λ _. None };
 
-    ghost faults = { λ s. s };
+    ghost replies = { λ s. s.replies };
+
+    ghost faults = { λ s. s.faults };
 
     fn take(&mut self, buf: &mut [u8]) -> Result<usize, Failed> {
-        let answer = read_again(&mut self.reader, buf);
-        counted(answer, &mut self.faults)
+        let answer = counted(read_again(&mut self.reader, buf), &mut self.faults);
+        self.history.took(answer, buf);
+        answer
     }
 }
 
@@ -92,7 +105,7 @@ impl<W: Write> Sink for WriteSink<W> {
     fn put(&mut self, bytes: &[u8]) -> Result<usize, Failed> {
         match write_again(&mut self.writer, bytes) {
             Ok(count) if count > 0 => {
-                self.history.note(&[2, 0, 1], &[], &bytes[..count]);
+                self.history.put(&bytes[..count]);
                 Ok(count)
             }
             _ => {

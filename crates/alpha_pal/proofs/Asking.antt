@@ -7,7 +7,7 @@ use Rattle.alpha_mem.specs.Block.{Block}
 use Rattle.alpha_mem.specs.Memory.{write_bytes}
 use Rattle.alpha_pal.specs.declared.pal_end.Passed.{Passed}
 use Rattle.alpha_pal.specs.Call.{Traffic, Silent, Read, asked_in, given_in, Called, goes, exits, signals, answers, call}
-use Rattle.alpha_pal.specs.CallEffect.{Seen, GoesOn, GoesOnTold, Reads}
+use Rattle.alpha_pal.specs.CallEffect.{Seen, GoesOn, GoesOnTold, ReadsTold}
 use Rattle.alpha_pal.proofs.Callsys.{callsys-each}
 
 pub take-again : (n : ℕ) (l : List ℕ) → take n (take n l) ≡ take n l
@@ -60,10 +60,10 @@ call-over function regs regs' mem mem' unique unique' traffic input is fed =
     let count : asked_in traffic ≡ a.count = sym (ap (λ c. asked_in (passed_in c)) is) ∙ a.asks (given_in traffic) in
     a.only input ∙ (ap (call function regs mem unique) (ap (λ n. take n input) (sym count) ∙ sym fed) ∙ is)
 
-pub GoesOnTold-from : (function : PalCall) (passed : Passed) (old new : Seen) (left : List ℕ) → old.left ≡ Some left
+pub GoesOnTold-from : (function : PalCall) (passed : Passed) (old new : Seen) (left : List ℕ) → old.supply.left ≡ Some left
     → GoesOn function passed old new → GoesOnTold function old new left
 GoesOnTold-from function passed old new left told h =
-    let fed = subst (λ (l : Option (List ℕ)). Reads l h.traffic new.left) told h.fed in record {
+    let fed = subst (λ (l : Option (List ℕ)). ReadsTold l h.traffic new.supply.left) told h.fed.told in record {
       traffic = h.traffic;
       is = call-over function old.regs new.regs old.mem new.mem old.unique new.unique h.traffic left h.is fed.0;
       took = fed.1;

@@ -5,6 +5,7 @@ use Rattle.std.proofs.KnownBytes.{Appends-nil}
 use Rattle.alpha_words.specs.declared.PalCall.{PalCall}
 use Rattle.alpha_words.specs.declared.PalCall.TheVariants.{Bpt, Bugchk, Callsys, Imb, Rdunique, Wrunique, Gentrap}
 use Rattle.alpha_words.specs.Regs.{reg, put}
+use Rattle.alpha_io.specs.Supply.{Supply}
 use Rattle.alpha_mem.specs.Block.{Block}
 use Rattle.alpha_pal.specs.declared.frame.Frame.{Frame}
 use Rattle.alpha_pal.specs.declared.fault.Fault.{Fault}
@@ -23,7 +24,7 @@ use Rattle.alpha_pal.proofs.Callsys.{callsys-does}
 
 -- a call that leaves memory and devices alone
 GoesOn-quiet : (function : PalCall) (regs regs' : List ℕ) (mem : List Block) (unique unique' : ℕ)
-    (left written : Option (List ℕ))
+    (left : Supply) (written : Option (List ℕ))
     → call function regs mem unique [] ≡ goes regs' mem unique' Silent
     → GoesOn function Nothing (seen regs mem unique left written) (seen regs' mem unique' left written)
 GoesOn-quiet function regs regs' mem unique unique' left written does = record {
@@ -34,7 +35,7 @@ GoesOn-quiet function regs regs' mem unique unique' left written does = record {
   passes = (refl, refl);
 }
 
-pub imb_goes_on : (regs : List ℕ) (mem : List Block) (unique : ℕ) (left written : Option (List ℕ))
+pub imb_goes_on : (regs : List ℕ) (mem : List Block) (unique : ℕ) (left : Supply) (written : Option (List ℕ))
     → GoesOn Imb Nothing (seen regs mem unique left written) (seen regs mem unique left written)
 unfolding call
 imb_goes_on regs mem unique left written =
@@ -44,7 +45,7 @@ rdunique-does : (regs : List ℕ) (mem : List Block) (unique : ℕ) → call Rdu
 unfolding call
 rdunique-does regs mem unique = refl
 
-pub rdunique_goes_on : (regs regs' : List ℕ) (mem : List Block) (unique : ℕ) (left written : Option (List ℕ))
+pub rdunique_goes_on : (regs regs' : List ℕ) (mem : List Block) (unique : ℕ) (left : Supply) (written : Option (List ℕ))
     → regs' ≡ put regs 0 unique
     → GoesOn Rdunique Nothing (seen regs mem unique left written) (seen regs' mem unique left written)
 rdunique_goes_on regs regs' mem unique left written set =
@@ -54,7 +55,7 @@ wrunique-does : (regs : List ℕ) (mem : List Block) (unique : ℕ) → call Wru
 unfolding call
 wrunique-does regs mem unique = refl
 
-pub wrunique_goes_on : (regs : List ℕ) (mem : List Block) (unique unique' : ℕ) (left written : Option (List ℕ))
+pub wrunique_goes_on : (regs : List ℕ) (mem : List Block) (unique unique' : ℕ) (left : Supply) (written : Option (List ℕ))
     → unique' ≡ reg regs 16
     → GoesOn Wrunique Nothing (seen regs mem unique left written) (seen regs mem unique' left written)
 wrunique_goes_on regs mem unique unique' left written set =
@@ -91,11 +92,11 @@ restored (Ok (Exit v)) regs sized = restored_all regs sized
 restored (Err fault) regs sized = restored_all regs sized
 
 -- equal parts make equal views
-same_seen : (regs regs' : List ℕ) (mem mem' : List Block) (unique : ℕ) (left left' written written' : Option (List ℕ)) → regs' ≡ regs → mem' ≡ mem → left' ≡ left → written' ≡ written → seen regs' mem' unique left' written' ≡ seen regs mem unique left written
+same_seen : (regs regs' : List ℕ) (mem mem' : List Block) (unique : ℕ) (left left' : Supply) (written written' : Option (List ℕ)) → regs' ≡ regs → mem' ≡ mem → left' ≡ left → written' ≡ written → seen regs' mem' unique left' written' ≡ seen regs mem unique left written
 same_seen regs regs' mem mem' unique left left' written written' e0 e1 e2 e3 = simp (e0, e1, e2, e3)
 
 served_effect : (served : Result Answer Fault) (regs regs' : List ℕ) (mem mem' : List Block) (unique : ℕ)
-    (left left' written written' : Option (List ℕ))
+    (left left' : Supply) (written written' : Option (List ℕ))
     → ServeEffect (system_call_of regs) served mem mem' left left' written written' → regs' ≡ regs_after served regs
     → CallEffect Callsys (end_of (system_call_of regs) served) (seen regs mem unique left written)
     (seen regs' mem' unique left' written')
@@ -134,7 +135,7 @@ served_effect (Err Notes) regs regs' mem mem' unique left left' written written'
 -- a system call between its entry and its return
 pub callsys_effect : (request : SystemCall) (served : Result Answer Fault) (end : Result PalEnd Fault) (k : KernelState)
     (f : Frame) (regs entry answer now : List ℕ) (mem mem' : List Block) (unique : ℕ)
-    (left left' written written' : Option (List ℕ))
+    (left left' : Supply) (written written' : Option (List ℕ))
     → length regs ≡ 32
     → request ≡ system_call_of regs
     → k ≡ entered f regs

@@ -5,6 +5,8 @@ use Rattle.alpha_words.specs.declared.PalCall.{PalCall}
 use Rattle.alpha_words.specs.declared.PalCall.TheVariants.{Callsys}
 use Rattle.alpha_words.specs.Regs.{reg}
 use Rattle.alpha_io.specs.Faults.{Rose}
+use Rattle.alpha_io.specs.History.{Reply, IsRead, FailsToRead}
+use Rattle.alpha_io.specs.Supply.{Supply}
 use Rattle.alpha_io.specs.Written.{WritesPrefix}
 use Rattle.alpha_mem.specs.Intent.{Load, Store}
 use Rattle.alpha_mem.specs.Block.{Block, shapes, within}
@@ -20,6 +22,7 @@ use Rattle.alpha_pal.specs.declared.pal_end.Passed.{Passed}
 use Rattle.alpha_pal.specs.declared.pal_end.Passed.TheVariants.{Nothing, Took, Put}
 use Rattle.alpha_pal.specs.Kernel.{KernelState, call_frame}
 use Rattle.alpha_pal.specs.Call.{Traffic, Silent, asked_in, given_in, put_in, goes, exits, signals, call}
+use Rattle.alpha_pal.specs.Call as traffics
 use Rattle.alpha_pal.specs.Serve.{read_call, write_call, input_descriptor, output_descriptor, served, serve, system_call_of, answered}
 use Rattle.alpha_pal.specs.Passed.{IsPassed}
 
@@ -29,10 +32,21 @@ Takes None now taken rest = ⊤
 Takes (Some xs) now taken rest = (xs ≡ taken ++ rest) × (now ≡ Some rest)
 
 -- where the input is told, this was read of it, and what follows is left
-abbrev pub Reads : Option (List ℕ) → Traffic → Option (List ℕ) → Type 0
-Reads None traffic left = ⊤
-Reads (Some input) traffic left =
+abbrev pub ReadsTold : Option (List ℕ) → Traffic → Option (List ℕ) → Type 0
+ReadsTold None traffic left = ⊤
+ReadsTold (Some input) traffic left =
     (given_in traffic ≡ take (asked_in traffic) input) × (left ≡ Some (drop (length (given_in traffic)) input))
+
+-- told or not, the source was asked for just that
+abbrev pub Answers : List Reply → Traffic → List Reply → Type 0
+Answers old (traffics.Read asked given) new = IsRead old new asked given
+Answers old (traffics.Wrote bytes) new = new ≡ old
+Answers old Silent new = new ≡ old
+
+-- this was read
+pub record Reads (old : Supply) (traffic : Traffic) (new : Supply) : Type 0 where
+  pub told : ReadsTold old.left traffic new.left
+  pub answers : Answers old.replies traffic new.replies
 
 -- what an answer to a request says that it took or put
 abbrev pub passed_by : SystemCall → Answer → Passed
@@ -45,25 +59,26 @@ passed_by r (Exits v) = Nothing
 -- the devices, and stands in memory.
 pub record Serves
     (r : SystemCall) (answer : Answer) (mem mem' : List Block)
-    (left left' written written' : Option (List ℕ)) : Type 0 where
+    (supply supply' : Supply) (written written' : Option (List ℕ)) : Type 0 where
   pub traffic : Traffic
   pub is : serve r mem (given_in traffic) ≡ served answer mem' traffic
-  pub fed : Reads left traffic left'
+  pub fed : Reads supply traffic supply'
   pub wrote : Appends written written' (put_in traffic)
   pub passes : IsPassed (passed_by r answer) mem' (given_in traffic) (put_in traffic)
 
 -- a good read whose source failed: the bytes taken so far are in memory, whose blocks lie apart, and fewer than were
 -- asked for
-pub record TakesPart (r : SystemCall) (mem mem' : List Block) (left left' : Option (List ℕ)) : Type 0 where
+pub record TakesPart (r : SystemCall) (mem mem' : List Block) (old new : Supply) : Type 0 where
   pub layout : IsLayout (shapes mem)
   pub number : r.number ≡ read_call
   pub descriptor : r.a0 ≡ input_descriptor
   pub range : IsTrue (within (shapes mem) Store r.a1 r.a2)
   pub taken : List ℕ
   pub rest : List ℕ
-  pub took : Takes left left' taken rest
+  pub took : Takes old.left new.left taken rest
   pub less : length taken < r.a2
   pub there : mem' ≡ write_bytes mem r.a1 taken
+  pub calls : FailsToRead old.replies new.replies taken
 
 -- a good write whose sink failed: a prefix of the bytes was put
 pub record PutsPart (r : SystemCall) (mem : List Block) (written written' : Option (List ℕ)) : Type 0 where
@@ -74,15 +89,15 @@ pub record PutsPart (r : SystemCall) (mem : List Block) (written written' : Opti
 
 -- a system call's effect on memory, input and output, by its result
 abbrev pub ServeEffect : SystemCall → Result Answer Fault → List Block → List Block
-    → Option (List ℕ) → Option (List ℕ) → Option (List ℕ) → Option (List ℕ) → Type 0
-ServeEffect r (Ok (Read n)) mem mem' left left' written written' = Serves r (Read n) mem mem' left left' written written'
-ServeEffect r (Ok (Wrote n)) mem mem' left left' written written' = Serves r (Wrote n) mem mem' left left' written written'
-ServeEffect r (Ok (Error n)) mem mem' left left' written written' = Serves r (Error n) mem mem' left left' written written'
-ServeEffect r (Ok (Exits v)) mem mem' left left' written written' =
-    ((input : List ℕ) → serve r mem input ≡ served (Exits v) mem Silent) × (mem' ≡ mem) × (left' ≡ left) × (written' ≡ written)
-ServeEffect r (Err Input) mem mem' left left' written written' = TakesPart r mem mem' left left' × (written' ≡ written)
-ServeEffect r (Err Output) mem mem' left left' written written' = PutsPart r mem written written' × (mem' ≡ mem) × (left' ≡ left)
-ServeEffect r (Err Notes) mem mem' left left' written written' = ⊥
+    → Supply → Supply → Option (List ℕ) → Option (List ℕ) → Type 0
+ServeEffect r (Ok (Read n)) mem mem' supply supply' written written' = Serves r (Read n) mem mem' supply supply' written written'
+ServeEffect r (Ok (Wrote n)) mem mem' supply supply' written written' = Serves r (Wrote n) mem mem' supply supply' written written'
+ServeEffect r (Ok (Error n)) mem mem' supply supply' written written' = Serves r (Error n) mem mem' supply supply' written written'
+ServeEffect r (Ok (Exits v)) mem mem' supply supply' written written' =
+    ((input : List ℕ) → serve r mem input ≡ served (Exits v) mem Silent) × (mem' ≡ mem) × (supply' ≡ supply) × (written' ≡ written)
+ServeEffect r (Err Input) mem mem' supply supply' written written' = TakesPart r mem mem' supply supply' × (written' ≡ written)
+ServeEffect r (Err Output) mem mem' supply supply' written written' = PutsPart r mem written written' × (mem' ≡ mem) × (supply' ≡ supply)
+ServeEffect r (Err Notes) mem mem' supply supply' written written' = ⊥
 
 -- how a call ends, by a system call's result
 abbrev pub end_of : SystemCall → Result Answer Fault → Result PalEnd Fault
@@ -102,18 +117,18 @@ pub record Seen : Type 0 where
   pub regs : List ℕ
   pub mem : List Block
   pub unique : ℕ
-  pub left : Option (List ℕ)
+  pub supply : Supply
   pub written : Option (List ℕ)
 
-abbrev pub seen : List ℕ → List Block → ℕ → Option (List ℕ) → Option (List ℕ) → Seen
-seen regs mem unique left written = record { regs = regs; mem = mem; unique = unique; left = left; written = written }
+abbrev pub seen : List ℕ → List Block → ℕ → Supply → Option (List ℕ) → Seen
+seen regs mem unique supply written = record { regs = regs; mem = mem; unique = unique; supply = supply; written = written }
 
 -- Registers, memory and unique value are those of the definition, where what was given is there to be read. What passed went
 -- through the devices, and stands in memory where the call says so.
 pub record GoesOn (function : PalCall) (passed : Passed) (old new : Seen) : Type 0 where
   pub traffic : Traffic
   pub is : call function old.regs old.mem old.unique (given_in traffic) ≡ goes new.regs new.mem new.unique traffic
-  pub fed : Reads old.left traffic new.left
+  pub fed : Reads old.supply traffic new.supply
   pub wrote : Appends old.written new.written (put_in traffic)
   pub passes : IsPassed passed new.mem (given_in traffic) (put_in traffic)
 
@@ -121,7 +136,7 @@ pub record GoesOn (function : PalCall) (passed : Passed) (old new : Seen) : Type
 pub record GoesOnTold (function : PalCall) (old new : Seen) (left : List ℕ) : Type 0 where
   pub traffic : Traffic
   pub is : call function old.regs old.mem old.unique left ≡ goes new.regs new.mem new.unique traffic
-  pub took : new.left ≡ Some (drop (length (given_in traffic)) left)
+  pub took : new.supply.left ≡ Some (drop (length (given_in traffic)) left)
   pub wrote : Appends old.written new.written (put_in traffic)
 
 -- a call's effect, by its end
@@ -131,8 +146,8 @@ CallEffect function (Ok (Exit v)) old new = ((input : List ℕ) → call functio
 CallEffect function (Ok (Signal code)) old new = ((input : List ℕ) → call function old.regs old.mem old.unique input ≡ signals code) × (new ≡ old)
 CallEffect function (Err Input) old new =
     (function ≡ Callsys)
-    × TakesPart (system_call_of old.regs) old.mem new.mem old.left new.left
-    × (new ≡ record old { mem = new.mem; left = new.left })
+    × TakesPart (system_call_of old.regs) old.mem new.mem old.supply new.supply
+    × (new ≡ record old { mem = new.mem; supply = new.supply })
 CallEffect function (Err Output) old new =
     (function ≡ Callsys)
     × PutsPart (system_call_of old.regs) old.mem old.written new.written

@@ -1,4 +1,5 @@
 ghost use Rattle.std.specs.Prelude.{◌≡◌, ℕ, IsTrue};
+ghost use Rattle.alpha_io.specs.Supply.{supply};
 ghost use Rattle.alpha_mem.specs.Block.{shapes};
 ghost use Rattle.alpha_pal.specs.CallEffect.{CallEffect, InputCause, SinkCause, kernel_after, seen};
 ghost use Rattle.alpha_words.specs.declared.PalCall.TheVariants.{Callsys};
@@ -33,8 +34,8 @@ impl Kernel {
     ) -> Result<PalEnd, Fault>
         requires { IsTrue self.old.user }
         ensures effect { CallEffect function result
-            (seen regs.old mem.old unique.old (S.left input.old) (K.written out.old))
-            (seen regs.new mem.new unique.new (S.left input.new) (K.written out.new)) }
+            (seen regs.old mem.old unique.old (supply S.Source input.old) (K.written out.old))
+            (seen regs.new mem.new unique.new (supply S.Source input.new) (K.written out.new)) }
         ensures shapes { shapes mem.new ≡ shapes mem.old }
         ensures kernel { self.new ≡ kernel_after function next regs.old self.old }
         ensures input { InputCause result (S.faults input.old) (S.faults input.new) }
@@ -67,8 +68,8 @@ impl Kernel {
         out: &mut K,
     ) -> Result<PalEnd, Fault>
         ensures effect { (unique : ℕ) → CallEffect Callsys result
-            (seen regs.old mem.old unique (S.left input.old) (K.written out.old))
-            (seen regs.new mem.new unique (S.left input.new) (K.written out.new)) }
+            (seen regs.old mem.old unique (supply S.Source input.old) (K.written out.old))
+            (seen regs.new mem.new unique (supply S.Source input.new) (K.written out.new)) }
         ensures shapes { shapes mem.new ≡ shapes mem.old }
         ensures kernel { self.new ≡ kernel_after Callsys next regs.old self.old }
         ensures input { InputCause result (S.faults input.old) (S.faults input.new) }

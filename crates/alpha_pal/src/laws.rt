@@ -23,6 +23,6 @@ pub fn laws_of_calls()
         → call Callsys regs mem unique input
         ≡ after_serve regs unique (serve (system_call_of regs) mem input) }
     ensures told { (function : PalCall) (passed : Passed) (old new : Seen) (left : List ℕ)
-        → old.left ≡ Some left → GoesOn function passed old new
+        → old.supply.left ≡ Some left → GoesOn function passed old new
         → GoesOnTold function old new left }
 {}

@@ -1,5 +1,6 @@
 ghost use Rattle.std.specs.Prelude.{◌≡◌, ℕ, List, Option};
 ghost use Rattle.alpha_words.specs.Regs.{IsFile};
+ghost use Rattle.alpha_io.specs.Supply.{Supply, supply};
 ghost use Rattle.alpha_mem.specs.Block.{shapes};
 ghost use Rattle.alpha_pal.specs.Serve.{system_call_of};
 ghost use Rattle.alpha_pal.specs.CallEffect.{ServeEffect, InputCause, SinkCause, end_of, regs_after};
@@ -73,7 +74,7 @@ impl SystemCall {
         out: &mut K,
     ) -> Result<Answer, Fault>
         ensures effect { ServeEffect self result mem.old mem.new
-            (S.left input.old) (S.left input.new) (K.written out.old) (K.written out.new) }
+            (supply S.Source input.old) (supply S.Source input.new) (K.written out.old) (K.written out.new) }
         ensures shapes { shapes mem.new ≡ shapes mem.old }
         ensures input { InputCause result (S.faults input.old) (S.faults input.new) }
         ensures sink { SinkCause result (K.faults out.old) (K.faults out.new) }
@@ -91,7 +92,7 @@ impl SystemCall {
     fn read<S: Source>(self, mem: &mut Memory, input: &mut S) -> Result<Answer, Fault>
         requires { self.number ≡ READ }
         ensures effect { (written : Option (List ℕ)) → ServeEffect self result mem.old mem.new
-            (S.left input.old) (S.left input.new) written written }
+            (supply S.Source input.old) (supply S.Source input.new) written written }
         ensures shapes { shapes mem.new ≡ shapes mem.old }
         ensures input { InputCause result (S.faults input.old) (S.faults input.new) }
         ensures sink { (count : ℕ) → SinkCause result count count }
@@ -111,8 +112,8 @@ impl SystemCall {
     // Writes memory to the output.
     fn write<K: Sink>(self, mem: &Memory, out: &mut K) -> Result<Answer, Fault>
         requires { self.number ≡ WRITE }
-        ensures effect { (left : Option (List ℕ)) → ServeEffect self result mem.now mem.now
-            left left (K.written out.old) (K.written out.new) }
+        ensures effect { (given : Supply) → ServeEffect self result mem.now mem.now
+            given given (K.written out.old) (K.written out.new) }
         ensures sink { SinkCause result (K.faults out.old) (K.faults out.new) }
         ensures input { (count : ℕ) → InputCause result count count }
     {

@@ -1,10 +1,11 @@
-ghost use Rattle.std.specs.Prelude.{◌≡◌, ◌<◌, ◌≤◌, [], IsTrue, length, IfOk, OnErr};
-ghost use Rattle.std.specs.Io.KnownBytes.{Consumes, IsAtEnd};
+ghost use Rattle.std.specs.Prelude.{◌≡◌, ◌<◌, ◌≤◌, IsTrue, length, IfOk, OnErr};
+ghost use Rattle.std.specs.Io.KnownBytes.{IsAtEnd};
 ghost use Rattle.alpha_io.specs.Faults.{HasCause};
+ghost use Rattle.alpha_io.specs.Supply.{supply};
 ghost use Rattle.alpha_mem.specs.Intent.{Store};
 ghost use Rattle.alpha_mem.specs.Block.{shapes, within};
 ghost use Rattle.alpha_mem.specs.Memory.{IsMemory};
-ghost use Rattle.alpha_pal.specs.Taken.{HasTaken, TakesLess, NothingLeft};
+ghost use Rattle.alpha_pal.specs.Taken.{ReadsInto, TakesPiece, TakesLess, FailsOnce, NothingLeft};
 
 use alpha_io::{Failed, Source};
 use alpha_mem::Memory;
@@ -22,12 +23,12 @@ pub(crate) fn take_into<S: Source>(
 ) -> Result<u64, Failed>
     requires range { IsTrue (within (shapes mem.old) Store addr size) }
     requires good { IsMemory mem.old }
-    ensures ok { IfOk result
-        (λ n. HasTaken mem.old mem.new addr n (S.left input.old) (S.left input.new)) }
+    ensures ok { IfOk result (λ n. ReadsInto mem.old mem.new addr n size
+        (supply S.Source input.old) (supply S.Source input.new)) }
     ensures bound { IfOk result (λ n. n ≤ size) }
     ensures ends { IfOk result (λ n. n < size → NothingLeft (S.left input.old) (S.left input.new)) }
-    ensures refused { OnErr result
-        (TakesLess mem.old mem.new addr size (S.left input.old) (S.left input.new)) }
+    ensures refused { OnErr result (TakesLess mem.old mem.new addr size
+        (supply S.Source input.old) (supply S.Source input.new)) }
     ensures shapes { shapes mem.new ≡ shapes mem.old }
     ensures cause { HasCause (S.faults input.old) (S.faults input.new) result }
 {
@@ -54,12 +55,12 @@ fn take_piece<S: Source>(
     requires some { 0 < length piece.old }
     requires range { IsTrue (within (shapes mem.old) Store addr (length piece.old)) }
     requires good { IsMemory mem.old }
-    ensures ok { IfOk result
-        (λ n. HasTaken mem.old mem.new addr n (S.left input.old) (S.left input.new)) }
+    ensures ok { IfOk result (λ n. TakesPiece mem.old mem.new addr n
+        (supply S.Source input.old) (supply S.Source input.new)) }
     ensures bound { IfOk result (λ n. n ≤ length piece.old) }
     ensures ends { IfOk result (λ n. n ≡ 0 → IsAtEnd (S.left input.old)) }
     ensures same { OnErr result (mem.new ≡ mem.old) }
-    ensures input { OnErr result (Consumes (S.left input.old) (S.left input.new) []) }
+    ensures input { OnErr result (FailsOnce (supply S.Source input.old) (supply S.Source input.new)) }
     ensures shapes { shapes mem.new ≡ shapes mem.old }
     ensures good { IsMemory mem.new }
     ensures cause { HasCause (S.faults input.old) (S.faults input.new) result }

@@ -34,6 +34,7 @@ use Rattle.alpha_replay.specs.declared.recorder.Recorder.{Recorder}
 use Rattle.alpha_replay.specs.Gathered.{no_moves, closed}
 use Rattle.alpha_replay.specs.Journal.{Parts, parts}
 use Rattle.alpha_replay.specs.Journaled.{is_within, journal_of, stops_at, has_stopped, steps_journaled, GoesOver}
+use Rattle.alpha_run.specs.Shows.{ShowsWildPart}
 use Rattle.alpha_replay.specs.JournalEnd as made
 use Rattle.alpha_replay.specs.JournalEnd.{IsJournaledAt}
 use Rattle.alpha_replay.specs.Recorder.{recording, recorded_after, outcome}
@@ -227,17 +228,17 @@ module _ (n left : ℕ) (event : Seen) (old new : WildState) (to : Recorder) (be
 -- ---- a step that a fault cuts short
 
 -- fronts were written of what the run shows wherever it would have stopped
-module _ (fault : Fault) (n : ℕ) (old new : WildState) (before after : Telling) (input : Drawn) (out sink : Sunk) (cut : WildCut fault n false old new before after input out sink)
+module _ (fault : Fault) (n : ℕ) {rest : ℕ} (old new : WildState) (before after : Telling) (input : Drawn) (out sink : Sunk) (cut : WildCut fault n rest false old new before after input out sink)
     (goes : GoesOver n (program_of old.machine) 0 [] (moment_at old) cut.steps)
     (still_on : stops_at n old.machine.how (units (program_of old.machine) (moment_at old) cut.steps) cut.steps (moment_of cut.mid cut.last) ≡ false) where
-  pub short_fronts : (bytes coming : List ℕ) (k : Making) → input.old ≡ Some bytes → IsJournaledAt n old bytes ((cut.words ++ cut.print.words) ++ coming) k
-      → made.ShowsWildPart (shown_making false k) out sink
+  pub short_fronts : (bytes coming : List ℕ) (k : Making) → input.old.left ≡ Some bytes → IsJournaledAt n old bytes ((cut.words ++ cut.print.words) ++ coming) k
+      → ShowsWildPart (shown_making false k) out sink
   short_fronts bytes coming k tells is =
       let g = program_of old.machine in
       let a = moment_at old in
       let m = length cut.steps in
       let from = begun_at old bytes ((cut.words ++ cut.print.words) ++ coming) in
-      let first = cut.told bytes tells in
+      let first = cut.fed.told bytes tells in
       let last = cut.would_feed first.0 first.2 in
       let drew = subst (λ l. Draws g a (waited_in old.pending) l cut.steps (cut.print.words ++ coming)) (sym (append_assoc cut.words cut.print.words coming)) (cut.draws (cut.print.words ++ coming)) in
       let here = drawn_told g cut.steps from (moment_of cut.mid cut.last) first.0 (cut.print.words ++ coming) cut.runs drew first.1 in
@@ -266,6 +267,7 @@ cut_short fault n left old new before after input out sink one =
     let most : units_of ps + p.units ≤ n = omega (arith, one.used) in
     let cut = wild_cut recording fault n left false old new blank before after input out sink writes one in
     record {
+      unused = left;
       cut = cut;
       goes = goes_all n old one.mid one.would ps p all one.going one.row one.is most;
       fronts =

@@ -1,5 +1,7 @@
 -- The step that the code made where a move was asked for, over devices that don't fail.
 use Rattle.std.proofs.Common.{◌≡◌, ℕ, List, Some, None, refl, ap, subst, ◌∙◌, arith}
+use Rattle.alpha_io.specs.SourceState.{SureSourceState}
+use Rattle.alpha_io.specs.Supply.{Supply}
 use Rattle.alpha_io.specs.Sunk.{Sunk}
 use Rattle.alpha_pal.specs.declared.fault.Fault.{Fault}
 use Rattle.alpha_pal.specs.declared.fault.Fault.TheVariants.{Input, Output, Notes}
@@ -23,30 +25,33 @@ chosen Unasked choice before after picked = picked.0
 chosen ValueAsked choice before after picked = picked.1 ∙ ap (λ (n : ℕ). (triggering n).choice) picked.2.0
 chosen PickAsked choice before after picked = picked.1 ∙ ap choice_by picked.2.0
 
-abbrev sure : List ℕ → List ℕ → Drawn
-sure xs ys = record { old = Some xs; new = Some ys; before = 0; now = 0 }
+abbrev sure_supply : SureSourceState → Supply
+sure_supply s = record { left = Some s.left; replies = s.replies }
+
+abbrev sure : SureSourceState → SureSourceState → Drawn
+sure a b = record { old = sure_supply a; new = sure_supply b; before = 0; now = 0 }
 
 abbrev null : Sunk
 null = record { old = None; new = None; before = 0; now = 0 }
 
-pub moved_by : (event : Event) (m : Move) (old new : WildState) (before after : Given) (xs ys : List ℕ) → before.step ≡ m
-    → MakesBy gives_pick gives_value event old new before after (sure xs ys) null → Moved m event old new xs ys
-moved_by event m old new before after xs ys same made =
+pub moved_by : (event : Event) (m : Move) (old new : WildState) (before after : Given) (a b : SureSourceState) → before.step ≡ m
+    → MakesBy gives_pick gives_value event old new before after (sure a b) null → Moved m event old new a.left b.left
+moved_by event m old new before after a b same made =
     let did = made.did in
     let given = chosen (asked old) made.choice before after made.picked ∙ ap (λ (x : Move). given_choice x (asked old)) same in
-    let fed = did.fed xs refl in
+    let fed = did.fed.told a.left refl in
     record {
       print = did.print;
       is = subst (λ (c : Choice). GoesBy c old did.print new) given did.is;
       event_is = did.event_is;
-      fed = subst (λ (l : List ℕ). Fed xs did.print.seen l) (let same : fed.0 ≡ ys = (let rest = fed.2 in cc) in same) fed.1;
+      fed = subst (λ (l : List ℕ). Fed a.left did.print.seen l) (let same : fed.0 ≡ b.left = (let rest = fed.2 in cc) in same) fed.1;
     }
 
 -- no device fails
-never : (fault : Fault) (xs ys : List ℕ) → Causes fault (sure xs ys) null null → ⊥
-never Input xs ys cause = absurd (let rose = cause.source in omega arith)
-never Output xs ys cause = absurd (let rose = cause.sink in omega arith)
-never Notes xs ys cause = absurd (let rose = cause.lines in omega arith)
+never : (fault : Fault) (a b : SureSourceState) → Causes fault (sure a b) null null → ⊥
+never Input a b cause = absurd (let rose = cause.source in omega arith)
+never Output a b cause = absurd (let rose = cause.sink in omega arith)
+never Notes a b cause = absurd (let rose = cause.lines in omega arith)
 
-pub never_breaks : (fault : Fault) (old new : WildState) (before after : Given) (xs ys : List ℕ) → BreaksBy gives_pick gives_value fault old new before after (sure xs ys) null → ⊥
-never_breaks fault old new before after xs ys broken = never fault xs ys (broken.did.cause null refl)
+pub never_breaks : (fault : Fault) (old new : WildState) (before after : Given) (a b : SureSourceState) → BreaksBy gives_pick gives_value fault old new before after (sure a b) null → ⊥
+never_breaks fault old new before after a b broken = never fault a b (broken.did.cause null refl)

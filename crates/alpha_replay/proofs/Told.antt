@@ -23,17 +23,18 @@ use Rattle.alpha_replay.specs.declared.journal_end.JournalEnd.{JournalEnd}
 use Rattle.alpha_replay.specs.declared.journal_end.JournalEnd.TheVariants as made
 use Rattle.alpha_replay.specs.Journal.{Parts}
 use Rattle.alpha_replay.specs.Journaled.{journal_of, journal_at, is_within, stops_at, has_stopped, steps_journaled, IsJournaled}
-use Rattle.alpha_replay.specs.JournalEnd.{IsJournaledAt, Stops, Records, IsFull, ShowsWildPart, IsShort, MakesJournal, StopsAt, IsRecorded, IsPast, Shows, JournalTold}
+use Rattle.alpha_run.specs.Shows.{ShowsWildPart}
+use Rattle.alpha_replay.specs.JournalEnd.{IsJournaledAt, Stops, Records, IsFull, IsShort, MakesJournal, StopsAt, IsRecorded, IsPast, Shows, JournalTold}
 use Rattle.alpha_replay.proofs.Journaling.{journaled_told}
 
 -- whatever words come behind those that were drawn
 pub stops_told : (n : ℕ) (last : Happening) (old new : WildState) (before after : Telling) (input : Drawn) (out notes : Sunk) (s : Stops n last old new before after input out notes)
-    (bytes coming : List ℕ) → input.old ≡ Some bytes
+    (bytes coming : List ℕ) → input.old.left ≡ Some bytes
     → (k : Making) × IsJournaledAt n old bytes (s.ran.words ++ coming) k × (k.run.steps ≡ s.ran.steps) × (bytes ≡ taken (seen k.run.steps) ++ k.run.left)
 stops_told n last old new before after input out notes s bytes coming tells =
     let g = program_of old.machine in
     let ran = s.ran in
-    let fed = ran.told bytes tells in
+    let fed = ran.fed.told bytes tells in
     let from = begun_at old bytes (ran.words ++ coming) in
     let here = drawn_told g ran.steps from (moment_of new last) fed.0 coming ran.runs (ran.draws coming) fed.1 in
     let same = journaled_told n g ran.steps from (moment_of new last) fed.0 coming ran.runs (ran.draws coming) fed.1 s.goes in
@@ -48,7 +49,7 @@ stops_told n last old new before after input out notes s bytes coming tells =
     )
 
 module _ (n : ℕ) (bytes : List ℕ) (ahead : ℕ → ℕ) (old new : WildState) (before after : Telling) (input : Drawn) (out notes : Sunk)
-    (tells : input.old ≡ Some bytes) (told : before.ahead ≡ Some ahead) (fresh : IsFresh old) where
+    (tells : input.old.left ≡ Some bytes) (told : before.ahead ≡ Some ahead) (fresh : IsFresh old) where
   abbrev g : Program
   g = program_of old.machine
 
@@ -63,7 +64,7 @@ module _ (n : ℕ) (bytes : List ℕ) (ahead : ℕ → ℕ) (old new : WildState
   there : (last : Happening) (s : Stops n last old new before after input out notes) → There last s
   there last s =
       let ran = s.ran in
-      let fed = ran.told bytes tells in
+      let fed = ran.fed.told bytes tells in
       let low = words_most g ran.steps (moment_at old) (moment_of new last) (waited_in old.pending) ran.words (ap trap_in fresh.calm) ran.runs ran.draws in
       let few : length ran.words ≤ most_words n = omega (arith, low, ran.used, s.most) in
       let list = told_starts before after ahead ran.words (most_words n) told ran.drew few in

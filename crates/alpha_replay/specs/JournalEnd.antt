@@ -1,7 +1,6 @@
 -- What was made of a run and its journal, by the answer.
 use Rattle.std.specs.Prelude.{◌≡◌, ⊤, ℕ, ◌≤◌, ◌||◌, true, false, is_none, List, [], ◌∷◌, ◌++◌, Option, Some, None}
 use Rattle.alpha_io.specs.Sunk.{Sunk, Puts}
-use Rattle.alpha_io.specs.Written.{WritesPrefix}
 use Rattle.alpha_pal.specs.declared.fault.Fault.{Fault}
 use Rattle.alpha_seq.specs.declared.event.Event.{Event}
 use Rattle.alpha_seq.specs.Run.{output, notes}
@@ -9,12 +8,12 @@ use Rattle.alpha_seq.specs.Machine.{program_of}
 use Rattle.alpha_seq.specs.State.{Program}
 use Rattle.alpha_seq.specs.Start.{start}
 use Rattle.alpha_seq.specs.Devices.{Drawn, Rests, Idles}
-use Rattle.alpha_imprecise.specs.Made.{Making, begun, ShownWild, shown_making, first_words, most_words}
+use Rattle.alpha_imprecise.specs.Made.{Making, begun, shown_making, first_words, most_words}
 use Rattle.alpha_imprecise.specs.Moment.{Happening}
 use Rattle.alpha_imprecise.specs.Run.{seen, finished}
 use Rattle.alpha_imprecise.specs.Telling.{Telling}
 use Rattle.alpha_imprecise.specs.Wild.{WildState, trap_in, moment_of, begun_at}
-use Rattle.alpha_run.specs.Shows.{LosesNone}
+use Rattle.alpha_run.specs.Shows.{LosesNone, ShowsWildPart}
 use Rattle.alpha_run.specs.WildRan.{moment_at, WildRan, ended_as, WildCut}
 use Rattle.alpha_replay.specs.declared.journal_end.JournalEnd.{JournalEnd}
 use Rattle.alpha_replay.specs.declared.journal_end.JournalEnd.TheVariants as made
@@ -52,17 +51,13 @@ pub record IsFull (n : ℕ) (old new : WildState) (before after : Telling) (inpu
   pub stops : Stops n happened old new before after input out sink
   pub past : is_within (journal_of old.machine.how happened stops.ran.steps) ≡ false
 
--- fronts of what a run shows were written
-pub record ShowsWildPart (what : ShownWild) (out sink : Sunk) : Type 0 where
-  pub bytes : WritesPrefix out.old out.new what.output
-  pub lines : WritesPrefix sink.old sink.new what.notes
-
 -- A device's fault cut the run short within a step: it went on before that step too. Where the input is told, fronts were
 -- written of what the run shows wherever it would have stopped.
 pub record IsShort (n : ℕ) (fault : Fault) (old new : WildState) (before after : Telling) (input : Drawn) (out sink : Sunk) : Type 0 where
-  pub cut : WildCut fault n false old new before after input out sink
+  pub unused : ℕ
+  pub cut : WildCut fault n unused false old new before after input out sink
   pub goes : GoesOver n (program_of old.machine) 0 [] (moment_at old) (cut.steps ++ cut.step.by.happened ∷ [])
-  pub fronts : (bytes coming : List ℕ) (k : Making) → input.old ≡ Some bytes
+  pub fronts : (bytes coming : List ℕ) (k : Making) → input.old.left ≡ Some bytes
       → IsJournaledAt n old bytes ((cut.words ++ cut.print.words) ++ coming) k → ShowsWildPart (shown_making false k) out sink
 
 -- nothing was done
@@ -103,7 +98,7 @@ pub record IsPast (n : ℕ) (g : Program) (bytes : List ℕ) (ahead : ℕ → �
 pub record Shows (k : Making) (input : Drawn) (out sink : Sunk) : Type 0 where
   pub bytes : Puts out (output (seen k.run.steps))
   pub lines : Puts sink (notes false (seen k.run.steps))
-  pub left : input.new ≡ Some k.run.left
+  pub left : input.new.left ≡ Some k.run.left
 
 -- by the answer
 abbrev pub JournalTold : JournalEnd → ℕ → List ℕ → (ℕ → ℕ) → Program → Drawn → Sunk → Sunk → Type 0

@@ -90,7 +90,7 @@ pub fn laws_of_journaled_runs()
         ≡ Ok (record { units = k.run.units; reports = reports_of (items_of k.run.steps) }) }
     ensures told { (n : ℕ) (last : Happening) (old new : WildState) (before after : Telling)
         (input : Drawn) (out sink : Sunk) (s : Stops n last old new before after input out sink)
-        (bytes coming : List ℕ) → input.old ≡ Some bytes
+        (bytes coming : List ℕ) → input.old.left ≡ Some bytes
         → (k : Making) × IsJournaledAt n old bytes (s.ran.words ++ coming) k
         × (k.run.steps ≡ s.ran.steps) × (bytes ≡ taken (seen k.run.steps) ++ k.run.left) }
 {}

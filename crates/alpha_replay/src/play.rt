@@ -36,7 +36,7 @@ impl Stand {
 // Makes a step by the choices of a move. No device fails.
 #[inline(always)]
 fn step(wild: &mut Wild, input: &mut SureSource, m: &Move) -> Event
-    ensures { Moved m.now result wild.old wild.new input.old input.new }
+    ensures { Moved m.now result wild.old wild.new input.old.left input.new.left }
 {
     match wild.step_by(&mut Given { step: *m }, input, &mut NullSink::new()) {
         Ok(event) => event,
@@ -55,10 +55,10 @@ fn make(
 ) -> Option<Stand>
     requires { from.now.seen.at ≤ length expected.now }
     ensures made { IfSome result (λ to. Did expected.now (λ g p. moved g p m.now)
-        (place wild.old input.old from.now) (place wild.new input.new to)) }
+        (place wild.old input.old.left from.now) (place wild.new input.new.left to)) }
     ensures bound { IfSome result (λ to. to.seen.at ≤ length expected.now) }
     ensures refused { IfNone result (Fails (λ g p. moved g p m.now)
-        (place wild.old input.old from.now)) }
+        (place wild.old input.old.left from.now)) }
 {
     if from.last.is_over() {
         return None;
@@ -81,10 +81,10 @@ fn make_units(
 ) -> Option<Stand>
     requires { from.now.seen.at ≤ length expected.now }
     ensures made { IfSome result (λ to. Did expected.now (λ g p. units_made g units p)
-        (place wild.old input.old from.now) (place wild.new input.new to)) }
+        (place wild.old input.old.left from.now) (place wild.new input.new.left to)) }
     ensures bound { IfSome result (λ to. to.seen.at ≤ length expected.now) }
     ensures refused { IfNone result (Fails (λ g p. units_made g units p)
-        (place wild.old input.old from.now)) }
+        (place wild.old input.old.left from.now)) }
 {
     let mut stand = *from;
     let mut left = units - rush(wild, &mut stand, units);
@@ -128,10 +128,10 @@ fn play_item(
 ) -> Option<Stand>
     requires { from.now.seen.at ≤ length expected.now }
     ensures made { IfSome result (λ to. Did expected.now (λ g p. item_made g item.now p)
-        (place wild.old input.old from.now) (place wild.new input.new to)) }
+        (place wild.old input.old.left from.now) (place wild.new input.new.left to)) }
     ensures bound { IfSome result (λ to. to.seen.at ≤ length expected.now) }
     ensures refused { IfNone result (Fails (λ g p. item_made g item.now p)
-        (place wild.old input.old from.now)) }
+        (place wild.old input.old.left from.now)) }
 {
     match *item {
         Item::Units(units) => make_units(wild, input, expected, from, units),
@@ -152,10 +152,10 @@ pub(crate) fn play_items(
 ) -> Result<Stand, u32>
     requires { length items.now ≤ most_items }
     ensures played { IfOk result (λ to. Plays expected.now items.now (length items.now)
-        (place wild.old input.old first_stand) (place wild.new input.new to)) }
+        (place wild.old input.old.left first_stand) (place wild.new input.new.left to)) }
     ensures bound { IfOk result (λ to. to.seen.at ≤ length expected.now) }
     ensures refused { IfErr result (λ n. StopsAt items.now n
-        (place wild.old input.old first_stand)) }
+        (place wild.old input.old.left first_stand)) }
 {
     let mut stand = Stand::START;
     let mut n = 0;

@@ -166,7 +166,7 @@ fn play_all(
     requires few_items { length items.now ≤ most_items }
     ensures { (image : Image) (how : Completion)
         → Begins (record { image = image; how = how }) wild.old
-        → result ≡ replayed image (parts how ending.now input.old output.now items.now) }
+        → result ≡ replayed image (parts how ending.now input.old.left output.now items.now) }
 {
     let stand = match play_items(wild, input, output, items) {
         Ok(stand) => stand,

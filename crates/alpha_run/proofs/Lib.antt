@@ -8,4 +8,5 @@ pub mod SeqShown
 pub mod WildRuns
 pub mod WildShown
 pub mod Told
+pub mod ByWords
 pub mod Restarted

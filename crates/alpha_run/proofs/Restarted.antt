@@ -75,12 +75,12 @@ none_ended s last is = subst LosesNone (sym is) (by s.end)
     by (Some end) = tt
 
 shows : (last : Option Seen) (n left : ℕ) (watch : Bool) (old new : WildState) (before after : Telling) (input : Drawn) (out notes : Sunk)
-    → Whole last n left watch old new before after input out notes → (bytes : List ℕ) → input.old ≡ Some bytes → IsFresh old → IsRestartable old.machine.image
+    → Whole last n left watch old new before after input out notes → (bytes : List ℕ) → input.old.left ≡ Some bytes → IsFresh old → IsRestartable old.machine.image
     → Shows (sequential (program_of old.machine) bytes n watch) last input out notes
 shows last n left watch old new before after input out notes w bytes tells fresh restarts =
     let ran = w.ran in
     let s = sequential (program_of old.machine) bytes n watch in
-    let fed = ran.told bytes tells in
+    let fed = ran.fed.told bytes tells in
     let there = told_from last n left watch old new before after input out notes w bytes [] fed.0 fed.1 in
     let same : ShowsSame s (shown_making watch (making (moment_of new w.happened) ran.steps fed.0 w.count there.0 [] (length ran.words))) =
     subst (λ (k : Making). ShowsSame s (shown_making watch k)) there.1 (same_shown n watch old bytes (ran.words ++ []) fresh restarts) in
@@ -92,8 +92,8 @@ shows last n left watch old new before after input out notes w bytes tells fresh
     }
 
 pub restarted : (r : Result (Option Seen) Fault) (n left : ℕ) (watch : Bool) (old new : WildState) (before after : Telling) (input : Drawn) (out notes : Sunk)
-    → IfOk r (λ last. WildRanAs last n left watch old new before after input out notes) → IfErr r (λ fault. WildCut fault n watch old new before after input out notes)
-    → (bytes : List ℕ) → input.old ≡ Some bytes → IsFresh old → IsRestartable old.machine.image
+    → IfOk r (λ last. WildRanAs last n left watch old new before after input out notes) → IfErr r (λ fault. WildCut fault n left watch old new before after input out notes)
+    → (bytes : List ℕ) → input.old.left ≡ Some bytes → IsFresh old → IsRestartable old.machine.image
     → ShowsSequential n watch bytes r old.machine input out notes
 restarted (Ok last) n left watch old new before after input out notes did cut bytes tells fresh restarts =
     let s = sequential (program_of old.machine) bytes n watch in

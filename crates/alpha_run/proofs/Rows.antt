@@ -5,13 +5,15 @@ use Rattle.std.proofs.lemmas.Result.{err_from_is_err_and}
 use Rattle.std.specs.List.{flat_map}
 use Rattle.std.proofs.lemmas.Grind.{flat_map-append}
 use Rattle.std.proofs.lemmas.Bool.{or_parts}
+use Rattle.alpha_io.specs.History.{Reply}
+use Rattle.alpha_io.specs.Supply.{Supply}
 use Rattle.alpha_io.specs.Faults.{Rose}
 use Rattle.alpha_io.specs.Sunk.{Sunk, Puts}
 use Rattle.alpha_io.proofs.Sinks.{Puts-none, Puts-then}
 use Rattle.alpha_seq.specs.declared.machine.Machine.{Machine}
 use Rattle.alpha_seq.specs.State.{Event as Happened}
 use Rattle.alpha_seq.specs.Run.{put, output, Fed}
-use Rattle.alpha_seq.specs.Devices.{Drawn, Feeds, drawn_from, sunk_from}
+use Rattle.alpha_seq.specs.Devices.{Drawn, AnswersEach, Feeds, drawn_from, sunk_from}
 use Rattle.alpha_seq.proofs.Sequence.{Fed-append}
 use Rattle.alpha_seq.proofs.RunSteps.{Times, drawn_before, drawn_after, drawn_over, sunk_before, sunk_after, sunk_over}
 use Rattle.alpha_seq.proofs.RunSteps.{between}
@@ -63,15 +65,22 @@ events-append ps qs = flat_map-append events_in ps qs
 pub output-append : (xs ys : List Happened) → output (xs ++ ys) ≡ output xs ++ output ys
 output-append xs ys = flat_map-append put xs ys
 
-pub Feeds-append : (t : Times) (xs ys : List Happened) → Feeds (drawn_before t) xs → Feeds (drawn_after t) ys → Feeds (drawn_over t) (xs ++ ys)
-Feeds-append t xs ys one two = λ bytes is.
-    let first = one bytes is in
-    let last = two first.0 first.2 in
-    (last.0, Fed-append bytes first.0 last.0 xs ys first.1 last.1, last.2)
+pub answers-append : (old mid new : List Reply) (xs ys : List Happened) → AnswersEach old xs mid → AnswersEach mid ys new → AnswersEach old (xs ++ ys) new
+answers-append old mid new [] ys one two = subst (λ (r : List Reply). AnswersEach r ys new) one two
+answers-append old mid new (x ∷ xs) ys one two = (one.0, one.1, answers-append one.0 mid new xs ys one.2 two)
+
+pub Feeds-append : (t : Times Supply) (xs ys : List Happened) → Feeds (drawn_before t) xs → Feeds (drawn_after t) ys → Feeds (drawn_over t) (xs ++ ys)
+Feeds-append t xs ys one two = record {
+  told = λ bytes is.
+      let first = one.told bytes is in
+      let last = two.told first.0 first.2 in
+      (last.0, Fed-append bytes first.0 last.0 xs ys first.1 last.1, last.2);
+  answers = answers-append t.first.replies t.mid.replies t.last.replies xs ys one.answers two.answers;
+}
 
 -- ---- no step yet
 
-pub Goes-none : {M O : Type 0} (goes : M → Print → M → Type 0) (w : Watching O) (units : ℕ) (m : M) (o : O) (told : Telling) (left out notes : Option (List ℕ)) (a b c : ℕ)
+pub Goes-none : {M O : Type 0} (goes : M → Print → M → Type 0) (w : Watching O) (units : ℕ) (m : M) (o : O) (told : Telling) (left : Supply) (out notes : Option (List ℕ)) (a b c : ℕ)
     → Goes goes w units units m m o o told told (resting left a) (idle_sink out b) (idle_sink notes c)
 Goes-none goes w units m o told left out notes a b c = record {
   prints = [];
@@ -82,7 +91,7 @@ Goes-none goes w units m o told left out notes a b c = record {
   did = record {
     seen = refl;
     drew = Moves-none told;
-    fed = λ bytes is. (bytes, refl, is);
+    fed = record { told = λ bytes is. (bytes, refl, is); answers = refl };
     same = refl;
     wrote = Puts-none out b;
     lines = Puts-none notes c;
@@ -112,9 +121,14 @@ went-fed : (left : List ℕ) (ps : List Print) → AreWent ps → Fed left (even
 went-fed left [] went = refl
 went-fed left (p ∷ ps) went = subst (λ (l : List Happened). Fed left (l ++ events_of ps) left) (sym went.0.seen) (refl, went-fed left ps went.1)
 
+went-answers : (replies : List Reply) (ps : List Print) → AreWent ps → AnswersEach replies (events_of ps) replies
+went-answers replies [] went = refl
+went-answers replies (p ∷ ps) went =
+    subst (λ (l : List Happened). AnswersEach replies (l ++ events_of ps) replies) (sym went.0.seen) (replies, refl, went-answers replies ps went.1)
+
 -- ---- steps behind one another
 
-pub Did-append : {O : Type 0} (w : Watching O) (from via to : O) (ps qs : List Print) (before told after : Telling) (input out notes : Times)
+pub Did-append : {O : Type 0} (w : Watching O) (from via to : O) (ps qs : List Print) (before told after : Telling) (input : Times Supply) (out notes : Times (Option (List ℕ)))
     → Did w from via ps before told (drawn_before input) (sunk_before out) (sunk_before notes)
     → Did w via to qs told after (drawn_after input) (sunk_after out) (sunk_after notes)
     → Did w from to (ps ++ qs) before after (drawn_over input) (sunk_over out) (sunk_over notes)
@@ -130,7 +144,7 @@ Did-append w from via to ps qs before told after input out notes one two = recor
       (subst (λ o. Puts (sunk_after notes) (lines_by w.after w.lines o qs)) one.seen two.lines));
 }
 
-pub Goes-append : {M O : Type 0} (goes : M → Print → M → Type 0) (w : Watching O) (units some left : ℕ) (old mid new : M) (from via to : O) (before told after : Telling) (input out notes : Times)
+pub Goes-append : {M O : Type 0} (goes : M → Print → M → Type 0) (w : Watching O) (units some left : ℕ) (old mid new : M) (from via to : O) (before told after : Telling) (input : Times Supply) (out notes : Times (Option (List ℕ)))
     → Goes goes w units some old mid from via before told (drawn_before input) (sunk_before out) (sunk_before notes)
     → Goes goes w some left mid new via to told after (drawn_after input) (sunk_after out) (sunk_after notes)
     → Goes goes w units left old new from to before after (drawn_over input) (sunk_over out) (sunk_over notes)
@@ -161,7 +175,7 @@ Goes-turn goes uses w units left event last old new from to before after input o
     }
 
 -- steps that only went on
-pub Goes-hasten : {M O : Type 0} (goes : M → Print → M → Type 0) (w : Watching O) (units left : ℕ) (old new : M) (from to : O) (told : Telling) (input out notes : Option (List ℕ)) (a b c : ℕ)
+pub Goes-hasten : {M O : Type 0} (goes : M → Print → M → Type 0) (w : Watching O) (units left : ℕ) (old new : M) (from to : O) (told : Telling) (input : Supply) (out notes : Option (List ℕ)) (a b c : ℕ)
     → Hastens goes w units left old new from to
     → Goes goes w units left old new from to told told (resting input a) (idle_sink out b) (idle_sink notes c)
 Goes-hasten goes w units left old new from to told input out notes a b c one =
@@ -178,14 +192,14 @@ Goes-hasten goes w units left old new from to told input out notes a b c one =
       did = record {
         seen = passed.0;
         drew = subst (Moves told told) (sym (went-words ps went)) (Moves-none told);
-        fed = λ bytes is. (bytes, went-fed bytes ps went, is);
+        fed = record { told = λ bytes is. (bytes, went-fed bytes ps went, is); answers = went-answers input.replies ps went };
         same = refl;
         wrote = subst (Puts (idle_sink out b)) (sym (went-output ps went)) (Puts-none out b);
         lines = subst (Puts (idle_sink notes c)) (sym passed.1) (Puts-none notes c);
       };
     }
 
-pub Stops-last : {M O : Type 0} (goes : M → Print → M → Type 0) (uses : M → ℕ) (w : Watching O) (units some left : ℕ) (event : Event) (last : Bool) (old mid new : M) (from via to : O) (before told after : Telling) (input out notes : Times)
+pub Stops-last : {M O : Type 0} (goes : M → Print → M → Type 0) (uses : M → ℕ) (w : Watching O) (units some left : ℕ) (event : Event) (last : Bool) (old mid new : M) (from via to : O) (before told after : Telling) (input : Times Supply) (out notes : Times (Option (List ℕ)))
     → left + uses mid ≡ some → last ≡ true
     → Goes goes w units some old mid from via before told (drawn_before input) (sunk_before out) (sunk_before notes)
     → Turns goes uses w event last mid new via to told after (drawn_after input) (sunk_after out) (sunk_after notes)
@@ -207,7 +221,7 @@ Stops-last goes uses w units some left event last old mid new from via to before
 -- ---- a step that a fault cuts short
 
 -- no fault, and then the cause of the last step
-causes-after : (fault : Fault) (input out notes : Times) → input.faults_mid ≡ input.faults_first → out.faults_mid ≡ out.faults_first → notes.faults_mid ≡ notes.faults_first
+causes-after : (fault : Fault) (input : Times Supply) (out notes : Times (Option (List ℕ))) → input.faults_mid ≡ input.faults_first → out.faults_mid ≡ out.faults_first → notes.faults_mid ≡ notes.faults_first
     → Causes fault (drawn_after input) (sunk_after out) (sunk_after notes) → Causes fault (drawn_over input) (sunk_over out) (sunk_over notes)
 causes-after faults.Input input out notes a b c two = record {
   later = subst (λ k. k ≤ input.faults_last) a two.later;
@@ -229,7 +243,7 @@ causes-after faults.Notes input out notes a b c two = record {
 }
 
 -- what it leaves, by the counts before the first step
-behind_all : {M : Type 0} (leaves : Fault → M → M → Drawn → Sunk → Type 0) (fault : Fault) (p : Print) (mid would new : M) (input out notes : Times)
+behind_all : {M : Type 0} (leaves : Fault → M → M → Drawn → Sunk → Type 0) (fault : Fault) (p : Print) (mid would new : M) (input : Times Supply) (out notes : Times (Option (List ℕ)))
     → input.faults_mid ≡ input.faults_first → out.faults_mid ≡ out.faults_first → notes.faults_mid ≡ notes.faults_first
     → Behind leaves fault p mid would new (drawn_after input) (sunk_after out) (sunk_after notes)
     → Behind leaves fault p mid would new (drawn_from (drawn_over input) input.mid input.faults_first) (sunk_from (sunk_over out) out.mid out.faults_first) (sunk_from (sunk_over notes) notes.mid notes.faults_first)
@@ -238,7 +252,7 @@ behind_all leaves fault p mid would new input out notes a b c one =
     (subst (λ (k : ℕ). Behind leaves fault p mid would new (drawn_after input) (sunk_from (sunk_over out) out.mid k) (sunk_from (sunk_over notes) notes.mid notes.faults_first)) b
     (subst (λ (k : ℕ). Behind leaves fault p mid would new (drawn_after input) (sunk_after out) (sunk_from (sunk_over notes) notes.mid k)) c one))
 
-pub cut : {M O : Type 0} (fault : Fault) (goes : M → Print → M → Type 0) (uses : M → ℕ) (leaves : Fault → M → M → Drawn → Sunk → Type 0) (w : Watching O) (units some left : ℕ) (old mid new : M) (from via : O) (before told after : Telling) (input out notes : Times)
+pub cut : {M O : Type 0} (fault : Fault) (goes : M → Print → M → Type 0) (uses : M → ℕ) (leaves : Fault → M → M → Drawn → Sunk → Type 0) (w : Watching O) (units some left : ℕ) (old mid new : M) (from via : O) (before told after : Telling) (input : Times Supply) (out notes : Times (Option (List ℕ)))
     → left + uses mid ≡ some
     → Goes goes w units some old mid from via before told (drawn_before input) (sunk_before out) (sunk_before notes)
     → Slips goes uses leaves w fault mid new via told after (drawn_after input) (sunk_after out) (sunk_after notes)
@@ -260,7 +274,7 @@ cut fault goes uses leaves w units some left old mid new from via before told af
         drew = subst (Moves before after) (sym (flat_map-append words_of ps (p ∷ [])))
             (Moves-then before told after (flat_map words_of ps) (flat_map words_of (p ∷ [])) one.did.drew (subst (Moves told after) (sym (append-nil p.words)) two.drew));
         left = input.mid;
-        fed = one.did.fed;
+        fed = record { told = one.did.fed.told; answers = one.did.fed.answers };
         would_feed = λ bytes is. two.would_feed bytes is;
         leaves_end = λ bytes is. two.leaves_end bytes is;
         written = out.mid;

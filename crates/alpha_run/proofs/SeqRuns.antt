@@ -155,7 +155,7 @@ spent units left watch old new from to before behind input out sink is least one
       same = one.did.same;
       wrote = one.did.wrote;
       noted = subst (Puts sink) (ap (λ (o : Notes). lines_by stays lines_seen o ps) is ∙ sym r.lines_are) one.did.lines;
-      told = one.did.fed;
+      fed = one.did.fed;
     }
 
 stopped : (units left : ℕ) (event : Seen) (watch : Bool) (old new : Machine) (from to : Notes) (before behind : Telling) (input : Drawn) (out sink : Sunk)
@@ -182,7 +182,7 @@ stopped units left event watch old new from to before behind input out sink is o
       same = one.did.same;
       wrote = one.did.wrote;
       noted = subst (Puts sink) (ap (λ (o : Notes). lines_by stays lines_seen o all) is ∙ sym r.lines_are) one.did.lines;
-      told = one.did.fed;
+      fed = one.did.fed;
     }
 
 -- the run, by its last step
@@ -196,7 +196,7 @@ ran_as (Some event) units left watch old new from to before behind input out sin
 pub cut_ran : (fault : Fault) (units left : ℕ) (watch : Bool) (old new : Machine) (from : Notes) (before behind : Telling) (input : Drawn) (out sink : Sunk)
     → from ≡ record { watch = watch }
     → IsCut fault SeqGoes SeqLeaves (watching stays lines_seen never) units left old new from before behind input out sink
-    → SeqCut fault units watch old new input out sink
+    → SeqCut fault units left watch old new input out sink
 cut_ran fault units left watch old new from before behind input out sink is one =
     let ps = one.prints in
     let p = one.print in
@@ -213,6 +213,7 @@ cut_ran fault units left watch old new from before behind input out sink is one 
       runs = r.runs;
       going = lasts old one.mid Went refl ps one.row one.going;
       less = omega (arith, count, one.used, one.is.units);
+      used = omega (arith, count, one.used, one.is.units);
       mid = one.mid;
       stands = refl;
       kernel = r.kernel;
@@ -221,7 +222,7 @@ cut_ran fault units left watch old new from before behind input out sink is one 
       would = one.would;
       step = one.is;
       left = one.did.left;
-      told = one.did.fed;
+      fed = one.did.fed;
       would_feed = one.did.would_feed;
       leaves_end = one.did.leaves_end;
       written = one.did.written;

@@ -39,7 +39,7 @@ told_all last units left watch old new input out sink ran bytes rest fed =
 
 -- ---- a run that was cut short
 
-module _ (fault : Fault) (units : ℕ) (watch : Bool) (old : Machine) {new : Machine} (input : Drawn) (out sink : Sunk) (cut : SeqCut fault units watch old new input out sink) where
+module _ (fault : Fault) (units : ℕ) {rest : ℕ} (watch : Bool) (old : Machine) {new : Machine} (input : Drawn) (out sink : Sunk) (cut : SeqCut fault units rest watch old new input out sink) where
   -- the steps that were made, and the one that was cut short
   abbrev all : List Event
   all = cut.events ++ cut.print.seen
@@ -72,11 +72,11 @@ module _ (fault : Fault) (units : ℕ) (watch : Bool) (old : Machine) {new : Mac
       }
 
   -- where the input is told, of what the run after all its steps shows
-  pub cut_told : (bytes : List ℕ) → input.old ≡ Some bytes
+  pub cut_told : (bytes : List ℕ) → input.old.left ≡ Some bytes
       → let to = after (program_of old) (state_of old) bytes units in
       WritesPrefix out.old out.new (output to.events) × WritesPrefix sink.old sink.new (notes watch to.events)
   cut_told bytes tells =
-      let first = cut.told bytes tells in
+      let first = cut.fed.told bytes tells in
       let last = cut.would_feed first.0 first.2 in
       let fed = Fed-append bytes first.0 last.0 cut.events cut.print.seen first.1 last.1 in
       let rest = cut-front (program_of old) (state_of old) all behind bytes last.0 (units - length all) runs fed in

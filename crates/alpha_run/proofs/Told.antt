@@ -18,14 +18,14 @@ use Rattle.alpha_run.proofs.WildShown.{whole, told_from, cut_from}
 -- ---- the sequential machine
 
 pub shows : (last : Option Event) (units left : ℕ) (watch : Bool) (old new : Machine) (input : Drawn) (out sink : Sunk) (bytes : List ℕ)
-    → SeqRan last units left watch old new input out sink → input.old ≡ Some bytes → Shows (shown_from old bytes units watch) last input out sink
+    → SeqRan last units left watch old new input out sink → input.old.left ≡ Some bytes → Shows (shown_from old bytes units watch) last input out sink
 shows last units left watch old new input out sink bytes ran tells =
-    let fed = ran.told bytes tells in
+    let fed = ran.fed.told bytes tells in
     subst (λ (r : Run). Shows (shown watch r) last input out sink) (sym (seq_shown.told_all last units left watch old new input out sink ran bytes fed.0 fed.1))
     (record { answer_is = ran.end; bytes = ran.wrote; left = fed.2; lines = ran.noted })
 
-pub part : (fault : Fault) (units : ℕ) (watch : Bool) (old new : Machine) (input : Drawn) (out sink : Sunk) (bytes : List ℕ)
-    → SeqCut fault units watch old new input out sink → input.old ≡ Some bytes → ShowsPart (shown_from old bytes units watch) out sink
+pub part : (fault : Fault) (units : ℕ) {rest : ℕ} (watch : Bool) (old new : Machine) (input : Drawn) (out sink : Sunk) (bytes : List ℕ)
+    → SeqCut fault units rest watch old new input out sink → input.old.left ≡ Some bytes → ShowsPart (shown_from old bytes units watch) out sink
 part fault units watch old new input out sink bytes cut tells =
     let fronts = seq_shown.cut_told fault units watch old input out sink cut bytes tells in
     record { bytes = fronts.0; lines = fronts.1 }
@@ -33,10 +33,10 @@ part fault units watch old new input out sink bytes cut tells =
 -- ---- the imprecise machine
 
 pub made_shows : (last : Option Event) (n left : ℕ) (watch : Bool) (old new : WildState) (before after : Telling) (input : Drawn) (out sink : Sunk) (bytes : List ℕ)
-    → WildRanAs last n left watch old new before after input out sink → input.old ≡ Some bytes → ShowsMade n watch bytes last old new before after input out sink
+    → WildRanAs last n left watch old new before after input out sink → input.old.left ≡ Some bytes → ShowsMade n watch bytes last old new before after input out sink
 made_shows last n left watch old new before after input out sink bytes did tells =
     let w = whole last n left watch old new before after input out sink did in
-    let fed = w.ran.told bytes tells in
+    let fed = w.ran.fed.told bytes tells in
     let there = λ (coming : List ℕ). told_from last n left watch old new before after input out sink w bytes coming fed.0 fed.1 in
     record {
       words = w.ran.words;
@@ -52,8 +52,8 @@ made_shows last n left watch old new before after input out sink bytes did tells
       count = λ coming. ap (λ (k : Making). k.count) (there coming).1;
     }
 
-pub made_part : (fault : Fault) (n : ℕ) (watch : Bool) (old new : WildState) (before after : Telling) (input : Drawn) (out sink : Sunk) (bytes : List ℕ)
-    → WildCut fault n watch old new before after input out sink → input.old ≡ Some bytes → ShowsMadePart n watch bytes old before after out sink
+pub made_part : (fault : Fault) (n : ℕ) {rest : ℕ} (watch : Bool) (old new : WildState) (before after : Telling) (input : Drawn) (out sink : Sunk) (bytes : List ℕ)
+    → WildCut fault n rest watch old new before after input out sink → input.old.left ≡ Some bytes → ShowsMadePart n watch bytes old before after out sink
 made_part fault n watch old new before after input out sink bytes cut tells = record {
   words = cut.words ++ cut.print.words;
   drew = cut.drew;

@@ -1,5 +1,6 @@
 -- A step and what the observer writes of it.
 use Rattle.std.proofs.Common.{◌≡◌, ◌<◌, ◌+◌, ◌*◌, ℕ, ◌||◌, Bool, false, List, ◌++◌, Option, None, Result, Ok, Err, IfOk, refl, sym, ap, subst, ◌∙◌, append_assoc, append-nil, arith}
+use Rattle.alpha_io.specs.Supply.{Supply}
 use Rattle.alpha_io.specs.Sunk.{Sunk, Puts, Partly, HasFailed}
 use Rattle.alpha_io.specs.Written.{WritesPrefix}
 use Rattle.alpha_io.proofs.Writes.{WritesPrefix-all}
@@ -49,15 +50,15 @@ turned goes uses core next lines stops event stop last old new m from to before 
     }
 
 would_of : (input : Drawn) (events : List Happened) → Feeds input events → WouldFeed input events
-would_of input events fed = λ bytes is. let f = fed bytes is in (f.0, f.1)
+would_of input events fed = λ bytes is. let f = fed.told bytes is in (f.0, f.1)
 
 pub end_of_fed : (input : Drawn) (events : List Happened) → Feeds input events → LeavesEnd input
-end_of_fed input events fed = λ bytes is. let f = fed bytes is in (taken events, f.0, sym (fed_all events bytes f.0 f.1), f.2)
+end_of_fed input events fed = λ bytes is. let f = fed.told bytes is in (taken events, f.0, sym (fed_all events bytes f.0 f.1), f.2)
 
 -- steps left this of it, and one that was cut short an end of that
-pub end_of_cut : (input : Drawn) (left : Option (List ℕ)) (events : List Happened) → Feeds (drawn_to input left) events → LeavesEnd (drawn_from input left input.before) → LeavesEnd input
+pub end_of_cut : (input : Drawn) (left : Supply) (events : List Happened) → Feeds (drawn_to input left) events → LeavesEnd (drawn_from input left input.before) → LeavesEnd input
 end_of_cut input left events fed more = λ bytes is.
-    let one = fed bytes is in
+    let one = fed.told bytes is in
     let two = more one.0 one.2 in (
       taken events ++ two.0,
       two.1,

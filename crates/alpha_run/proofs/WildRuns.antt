@@ -192,7 +192,7 @@ goes_ran w n units left watch old new from to before after input out sink writes
       same = one.did.same;
       wrote = subst (λ (l : List Event). Puts out (output l)) (sym r.seen_is) one.did.wrote;
       noted = subst (Puts sink) (writes ps ∙ (sym r.lines ∙ ap (notes watch) (sym r.seen_is))) one.did.lines;
-      told = subst (Feeds input) (sym r.seen_is) one.did.fed;
+      fed = subst (Feeds input) (sym r.seen_is) one.did.fed;
     }
 
 unfoldable pub stopped_ran : {O : Type 0} (w : Watching O) (units left : ℕ) (event : Seen) (watch : Bool) (old new : WildState) (from to : O) (before after : Telling) (input : Drawn) (out sink : Sunk)
@@ -217,7 +217,7 @@ stopped_ran w units left event watch old new from to before after input out sink
       same = one.did.same;
       wrote = subst (λ (l : List Event). Puts out (output l)) (sym r.seen_is) one.did.wrote;
       noted = subst (Puts sink) (writes all ∙ (sym r.lines ∙ ap (notes watch) (sym r.seen_is))) one.did.lines;
-      told = subst (Feeds input) (sym r.seen_is) one.did.fed;
+      fed = subst (Feeds input) (sym r.seen_is) one.did.fed;
     }
 
 -- ---- the run, by its last step
@@ -255,7 +255,7 @@ wild_as (Some event) units left watch old new from to before after input out sin
 unfoldable pub wild_cut : {O : Type 0} (w : Watching O) (fault : Fault) (n left : ℕ) (watch : Bool) (old new : WildState) (from : O) (before after : Telling) (input : Drawn) (out sink : Sunk)
     → WritesLines w watch from
     → IsCut fault WildGoes WildLeaves w n left old new from before after input out sink
-    → WildCut fault n watch old new before after input out sink
+    → WildCut fault n left watch old new before after input out sink
 wild_cut w fault n left watch old new from before after input out sink writes one =
     let ps = one.prints in
     let p = one.print in
@@ -278,6 +278,7 @@ wild_cut w fault n left watch old new from before after input out sink writes on
       draws = r.draws;
       waited = r.waited;
       room = omega (arith, r.used, one.used, one.is.by.units);
+      used = omega (arith, r.used, one.used, one.is.by.units);
       kernel = r.kernel;
       program = r.program;
       print = p;
@@ -285,7 +286,7 @@ wild_cut w fault n left watch old new from before after input out sink writes on
       step = one.is;
       drew = subst (λ l. Moves before after l) (words-last ps p) one.did.drew;
       left = one.did.left;
-      told = subst (Feeds (drawn_to input one.did.left)) (sym r.seen_is) one.did.fed;
+      fed = subst (Feeds (drawn_to input one.did.left)) (sym r.seen_is) one.did.fed;
       would_feed = one.did.would_feed;
       leaves_end = one.did.leaves_end;
       written = one.did.written;

@@ -253,8 +253,8 @@ step_begins g k m n whole going room =
 
 -- ---- a run that was cut short
 
-module _ (fault : Fault) (n : ℕ) (watch : Bool) (old : WildState) {new : WildState} (before after : Telling) (input : Drawn) (out sink : Sunk)
-    (cut : WildCut fault n watch old new before after input out sink) where
+module _ (fault : Fault) (n : ℕ) {rest : ℕ} (watch : Bool) (old : WildState) {new : WildState} (before after : Telling) (input : Drawn) (out sink : Sunk)
+    (cut : WildCut fault n rest watch old new before after input out sink) where
   -- the steps that were made and the one that was cut short, and their words
   abbrev pub all : List Happening
   all = cut.steps ++ cut.step.by.happened ∷ []
@@ -298,9 +298,9 @@ module _ (fault : Fault) (n : ℕ) (watch : Bool) (old : WildState) {new : WildS
       ∙ ap (λ (l : List Event). seen cut.steps ++ l) (append-nil (seen_of cut.step.by.happened) ∙ sym cut.step.by.seen)
 
   -- what feeds them all
-  pub all_fed : (bytes : List ℕ) → input.old ≡ Some bytes → (rest : List ℕ) × Fed bytes (seen all) rest
+  pub all_fed : (bytes : List ℕ) → input.old.left ≡ Some bytes → (rest : List ℕ) × Fed bytes (seen all) rest
   all_fed bytes tells =
-      let first = cut.told bytes tells in
+      let first = cut.fed.told bytes tells in
       let last = cut.would_feed first.0 first.2 in (
         last.0,
         subst (λ (l : List Event). Fed bytes l last.0) (sym seen_all) (Fed-append bytes first.0 last.0 (seen cut.steps) cut.print.seen first.1 last.1),
@@ -346,7 +346,7 @@ module _ (fault : Fault) (n : ℕ) (watch : Bool) (old : WildState) {new : WildS
       omega (arith, low, count, cut.room)
 
   -- where the input is told, of what the run that the words make shows
-  pub cut_from : (bytes coming : List ℕ) → input.old ≡ Some bytes
+  pub cut_from : (bytes coming : List ℕ) → input.old.left ≡ Some bytes
       → let to = made (program_of old.machine) (begun_at old bytes (all_words ++ coming)) n in
       WritesPrefix out.old out.new (output (seen to.run.steps)) × WritesPrefix sink.old sink.new (notes watch (seen to.run.steps))
   cut_from bytes coming tells =
@@ -354,7 +354,7 @@ module _ (fault : Fault) (n : ℕ) (watch : Bool) (old : WildState) {new : WildS
       let a = moment_at old in
       let k = begun_at old bytes (all_words ++ coming) in
       let m = length cut.steps in
-      let first = cut.told bytes tells in
+      let first = cut.fed.told bytes tells in
       let fed = all_fed bytes tells in
       let there = drawn_told g all k behind fed.0 coming runs (draws coming) fed.1 in
       let drew = subst (λ l. Draws g a (waited_in old.pending) l cut.steps (cut.print.words ++ coming)) (sym (append_assoc cut.words cut.print.words coming)) (cut.draws (cut.print.words ++ coming)) in

@@ -2,6 +2,7 @@
 use Rattle.std.specs.Prelude.{◌≡◌, ◌<◌, ℕ, ◌+◌, ◌||◌, Bool, true, List, [], ◌∷◌, ◌++◌, length, Option, Some, None}
 use Rattle.std.specs.List.{flat_map}
 use Rattle.std.specs.Io.KnownBytes.{Appends}
+use Rattle.alpha_io.specs.Supply.{Supply}
 use Rattle.alpha_io.specs.Sunk.{Sunk, Puts}
 use Rattle.alpha_io.specs.Written.{WritesPrefix}
 use Rattle.alpha_seq.specs.declared.machine.Machine.{Machine}
@@ -44,14 +45,14 @@ pub record Did {O : Type 0} (w : Watching O) (from to : O) (ps : List Print) (be
   pub lines : Puts notes (lines_by w.after w.lines from ps)
 
 -- what was done to an input of which this was left
-abbrev pub drawn_to : Drawn → Option (List ℕ) → Drawn
-drawn_to d left = record d { new = left }
+abbrev pub drawn_to : Drawn → Supply → Drawn
+drawn_to d supply = record d { new = supply }
 
 -- What they did where a device's fault cut the last one short: all of the first, and of the last a front. Before that one
 -- this was left of the input, and this was written to the output and to the notes.
 pub record DidPart {O : Type 0} (w : Watching O) (from : O) (ps : List Print) (p : Print) (before after : Telling) (input : Drawn) (out notes : Sunk) : Type 0 where
   pub drew : Moves before after (flat_map words_of (ps ++ p ∷ []))
-  pub left : Option (List ℕ)
+  pub left : Supply
   pub fed : Feeds (drawn_to input left) (events_of ps)
   pub would_feed : WouldFeed (drawn_from input left input.before) p.seen
   pub leaves_end : LeavesEnd (drawn_from input left input.before)

@@ -1,6 +1,7 @@
 -- What a run of the sequential machine did, as a run of the definition.
 use Rattle.std.specs.Prelude.{◌≡◌, ◌<◌, ◌+◌, ℕ, Bool, false, List, [], ◌∷◌, ◌++◌, length, Option, Some, None}
 use Rattle.std.specs.Io.KnownBytes.{Appends}
+use Rattle.alpha_io.specs.Supply.{Supply}
 use Rattle.alpha_io.specs.Sunk.{Sunk, Puts}
 use Rattle.alpha_pal.specs.Kernel.{KernelState}
 use Rattle.alpha_pal.specs.declared.fault.Fault.{Fault}
@@ -44,17 +45,18 @@ pub record SeqRan (last : Option Seen) (units left : ℕ) (watch : Bool) (old ne
   pub same : input.now ≡ input.before
   pub wrote : Puts out (output events)
   pub noted : Puts sink (notes watch events)
-  pub told : Feeds input events
+  pub fed : Feeds input events
 
--- A run that a device's fault cut short within a step: fewer steps were made, and the output and the notes have all that they
--- show, and of the next step a front. What is there of the machine behind that step is said from where it began: this was
--- left of the input then, and this was written to the output and to the notes.
-pub record SeqCut (fault : Fault) (units : ℕ) (watch : Bool) (old new : Machine) (input : Drawn) (out sink : Sunk) : Type 0 where
+-- A run that a device's fault cut short within a step: fewer steps were made, this is left of the units behind that one, and
+-- the output and the notes have all that they show, and of the next step a front. What is there of the machine behind that
+-- step is said from where it began: this was left of the input then, and this was written to the output and to the notes.
+pub record SeqCut (fault : Fault) (units rest : ℕ) (watch : Bool) (old new : Machine) (input : Drawn) (out sink : Sunk) : Type 0 where
   pub events : List Event
   pub at : Stepped
   pub runs : Runs (program_of old) (begins (state_of old)) events at
   pub going : is_over at.event ≡ false
   pub less : length events < units
+  pub used : length events + 1 + rest ≡ units
   pub mid : Machine
   pub stands : state_of mid ≡ at.state
   pub kernel : mid.kernel ≡ kernel_over (program_of old) (begins (state_of old)) events old.kernel
@@ -62,8 +64,8 @@ pub record SeqCut (fault : Fault) (units : ℕ) (watch : Bool) (old new : Machin
   pub print : Print
   pub would : Machine
   pub step : SeqGoes mid print would
-  pub left : Option (List ℕ)
-  pub told : Feeds (drawn_to input left) events
+  pub left : Supply
+  pub fed : Feeds (drawn_to input left) events
   pub would_feed : WouldFeed (drawn_from input left input.before) print.seen
   pub leaves_end : LeavesEnd (drawn_from input left input.before)
   pub written : Option (List ℕ)

@@ -1,8 +1,9 @@
 -- What a run shows, by its answer.
-use Rattle.std.specs.Prelude.{◌≡◌, ⊤, ℕ, Bool, List, ◌++◌, length, Option, Some, Result, IfOk}
+use Rattle.std.specs.Prelude.{◌≡◌, ◌≤◌, ⊤, ℕ, Bool, List, ◌++◌, length, Option, Some, None, Result, IfOk}
 use Rattle.alpha_io.specs.Sunk.{Sunk, Puts}
 use Rattle.alpha_io.specs.Written.{WritesPrefix}
 use Rattle.alpha_seq.specs.declared.machine.Machine.{Machine}
+use Rattle.alpha_seq.specs.declared.end.End.{End}
 use Rattle.alpha_seq.specs.declared.event.Event.{Event}
 use Rattle.alpha_seq.specs.declared.event.Event.TheVariants as events
 use Rattle.alpha_pal.specs.declared.fault.Fault.{Fault}
@@ -10,8 +11,8 @@ use Rattle.alpha_seq.specs.Run.{Shown, output, notes, after, shown, sequential}
 use Rattle.alpha_seq.specs.Machine.{program_of, state_of}
 use Rattle.alpha_seq.specs.Devices.{Drawn}
 use Rattle.alpha_imprecise.specs.Run.{seen}
-use Rattle.alpha_imprecise.specs.Made.{Making, made}
-use Rattle.alpha_imprecise.specs.Telling.{Telling, Moves}
+use Rattle.alpha_imprecise.specs.Made.{Making, made, LostTrap, ShownWild, most_words}
+use Rattle.alpha_imprecise.specs.Telling.{Telling, Counts, Moves}
 use Rattle.alpha_imprecise.specs.Wild.{WildState, trap_in, begun_at}
 use Rattle.alpha_run.specs.SeqRun.{ended_by}
 use Rattle.alpha_run.specs.WildRan.{ended_as}
@@ -25,7 +26,7 @@ LosesNone _ = ⊤
 pub record Shows (s : Shown) (last : Option Event) (input : Drawn) (out notes : Sunk) : Type 0 where
   pub answer_is : last ≡ ended_by s.end
   pub bytes : Puts out s.output
-  pub left : input.new ≡ Some s.left
+  pub left : input.new.left ≡ Some s.left
   pub lines : Puts notes s.notes
 
 -- prefixes of the bytes and of the lines that a run shows were written
@@ -53,7 +54,7 @@ pub record IsMade (k : Making) (last : Option Event) (watch : Bool) (new : WildS
   pub state : k.run.at.state ≡ state_of new.machine
   pub pending : k.run.at.pending ≡ trap_in new.pending
   pub bytes : Puts out (output (seen k.run.steps))
-  pub left : input.new ≡ Some k.run.left
+  pub left : input.new.left ≡ Some k.run.left
   pub lines : Puts sink (notes watch (seen k.run.steps))
 
 -- the run of so many units over this input, by the words that the chooser went on by, whatever comes behind them; these are
@@ -73,3 +74,30 @@ pub record ShowsMadePart (n : ℕ) (watch : Bool) (bytes : List ℕ) (old : Wild
       → WritesPrefix out.old out.new (output (seen (made (program_of old.machine) (begun_at old bytes (words ++ coming)) n).run.steps))
   pub lines_part : (coming : List ℕ)
       → WritesPrefix sink.old sink.new (notes watch (seen (made (program_of old.machine) (begun_at old bytes (words ++ coming)) n).run.steps))
+
+-- ---- by words that are told
+
+-- the step behind which a run is over, by how the program ended or by the trap that was lost
+abbrev pub ended_or_lost : Option End → Option LostTrap → Option Event
+ended_or_lost (Some end) lost = Some (events.Ended end)
+ended_or_lost None (Some t) = Some (events.Lost t.pc t.mask)
+ended_or_lost None None = None
+
+-- The answer, the bytes put, the bytes left and the lines are those that a run shows, and as many words were drawn.
+pub record ShowsWild (s : ShownWild) (last : Option Event) (before after : Telling) (input : Drawn) (out notes : Sunk) : Type 0 where
+  pub answer_is : last ≡ ended_or_lost s.end s.lost
+  pub bytes : Puts out s.output
+  pub left : input.new.left ≡ Some s.left
+  pub lines : Puts notes s.notes
+  pub drawn : Counts before.count after.count s.drawn
+
+-- fronts of what a run shows were written
+pub record ShowsWildPart (what : ShownWild) (out sink : Sunk) : Type 0 where
+  pub bytes : WritesPrefix out.old out.new what.output
+  pub lines : WritesPrefix sink.old sink.new what.notes
+
+-- no more words were drawn than so many units can
+pub record DrawsFew (n : ℕ) (before after : Telling) : Type 0 where
+  pub words : List ℕ
+  pub drew : Moves before after words
+  pub few : length words ≤ most_words n

@@ -1,6 +1,7 @@
 -- What a run of the imprecise machine did, as a run of the definition.
 use Rattle.std.specs.Prelude.{◌≡◌, ◌≤◌, ◌+◌, ℕ, Bool, true, false, List, [], ◌∷◌, ◌++◌, Option, Some, None}
 use Rattle.std.specs.Io.KnownBytes.{Appends}
+use Rattle.alpha_io.specs.Supply.{Supply}
 use Rattle.alpha_io.specs.Sunk.{Sunk, Puts}
 use Rattle.alpha_pal.specs.Kernel.{KernelState}
 use Rattle.alpha_pal.specs.declared.fault.Fault.{Fault}
@@ -46,7 +47,7 @@ pub record WildRan (last : Happening) (n : ℕ) (watch : Bool) (old new : WildSt
   pub same : input.now ≡ input.before
   pub wrote : Puts out (output (seen steps))
   pub noted : Puts sink (notes watch (seen steps))
-  pub told : Feeds input (seen steps)
+  pub fed : Feeds input (seen steps)
 
 -- the step behind which a run is over, none where it goes on
 abbrev pub ended_as : Happening → Option Event
@@ -61,10 +62,11 @@ WildRanAs None units left watch old new before after input out sink =
 WildRanAs (Some event) units left watch old new before after input out sink =
     (h : Happening) × (n : ℕ) × (n + left ≡ units) × (Some event ≡ ended_as h) × (finished h ≡ true) × WildRan h n watch old new before after input out sink
 
--- A run that a device's fault cut short within a step: it was made for fewer units or steps, and the output and the notes have
--- all that it shows, and of the next step a front. What is there of the machine behind that step is said from where it began:
--- this was left of the input then, and this was written to the output and to the notes.
-pub record WildCut (fault : Fault) (n : ℕ) (watch : Bool) (old new : WildState) (before after : Telling) (input : Drawn) (out sink : Sunk) : Type 0 where
+-- A run that a device's fault cut short within a step: it was made for fewer units or steps, this is left of the units
+-- behind that one, and the output and the notes have all that it shows, and of the next step a front. What is there of the
+-- machine behind that step is said from where it began: this was left of the input then, and this was written to the output
+-- and to the notes.
+pub record WildCut (fault : Fault) (n rest : ℕ) (watch : Bool) (old new : WildState) (before after : Telling) (input : Drawn) (out sink : Sunk) : Type 0 where
   pub steps : List Happening
   pub words : List ℕ
   pub last : Happening
@@ -74,14 +76,15 @@ pub record WildCut (fault : Fault) (n : ℕ) (watch : Bool) (old new : WildState
   pub draws : (coming : List ℕ) → Draws (program_of old.machine) (moment_at old) (waited_in old.pending) (words ++ coming) steps coming
   pub waited : waited_in mid.pending ≡ waits_behind steps (waited_in old.pending)
   pub room : units (program_of old.machine) (moment_at old) steps + unit_of (trap_in mid.pending) ≤ n
+  pub used : units (program_of old.machine) (moment_at old) steps + unit_of (trap_in mid.pending) + rest ≡ n
   pub kernel : mid.machine.kernel ≡ kernel_wild (program_of old.machine) (moment_at old) steps old.machine.kernel
   pub program : program_of mid.machine ≡ program_of old.machine
   pub print : Print
   pub would : WildState
   pub step : WildGoes mid print would
   pub drew : Moves before after (words ++ print.words)
-  pub left : Option (List ℕ)
-  pub told : Feeds (drawn_to input left) (seen steps)
+  pub left : Supply
+  pub fed : Feeds (drawn_to input left) (seen steps)
   pub would_feed : WouldFeed (drawn_from input left input.before) print.seen
   pub leaves_end : LeavesEnd (drawn_from input left input.before)
   pub written : Option (List ℕ)

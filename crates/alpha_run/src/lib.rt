@@ -6,7 +6,8 @@
 //! - [`Notes`] is the observer that writes the lines of a run; [`NoWords`] is the chooser of a machine that asks none.
 //! - [`run_sequential`] and [`run_imprecise`] are the runs of the two machines, whose lines are written.
 //! - [`laws_of_cut_runs`]: what a run has shown that a device's fault cut short is a front of what a whole run shows.
-//!   [`laws_of_told_runs`]: where the input is told, that is the run over it.
+//!   [`laws_of_told_runs`]: where the input is told, that is the run over it. [`laws_of_told_words`]: where the words
+//!   are told too, it is the one by those words.
 //!
 //! `specs/Row.antt` says what steps in a row are, `specs/Ran.antt` what a run did by its answer, `specs/Noted.antt`
 //! which lines are written of a step, and `specs/SeqRun.antt` and `specs/WildRan.antt` what the runs of the two
@@ -30,7 +31,7 @@ mod turn;
 mod wild;
 mod wild_run;
 
-pub use laws::{laws_of_cut_runs, laws_of_told_runs};
+pub use laws::{laws_of_cut_runs, laws_of_told_runs, laws_of_told_words};
 pub use no_words::NoWords;
 pub use notes::Notes;
 pub use observer::Observer;

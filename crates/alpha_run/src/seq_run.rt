@@ -27,7 +27,8 @@ pub fn run_sequential<S: Source, K: Sink, N: Sink>(
         (drawn S.Source input.old input.new)
         (sunk K.Sink out.old out.new)
         (sunk N.Sink notes.old notes.new)) }
-    ensures broken { IfErr result (λ fault. SeqCut fault left.old watch machine.old machine.new
+    ensures broken { IfErr result (λ fault. SeqCut fault left.old left.new watch
+        machine.old machine.new
         (drawn S.Source input.old input.new)
         (sunk K.Sink out.old out.new)
         (sunk N.Sink notes.old notes.new)) }

@@ -35,7 +35,7 @@ pub fn run_imprecise<C: Chooser, S: Source, K: Sink, N: Sink>(
         (drawn S.Source input.old input.new)
         (sunk K.Sink out.old out.new)
         (sunk N.Sink notes.old notes.new)) }
-    ensures broken { IfErr result (λ fault. WildCut fault left.old watch wild.old wild.new
+    ensures broken { IfErr result (λ fault. WildCut fault left.old left.new watch wild.old wild.new
         (telling C.ahead C.drawn chooser.old) (telling C.ahead C.drawn chooser.new)
         (drawn S.Source input.old input.new)
         (sunk K.Sink out.old out.new)

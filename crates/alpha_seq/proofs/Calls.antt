@@ -3,6 +3,7 @@ use Rattle.std.proofs.Common.{◌≡◌, ℕ, List, [], Option, Some, Ok, Err, r
 use Rattle.std.specs.Io.KnownBytes.{Appends}
 use Rattle.std.proofs.KnownBytes.{Appends-nil}
 use Rattle.alpha_io.specs.Sunk.{Sunk}
+use Rattle.alpha_io.specs.Supply.{Supply}
 use Rattle.alpha_words.specs.declared.PalCall.{PalCall}
 use Rattle.alpha_mem.specs.Block.{Block}
 use Rattle.alpha_table.specs.Class.{barrier}
@@ -32,13 +33,13 @@ abbrev pub called_machine : Machine → KernelState → List ℕ → List Block 
 called_machine m kernel regs mem unique = record m { kernel = kernel; regs = regs; memory = mem; unique = unique }
 
 -- the devices of a call
-abbrev pub drawn_by : Option (List ℕ) → Option (List ℕ) → ℕ → ℕ → Drawn
+abbrev pub drawn_by : Supply → Supply → ℕ → ℕ → Drawn
 drawn_by old new before now = record { old = old; new = new; before = before; now = now }
 
 abbrev pub sunk_by : Option (List ℕ) → Option (List ℕ) → ℕ → ℕ → Sunk
 sunk_by old new before now = record { old = old; new = new; before = before; now = now }
 
-module _ (function : PalCall) (m : Machine) (k : KernelState) (regs : List ℕ) (mem : List Block) (unique : ℕ) (left left' written written' : Option (List ℕ)) (faults faults' count count' : ℕ) (here : class_here m ≡ Some (barrier (Some function))) where
+module _ (function : PalCall) (m : Machine) (k : KernelState) (regs : List ℕ) (mem : List Block) (unique : ℕ) (left left' : Supply) (written written' : Option (List ℕ)) (faults faults' count count' : ℕ) (here : class_here m ≡ Some (barrier (Some function))) where
   -- the definition's step there
   step_here : (input : List ℕ) → step (program_of m) (class_here m) (state_of m) input ≡ returned function (call function m.regs m.memory m.unique input) (state_of m)
   step_here input = ap (λ class. step (program_of m) class (state_of m) input) here
@@ -54,7 +55,7 @@ module _ (function : PalCall) (m : Machine) (k : KernelState) (regs : List ℕ) 
         ∙ (ap (λ (d : Called). returned function d (state_of m)) (does [])
         ∙ (end_is (state_of m) refl
         ∙ ap (λ (s : Seen). stepped (state_of (called_machine m k s.regs s.mem s.unique)) (Ends end)) (sym e)));
-    fed = subst (λ (l : Option (List ℕ)). Reads left Silent l) (sym (ap (λ (s : Seen). s.left) e)) (Reads-silent left);
+    fed = subst (λ (s : Supply). Reads left Silent s) (sym (ap (λ (s : Seen). s.supply) e)) (Reads-silent left);
     same = calm_input;
     wrote = record { written = subst (λ (l : Option (List ℕ)). Appends written l []) (sym (ap (λ (s : Seen). s.written) e)) (Appends-nil written); same = calm_sink };
     passes = (refl, refl);
@@ -112,5 +113,5 @@ module _ (function : PalCall) (m : Machine) (k : KernelState) (regs : List ℕ) 
       (sunk_by written written' count count')
       (here ∙ ap (λ (f : PalCall). Some (barrier (Some f))) h.0) h.1
       (ap (λ (s : Seen). called_machine m k s.regs s.mem s.unique) h.2) kernel sink.0 sink.1
-      (record { left = ap (λ (s : Seen). s.left) h.2; same = source })
+      (record { left = ap (λ (s : Seen). s.supply) h.2; same = source })
   call-breaks broken.Notes h kernel source sink = absurd h

@@ -2,6 +2,7 @@
 use Rattle.std.proofs.Common.{◌≡◌, ◌≢◌, ℕ, ◌+◌, ◌%◌, ◌^◌, Bool, true, false, cond, List, [], Option, None, Some, Result, Ok, Err, refl, sym, ap, subst, ◌∙◌}
 use Rattle.std.specs.Prelude.{slice_get, is_ok, IfErr}
 use Rattle.std.specs.Option.{option_map, option_and_then}
+use Rattle.alpha_io.specs.Supply.{Supply}
 use Rattle.alpha_io.specs.Sunk.{Sunk, Puts}
 use Rattle.alpha_io.proofs.Sinks.{Puts-none}
 use Rattle.alpha_words.specs.Regs.{reg}
@@ -90,7 +91,7 @@ passes_nothing (Overflowed at) mem = (refl, refl)
 passes_nothing (Ends end) mem = (refl, refl)
 
 -- a step that leaves its devices alone
-pub Steps-quiet : (event : Event) (class : Option Class) (old new : Machine) (left written : Option (List ℕ)) (faults count : ℕ) → traffic_of event ≡ Silent → class_here old ≡ class
+pub Steps-quiet : (event : Event) (class : Option Class) (old new : Machine) (left : Supply) (written : Option (List ℕ)) (faults count : ℕ) → traffic_of event ≡ Silent → class_here old ≡ class
     → ((input : List ℕ) → step (program_of old) class (state_of old) input ≡ stepped (state_of new) event)
     → Steps event Nothing old new (record { old = left; new = left; before = faults; now = faults })
     (record { old = written; new = written; before = count; now = count })
@@ -103,7 +104,7 @@ Steps-quiet event class old new left written faults count quiet here does = reco
 }
 
 -- a step that only went on leaves its devices alone, the kernel, and where the blocks lie
-pub GoesOn-steps : (old new : Machine) (left written : Option (List ℕ)) (faults count : ℕ) → GoesOn old new
+pub GoesOn-steps : (old new : Machine) (left : Supply) (written : Option (List ℕ)) (faults count : ℕ) → GoesOn old new
     → Steps Went Nothing old new (record { old = left; new = left; before = faults; now = faults })
     (record { old = written; new = written; before = count; now = count })
 GoesOn-steps old new left written faults count h = Steps-quiet Went (Some h.class) old new left written faults count refl h.here h.does.is
@@ -111,7 +112,7 @@ GoesOn-steps old new left written faults count h = Steps-quiet Went (Some h.clas
 pub GoesOn-kernel : (old new : Machine) → GoesOn old new → new.kernel ≡ kernel_left (class_here old) (next_pc (state_of old)) old.regs old.kernel
 GoesOn-kernel old new h = Does-kernel Went h.class old new h.here h.does
 
-pub GoesOn-makes : (old new : Machine) (left written : Option (List ℕ)) (faults count : ℕ) → GoesOn old new
+pub GoesOn-makes : (old new : Machine) (left : Supply) (written : Option (List ℕ)) (faults count : ℕ) → GoesOn old new
     → SeqMakes events.Went old new (record { old = left; new = left; before = faults; now = faults }) (record { old = written; new = written; before = count; now = count })
 GoesOn-makes old new left written faults count h =
     makes Went Nothing old new (record { old = left; new = left; before = faults; now = faults })
@@ -189,7 +190,7 @@ executes (events.Reported at) class old new did = absurd did
 executes (events.Ended end) class old new did = record { happened = Ends end; seen = refl; quiet = refl; does = did }
 executes (events.Lost pc mask) class old new did = absurd did
 
-pub executes-makes : (event : Seen) (class : Class) (old new : Machine) (left written : Option (List ℕ))
+pub executes-makes : (event : Seen) (class : Class) (old new : Machine) (left : Supply) (written : Option (List ℕ))
     (faults count : ℕ) → class_here old ≡ Some class
     → ExecuteEffect event class old new
     → SeqMakes event old new (record { old = left; new = left; before = faults; now = faults })

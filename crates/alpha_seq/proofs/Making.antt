@@ -3,6 +3,7 @@ use Rattle.std.proofs.Common.{◌≡◌, ◌≤◌, ℕ, true, List, [], ◌∷�
 use Rattle.alpha_words.specs.declared.PalCall.TheVariants.{Callsys}
 use Rattle.alpha_words.specs.Regs.{reg, put as put_reg}
 use Rattle.alpha_io.specs.Faults.{Rose}
+use Rattle.alpha_io.specs.Supply.{Supply}
 use Rattle.alpha_io.specs.Sunk.{Sunk, Puts, HasFailed}
 use Rattle.alpha_io.specs.Written.{WritesPrefix}
 use Rattle.alpha_table.specs.Class.{barrier}
@@ -15,7 +16,7 @@ use Rattle.alpha_pal.specs.declared.pal_end.Passed.TheVariants.{Took, Put}
 use Rattle.alpha_pal.specs.Kernel.{KernelState}
 use Rattle.alpha_pal.specs.Call.{Traffic, Read, Wrote, call}
 use Rattle.alpha_pal.specs.Serve.{system_call_of}
-use Rattle.alpha_pal.specs.CallEffect.{Takes, Reads, TakesPart, PutsPart}
+use Rattle.alpha_pal.specs.CallEffect.{Takes, ReadsTold, Reads, TakesPart, PutsPart}
 use Rattle.alpha_pal.proofs.Takings.{there_behind}
 use Rattle.alpha_pal.proofs.Asking.{take-again}
 use Rattle.alpha_seq.specs.declared.event.Event.{Event as Seen}
@@ -75,9 +76,12 @@ makes event passed old new input out did kernel program = record {
   event_is = refl;
   core_is = refl;
   drew = refl;
-  fed = λ bytes tells.
-      let reads = subst (λ (l : Option (List ℕ)). Reads l (traffic_of event) input.new) tells did.fed in
-      (left_by event bytes, (reads.0, refl), reads.1);
+  fed = record {
+    told = λ bytes tells.
+        let reads = subst (λ (l : Option (List ℕ)). ReadsTold l (traffic_of event) input.new.left) tells did.fed.told in
+        (left_by event bytes, (reads.0, refl), reads.1);
+    answers = (input.new.replies, did.fed.answers, refl);
+  };
   same = did.same;
   wrote = subst (Puts out) (sym (append-nil (put event))) did.wrote;
 }
@@ -150,9 +154,9 @@ input_breaks old new input out class part stays kernel later cause idle =
       units = refl;
       core_is = refl;
       drew = refl;
-      fed = λ left is. (left_by event left, (ap (take n) (sym (Takes-told input.old input.new part.taken part.rest left is part.took).0), refl));
+      fed = λ left is. (left_by event left, (ap (take n) (sym (Takes-told input.old.left input.new.left part.taken part.rest left is part.took).0), refl));
       left = λ left is.
-          let told = Takes-told input.old input.new part.taken part.rest left is part.took in
+          let told = Takes-told input.old.left input.new.left part.taken part.rest left is part.took in
           (part.taken, part.rest, told.0, told.1);
       wrote = idle-part out [] idle;
       behind = record {
@@ -193,7 +197,7 @@ output_breaks old new input out class part unmade kernel later cause rests =
       core_is = refl;
       drew = refl;
       fed = λ left is. (left, (refl, refl));
-      left = λ left is. ([], left, refl, rests.left ∙ is);
+      left = λ left is. ([], left, refl, ap (λ (s : Supply). s.left) rests.left ∙ is);
       wrote = subst (WritesPrefix out.old out.new) (sym (append-nil bytes)) part.prefix;
       behind = record {
         class = class;

@@ -3,6 +3,7 @@ use Rattle.std.proofs.Common.{◌≡◌, ℕ, false, List, [], ◌++◌, Option,
 use Rattle.std.specs.Io.KnownBytes.{Appends}
 use Rattle.std.proofs.KnownBytes.{Appends-trans}
 use Rattle.alpha_io.specs.Sunk.{Sunk}
+use Rattle.alpha_io.specs.Supply.{Supply}
 use Rattle.alpha_io.specs.Written.{WritesPrefix}
 use Rattle.alpha_io.proofs.Sinks.{Puts-none}
 use Rattle.alpha_io.proofs.Writes.{WritesPrefix-more}
@@ -11,16 +12,16 @@ use Rattle.alpha_seq.specs.Run.{end_of, is_over}
 use Rattle.alpha_seq.specs.Devices.{Drawn, WritesBetween, Idles}
 
 -- the devices before a run, between it and a step, and after the step
-pub record Times : Type 0 where
-  pub first : Option (List ℕ)
-  pub mid : Option (List ℕ)
-  pub last : Option (List ℕ)
+pub record Times (T : Type 0) : Type 0 where
+  pub first : T
+  pub mid : T
+  pub last : T
   pub faults_first : ℕ
   pub faults_mid : ℕ
   pub faults_last : ℕ
 
 -- by what the device tells, and its count of faults
-abbrev pub times : {D : Type 0} → (D → Option (List ℕ)) → (D → ℕ) → D → D → D → Times
+abbrev pub times : {D T : Type 0} → (D → T) → (D → ℕ) → D → D → D → Times T
 times tells faults first mid last = record {
   first = tells first;
   mid = tells mid;
@@ -30,22 +31,22 @@ times tells faults first mid last = record {
   faults_last = faults last;
 }
 
-abbrev pub drawn_before : Times → Drawn
+abbrev pub drawn_before : Times Supply → Drawn
 drawn_before t = record { old = t.first; new = t.mid; before = t.faults_first; now = t.faults_mid }
 
-abbrev pub drawn_after : Times → Drawn
+abbrev pub drawn_after : Times Supply → Drawn
 drawn_after t = record { old = t.mid; new = t.last; before = t.faults_mid; now = t.faults_last }
 
-abbrev pub drawn_over : Times → Drawn
+abbrev pub drawn_over : Times Supply → Drawn
 drawn_over t = record { old = t.first; new = t.last; before = t.faults_first; now = t.faults_last }
 
-abbrev pub sunk_before : Times → Sunk
+abbrev pub sunk_before : Times (Option (List ℕ)) → Sunk
 sunk_before t = record { old = t.first; new = t.mid; before = t.faults_first; now = t.faults_mid }
 
-abbrev pub sunk_after : Times → Sunk
+abbrev pub sunk_after : Times (Option (List ℕ)) → Sunk
 sunk_after t = record { old = t.mid; new = t.last; before = t.faults_mid; now = t.faults_last }
 
-abbrev pub sunk_over : Times → Sunk
+abbrev pub sunk_over : Times (Option (List ℕ)) → Sunk
 sunk_over t = record { old = t.first; new = t.last; before = t.faults_first; now = t.faults_last }
 
 -- ---- the definition

@@ -36,10 +36,10 @@ all_written (Some xs) (Some ys) put bytes from to more =
 -- ---- the sequential run
 
 pub runs_to : (last : Option Event) (units left : ℕ) (old new : Machine) (input : Drawn) (out notes : Sunk) (bytes : List ℕ)
-    → SeqRan last units left false old new input out notes → input.old ≡ Some [] → out.old ≡ Some [] → out.new ≡ Some bytes
+    → SeqRan last units left false old new input out notes → input.old.left ≡ Some [] → out.old ≡ Some [] → out.new ≡ Some bytes
     → RunsTo units old new bytes (units - left)
 runs_to last units left old new input out notes bytes ran told from to =
-    let fed = ran.told [] told in
+    let fed = ran.fed.told [] told in
     let many : length ran.events ≡ units - left = omega (arith, ran.used) in
     record {
       is =
@@ -64,7 +64,7 @@ sequential_counted units image old new bytes steps program begins r =
 
 pub makes_to : (last : Option Event) (units left : ℕ) (old new : WildState) (before after : Telling) (input : Drawn) (out notes : Sunk) (bytes : List ℕ) (count : ℕ) (ahead : ℕ → ℕ)
     → WildRanAs last units left false old new before after input out notes → old.pending ≡ None
-    → input.old ≡ Some [] → out.old ≡ Some [] → out.new ≡ Some bytes
+    → input.old.left ≡ Some [] → out.old ≡ Some [] → out.new ≡ Some bytes
     → before.ahead ≡ Some ahead → before.count ≡ Some 0 → after.count ≡ Some count
     → MakesTo units ahead old new bytes (units - left) count
 makes_to last units left old new before after input out notes bytes count ahead ran calm told from to tells zero now =
@@ -72,7 +72,7 @@ makes_to last units left old new before after input out notes bytes count ahead 
     let words = whole.ran.words in
     let few = imprecise.few_drawn last units left false old new before after input out notes whole calm in
     let s = told_starts before after ahead words (most_words units) tells whole.ran.drew few in
-    let fed = whole.ran.told [] told in
+    let fed = whole.ran.fed.told [] told in
     let there = imprecise.told_from last units left false old new before after input out notes whole [] s.coming fed.0 fed.1 in
     let uses = whole.used in
     let many : whole.count ≡ units - left = omega arith in

@@ -18,7 +18,7 @@ pub(crate) fn run_sequential(
     units: u64,
 ) -> Result<u64, NoMemory>
     requires user { IsTrue machine.old.kernel.user }
-    requires input { input.old ≡ [] }
+    requires input { input.old.left ≡ [] }
     requires out { out.old.written ≡ [] }
     ensures counts { IfOk result
         (λ steps. RunsTo units machine.old machine.new out.new.written steps) }
@@ -41,7 +41,7 @@ pub(crate) fn run_imprecise(
     units: u64,
 ) -> Result<u64, NoMemory>
     requires pending { wild.old.pending ≡ None }
-    requires input { input.old ≡ [] }
+    requires input { input.old.left ≡ [] }
     requires out { out.old.written ≡ [] }
     requires drawn { chooser.old.drawn ≡ 0 }
     ensures counts { IfOk result (λ used. MakesTo units (pcg_word chooser.old.chooser)

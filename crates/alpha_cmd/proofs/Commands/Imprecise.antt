@@ -18,7 +18,8 @@ use Rattle.alpha_imprecise.proofs.Drawn.{making-made, begun-made, made-draws}
 use Rattle.alpha_imprecise.proofs.Exactly.{drawn_exactly}
 use Rattle.alpha_imprecise.proofs.Settling.{made_is}
 use Rattle.alpha_cmd.specs.declared.status.Status.TheVariants as statuses
-use Rattle.alpha_cmd.specs.Outcome.{goes, Then, Gives}
+use Rattle.alpha_cmd.specs.declared.status.Status.{Status}
+use Rattle.alpha_cmd.specs.Outcome.{goes, stops, Then, Gives}
 use Rattle.alpha_cmd.specs.Image.{Reads, ImageOf, Judges}
 use Rattle.alpha_cmd.specs.Choosing.{listed_word, ChoicesOf}
 use Rattle.alpha_cmd.specs.ChoicesLimit.{choices_limit}
@@ -27,7 +28,7 @@ use Rattle.alpha_cmd.specs.AnswerBy.{World, AnswerBy, HaveBytes}
 use Rattle.alpha_cmd.specs.Form.{IsThere}
 use Rattle.alpha_cmd.specs.RunAnswer.{program_by}
 use Rattle.alpha_cmd.specs.Commands.Imprecise.{Plan, plan_by, PlanOf, Passes, Planned, MayRun, with_drawn, run_by, begins_plan, MadeByReads, shown_wild, MayShowWild, drawn_status, wild_status, answer_wild, RunsWild, MayLose, IsEndStatus, HasChoices, steps, form, there}
-use Rattle.alpha_cmd.proofs.Lawful.{Lawful, Then-lawful, Goes-lawful, Gives-lawful}
+use Rattle.alpha_cmd.proofs.Lawful.{IsRefusal, Lawful, Then-lawful, Goes-lawful, Gives-lawful}
 use Rattle.alpha_cmd.proofs.Stages.{Reads-lawful, ImageOf-lawful, Judges-lawful}
 use Rattle.alpha_cmd.proofs.Forms.{IsLawfulForm, is_fault}
 use Rattle.alpha_cmd.proofs.Commands.Run.{some_shown as some_run}
@@ -57,6 +58,11 @@ Planned-lawful told whole there w choices force file is_told is_whole has_file h
     Then-lawful {R = ChoicesOf w.files choices} {S = λ ahead. Gives (plan_by image ahead)} (ChoicesOf-lawful told whole w choices is_told (λ h. (is_whole h).0) there has_choices)
     (λ ahead given. Gives-lawful (plan_by image ahead))))
     (λ plan found. Passes-lawful told whole there force plan)
+
+-- where it stops it is refused
+pub planned_plain : (choices : Origin) (force : Bool) (file : List ℕ) (files : Files) (s : Status) (line : List ℕ) → Planned choices force file files (stops s line) → IsRefusal ⊥ s
+planned_plain choices force file files =
+    (Planned-lawful ⊥ ⊥ ⊥ (record { files = files; takes = λ name n. true; input = None }) choices force file (λ no. absurd no) (λ no. absurd no) (λ no. absurd no) (λ no. absurd no)).plain
 
 -- a run by the plan's words over no input
 some_made : (options : RunOptions) (plan : Plan) → MadeByReads options plan

@@ -12,9 +12,9 @@ use Rattle.alpha_cmd.specs.Image.{ImageOf}
 use Rattle.alpha_cmd.specs.Answer.{Answer}
 use Rattle.alpha_cmd.specs.AnswerBy.{World, AnswerBy}
 use Rattle.alpha_cmd.specs.Form.{MayTakeBy}
-use Rattle.alpha_cmd.specs.Commands.Run.{RunByReads, shown_by, MayShow, Runs, steps, kind, form, there}
+use Rattle.alpha_cmd.specs.Commands.Run.{shown_by, MayShow, Runs, steps, kind, form, there}
 use Rattle.alpha_cmd.specs.Commands.Imprecise.{drawn_status}
-use Rattle.alpha_cmd.specs.RunAnswer.{run_status, program_by, answer_shown}
+use Rattle.alpha_cmd.specs.RunAnswer.{RunByReads, run_status, program_by, answer_shown}
 use Rattle.alpha_cmd.proofs.Lawful.{Lawful, Goes-lawful}
 use Rattle.alpha_cmd.proofs.Forms.{IsLawfulForm, is_fault, of_file_lawful}
 

@@ -4,24 +4,14 @@ use Rattle.alpha_image.specs.Parts.{Parts}
 use Rattle.alpha_request.specs.declared.options.RunOptions.{RunOptions}
 use Rattle.alpha_seq.specs.declared.end.End.{End}
 use Rattle.alpha_seq.specs.State.{Event, Stepped}
-use Rattle.alpha_seq.specs.Start.{start}
-use Rattle.alpha_seq.specs.Run.{begins, Runs as RunsBy, Shown, shown, sequential}
-use Rattle.alpha_seq.specs.Fronts.{HasMade}
+use Rattle.alpha_seq.specs.Run.{Shown, shown, sequential}
 use Rattle.alpha_cmd.specs.declared.status.Status.{Status}
 use Rattle.alpha_cmd.specs.Outcome.{Outcome, Either, Never, Then}
 use Rattle.alpha_cmd.specs.Image.{ImageOf}
 use Rattle.alpha_cmd.specs.Answer.{Answer}
 use Rattle.alpha_cmd.specs.AnswerBy.{World}
-use Rattle.alpha_cmd.specs.RunAnswer.{run_status, program_by, answer_shown}
+use Rattle.alpha_cmd.specs.RunAnswer.{RunByReads, run_status, program_by, answer_shown}
 use Rattle.alpha_cmd.specs.Form.{Form, Kind, IsThere, needs_files_and_input, streams}
-
--- A run from the start with as many steps as were asked for, or to the program's end, whatever each read was given: a source
--- that tells nothing may answer each of them anew.
-pub record RunByReads (options : RunOptions) (image : Parts) : Type 0 where
-  pub events : List Event
-  pub at : Stepped
-  pub runs : RunsBy (program_by options image) (begins (start (program_by options image))) events at
-  pub made : HasMade options.steps events at
 
 -- what it shows, of an input of which nothing is told
 abbrev pub shown_by : Bool → List Event → Stepped → Shown

@@ -106,17 +106,16 @@ impl Shelf for MemoryShelf {
         let number = self.calls;
         self.calls = next_count(number);
         let Some(file) = find_file(&self.files, name) else {
-            self.history.note(&[0, at, 0], name.as_bytes(), &[]);
+            self.history.piece(name, at, Err(Failed), buf);
             return Err(Failed);
         };
         if is_listed(&self.failing, number) {
             self.faults = next_count(self.faults);
-            self.history.note(&[0, at, 0], name.as_bytes(), &[]);
+            self.history.piece(name, at, Err(Failed), buf);
             return Err(Failed);
         }
         let count = copy_piece(file, at, buf);
-        self.history
-            .note(&[0, at, 1], name.as_bytes(), &buf[..count]);
+        self.history.piece(name, at, Ok(count), buf);
         Ok(count)
     }
 
@@ -136,10 +135,10 @@ impl Shelf for MemoryShelf {
             || store(self.alloc, &mut self.files, name, bytes).is_err()
         {
             self.faults = next_count(self.faults);
-            self.history.note(&[1, 0, 0], name.as_bytes(), bytes);
+            self.history.kept(name, bytes, Err(Failed));
             return Err(Failed);
         }
-        self.history.note(&[1, 0, 1], name.as_bytes(), bytes);
+        self.history.kept(name, bytes, Ok(()));
         Ok(())
     }
 }

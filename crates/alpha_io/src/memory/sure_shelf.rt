@@ -114,12 +114,11 @@ impl Shelf for SureShelf {
         match self.find_file(name) {
             Some(file) => {
                 let count = copy_piece(file, at, buf);
-                self.history
-                    .note(&[0, at, 1], name.as_bytes(), &buf[..count]);
+                self.history.piece(name, at, Ok(count), buf);
                 Ok(count)
             }
             None => {
-                self.history.note(&[0, at, 0], name.as_bytes(), &[]);
+                self.history.piece(name, at, Err(Failed), buf);
                 Err(Failed)
             }
         }
@@ -136,13 +135,13 @@ impl Shelf for SureShelf {
             sure_file self.new other ≡ sure_file self.old other }
     {
         if name != self.out.as_str() || bytes.len() > self.room {
-            self.history.note(&[1, 0, 0], name.as_bytes(), bytes);
+            self.history.kept(name, bytes, Err(Failed));
             return Err(Failed);
         }
         self.kept.clear();
         self.kept.extend_from_slice(bytes).unwrap();
         self.is_kept = true;
-        self.history.note(&[1, 0, 1], name.as_bytes(), bytes);
+        self.history.kept(name, bytes, Ok(()));
         Ok(())
     }
 }

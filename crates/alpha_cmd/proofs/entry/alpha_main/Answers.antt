@@ -12,13 +12,17 @@ use Rattle.alpha_cmd.specs.Makings.Module.{KeepsModules}
 use Rattle.alpha_cmd.specs.Commands.Record.{KeepsUnder}
 use Rattle.alpha_cmd.specs.Fixed.{Fixes}
 use Rattle.alpha_cmd.specs.Promises.{EndsWhole, EndsCut, GivesOne, GivesThe, SparesFiles, TakesInput, LeavesScript, EndsAsked, LosesNone}
+use Rattle.alpha_cmd.specs.Ran.{Ran}
+use Rattle.alpha_cmd.specs.RunsAsked.{RunsAsked}
 use Rattle.alpha_cmd.specs.ReadsNothing.{Unread, UnreadAlike}
 use Rattle.alpha_cmd.specs.Replayed.{ShowsRuns}
 use Rattle.alpha_cmd.specs.Replied.{Replies}
 use Rattle.alpha_cmd.specs.Restarts.{Restarts}
-use Rattle.alpha_cmd.specs.ToldRun.{Ran}
+use Rattle.alpha_cmd.specs.ToldRun.{RanTold}
 use Rattle.alpha_cmd.proofs.JournalStatus.{no_end}
+use Rattle.alpha_cmd.proofs.RunsOnReplies.{memory_unended}
 use Rattle.alpha_cmd.proofs.Told.{tail_same}
+use Rattle.alpha_cmd.proofs.EndsWhere.{failed_ends}
 use Rattle.alpha_cmd.proofs.entry.alpha_main.Goals as goal
 
 pub returns-in-Ok : goal.returns-in-Ok
@@ -44,6 +48,8 @@ returns-in-Ok g c =
       restarts = subst (λ (words : List (List ℕ)). Restarts words status did.shelf) is done.restarts;
       checked = subst (λ (words : List (List ℕ)). Checked words status did.shelf) is done.checked;
       accepted = subst (λ (words : List (List ℕ)). Accepts words status did) is done.accepted;
+      ran_told = subst (λ (words : List (List ℕ)). RanTold words status did) is done.ran_told;
+      runs = subst (λ (words : List (List ℕ)). RunsAsked words status did) is done.runs;
       ran = subst (λ (words : List (List ℕ)). Ran words status did) is done.ran;
       alike = subst (λ (words : List (List ℕ)). Alike words status did) is done.alike;
       unread = subst (λ (words : List (List ℕ)). Unread words status did) is done.unread;
@@ -71,13 +77,21 @@ returns-in-Err g c =
       ended = λ is. absurd cc;
       found = λ options choices file lost asks e. cc;
       script = λ file asks. tail_same left left refl;
+      runs = λ command asks. record {
+        shows = λ ends. absurd (memory_unended ends);
+        ends = failed_ends command NoMemory _ (inl refl);
+      };
+      ran = λ file plain. (
+        λ is. record { shows = λ ends. absurd (memory_unended ends); ends = λ image good has read. inr (inl refl) },
+        λ is. record { shows = λ ends. absurd (memory_unended ends); ends = λ image good accepted read. inr (inl refl) },
+      );
       given = λ quiet. inr refl;
       exact = λ a told quiet is. inr refl;
       replied = λ command asks e. absurd (undone e);
       restarts = λ file asks e. absurd (undone e);
       checked = λ file is plain e. absurd (undone e);
       accepted = λ image file asks good safe files there quiet. inr refl;
-      ran = λ name bytes image asks plain tells quiet. inr refl;
+      ran_told = λ name bytes image asks plain tells quiet. inr refl;
       alike = λ options file bytes image asks tells quiet. inr refl;
       unread = λ options file image asks files found unread quiet. inr refl;
       unread_alike = λ options choices force file image asks files found unread has checked quiet. inr refl;

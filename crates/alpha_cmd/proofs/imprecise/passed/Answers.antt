@@ -12,10 +12,10 @@ judged_passes : {U : Type 0} (plan : Plan) (r : Result U Stop) → OnOk r (IsAcc
 judged_passes plan (Ok u) good why = record { ok = (plan.image, (good, refl), refl); refused = tt }
 judged_passes plan (Err stop) good why = record { ok = tt; refused = inl (inl why) }
 
-pub returns-then-force : goal.returns-then-force
-returns-then-force c = rw c.if-force.true (record { ok = refl; refused = tt })
+pub returns-then-force-clause-computes : goal.returns-then-force-clause-computes
+returns-then-force-clause-computes c = rw c.if-force.true (record { ok = refl; refused = tt })
 
-pub returns-else-force : goal.returns-else-force
-returns-else-force c =
+pub returns-else-force-clause-computes : goal.returns-else-force-clause-computes
+returns-else-force-clause-computes c =
     rw c.if-force.false
     (judged_passes (plan_by c.args.plan.now.image (ahead_in c.args.plan.now.chooser)) c.judged.result c.judged.ensures.ok c.judged.ensures.refused)

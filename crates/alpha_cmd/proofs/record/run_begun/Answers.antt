@@ -25,7 +25,7 @@ returns-in-Made-clause-made g c = λ force may.
     let input = drawn g.S.Source old.input new.input in
     let did = c.in-Made.ensures in
     runs_on c.args.options from ahead c.requires.how c.requires.fresh force c.in-Made.last c.drawn.result c.in-Made.journal c.behind.result new.wild _ _ input (sunk g.K.Sink old.out new.out)
-    (sunk g.N.Sink old.notes new.notes) did.made (λ bytes told. did.told bytes ahead told refl c.requires.fresh) (c.behind.ensures input.new)
+    (sunk g.N.Sink old.notes new.notes) did.made (λ bytes told. did.told bytes ahead told refl c.requires.fresh) (c.behind.ensures input.new.left)
     refl (ap (λ (k : ℕ). Some k) c.requires.none) (ap (λ (k : ℕ). Some k) (sym c.drawn.ensures)) c.drawn.type_inv
     (may_alone force (plan_in begun) may)
 
@@ -35,7 +35,7 @@ returns-in-Made-clause-calm g c = c.in-Made.ensures.made.stops.ran.same
 pub returns-in-Made-clause-rest : goal.returns-in-Made-clause-rest
 returns-in-Made-clause-rest g c =
     let ran = c.in-Made.ensures.made.stops.ran in
-    end_of_fed (drawn g.S.Source c.args.devices.now.input c.make_journal.new.input) (seen ran.steps) ran.told
+    end_of_fed (drawn g.S.Source c.args.devices.now.input c.make_journal.new.input) (seen ran.steps) ran.fed
 
 pub returns-in-Failed-clause-over : goal.returns-in-Failed-clause-over
 returns-in-Failed-clause-over g c = λ force name may.
@@ -55,7 +55,7 @@ returns-in-Failed-clause-over g c = λ force name may.
     (may_alone force (plan_in begun) may) refl did.made (λ bytes told. did.told bytes ahead told refl c.requires.fresh)
     (cut_begins (unwatched c.args.options) from ahead c.requires.how c.requires.fresh force c.in-Failed.fault _ _ input out notes cut refl
     (may_alone force (plan_in begun) may) w.input refl))
-    c.cut_short.ensures cut.cause (end_of_cut input cut.left (seen cut.steps) cut.told cut.leaves_end)
+    c.cut_short.ensures cut.cause (end_of_cut input cut.left (seen cut.steps) cut.fed cut.leaves_end)
 
 pub returns-in-Failed-clause-status : goal.returns-in-Failed-clause-status
 returns-in-Failed-clause-status g c =
@@ -76,10 +76,10 @@ returns-in-Full-clause-over g c = λ force name may.
     let notes = sunk g.N.Sink old.notes new.notes in
     let did = c.in-Full.ensures in
     stopped_does c.args.options from ahead c.requires.how c.requires.fresh g.H.Shelf g.S.Source g.K.Sink g.N.Sink old new.input new.out new.notes force name c.said.result c.said.ensures.answer
-    (stopped_by c.args.options from ahead c.requires.how c.requires.fresh input.old input.new input.before input.now out notes
+    (stopped_by c.args.options from ahead c.requires.how c.requires.fresh input out notes
     (λ bytes told. did.told bytes ahead told refl c.requires.fresh)
     (moment c.args.options from ahead c.requires.how c.requires.fresh new.wild _ _ input out notes refl did.made))
-    did.made.stops.ran.same (end_of_fed input (seen did.made.stops.ran.steps) did.made.stops.ran.told)
+    did.made.stops.ran.same (end_of_fed input (seen did.made.stops.ran.steps) did.made.stops.ran.fed)
 
 pub returns-in-NoMemory-clause-over : goal.returns-in-NoMemory-clause-over
 returns-in-NoMemory-clause-over g c = λ force name may.

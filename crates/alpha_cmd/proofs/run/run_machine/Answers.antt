@@ -1,14 +1,17 @@
-use Rattle.std.proofs.Common.{refl}
+use Rattle.std.proofs.Common.{refl, inl}
 use Rattle.alpha_io.specs.Sunk.{sunk}
 use Rattle.alpha_seq.specs.Devices.{drawn}
 use Rattle.alpha_run.proofs.Turning.{end_of_fed, end_of_cut}
 use Rattle.alpha_cmd.specs.Commands.Run.{on}
+use Rattle.alpha_cmd.specs.Ran.{end_on}
 use Rattle.alpha_cmd.proofs.Ran.{ran_shows, ran_whole, cut_fronts}
+use Rattle.alpha_cmd.proofs.RunsOnReplies.{ran_decides, cut_unended}
 use Rattle.alpha_cmd.proofs.Streaming.{does_cut}
+use Rattle.alpha_cmd.proofs.EndsWhere.{cut_fails}
 use Rattle.alpha_cmd.proofs.run.run_machine.Goals as goal
 
-pub returns-in-Ok : goal.returns-in-Ok
-returns-in-Ok g c =
+pub returns-in-Ok-clause-does : goal.returns-in-Ok-clause-does
+returns-in-Ok-clause-does g c =
     let old = c.args.devices.now in
     let new = c.run_sequential.new in
     let ran = c.in-Ok.ensures.made in
@@ -16,14 +19,36 @@ returns-in-Ok g c =
     c.behind.ensures
     (ran_shows c.args.options c.in-Ok.last new.left c.args.machine.now new.machine (drawn g.S.Source old.input new.input) (sunk g.K.Sink old.out new.out)
     (sunk g.N.Sink old.notes new.notes) (record { how = c.requires.how; state = c.requires.start }) ran)
-    ran.same (end_of_fed (drawn g.S.Source old.input new.input) ran.events ran.told)
+    ran.same (end_of_fed (drawn g.S.Source old.input new.input) ran.events ran.fed)
 
-pub returns-in-Err : goal.returns-in-Err
-returns-in-Err g c =
+pub returns-in-Err-clause-does : goal.returns-in-Err-clause-does
+returns-in-Err-clause-does g c =
     let old = c.args.devices.now in
     let new = c.run_sequential.new in
     let cut = c.in-Err.ensures.broken in
     does_cut g.H.Shelf g.S.Source g.K.Sink g.N.Sink old new.input new.out new.notes (on c.args.options c.args.machine.now.image) c.in-Err.fault c.cut_short.result refl
     (cut_fronts c.args.options c.args.machine.now _ c.in-Err.fault (drawn g.S.Source old.input new.input) (sunk g.K.Sink old.out new.out) (sunk g.N.Sink old.notes new.notes)
     (record { how = c.requires.how; state = c.requires.start }) cut refl)
-    c.cut_short.ensures cut.cause (end_of_cut (drawn g.S.Source old.input new.input) cut.left cut.events cut.told cut.leaves_end)
+    c.cut_short.ensures cut.cause (end_of_cut (drawn g.S.Source old.input new.input) cut.left cut.events cut.fed cut.leaves_end)
+
+pub returns-in-Ok-clause-ran : goal.returns-in-Ok-clause-ran
+returns-in-Ok-clause-ran g c = λ ends.
+    let old = c.args.devices.now in
+    let new = c.run_sequential.new in
+    ran_decides c.args.options c.args.machine.now c.in-Ok.last new.left new.machine (drawn g.S.Source old.input new.input) (sunk g.K.Sink old.out new.out)
+    (sunk g.N.Sink old.notes new.notes) (record { how = c.requires.how; state = c.requires.start }) c.in-Ok.ensures.made c.behind.result c.behind.ensures
+
+pub returns-in-Err-clause-ran : goal.returns-in-Err-clause-ran
+returns-in-Err-clause-ran g c = λ ends. absurd (cut_unended c.in-Err.fault c.cut_short.result c.cut_short.ensures ends)
+
+pub returns-in-Ok-clause-ends : goal.returns-in-Ok-clause-ends
+returns-in-Ok-clause-ends g c =
+    let old = c.args.devices.now in
+    let new = c.run_sequential.new in
+    let decided =
+    ran_decides c.args.options c.args.machine.now c.in-Ok.last new.left new.machine (drawn g.S.Source old.input new.input) (sunk g.K.Sink old.out new.out)
+    (sunk g.N.Sink old.notes new.notes) (record { how = c.requires.how; state = c.requires.start }) c.in-Ok.ensures.made c.behind.result c.behind.ensures in
+    inl (end_on decided.ran, decided.status_is)
+
+pub returns-in-Err-clause-ends : goal.returns-in-Err-clause-ends
+returns-in-Err-clause-ends g c = cut_fails c.in-Err.fault c.cut_short.result c.cut_short.ensures

@@ -1,9 +1,13 @@
-use Rattle.std.proofs.Common.{◌≡◌, refl, rules}
+use Rattle.std.proofs.Common.{◌≡◌, refl, rules, inr}
+use Rattle.alpha_io.specs.Sunk.{sunk}
 use Rattle.alpha_cmd.specs.declared.status.Status.TheVariants.{Done, SinkFault}
 use Rattle.alpha_cmd.specs.AnswerBy.{told}
 use Rattle.alpha_cmd.specs.Asks.{Asks}
-use Rattle.alpha_cmd.specs.Call.{called}
+use Rattle.alpha_cmd.specs.Call.{Call, called}
+use Rattle.alpha_cmd.specs.RunsAsked.{RunsAsked}
 use Rattle.alpha_cmd.proofs.Promised as promised
+use Rattle.alpha_cmd.proofs.RunsOnReplies.{ran_on, runs_on, sink_unended}
+use Rattle.alpha_cmd.proofs.EndsWhere.{delivered_ends, failed_ends}
 use Rattle.alpha_cmd.proofs.top.alpha_top.Goals as goal
 
 pub deliver-requires : goal.deliver-requires
@@ -23,6 +27,14 @@ returns-in-Ok g c =
     let how =
     promised.delivered g.K.Sink g.N.Sink old.out mid.out c.deliver.new.out old.notes mid.notes c.deliver.new.notes words did c.in-Ok.decision status
     c.in-Ok.ensures.tried is c.deliver.ensures.output c.deliver.ensures.notes c.deliver.ensures.output_part c.deliver.ensures.notes_part c.deliver.ensures.failed in
+    let given : Call = record did { out = sunk g.K.Sink old.out c.deliver.new.out; notes = sunk g.N.Sink old.notes c.deliver.new.notes } in
+    let shows =
+    runs_on g.K.Sink g.N.Sink old.out mid.out c.deliver.new.out old.notes mid.notes c.deliver.new.notes words did c.in-Ok.decision status is c.deliver.ensures.output
+    c.deliver.ensures.notes c.in-Ok.ensures.ran in
+    let runs : RunsAsked words status given = λ command asks. record {
+      shows = shows command asks;
+      ends = delivered_ends command status decided did.shelf is (c.in-Ok.ensures.ends command asks);
+    } in
     record {
       whole = promised.whole how;
       part = promised.part how;
@@ -41,7 +53,9 @@ returns-in-Ok g c =
       checked = promised.checked status decided is words did.shelf c.in-Ok.ensures.replied;
       accepted = promised.accepted how;
       alike = promised.alike how;
-      ran = promised.ran how;
+      ran_told = promised.ran how;
+      runs = runs;
+      ran = ran_on words status given runs;
       unread = promised.unread how;
       unread_alike = promised.unread_alike how;
       fixed = promised.fixed how;
@@ -74,7 +88,15 @@ returns-in-Err g c =
       checked = λ file is plain e. absurd (let x : SinkFault ≡ Done 0 = e in cc);
       accepted = promised.accepted how;
       alike = promised.alike how;
-      ran = promised.ran how;
+      ran_told = promised.ran how;
+      runs = λ command asks. record {
+        shows = λ ends. absurd (sink_unended ends);
+        ends = failed_ends command SinkFault did.shelf (inr (inr refl));
+      };
+      ran = λ file plain. (
+        λ is. record { shows = λ ends. absurd (sink_unended ends); ends = λ image good has read. inr (inr (inr refl)) },
+        λ is. record { shows = λ ends. absurd (sink_unended ends); ends = λ image good accepted read. inr (inr (inr refl)) },
+      );
       unread = promised.unread how;
       unread_alike = promised.unread_alike how;
       fixed = promised.fixed how;

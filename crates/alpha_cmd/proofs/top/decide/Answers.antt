@@ -1,4 +1,4 @@
-use Rattle.std.proofs.Common.{◌≡◌, ◌∙◌, [], Some, refl, sym, ap, subst, inl, inr, ⊎_elim}
+use Rattle.std.proofs.Common.{◌≡◌, ◌∙◌, [], Some, IfOk, refl, sym, ap, subst, inl, inr, ⊎_elim}
 use Rattle.alpha_io.specs.Faults.{Rose}
 use Rattle.alpha_io.proofs.Shelved.{KeepsFiles-refl}
 use Rattle.alpha_request.specs.Command.{Command, record_run}
@@ -12,10 +12,13 @@ use Rattle.alpha_cmd.specs.Commands.{form_of}
 use Rattle.alpha_cmd.specs.Form.{Kind, MayTakeBy, SparesBy}
 use Rattle.alpha_cmd.specs.Does.{TriesIn}
 use Rattle.alpha_cmd.specs.Promises.{tried_in}
+use Rattle.alpha_cmd.specs.RunsAsked.{DecidesAsked, EndsAsRun}
 use Rattle.alpha_cmd.specs.Replied.{Replied}
 use Rattle.alpha_cmd.proofs.Endings.{Leaves-all, Decides-map}
+use Rattle.alpha_cmd.proofs.RunsOnReplies.{said_unended, words_unended}
 use Rattle.alpha_cmd.proofs.Told.{tail_same}
 use Rattle.alpha_cmd.proofs.Tried.{asked_tried, kind_is}
+use Rattle.alpha_cmd.proofs.EndsWhere.{failed_ends}
 use Rattle.alpha_cmd.proofs.top.decide.Goals as goal
 
 pub returns-in-Ok : goal.returns-in-Ok
@@ -28,7 +31,7 @@ returns-in-Ok g c =
       tried =
           Decides-map (TriesIn (form_of command) did) (tried_in c.args.words.now did)
           (λ t. asked_tried (Rose did.shelf.before did.shelf.now) (Rose did.input.before did.input.now) c.args.words.now command (told did) t asks)
-          did.shelf did.shelf (λ kept h. h) c.perform.result did.input.new did.out did.notes does.tried;
+          did.shelf did.shelf (λ kept h. h) c.perform.result did.input.new.left did.out did.notes does.tried;
       shelf = does.shelf;
       files = inr (command, asks, subst (λ (k : Kind). SparesBy k (status_in c.perform.result) did.shelf.old did.shelf.new) (kind_is command) does.files);
       input =
@@ -41,6 +44,12 @@ returns-in-Ok g c =
       replied = λ also asked done.
           let same : command ≡ also = (let e = sym asks ∙ asked in cc) in
           subst (λ (x : Command). Replied x did.shelf) same (c.perform.ensures.replied done);
+      ran = λ also asked ends.
+          let same : command ≡ also = (let e = sym asks ∙ asked in cc) in
+          subst (λ (x : Command). IfOk c.perform.result (λ decision. DecidesAsked x decision did.shelf did.input did.out did.notes)) same (c.perform.ensures.ran ends);
+      ends = λ also asked.
+          let same : command ≡ also = (let e = sym asks ∙ asked in cc) in
+          subst (λ (x : Command). EndsAsRun x (status_in c.perform.result) did.shelf) same c.perform.ensures.ends;
       recorded = λ options choices force file out end lost n also is.
           let same : command ≡ record_run options choices force file out = (let e = sym asks ∙ also in cc) in
           c.perform.ensures.recorded options choices force file out end lost n same is;
@@ -52,8 +61,8 @@ returns-in-Err-BadWords-clause-rest g c = λ bytes tells. ([], bytes, refl, tell
 pub returns-in-Err-BadWords-clause-tried : goal.returns-in-Err-BadWords-clause-tried
 returns-in-Err-BadWords-clause-tried g c =
     let did = called g.H.Shelf g.S.Source g.K.Sink g.N.Sink c.args.devices.now c.args.devices.now in
-    Leaves-all (tried_in c.args.words.now did) (answer_in did.input.new c.said.result) did.shelf did.out.old did.notes.old did.out.now did.notes.now
-    (inl (inl (rw c.in-Err-BadWords.field-0-is at c.in-Err-BadWords.ensures, c.said.ensures.answer did.input.new))) (KeepsFiles-refl did.shelf.old)
+    Leaves-all (tried_in c.args.words.now did) (answer_in did.input.new.left c.said.result) did.shelf did.out.old did.notes.old did.out.now did.notes.now
+    (inl (inl (rw c.in-Err-BadWords.field-0-is at c.in-Err-BadWords.ensures, c.said.ensures.answer did.input.new.left))) (KeepsFiles-refl did.shelf.old)
 
 pub returns-in-Err-BadWords-clause-replied : goal.returns-in-Err-BadWords-clause-replied
 returns-in-Err-BadWords-clause-replied g c = λ command asks done. absurd (let x = sym c.said.ensures.status ∙ done in cc)
@@ -67,11 +76,26 @@ returns-in-Err-NoMemory-clause-rest g c = λ bytes tells. ([], bytes, refl, tell
 pub returns-in-Err-NoMemory-clause-tried : goal.returns-in-Err-NoMemory-clause-tried
 returns-in-Err-NoMemory-clause-tried g c =
     let did = called g.H.Shelf g.S.Source g.K.Sink g.N.Sink c.args.devices.now c.args.devices.now in
-    Leaves-all (tried_in c.args.words.now did) (answer_in did.input.new c.said-in-Err-NoMemory.result) did.shelf did.out.old did.notes.old did.out.now did.notes.now
-    (inr (inr (c.said-in-Err-NoMemory.ensures.answer did.input.new))) (KeepsFiles-refl did.shelf.old)
+    Leaves-all (tried_in c.args.words.now did) (answer_in did.input.new.left c.said-in-Err-NoMemory.result) did.shelf did.out.old did.notes.old did.out.now did.notes.now
+    (inr (inr (c.said-in-Err-NoMemory.ensures.answer did.input.new.left))) (KeepsFiles-refl did.shelf.old)
 
 pub returns-in-Err-NoMemory-clause-script : goal.returns-in-Err-NoMemory-clause-script
 returns-in-Err-NoMemory-clause-script g c = λ file asks. tail_same (g.S.Source.left c.args.devices.now.input) (g.S.Source.left c.args.devices.now.input) refl
 
 pub perform-requires : goal.perform-requires
 perform-requires g c = record { blocks = λ n is. asked_blocks c.args.words.now n (c.in-Ok.ensures ∙ ap Some is) }
+
+pub returns-in-Err-BadWords-clause-ran : goal.returns-in-Err-BadWords-clause-ran
+returns-in-Err-BadWords-clause-ran g c = λ command asks ends. absurd (words_unended c.said.result c.said.ensures.status ends)
+
+pub returns-in-Err-NoMemory-clause-ran : goal.returns-in-Err-NoMemory-clause-ran
+returns-in-Err-NoMemory-clause-ran g c = λ command asks ends. absurd (said_unended c.said-in-Err-NoMemory.result c.said-in-Err-NoMemory.ensures.status ends)
+
+pub returns-in-Err-BadWords-clause-ends : goal.returns-in-Err-BadWords-clause-ends
+returns-in-Err-BadWords-clause-ends g c = λ command asks.
+    let none = rw c.in-Err-BadWords.field-0-is at c.in-Err-BadWords.ensures in
+    absurd (let e = sym none ∙ asks in cc)
+
+pub returns-in-Err-NoMemory-clause-ends : goal.returns-in-Err-NoMemory-clause-ends
+returns-in-Err-NoMemory-clause-ends g c = λ command asks.
+    failed_ends command c.said-in-Err-NoMemory.result.status _ (inl c.said-in-Err-NoMemory.ensures.status)

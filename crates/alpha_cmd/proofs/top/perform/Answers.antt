@@ -1,8 +1,14 @@
 use Rattle.std.proofs.Common.{◌≡◌, ◌∙◌, sym, ap}
 use Rattle.alpha_io.specs.Shelved.{shelved}
+use Rattle.alpha_io.specs.Sunk.{sunk}
+use Rattle.alpha_seq.specs.Devices.{drawn}
+use Rattle.alpha_request.specs.Options.{origin_of}
 use Rattle.alpha_request.specs.Command.{of_image, debug}
 use Rattle.alpha_request.specs.CommandOf.{command_of}
+use Rattle.alpha_cmd.specs.Ends.{status_in}
 use Rattle.alpha_cmd.proofs.OfImage.{of_image_replied}
+use Rattle.alpha_cmd.proofs.RunsOnReplies.{imprecise_asked, other_asked}
+use Rattle.alpha_cmd.proofs.EndsWhere.{imprecise_ends}
 use Rattle.alpha_cmd.proofs.top.perform.Goals as goal
 
 pub returns-in-OfImage-clause-script : goal.returns-in-OfImage-clause-script
@@ -28,3 +34,59 @@ trial-requires-clause-some g c = (c.requires.blocks c.in-Trial.blocks (ap comman
 
 pub trial-requires-clause-bound : goal.trial-requires-clause-bound
 trial-requires-clause-bound g c = (c.requires.blocks c.in-Trial.blocks (ap command_of c.in-Trial.is)).1
+
+pub returns-in-Run-clause-ran : goal.returns-in-Run-clause-ran
+returns-in-Run-clause-ran g c = rw c.in-Run.is c.run.ensures.ran
+
+pub returns-in-RunImprecise-clause-ran : goal.returns-in-RunImprecise-clause-ran
+returns-in-RunImprecise-clause-ran g c =
+    let i = c.in-RunImprecise in
+    let old = c.args.devices.now in
+    let new = c.imprecise.new.devices in
+    rw i.is (imprecise_asked i.options (origin_of i.choices) i.force i.file.now c.imprecise.result (shelved g.H.Shelf old.shelf new.shelf) (drawn g.S.Source old.input new.input)
+    (sunk g.K.Sink old.out new.out) (sunk g.N.Sink old.notes new.notes) c.imprecise.ensures.ran)
+
+pub returns-in-OfImage-clause-ran : goal.returns-in-OfImage-clause-ran
+returns-in-OfImage-clause-ran g c = rw c.in-OfImage.is (other_asked c.of_image.result)
+
+pub returns-in-Make-clause-ran : goal.returns-in-Make-clause-ran
+returns-in-Make-clause-ran g c = rw c.in-Make.is (other_asked c.make.result)
+
+pub returns-in-Link-clause-ran : goal.returns-in-Link-clause-ran
+returns-in-Link-clause-ran g c = rw c.in-Link.is (other_asked c.link.result)
+
+pub returns-in-Replay-clause-ran : goal.returns-in-Replay-clause-ran
+returns-in-Replay-clause-ran g c = rw c.in-Replay.is (other_asked c.replay.result)
+
+pub returns-in-Record-clause-ran : goal.returns-in-Record-clause-ran
+returns-in-Record-clause-ran g c = rw c.in-Record.is (other_asked c.record.result)
+
+pub returns-in-Trial-clause-ran : goal.returns-in-Trial-clause-ran
+returns-in-Trial-clause-ran g c = rw c.in-Trial.is (other_asked c.trial.result)
+
+pub returns-in-Run-clause-ends : goal.returns-in-Run-clause-ends
+returns-in-Run-clause-ends g c = rw c.in-Run.is c.run.ensures.ends
+
+pub returns-in-RunImprecise-clause-ends : goal.returns-in-RunImprecise-clause-ends
+returns-in-RunImprecise-clause-ends g c =
+    let i = c.in-RunImprecise in
+    rw i.is (imprecise_ends i.options (origin_of i.choices) i.force i.file.now (status_in c.imprecise.result)
+    (shelved g.H.Shelf c.args.devices.now.shelf c.imprecise.new.devices.shelf) c.imprecise.ensures.ends)
+
+pub returns-in-OfImage-clause-ends : goal.returns-in-OfImage-clause-ends
+returns-in-OfImage-clause-ends g c = rw c.in-OfImage.is tt
+
+pub returns-in-Make-clause-ends : goal.returns-in-Make-clause-ends
+returns-in-Make-clause-ends g c = rw c.in-Make.is tt
+
+pub returns-in-Link-clause-ends : goal.returns-in-Link-clause-ends
+returns-in-Link-clause-ends g c = rw c.in-Link.is tt
+
+pub returns-in-Replay-clause-ends : goal.returns-in-Replay-clause-ends
+returns-in-Replay-clause-ends g c = rw c.in-Replay.is tt
+
+pub returns-in-Record-clause-ends : goal.returns-in-Record-clause-ends
+returns-in-Record-clause-ends g c = rw c.in-Record.is tt
+
+pub returns-in-Trial-clause-ends : goal.returns-in-Trial-clause-ends
+returns-in-Trial-clause-ends g c = rw c.in-Trial.is tt

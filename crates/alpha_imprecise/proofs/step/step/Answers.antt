@@ -1,3 +1,4 @@
+use Rattle.alpha_io.specs.Supply.{supply}
 use Rattle.alpha_imprecise.specs.Wild.{wild_state}
 use Rattle.alpha_imprecise.proofs.Joining.{alone}
 use Rattle.alpha_imprecise.proofs.step.step.Goals as goal
@@ -8,6 +9,6 @@ returns-in-Some-clause-made g c =
     record {
       choice = chose.choice;
       did = alone c.with_trap.result (wild_state c.args.machine.now c.args.pending.now) (wild_state c.with_trap.new.machine c.with_trap.new.pending) chose.choice
-          (g.S.Source.left c.args.input.now) (g.K.Sink.written c.args.out.now) (g.S.Source.faults c.args.input.now) (g.K.Sink.faults c.args.out.now) chose.did;
+          (supply g.S.Source c.args.input.now) (g.K.Sink.written c.args.out.now) (g.S.Source.faults c.args.input.now) (g.K.Sink.faults c.args.out.now) chose.did;
       picked = chose.picked;
     }

@@ -1,5 +1,6 @@
 use Rattle.std.proofs.Common.{None, false, refl, sym, ◌∙◌}
 use Rattle.std.proofs.lemmas.Result.{IfOk-weaker, IfErr-weaker}
+use Rattle.alpha_io.specs.Supply.{supply}
 use Rattle.alpha_io.specs.Sunk.{sunk}
 use Rattle.alpha_seq.specs.declared.event.Event.TheVariants as events
 use Rattle.alpha_seq.specs.StepEffect.{Makes, Breaks}
@@ -46,7 +47,7 @@ returns-in-Some-overflow_of-clause-made g c =
     let value = c.value-value.result in
     let old = wild_state m c.args.pending.now in
     let new = wild_state c.trigger.new.machine c.trigger.new.pending in
-    let left = g.S.Source.left c.args.input.now in
+    let left = supply g.S.Source c.args.input.now in
     let written = g.K.Sink.written c.args.out.now in
     let faults = g.S.Source.faults c.args.input.now in
     let count = g.K.Sink.faults c.args.out.now in

@@ -1,7 +1,7 @@
 use Rattle.std.proofs.Common.{ℕ, refl, length, ◌∙◌, arith, length-take}
 use Rattle.alpha_io.specs.Files.{IsPiece}
 use Rattle.alpha_io.proofs.Shelved.{KeepsFiles-trans, IfTold-kept}
-use Rattle.alpha_io.proofs.Pieces.{IsReadTo-more, some_bytes}
+use Rattle.alpha_io.proofs.Pieces.{IsReadTo-more, some_bytes, unended_file}
 use Rattle.alpha_io.proofs.Fronts.{IsFront-more}
 use Rattle.alpha_io.proofs.read.read_whole.Goals as goal
 
@@ -19,3 +19,6 @@ loop-buffer-preserved g c =
       takes = now.takes ∙ s.takes;
       calm = now.cause ∙ s.calm;
     }
+
+pub returns-clause-whole : goal.returns-clause-whole
+returns-clause-whole g c = λ file whole. absurd (unended_file _ _ _ _ _ c.loop-buffer.invariant.so whole)

@@ -1,13 +1,14 @@
 use Rattle.std.proofs.Common.{◌+◌, ◌≤◌, length, take, IsTrue, refl, sym, subst, ◌∙◌, arith, length-take}
+use Rattle.alpha_io.specs.Supply.{supply}
 use Rattle.alpha_mem.specs.Intent.{Store}
 use Rattle.alpha_mem.specs.Block.{shapes, within}
 use Rattle.alpha_mem.proofs.LawLemmas.{within-part, within-below}
-use Rattle.alpha_pal.proofs.Takings.{HasTaken-none, HasTaken-more}
+use Rattle.alpha_pal.proofs.Takings.{TakesPieces-none, TakesPieces-more, ReadsInto-full, ReadsInto-ended, TakesLess-failed, on_err}
 use Rattle.alpha_pal.proofs.take.take_into.Goals as goal
 
 pub loop-done-init : goal.loop-done-init
 loop-done-init g c = record {
-  first = HasTaken-none c.args.mem.now c.args.addr (g.S.Source.left c.args.input.now) c.requires.good.layout;
+  first = TakesPieces-none c.args.mem.now c.args.addr (supply g.S.Source c.args.input.now) c.requires.good.layout;
   shapes = refl;
   room = omega arith;
   memory = c.requires.good;
@@ -26,14 +27,23 @@ take_piece-requires-clause-range g c =
 
 pub returns-then-count-eq0-clause-ok : goal.returns-then-count-eq0-clause-ok
 returns-then-count-eq0-clause-ok g c =
-    HasTaken-more c.args.mem.now c.loop-done.mem c.take_piece.new.mem c.args.addr c.loop-done.done c.in_ok-count.count c.loop-done.done c.args.size (g.S.Source.left c.args.input.now) (g.S.Source.left c.loop-done.input) (g.S.Source.left c.take_piece.new.input) c.requires.good.layout c.requires.range (omega arith) (omega arith) c.loop-done.invariant.first c.in_ok-count.ensures.ok
+    ReadsInto-ended c.args.mem.now c.loop-done.mem c.take_piece.new.mem c.args.addr c.loop-done.done c.in_ok-count.count c.args.size (supply g.S.Source c.args.input.now) (supply g.S.Source c.loop-done.input) (supply g.S.Source c.take_piece.new.input) c.requires.good.layout c.requires.range (omega arith) (omega arith) c.loop-done.invariant.first c.in_ok-count.ensures.ok
+
+pub returns-clause-ok : goal.returns-clause-ok
+returns-clause-ok g c =
+    ReadsInto-full c.args.mem.now c.loop-done.mem c.args.addr c.loop-done.done c.args.size (supply g.S.Source c.args.input.now) (supply g.S.Source c.loop-done.input) (omega arith) c.loop-done.invariant.first
+
+pub returns-in_err-count-clause-refused : goal.returns-in_err-count-clause-refused
+returns-in_err-count-clause-refused g c =
+    on_err _ c.from_residual.result
+    (TakesLess-failed c.args.mem.now c.loop-done.mem c.take_piece.new.mem c.args.addr c.loop-done.done c.args.size (supply g.S.Source c.args.input.now) (supply g.S.Source c.loop-done.input) (supply g.S.Source c.take_piece.new.input) (omega arith) c.in_err-count.ensures.same c.loop-done.invariant.first c.in_err-count.ensures.input)
 
 pub loop-done-preserved : goal.loop-done-preserved
 loop-done-preserved g c =
     let bound = c.in_ok-count.ensures.bound in
     let room : c.loop-done.done + c.in_ok-count.count ≤ c.args.size = omega (arith, length-take c.min-most.result c.loop-done.buffer) in
     record {
-      first = HasTaken-more c.args.mem.now c.loop-done.mem c.take_piece.new.mem c.args.addr c.loop-done.done c.in_ok-count.count (c.loop-done.done + c.in_ok-count.count) c.args.size (g.S.Source.left c.args.input.now) (g.S.Source.left c.loop-done.input) (g.S.Source.left c.take_piece.new.input) c.requires.good.layout c.requires.range refl room c.loop-done.invariant.first c.in_ok-count.ensures.ok;
+      first = TakesPieces-more c.args.mem.now c.loop-done.mem c.take_piece.new.mem c.args.addr c.loop-done.done c.in_ok-count.count (c.loop-done.done + c.in_ok-count.count) c.args.size (supply g.S.Source c.args.input.now) (supply g.S.Source c.loop-done.input) (supply g.S.Source c.take_piece.new.input) c.requires.good.layout c.requires.range refl room c.if-count-eq0.false c.loop-done.invariant.first c.in_ok-count.ensures.ok;
       shapes = c.in_ok-count.ensures.shapes ∙ c.loop-done.invariant.shapes;
       room = room;
       memory = c.in_ok-count.ensures.good;

@@ -6,7 +6,7 @@ use Rattle.alpha_replay.proofs.play.make_units.Given as goal
 abbrev pub invariant-moves : goal.invariant-moves
 invariant-moves l = record {
   most : l.left ≤ l.units;
-  did : Did l.expected (λ g p. units g (l.units - l.left) p) (place l.fn.wild l.fn.input l.from) (place l.wild l.input l.stand);
+  did : Did l.expected (λ g p. units g (l.units - l.left) p) (place l.fn.wild l.fn.input.left l.from) (place l.wild l.input.left l.stand);
   seen : l.stand.seen.at ≤ length l.expected;
 }
 

@@ -4,6 +4,6 @@ use Rattle.alpha_replay.proofs.play.play_items.Given as goal
 
 abbrev pub invariant-loop-item : goal.invariant-loop-item
 invariant-loop-item l =
-    Plays l.expected l.items l.item-index (place l.initial.wild l.initial.input first_stand) (place l.wild l.input l.stand)
+    Plays l.expected l.items l.item-index (place l.initial.wild l.initial.input.left first_stand) (place l.wild l.input.left l.stand)
     × (l.stand.seen.at ≤ length l.expected)
     × (l.n ≡ l.item-index)

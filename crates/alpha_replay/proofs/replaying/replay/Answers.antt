@@ -7,5 +7,5 @@ pub returns-in-Ok-fresh : goal.returns-in-Ok-fresh
 returns-in-Ok-fresh c =
     replays c.play_all.result (replayed c.args.image c.args.journal.now)
     (c.play_all.ensures c.args.image c.completion.result (record { fresh = c.in-Ok-fresh.ensures.fresh; program = c.in-Ok-fresh.ensures.program })
-    ∙ of_parts c.args.image c.args.journal.now c.completion.result c.ending.result c.new-input.result c.output.result.now c.items.result.now
-    c.completion.ensures.value c.ending.ensures.value (c.new-input.ensures ∙ (c.in-Ok.ensures.items ∙ c.input.ensures.value)) c.output.ensures.value c.items.ensures.value)
+    ∙ of_parts c.args.image c.args.journal.now c.completion.result c.ending.result c.new-input.result.left c.output.result.now c.items.result.now
+    c.completion.ensures.value c.ending.ensures.value (c.new-input.ensures.left ∙ (c.in-Ok.ensures.items ∙ c.input.ensures.value)) c.output.ensures.value c.items.ensures.value)

@@ -1,4 +1,5 @@
 use Rattle.std.proofs.Common.{◌-◌}
+use Rattle.alpha_io.specs.Supply.{supply}
 use Rattle.alpha_seq.proofs.RunSteps.{times}
 use Rattle.alpha_imprecise.specs.Telling.{telling}
 use Rattle.alpha_run.specs.Ran.{watching}
@@ -10,7 +11,7 @@ steps-init g c = record {
   made =
       Goes-hasten g.M.Steps.goes (watching g.O.Observer.after g.O.Observer.lines g.O.Observer.stops) c.args.left.now c.hasten.new.left c.args.machine.now c.hasten.new.machine c.args.observer.now c.hasten.new.observer
       (telling g.C.Chooser.ahead g.C.Chooser.drawn c.args.chooser.now)
-      (g.S.Source.left c.args.input.now) (g.K.Sink.written c.args.out.now) (g.N.Sink.written c.args.notes.now) (g.S.Source.faults c.args.input.now) (g.K.Sink.faults c.args.out.now) (g.N.Sink.faults c.args.notes.now)
+      (supply g.S.Source c.args.input.now) (g.K.Sink.written c.args.out.now) (g.N.Sink.written c.args.notes.now) (g.S.Source.faults c.args.input.now) (g.K.Sink.faults c.args.out.now) (g.N.Sink.faults c.args.notes.now)
       c.hasten.ensures.went;
   same = c.hasten.ensures.same;
   ready = c.hasten.ensures.ready;
@@ -21,7 +22,7 @@ returns-in_err-event-clause-broken g c =
     if_err _ c.from_residual.result c.in_err-event.field-0.0 c.from_residual.ensures
     (cut c.in_err-event.field-0.0 g.M.Steps.goes g.M.Steps.uses g.M.Steps.leaves (watching g.O.Observer.after g.O.Observer.lines g.O.Observer.stops) c.args.left.now c.steps.left _ c.args.machine.now c.steps.machine c.turn.new.machine c.args.observer.now c.steps.observer
     (telling g.C.Chooser.ahead g.C.Chooser.drawn c.args.chooser.now) (telling g.C.Chooser.ahead g.C.Chooser.drawn c.steps.chooser) (telling g.C.Chooser.ahead g.C.Chooser.drawn c.turn.new.chooser)
-    (times g.S.Source.left g.S.Source.faults c.args.input.now c.steps.input c.turn.new.input)
+    (times (supply g.S.Source) g.S.Source.faults c.args.input.now c.steps.input c.turn.new.input)
     (times g.K.Sink.written g.K.Sink.faults c.args.out.now c.steps.out c.turn.new.out)
     (times g.N.Sink.written g.N.Sink.faults c.args.notes.now c.steps.notes c.turn.new.notes)
     (left_after c.steps.left c.unit.result c.unit-in-steps.result (g.M.Steps.uses c.steps.machine) c.unit.ensures c.unit-in-steps.ensures c.steps-test.true)
@@ -31,7 +32,7 @@ pub returns-then-last-clause-made : goal.returns-then-last-clause-made
 returns-then-last-clause-made g c =
     Stops-last g.M.Steps.goes g.M.Steps.uses (watching g.O.Observer.after g.O.Observer.lines g.O.Observer.stops) c.args.left.now c.steps.left (c.steps.left - c.unit-in-steps.result) _ _ c.args.machine.now c.steps.machine c.turn.new.machine c.args.observer.now c.steps.observer c.turn.new.observer
     (telling g.C.Chooser.ahead g.C.Chooser.drawn c.args.chooser.now) (telling g.C.Chooser.ahead g.C.Chooser.drawn c.steps.chooser) (telling g.C.Chooser.ahead g.C.Chooser.drawn c.turn.new.chooser)
-    (times g.S.Source.left g.S.Source.faults c.args.input.now c.steps.input c.turn.new.input)
+    (times (supply g.S.Source) g.S.Source.faults c.args.input.now c.steps.input c.turn.new.input)
     (times g.K.Sink.written g.K.Sink.faults c.args.out.now c.steps.out c.turn.new.out)
     (times g.N.Sink.written g.N.Sink.faults c.args.notes.now c.steps.notes c.turn.new.notes)
     (left_after c.steps.left c.unit.result c.unit-in-steps.result (g.M.Steps.uses c.steps.machine) c.unit.ensures c.unit-in-steps.ensures c.steps-test.true)
@@ -46,7 +47,7 @@ steps-preserved g c =
     (left_after c.steps.left c.unit.result c.unit-in-steps.result (g.M.Steps.uses c.steps.machine) c.unit.ensures c.unit-in-steps.ensures c.steps-test.true)
     c.if-last.false c.in_ok-event.ensures.made in
     let made = Goes-append goes w c.args.left.now c.steps.left left c.args.machine.now c.steps.machine c.turn.new.machine c.args.observer.now c.steps.observer c.turn.new.observer _ _ _
-    (times g.S.Source.left g.S.Source.faults c.args.input.now c.steps.input c.turn.new.input)
+    (times (supply g.S.Source) g.S.Source.faults c.args.input.now c.steps.input c.turn.new.input)
     (times g.K.Sink.written g.K.Sink.faults c.args.out.now c.steps.out c.turn.new.out)
     (times g.N.Sink.written g.N.Sink.faults c.args.notes.now c.steps.notes c.turn.new.notes)
     c.steps.invariant.made step in
@@ -54,12 +55,12 @@ steps-preserved g c =
     record {
       made =
           Goes-append goes w c.args.left.now left more.new.left c.args.machine.now c.turn.new.machine more.new.machine c.args.observer.now c.turn.new.observer more.new.observer _ _ _
-          (times g.S.Source.left g.S.Source.faults c.args.input.now c.turn.new.input c.turn.new.input)
+          (times (supply g.S.Source) g.S.Source.faults c.args.input.now c.turn.new.input c.turn.new.input)
           (times g.K.Sink.written g.K.Sink.faults c.args.out.now c.turn.new.out c.turn.new.out)
           (times g.N.Sink.written g.N.Sink.faults c.args.notes.now c.turn.new.notes c.turn.new.notes)
           made
           (Goes-hasten goes w left more.new.left c.turn.new.machine more.new.machine c.turn.new.observer more.new.observer _
-          (g.S.Source.left c.turn.new.input) (g.K.Sink.written c.turn.new.out) (g.N.Sink.written c.turn.new.notes) (g.S.Source.faults c.turn.new.input) (g.K.Sink.faults c.turn.new.out) (g.N.Sink.faults c.turn.new.notes)
+          (supply g.S.Source c.turn.new.input) (g.K.Sink.written c.turn.new.out) (g.N.Sink.written c.turn.new.notes) (g.S.Source.faults c.turn.new.input) (g.K.Sink.faults c.turn.new.out) (g.N.Sink.faults c.turn.new.notes)
           more.ensures.went);
       same =
           g.met.M.Steps.stays_on c.args.machine.now c.turn.new.machine more.new.machine

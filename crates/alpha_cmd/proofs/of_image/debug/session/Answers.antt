@@ -1,4 +1,5 @@
-use Rattle.std.proofs.Common.{Ok, refl, inl, inr, sym, subst}
+use Rattle.std.proofs.Common.{Ok, refl, inl, inr, sym, ap, subst}
+use Rattle.alpha_io.specs.Supply.{Supply}
 use Rattle.alpha_seq.specs.Devices.{drawn}
 use Rattle.alpha_debug.specs.declared.end.DebugEnd.TheVariants as ends
 use Rattle.alpha_request.specs.declared.request.ImageCommand.TheVariants.{Debug}
@@ -49,4 +50,4 @@ returns-in-NoMemory-clause-does g c =
     (does_not_start g.H.Shelf g.S.Source g.K.Sink g.N.Sink old (on Debug c.args.image) c.said-in-NoMemory.result c.said-in-NoMemory.ensures.answer))
 
 pub returns-in-NoMemory-clause-script : goal.returns-in-NoMemory-clause-script
-returns-in-NoMemory-clause-script g c = tail_same (g.S.Source.left c.args.devices.now.input) (g.S.Source.left c.debug.new.script) c.in-NoMemory.ensures.effect.0.left
+returns-in-NoMemory-clause-script g c = tail_same (g.S.Source.left c.args.devices.now.input) (g.S.Source.left c.debug.new.script) (ap (λ (s : Supply). s.left) c.in-NoMemory.ensures.effect.0.left)

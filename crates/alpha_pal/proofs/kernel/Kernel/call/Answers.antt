@@ -1,4 +1,5 @@
 use Rattle.std.proofs.Common.{refl, ap, ◌∙◌}
+use Rattle.alpha_io.specs.Supply.{supply}
 use Rattle.alpha_words.specs.Regs.{reg, put}
 use Rattle.alpha_pal.proofs.Calling.{imb_goes_on, rdunique_goes_on, wrunique_goes_on, bpt_signals, bugchk_signals, gentrap_signals}
 use Rattle.alpha_pal.proofs.kernel.Kernel.call.Goals as goal
@@ -14,12 +15,12 @@ returns-in-Gentrap-clause-effect g c = rw c.in-Gentrap.is (gentrap_signals c.arg
 
 pub returns-in-Imb-clause-effect : goal.returns-in-Imb-clause-effect
 returns-in-Imb-clause-effect g c =
-    rw c.in-Imb.is (imb_goes_on c.args.regs.now c.args.mem.now c.args.unique.now (g.S.Source.left c.args.input.now) (g.K.Sink.written c.args.out.now))
+    rw c.in-Imb.is (imb_goes_on c.args.regs.now c.args.mem.now c.args.unique.now (supply g.S.Source c.args.input.now) (g.K.Sink.written c.args.out.now))
 
 pub returns-in-Rdunique-clause-effect : goal.returns-in-Rdunique-clause-effect
 returns-in-Rdunique-clause-effect g c =
-    rw c.in-Rdunique.is (rdunique_goes_on c.args.regs.now c.set.new.self c.args.mem.now c.args.unique.now (g.S.Source.left c.args.input.now) (g.K.Sink.written c.args.out.now) (c.set.ensures.value ∙ ap (λ r. put c.args.regs.now r c.args.unique.now) c.reg.ensures))
+    rw c.in-Rdunique.is (rdunique_goes_on c.args.regs.now c.set.new.self c.args.mem.now c.args.unique.now (supply g.S.Source c.args.input.now) (g.K.Sink.written c.args.out.now) (c.set.ensures.value ∙ ap (λ r. put c.args.regs.now r c.args.unique.now) c.reg.ensures))
 
 pub returns-in-Wrunique-clause-effect : goal.returns-in-Wrunique-clause-effect
 returns-in-Wrunique-clause-effect g c =
-    rw c.in-Wrunique.is (wrunique_goes_on c.args.regs.now c.args.mem.now c.args.unique.now c.get.result (g.S.Source.left c.args.input.now) (g.K.Sink.written c.args.out.now) (c.get.ensures.value ∙ ap (reg c.args.regs.now) c.reg-in-Wrunique.ensures))
+    rw c.in-Wrunique.is (wrunique_goes_on c.args.regs.now c.args.mem.now c.args.unique.now c.get.result (supply g.S.Source c.args.input.now) (g.K.Sink.written c.args.out.now) (c.get.ensures.value ∙ ap (reg c.args.regs.now) c.reg-in-Wrunique.ensures))

@@ -1,5 +1,6 @@
 use Rattle.std.proofs.Common.{ℕ, refl, ap, ◌∙◌}
 use Rattle.std.proofs.lemmas.Result.{err_from_is_err_and}
+use Rattle.alpha_io.specs.Supply.{supply}
 use Rattle.alpha_io.specs.Sunk.{sunk}
 use Rattle.alpha_pal.specs.declared.pal_end.Passed.TheVariants.{Nothing}
 use Rattle.alpha_pal.specs.CallEffect.{kernel_after}
@@ -22,7 +23,7 @@ returns-in-Goes-clause-made g c =
     let called = called_machine m n.self n.regs n.mem n.unique in
     makes (Barriered did.effect.traffic (next_pc (state_of m)) n.regs) c.in-Goes.passed m c.go_on.new.self (drawn g.S.Source c.args.input.now n.input)
     (sunk g.K.Sink c.args.out.now n.out)
-    (call-goes c.args.function m n.self n.regs n.mem n.unique (g.S.Source.left c.args.input.now) (g.S.Source.left n.input) (g.K.Sink.written c.args.out.now) (g.K.Sink.written n.out) (g.S.Source.faults c.args.input.now) (g.S.Source.faults n.input) (g.K.Sink.faults c.args.out.now) (g.K.Sink.faults n.out)
+    (call-goes c.args.function m n.self n.regs n.mem n.unique (supply g.S.Source c.args.input.now) (supply g.S.Source n.input) (g.K.Sink.written c.args.out.now) (g.K.Sink.written n.out) (g.S.Source.faults c.args.input.now) (g.S.Source.faults n.input) (g.K.Sink.faults c.args.out.now) (g.K.Sink.faults n.out)
     c.requires.class c.in-Goes.passed c.go_on.new.self did.effect did.input did.sink
     (c.go_on.ensures ∙ ap (λ (next : ℕ). record called { pc = next; lock = lock_after c.args.function m.lock }) c.next_pc-next.ensures))
     (ap (λ (k : Machine). k.kernel) c.go_on.ensures ∙ called-kernel c.args.function m m n.self c.requires.class refl
@@ -37,7 +38,7 @@ returns-in-Exit-clause-made g c =
     let n = c.call.new in
     makes (Ends (ends.Exit c.in-Exit.value)) Nothing m (called_machine m n.self n.regs n.mem n.unique)
     (drawn g.S.Source c.args.input.now n.input) (sunk g.K.Sink c.args.out.now n.out)
-    (call-exits c.args.function m n.self n.regs n.mem n.unique (g.S.Source.left c.args.input.now) (g.S.Source.left n.input) (g.K.Sink.written c.args.out.now) (g.K.Sink.written n.out) (g.S.Source.faults c.args.input.now) (g.S.Source.faults n.input) (g.K.Sink.faults c.args.out.now) (g.K.Sink.faults n.out)
+    (call-exits c.args.function m n.self n.regs n.mem n.unique (supply g.S.Source c.args.input.now) (supply g.S.Source n.input) (g.K.Sink.written c.args.out.now) (g.K.Sink.written n.out) (g.S.Source.faults c.args.input.now) (g.S.Source.faults n.input) (g.K.Sink.faults c.args.out.now) (g.K.Sink.faults n.out)
     c.requires.class c.in-Exit.value did.effect did.input did.sink)
     (called-kernel c.args.function m m n.self c.requires.class refl
     (c.call.ensures.kernel
@@ -51,7 +52,7 @@ returns-in-Signal-clause-made g c =
     let n = c.call.new in
     makes (Ends (ends.Signal c.in-Signal.code m.pc)) Nothing m (called_machine m n.self n.regs n.mem n.unique)
     (drawn g.S.Source c.args.input.now n.input) (sunk g.K.Sink c.args.out.now n.out)
-    (call-signals c.args.function m n.self n.regs n.mem n.unique (g.S.Source.left c.args.input.now) (g.S.Source.left n.input) (g.K.Sink.written c.args.out.now) (g.K.Sink.written n.out) (g.S.Source.faults c.args.input.now) (g.S.Source.faults n.input) (g.K.Sink.faults c.args.out.now) (g.K.Sink.faults n.out)
+    (call-signals c.args.function m n.self n.regs n.mem n.unique (supply g.S.Source c.args.input.now) (supply g.S.Source n.input) (g.K.Sink.written c.args.out.now) (g.K.Sink.written n.out) (g.S.Source.faults c.args.input.now) (g.S.Source.faults n.input) (g.K.Sink.faults c.args.out.now) (g.K.Sink.faults n.out)
     c.requires.class c.in-Signal.code did.effect did.input did.sink)
     (called-kernel c.args.function m m n.self c.requires.class refl
     (c.call.ensures.kernel
@@ -65,8 +66,8 @@ returns-in_err-end-clause-broken g c =
     let did = c.in_err-end.ensures in
     let p = err_from_is_err_and c.from_residual.result c.from_residual.ensures.1 in
     rw (p.1, p.2)
-    (call-breaks c.args.function m n.self n.regs n.mem n.unique (g.S.Source.left c.args.input.now)
-    (g.S.Source.left n.input) (g.K.Sink.written c.args.out.now) (g.K.Sink.written n.out)
+    (call-breaks c.args.function m n.self n.regs n.mem n.unique (supply g.S.Source c.args.input.now)
+    (supply g.S.Source n.input) (g.K.Sink.written c.args.out.now) (g.K.Sink.written n.out)
     (g.S.Source.faults c.args.input.now) (g.S.Source.faults n.input) (g.K.Sink.faults c.args.out.now)
     (g.K.Sink.faults n.out)
     c.requires.class c.in_err-end.field-0.0 did.effect

@@ -1,4 +1,5 @@
 use Rattle.std.proofs.Common.{◌≡◌, None, Some, refl, sym, ap, ◌∙◌}
+use Rattle.alpha_io.specs.Supply.{supply}
 use Rattle.alpha_io.specs.Sunk.{sunk}
 use Rattle.alpha_table.specs.declared.form.Form.{Form}
 use Rattle.alpha_table.specs.Class.{barrier}
@@ -21,7 +22,7 @@ returns-in_default-clause-made g c =
     let here = class_here-insn m None (sym c.in_default.is ∙ c.requires.here) in
     makes (Ends (Fetch m.pc)) Nothing m m (drawn g.S.Source c.args.input.now c.args.input.now)
     (sunk g.K.Sink c.args.out.now c.args.out.now)
-    (Steps-quiet (Ends (Fetch m.pc)) None m m (g.S.Source.left c.args.input.now) (g.K.Sink.written c.args.out.now) (g.S.Source.faults c.args.input.now) (g.K.Sink.faults c.args.out.now) refl here (λ input. refl))
+    (Steps-quiet (Ends (Fetch m.pc)) None m m (supply g.S.Source c.args.input.now) (g.K.Sink.written c.args.out.now) (g.S.Source.faults c.args.input.now) (g.K.Sink.faults c.args.out.now) refl here (λ input. refl))
     (ap (λ class. kernel_left class (next_pc (state_of m)) m.regs m.kernel) (sym here)) refl
 
 pub returns-in_default-clause-kernel : goal.returns-in_default-clause-kernel
@@ -53,7 +54,7 @@ execute-requires g c = λ function is. c.in_default-form.not-Pal function (c.for
 pub returns-in_default-form-clause-made : goal.returns-in_default-form-clause-made
 returns-in_default-form-clause-made g c =
     let m = c.args.self.now in
-    executes-makes c.execute.result (class_of c.in-Some.insn) m c.execute.new.self (g.S.Source.left c.args.input.now)
+    executes-makes c.execute.result (class_of c.in-Some.insn) m c.execute.new.self (supply g.S.Source c.args.input.now)
     (g.K.Sink.written c.args.out.now) (g.S.Source.faults c.args.input.now) (g.K.Sink.faults c.args.out.now)
     (class_here-insn m (Some c.in-Some.insn) (sym c.in-Some.is ∙ c.requires.here)) c.execute.ensures
 
