@@ -12,7 +12,7 @@ use Rattle.alpha_image.proofs.Spelled.{one_image, first_fault-spelling}
 use Rattle.alpha_shadow.specs.declared.broken.Broken.{Broken}
 use Rattle.alpha_shadow.specs.Broken.{IsAccepted}
 use Rattle.alpha_shadow.specs.Least.{IsLeastBroken, NoLater}
-use Rattle.alpha_shadow.specs.Report.{broken_line}
+use Rattle.alpha_verdict.specs.Report.{broken_line}
 use Rattle.alpha_shadow.proofs.Conditions.{condition_number-injective}
 use Rattle.alpha_shadow.proofs.Decided.{verdict}
 use Rattle.alpha_cmd.specs.declared.decision.Decision.{Decision}

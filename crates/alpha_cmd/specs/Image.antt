@@ -7,7 +7,7 @@ use Rattle.alpha_image.specs.ImageFault.{first_fault}
 use Rattle.alpha_shadow.specs.declared.broken.Broken.{Broken}
 use Rattle.alpha_shadow.specs.Broken.{IsAccepted}
 use Rattle.alpha_shadow.specs.Least.{IsLeastBroken}
-use Rattle.alpha_shadow.specs.Report.{broken_line}
+use Rattle.alpha_verdict.specs.Report.{broken_line}
 use Rattle.alpha_cmd.specs.declared.status.Status.{Status}
 use Rattle.alpha_cmd.specs.declared.status.Status.TheVariants.{NotRestartable, BadImage, ShelfFault, TooLarge}
 use Rattle.alpha_cmd.specs.Outcome.{Outcome, Either, Then}

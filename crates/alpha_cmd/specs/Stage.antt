@@ -3,7 +3,7 @@
 use Rattle.std.specs.Prelude.{◌≡◌, ◌≢◌, ◌⊎◌, List, ℕ, Result, Err, IfOk, IfErr}
 use Rattle.alpha_io.specs.Faults.{Rose}
 use Rattle.alpha_io.specs.Shelved.{Shelved, OnlyReads}
-use Rattle.alpha_shadow.specs.Report.{broken_line}
+use Rattle.alpha_verdict.specs.Report.{broken_line}
 use Rattle.alpha_cmd.specs.declared.status.Status.{Status}
 use Rattle.alpha_cmd.specs.declared.status.Status.TheVariants as statuses
 use Rattle.alpha_cmd.specs.declared.stop.Stop.{Stop}

@@ -17,7 +17,7 @@ use Rattle.alpha_replay.specs.declared.replay_fault.ReplayFault.TheVariants as r
 use Rattle.alpha_io.specs.Line.{hex_digits}
 use Rattle.alpha_shadow.specs.declared.broken.Broken.{Broken}
 use Rattle.alpha_shadow.specs.Least.{condition_number}
-use Rattle.alpha_shadow.specs.Report.{place_address}
+use Rattle.alpha_verdict.specs.Report.{place_address}
 use Rattle.alpha_seq.specs.Notes.{end_line}
 use Rattle.alpha_cmd.specs.SpentLine.{spent_line}
 use Rattle.alpha_cmd.specs.declared.status.Status.{Status}

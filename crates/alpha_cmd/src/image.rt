@@ -15,7 +15,7 @@ use crate::Status;
 use crate::stop::Stop;
 use alpha_image::{Image, ImageFault, image_bytes, take_image};
 use alpha_io::{ReadFault, Shelf, read_whole};
-use alpha_shadow::{ImageCode, judge};
+use alpha_verdict::judge_image;
 use std::alloc::Global;
 
 /// The most bytes of an image file.
@@ -96,7 +96,7 @@ pub(crate) fn judged(image: &Image) -> Result<(), Stop>
         IsRefused image.now (stop_status stop) (stop_line stop)) }
     ensures whole { IsAccepted image.now.words → OnErr result ⊥ }
 {
-    match judge(&mut ImageCode::new(image)) {
+    match judge_image(image) {
         Ok(()) => Ok(()),
         Err(broken) => Err(Stop::Broken(broken, image.code_base())),
     }

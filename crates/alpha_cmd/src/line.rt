@@ -12,9 +12,10 @@ use alpha_io::Line;
 use alpha_link::{LinkFault, ModuleFault};
 use alpha_replay::{JournalFault, ReplayFault, Replayed};
 use alpha_seq::line_of_end;
-use alpha_shadow::{Broken, place_address};
+use alpha_shadow::Broken;
 use alpha_text::{LineFault, LineFaultKind};
 use alpha_trap::Lost;
+use alpha_verdict::place_address;
 
 /// The line of a status. It is empty where there is no line, and where the line says more than the
 /// status has: the value of an exit, or the addresses of a broken place.

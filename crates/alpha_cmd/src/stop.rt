@@ -6,7 +6,8 @@ ghost use Rattle.alpha_cmd.specs.Stage.{stop_status, stop_line};
 use crate::Status;
 use crate::line::{line_of, unfixable_line};
 use alpha_io::Line;
-use alpha_shadow::{Broken, line_of_broken};
+use alpha_shadow::Broken;
+use alpha_verdict::line_of_broken;
 
 /// Why a stage stops: a status, and what else its line says.
 #[derive(Clone, Copy)]

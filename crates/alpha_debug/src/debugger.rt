@@ -15,7 +15,8 @@ use crate::watcher::{Until, Watcher};
 use alpha_image::Image;
 use alpha_io::{Failed, Sink};
 use alpha_seq::{End, Machine};
-use alpha_shadow::{Broken, ImageCode, judge};
+use alpha_shadow::Broken;
+use alpha_verdict::judge_image;
 use alpha_words::{Completion, NoMemory};
 use arrayvec::ArrayVec;
 use std::alloc::Global;
@@ -176,7 +177,7 @@ impl Debugger {
 fn verdict_of(image: &Image) -> Option<Broken>
     ensures { IsVerdict image.now.words result }
 {
-    match judge(&mut ImageCode::new(image)) {
+    match judge_image(image) {
         Ok(()) => None,
         Err(broken) => Some(broken),
     }

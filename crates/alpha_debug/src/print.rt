@@ -11,8 +11,9 @@ use alpha_image::Image;
 use alpha_io::{Failed, Line, Sink};
 use alpha_mem::Memory;
 use alpha_seq::{End, line_of_end, write_registers};
-use alpha_shadow::{Broken, line_of_broken};
+use alpha_shadow::Broken;
 use alpha_text::{LineBuf, write_line};
+use alpha_verdict::line_of_broken;
 use alpha_words::RegFile;
 
 // How many bytes a line of `mem` has at most.

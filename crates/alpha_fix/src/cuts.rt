@@ -4,7 +4,8 @@ ghost use Rattle.alpha_fix.specs.Fix.{Stops};
 
 use crate::CutFault;
 use alpha_image::Image;
-use alpha_shadow::{Broken, Checker, ImageCode};
+use alpha_shadow::{Broken, Checker};
+use alpha_verdict::code_of;
 use std::alloc::Global;
 
 // The least broken place for triggers from a place on.
@@ -13,7 +14,7 @@ fn broken_from(checker: &mut Checker, image: &Image, from: u32) -> Option<Broken
     ensures { MatchOption result (NoneFrom image.now.words from)
         (IsLeastFrom image.now.words from) }
 {
-    match checker.judge(&mut ImageCode::new(image).from_place(from)) {
+    match checker.judge(&mut code_of(image).from_place(from)) {
         Ok(()) => None,
         Err(broken) => Some(Broken {
             trigger: from + broken.trigger,

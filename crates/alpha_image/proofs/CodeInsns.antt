@@ -1,21 +1,18 @@
 -- The instructions of code words, and the words of instructions.
 use Rattle.std.proofs.Common.{◌≡◌, ℕ, ◌+◌, ◌^◌, ◌<◌, ◌++◌, List, [], ◌∷◌, length, map, take, get_or, slice_get, Option, Some, None, refl, sym, ap, subst, ◌∙◌}
 use Rattle.std.specs.List.{All}
-use Rattle.std.specs.Option.{option_map, option_and_then, IsSomeAnd}
+use Rattle.std.specs.Option.{option_map, IsSomeAnd}
 use Rattle.std.proofs.lemmas.List.{take_more, map-append}
 use Rattle.std.proofs.lemmas.List.Elements.{All-nil, All-cons, All-head, All-tail}
-use Rattle.std.proofs.lemmas.Option.{slice_get-map, slice_get-get_or, get_or_from_slice_get}
+use Rattle.std.proofs.lemmas.Option.{slice_get-map, get_or_from_slice_get}
 use Rattle.alpha_words.specs.declared.Level.{Level}
 use Rattle.alpha_table.specs.declared.form.Form.{Form}
 use Rattle.alpha_table.specs.Row.{IsInsn}
 use Rattle.alpha_table.specs.Decoded.{decoded}
 use Rattle.alpha_table.specs.Encoded.{encoded}
-use Rattle.alpha_table.specs.ClassOf.{class_of}
 use Rattle.alpha_table.specs.Columns.{level_of}
-use Rattle.alpha_table.specs.Code.{class_at}
 use Rattle.alpha_table.proofs.Decoding.{decoded-Row, Row-decoded, same_word, IsInsn-Row}
 use Rattle.alpha_table.proofs.Words.{encoded-Row}
-use Rattle.alpha_table.proofs.Classes.{class_at-decoded}
 use Rattle.alpha_table.proofs.Levels.{level_in-decoded}
 use Rattle.alpha_image.specs.Parts.{IsWithin, IsCodeWord}
 use Rattle.alpha_image.specs.Insns.{IsCodeInsn}
@@ -52,28 +49,9 @@ one_more words insns place i below e here =
     ∙ (ap (λ (o : Option Form). map Some insns ++ (o ∷ [])) here
     ∙ sym (map-append Some insns (i ∷ [])))))
 
--- the word at a place stands for the instruction there
-pub decoded_there : (words : List ℕ) (insns : List Form) (place : ℕ) (i : Form) → map decoded words ≡ map Some insns → slice_get insns place ≡ Some i
-    → option_and_then decoded (slice_get words place) ≡ Some i
-decoded_there words insns place i e there =
-    chained (slice_get words place) i
-    (sym (slice_get-map decoded words place) ∙ (ap (λ (os : List (Option Form)). slice_get os place) e ∙ (slice_get-map Some insns place ∙ ap (option_map Some) there)))
-  where
-    chained : (o : Option ℕ) (i : Form) → option_map decoded o ≡ Some (Some i) → option_and_then decoded o ≡ Some i
-    chained None i h = absurd cc
-    chained (Some w) i h = cc
-
--- the same of a place within the words
-pub decoded_within : (words : List ℕ) (place : ℕ) (i : Form) → place < length words → option_and_then decoded (slice_get words place) ≡ Some i → decoded (get_or words place 0) ≡ Some i
-decoded_within words place i below e = rw (slice_get-get_or words place 0 below) at e
-
 -- the word there is that of the instruction
 pub encoded_there : (insns : List Form) (place : ℕ) (i : Form) → slice_get insns place ≡ Some i → get_or (map encoded insns) place 0 ≡ encoded i
 encoded_there insns place i there = get_or_from_slice_get (map encoded insns) place (encoded i) 0 (slice_get-map encoded insns place ∙ ap (option_map encoded) there)
-
--- its class is that of the word at the place
-pub class_here : (words : List ℕ) (place : ℕ) (i : Form) → option_and_then decoded (slice_get words place) ≡ Some i → class_at words place ≡ Some (class_of i)
-class_here words place i e = class_at-decoded words place ∙ ap (option_map class_of) e
 
 -- instructions of the table at a level have code words of that level
 pub code_words_of_insns : (level : Level) (insns : List Form) → All (IsCodeInsn level) insns

@@ -11,7 +11,7 @@ use Rattle.alpha_table.specs.Decoded.{decoded}
 use Rattle.alpha_table.specs.Encoded.{encoded}
 use Rattle.alpha_text.specs.Statements.{Said}
 use Rattle.alpha_text.specs.Reading.{LineSaid}
-use Rattle.alpha_image.proofs.CodeInsns.{decoded_there}
+use Rattle.alpha_table.proofs.CodeWords.{decoded_there}
 use Rattle.alpha_asm.specs.declared.place.Section.TheVariants as sides
 use Rattle.alpha_asm.specs.declared.statement.Use.{Use}
 use Rattle.alpha_asm.specs.Statement.{Reference, Coded, coded, Cell, number, address, cells, data_size, entry_in}

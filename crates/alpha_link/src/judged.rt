@@ -5,7 +5,7 @@ ghost use Rattle.alpha_shadow.specs.Broken.{IsAccepted};
 ghost use Rattle.alpha_shadow.specs.Least.{IsLeastBroken};
 
 use crate::module::Module;
-use alpha_shadow::{Broken, ImageCode, judge};
+use alpha_shadow::{Broken, InsnCode, judge};
 
 /// Whether a trap that is reported late leaves the module's own code restartable: `Ok` exactly where no
 /// place of its words is broken, else the least broken place. It takes no memory.
@@ -13,5 +13,5 @@ pub fn verdict(module: &Module<'_>) -> Result<(), Broken>
     ensures accepted { OnOk result (IsAccepted «module».now.words) }
     ensures broken { IfErr result (IsLeastBroken «module».now.words) }
 {
-    judge(&mut ImageCode::of_insns(&module.insns))
+    judge(&mut InsnCode::new(&module.insns))
 }

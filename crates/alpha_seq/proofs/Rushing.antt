@@ -39,7 +39,7 @@ use Rattle.alpha_mem.specs.Memory.{bytes_at, write_bytes}
 use Rattle.alpha_mem.specs.declared.access.MemFault.{MemFault}
 use Rattle.alpha_image.specs.Parts.{Parts, IsImage, place_of}
 use Rattle.alpha_image.proofs.Places.{place_of-code}
-use Rattle.alpha_image.proofs.CodeInsns.{decoded_there, class_here}
+use Rattle.alpha_table.proofs.CodeWords.{decoded_there, class_here}
 use Rattle.alpha_seq.specs.declared.machine.Machine.{Machine}
 use Rattle.alpha_seq.specs.State.{State, Went, Stepped, stepped}
 use Rattle.alpha_seq.specs.Step.{next_pc, setting, unless, loaded, computed, branch_target}

@@ -8,7 +8,7 @@ use Rattle.alpha_table.specs.declared.columns.InsnKind.{InsnKind}
 use Rattle.alpha_table.specs.declared.columns.InsnKind.TheVariants as kinds
 use Rattle.alpha_table.specs.ClassOf.{class_of}
 use Rattle.alpha_table.specs.Columns.{kind_of}
-use Rattle.alpha_image.proofs.CodeInsns.{class_here, decoded_there}
+use Rattle.alpha_table.proofs.CodeWords.{class_here, decoded_there}
 use Rattle.alpha_shadow.specs.declared.window.Window.{Window}
 use Rattle.alpha_shadow.specs.declared.fetch.NextTrigger.{NextTrigger}
 use Rattle.alpha_shadow.specs.Code.{kind_at}

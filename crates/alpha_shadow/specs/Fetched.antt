@@ -1,4 +1,4 @@
--- What a clause sees of an image's code that is looked at.
+-- What a clause sees of code that is looked at.
 use Rattle.std.specs.Prelude.{◌≡◌, ◌<◌, ◌^◌, ℕ, List, length, map, Some}
 use Rattle.alpha_table.specs.declared.form.Form.{Form}
 use Rattle.alpha_table.specs.Decoded.{decoded}

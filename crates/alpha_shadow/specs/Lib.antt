@@ -9,4 +9,3 @@ pub mod Place
 pub mod Fetched
 pub mod Quiet
 pub mod Words
-pub mod Report

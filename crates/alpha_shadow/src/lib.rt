@@ -5,11 +5,9 @@
 //! - [`Condition`] is one of the nine conditions, C1 to C9, and [`Broken`] a broken place.
 //! - [`judge`] is the verdict on the instructions that a [`Fetch`] gives. It looks at each word once at
 //!   most, in their order, and takes no memory. A [`Checker`] gives one verdict after another, in the
-//!   same room. [`ImageCode`] is the code of an image, or the rest of it from a place on.
+//!   same room. [`InsnCode`] is the code of instructions in a slice, or the rest of it from a place on.
 //! - [`judge_words`] is the verdict on words, for who has neither an image nor a [`Fetch`] of his own, or a
 //!   [`Refusal`].
-//! - [`write_broken`] writes the line of a broken place, [`line_of_broken`] has it, and [`place_address`] is the
-//!   address of a place.
 //! - [`laws_of_verdicts`] says that each condition is decided, and that every list of words is
 //!   accepted or has a least broken place.
 //!
@@ -19,8 +17,7 @@
 //! at one word, condition by condition), `window.rt` (what is known of the words before a place, whose meaning is
 //! `specs/Window.antt`), `triggers.rt` and `loads.rt` (the open triggers, and the loads after the first of them),
 //! `last.rt` (the last place of each register) and `columns.rt` (what is read of one word). `broken.rt` has what a
-//! verdict names, `fetch.rt` and `image_code.rt` where the words come from, `words.rt` the verdict on a slice of them,
-//! and `report.rt` the line.
+//! verdict names, `fetch.rt` and `insn_code.rt` where the words come from, and `words.rt` the verdict on a slice of them.
 //!
 //! `proofs/Shadows.antt`, `OpenLoads.antt` and `Ends.antt` follow the open triggers, the open loads and the registers'
 //! places word by word; `Places.antt` ties each condition to them, `Steps.antt` joins the conditions, `Passing.antt`
@@ -32,13 +29,12 @@
 mod broken;
 mod columns;
 mod fetch;
-mod image_code;
+mod insn_code;
 mod last;
 mod laws;
 mod loads;
 mod place;
 mod quiet;
-mod report;
 mod triggers;
 mod verdict;
 mod window;
@@ -46,8 +42,7 @@ mod words;
 
 pub use broken::{Broken, Condition};
 pub use fetch::{Fetch, NextTrigger};
-pub use image_code::ImageCode;
+pub use insn_code::InsnCode;
 pub use laws::laws_of_verdicts;
-pub use report::{line_of_broken, place_address, write_broken};
 pub use verdict::{Checker, judge};
 pub use words::{Refusal, judge_words};

@@ -5,4 +5,5 @@ pub mod Naming
 pub mod Forms
 pub mod Tables
 pub mod Classes
+pub mod CodeWords
 pub mod Levels

@@ -12,7 +12,7 @@ use alpha_image::Image;
 use alpha_imprecise::{CountingChooser, PcgChooser, Wild};
 use alpha_io::{Failed, MemorySink, Sink, SureSource, write_whole};
 use alpha_seq::Machine;
-use alpha_shadow::{ImageCode, judge};
+use alpha_verdict::judge_image;
 use alpha_words::{Completion, NoMemory};
 use std::alloc::Global;
 
@@ -90,7 +90,7 @@ fn judged(alloc: Global, n: u32) -> Result<Image, NoMemory>
     ensures { IfOk result (λ image. image ≡ trial_image n) }
 {
     let image = trial_image(alloc, n)?;
-    match judge(&mut ImageCode::new(&image)) {
+    match judge_image(&image) {
         Ok(()) => Ok(image),
         Err(_) => unreachable!(),
     }

@@ -1,8 +1,9 @@
 use crate::parts::repeated;
 use crate::plain::least_broken;
 use alpha_samples::sample;
-use alpha_shadow::{Broken, ImageCode, judge};
+use alpha_shadow::Broken;
 use alpha_table::{Insn, decode};
+use alpha_verdict::judge_image;
 use alpha_words::Word;
 use anyhow::bail;
 use std::alloc::Global;
@@ -56,7 +57,7 @@ fn insns_of(alloc: Global, words: &[u32]) -> anyhow::Result<Vec<Insn>> {
 // The checker's verdict on an image with this code.
 fn judged(alloc: Global, words: &[u32]) -> anyhow::Result<Option<Broken>> {
     let image = sample(alloc, words, 0)?;
-    Ok(judge(&mut ImageCode::new(&image)).err())
+    Ok(judge_image(&image).err())
 }
 
 // `accepted`, or the least broken place as trigger, place and condition.

@@ -5,7 +5,7 @@ use Rattle.alpha_asm.specs.declared.fault.AsmFault.{AsmFault}
 use Rattle.alpha_shadow.specs.declared.broken.Broken.{Broken}
 use Rattle.alpha_shadow.specs.Broken.{IsAccepted}
 use Rattle.alpha_shadow.specs.Least.{IsLeastBroken}
-use Rattle.alpha_shadow.specs.Report.{broken_line}
+use Rattle.alpha_verdict.specs.Report.{broken_line}
 use Rattle.alpha_link.specs.Parts.{ModuleParts}
 use Rattle.alpha_link.specs.Spelled.{spelling}
 use Rattle.alpha_link.specs.Made.{made_module}

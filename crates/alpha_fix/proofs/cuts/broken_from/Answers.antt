@@ -4,22 +4,22 @@ use Rattle.alpha_fix.proofs.cuts.broken_from.Goals as goal
 
 pub overflow_add-result : goal.overflow_add-result
 overflow_add-result c =
-    let e = c.from_place.ensures.code ∙ ap (drop c.args.from) c.new.ensures.code in
+    let e = c.from_place.ensures.code ∙ ap (drop c.args.from) c.code_of.ensures.code in
     let w = place_within c.args.image.now.words c.from_place.result.code c.args.from c.in-Err.broken c.requires e c.in-Err.ensures.broken in
-    omega (arith, c.from_place.ensures.bound, ap length c.new.ensures.code, w.0)
+    omega (arith, c.from_place.ensures.bound, ap length c.code_of.ensures.code, w.0)
 
 pub overflow_add-result-in-Err : goal.overflow_add-result-in-Err
 overflow_add-result-in-Err c =
-    let e = c.from_place.ensures.code ∙ ap (drop c.args.from) c.new.ensures.code in
+    let e = c.from_place.ensures.code ∙ ap (drop c.args.from) c.code_of.ensures.code in
     let w = place_within c.args.image.now.words c.from_place.result.code c.args.from c.in-Err.broken c.requires e c.in-Err.ensures.broken in
-    omega (arith, c.from_place.ensures.bound, ap length c.new.ensures.code, w.1)
+    omega (arith, c.from_place.ensures.bound, ap length c.code_of.ensures.code, w.1)
 
 pub returns-in-Ok : goal.returns-in-Ok
 returns-in-Ok c =
     none_from c.args.image.now.words c.from_place.result.code c.args.from c.requires
-    (c.from_place.ensures.code ∙ ap (drop c.args.from) c.new.ensures.code) c.in-Ok.ensures.accepted
+    (c.from_place.ensures.code ∙ ap (drop c.args.from) c.code_of.ensures.code) c.in-Ok.ensures.accepted
 
 pub returns-in-Err : goal.returns-in-Err
 returns-in-Err c =
     least_from c.args.image.now.words c.from_place.result.code c.args.from c.in-Err.broken c.requires
-    (c.from_place.ensures.code ∙ ap (drop c.args.from) c.new.ensures.code) c.in-Err.ensures.broken
+    (c.from_place.ensures.code ∙ ap (drop c.args.from) c.code_of.ensures.code) c.in-Err.ensures.broken

@@ -6,7 +6,7 @@ use Rattle.std.proofs.lemmas.Option.{slice_get-map, slice_get_past, slice_get_re
 use Rattle.alpha_table.specs.declared.form.Form.{Form}
 use Rattle.alpha_table.specs.Decoded.{decoded}
 use Rattle.alpha_table.specs.Encoded.{encoded}
-use Rattle.alpha_image.proofs.CodeInsns.{decoded_there}
+use Rattle.alpha_table.proofs.CodeWords.{decoded_there}
 use Rattle.alpha_link.proofs.relocations.insn_at.Goals as goal
 
 copied_is : (insns : List Form) (place : ℕ) (o : Option (Bor Form)) → is_some o ≡ nat_lt place (length insns) → IfSome o (λ x. x.now ≡ get_or insns place x.now) → option_copied o ≡ slice_get insns place

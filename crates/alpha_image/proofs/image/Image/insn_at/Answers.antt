@@ -4,7 +4,8 @@ use Rattle.alpha_table.specs.declared.form.Form.{Form}
 use Rattle.alpha_table.specs.Decoded.{decoded}
 use Rattle.alpha_table.specs.Encoded.{encoded}
 use Rattle.alpha_image.specs.Parts.{Parts}
-use Rattle.alpha_image.proofs.CodeInsns.{class_here, decoded_there, decoded_within, encoded_there}
+use Rattle.alpha_table.proofs.CodeWords.{class_here, decoded_there, decoded_within}
+use Rattle.alpha_image.proofs.CodeInsns.{encoded_there}
 use Rattle.alpha_image.proofs.image.Image.insn_at.Goals as goal
 
 pub returns-clause-found : goal.returns-clause-found

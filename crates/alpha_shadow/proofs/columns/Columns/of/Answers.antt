@@ -1,6 +1,6 @@
 use Rattle.std.proofs.Common.{sym, refl}
 use Rattle.alpha_table.specs.ClassOf.{class_of}
-use Rattle.alpha_image.proofs.CodeInsns.{class_here}
+use Rattle.alpha_table.proofs.CodeWords.{class_here}
 use Rattle.alpha_shadow.proofs.Tables.{kind_here, kind_within}
 use Rattle.alpha_shadow.proofs.columns.Columns.of.Goals as goal
 

@@ -2,9 +2,9 @@ use Rattle.std.proofs.Common.{◌≡◌, ℕ, List, Some, map, slice_get, ap, su
 use Rattle.std.specs.Option.{option_and_then}
 use Rattle.alpha_table.specs.Decoded.{decoded}
 use Rattle.alpha_table.specs.Encoded.{encoded}
-use Rattle.alpha_image.proofs.CodeInsns.{decoded_there}
+use Rattle.alpha_table.proofs.CodeWords.{decoded_there}
 use Rattle.alpha_shadow.specs.Fetched.{Fetched}
-use Rattle.alpha_shadow.proofs.image_code.ImageCodeFetch.insn.Goals as goal
+use Rattle.alpha_shadow.proofs.insn_code.InsnCodeFetch.insn.Goals as goal
 
 pub returns-clause-found : goal.returns-clause-found
 returns-clause-found c =

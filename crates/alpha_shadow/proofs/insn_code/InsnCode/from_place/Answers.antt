@@ -4,7 +4,7 @@ use Rattle.std.proofs.lemmas.List.{take_rest, length-drop}
 use Rattle.alpha_table.specs.Decoded.{decoded}
 use Rattle.alpha_table.specs.Encoded.{encoded}
 use Rattle.alpha_shadow.specs.Fetched.{Fetched, HaveWords}
-use Rattle.alpha_shadow.proofs.image_code.ImageCode.from_place.Goals as goal
+use Rattle.alpha_shadow.proofs.insn_code.InsnCode.from_place.Goals as goal
 
 pub returns-clause-code : goal.returns-clause-code
 returns-clause-code c =

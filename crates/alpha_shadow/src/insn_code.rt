@@ -2,18 +2,17 @@ ghost use Rattle.std.specs.Prelude.{◌≡◌, ◌+◌, ◌-◌, ◌<◌, ◌≤
 
 use crate::quiet::first_trigger;
 use crate::{Fetch, NextTrigger};
-use alpha_image::Image;
 use alpha_table::Insn;
 use std::marker::Model;
 
-/// The code of an image, for the checker. A clause sees its words and the count of looks.
+/// The code of instructions in a slice, for the checker. A clause sees their words and the count of looks.
 #[derive(Drop)]
-pub struct ImageCode<'a> {
+pub struct InsnCode<'a> {
     insns: &'a [Insn],
     fetches: u64,
 }
 
-impl<'a> Model for ImageCode<'a> {
+impl<'a> Model for InsnCode<'a> {
     ghost use Rattle.std.specs.Prelude.{map};
     ghost use Rattle.alpha_table.specs.Encoded.{encoded};
     ghost use Rattle.alpha_shadow.specs.Fetched.{Fetched, HaveWords};
@@ -25,46 +24,35 @@ impl<'a> Model for ImageCode<'a> {
     ghost invariant = { λ c. HaveWords c.insns.now };
 }
 
-impl<'a> ImageCode<'a> {
+impl<'a> InsnCode<'a> {
     ghost use Rattle.std.specs.Prelude.{◌≡◌, map};
     ghost use Rattle.alpha_table.specs.Encoded.{encoded};
     ghost use Rattle.alpha_shadow.specs.Fetched.{HaveWords};
 
-    /// The image's code, not looked at so far.
-    pub fn new(image: &'a Image) -> ImageCode<'a>
-        ensures code { result.code ≡ image.now.words }
-        ensures fetches { result.fetches ≡ 0 }
-    {
-        ImageCode {
-            insns: image.insns(),
-            fetches: 0,
-        }
-    }
-
-    /// Instructions that are no image's yet, each that of its word, not looked at so far.
-    pub fn of_insns(insns: &'a [Insn]) -> ImageCode<'a>
+    /// Instructions, each that of its word, not looked at so far.
+    pub fn new(insns: &'a [Insn]) -> InsnCode<'a>
         requires { HaveWords insns.now }
         ensures code { result.code ≡ map encoded insns.now }
         ensures fetches { result.fetches ≡ 0 }
     {
-        ImageCode { insns, fetches: 0 }
+        InsnCode { insns, fetches: 0 }
     }
 
     /// The code from a place on, not looked at so far.
-    pub fn from_place(&self, place: u32) -> ImageCode<'a>
+    pub fn from_place(&self, place: u32) -> InsnCode<'a>
         requires { place ≤ length self.now.code }
         ensures code { result.code ≡ drop place self.now.code }
         ensures fetches { result.fetches ≡ 0 }
         ensures bound { length self.now.code < 2 ^ 32 }
     {
-        ImageCode {
+        InsnCode {
             insns: &self.insns[place as usize..],
             fetches: 0,
         }
     }
 }
 
-impl<'a> Fetch for ImageCode<'a> {
+impl<'a> Fetch for InsnCode<'a> {
     ghost code = { λ c. c.code };
 
     ghost fetches = { λ c. c.fetches };

@@ -5,7 +5,7 @@ use Rattle.alpha_shadow.specs.Fetched.{Fetched}
 use Rattle.alpha_shadow.specs.Quiet.{AreQuiet, IsNextTrigger}
 use Rattle.alpha_shadow.specs.declared.fetch.NextTrigger.{NextTrigger}
 use Rattle.alpha_shadow.proofs.Stretches.{quiet_insns, trigger_there}
-use Rattle.alpha_shadow.proofs.image_code.ImageCodeFetch.next_trigger.Goals as goal
+use Rattle.alpha_shadow.proofs.insn_code.InsnCodeFetch.next_trigger.Goals as goal
 
 pub returns-then-place-self-clause-none : goal.returns-then-place-self-clause-none
 returns-then-place-self-clause-none c =

@@ -2,10 +2,10 @@ ghost use Rattle.std.specs.Prelude.{◌≡◌, OnOk};
 ghost use Rattle.std.specs.Io.KnownBytes.{Appends};
 ghost use Rattle.alpha_io.specs.Faults.{HasCause};
 ghost use Rattle.alpha_io.specs.Written.{WritesPrefix};
-ghost use Rattle.alpha_shadow.specs.Report.{broken_line, place_address};
+ghost use Rattle.alpha_verdict.specs.Report.{broken_line, place_address};
 
-use crate::Broken;
 use alpha_io::{Failed, Line, Sink, write_whole};
+use alpha_shadow::Broken;
 
 /// Appends the line of a broken place, with the addresses of the trigger and of the place, or on
 /// `Failed` a prefix of it: `broken trigger A at B condition Cn`.
