@@ -50,7 +50,7 @@ use Rattle.alpha_seq.specs.Devices.{Drawn}
 use Rattle.alpha_seq.specs.Print.{HasPassed}
 use Rattle.alpha_seq.specs.Sequential.{seen_as, SeqMakes}
 use Rattle.alpha_seq.proofs.Making.{Steps, makes}
-use Rattle.alpha_seq.specs.Executed.{Does, ExecuteEffect, GoesOn, FaultEffect, NeverGoes}
+use Rattle.alpha_seq.specs.Executed.{Does, ExecuteEffect, GoesOn, FaultEffect}
 use Rattle.alpha_seq.proofs.Stepping.{Leaves-step}
 
 -- the class of a place's word is that of its instruction
@@ -103,21 +103,9 @@ Steps-quiet event class old new left written faults count quiet here does = reco
   passes = subst (λ (t : Traffic). HasPassed (seen_as event Nothing) new.memory (given_in t) (put_in t)) (sym quiet) (passes_nothing event new.memory);
 }
 
--- a step that only went on leaves its devices alone, the kernel, and where the blocks lie
-pub GoesOn-steps : (old new : Machine) (left : Supply) (written : Option (List ℕ)) (faults count : ℕ) → GoesOn old new
-    → Steps Went Nothing old new (record { old = left; new = left; before = faults; now = faults })
-    (record { old = written; new = written; before = count; now = count })
-GoesOn-steps old new left written faults count h = Steps-quiet Went (Some h.class) old new left written faults count refl h.here h.does.is
-
+-- a step that only went on leaves the kernel, and where the blocks lie
 pub GoesOn-kernel : (old new : Machine) → GoesOn old new → new.kernel ≡ kernel_left (class_here old) (next_pc (state_of old)) old.regs old.kernel
 GoesOn-kernel old new h = Does-kernel Went h.class old new h.here h.does
-
-pub GoesOn-makes : (old new : Machine) (left : Supply) (written : Option (List ℕ)) (faults count : ℕ) → GoesOn old new
-    → SeqMakes events.Went old new (record { old = left; new = left; before = faults; now = faults }) (record { old = written; new = written; before = count; now = count })
-GoesOn-makes old new left written faults count h =
-    makes Went Nothing old new (record { old = left; new = left; before = faults; now = faults })
-    (record { old = written; new = written; before = count; now = count })
-    (GoesOn-steps old new left written faults count h) (GoesOn-kernel old new h) h.does.program
 
 pub GoesOn-shapes : (old new : Machine) → GoesOn old new → shapes new.memory ≡ shapes old.memory
 GoesOn-shapes old new h = Does-shapes Went h.class old new h.does
@@ -203,61 +191,3 @@ executes-makes event class old new left written faults count here did =
     (makes x.happened Nothing old new input out
     (Steps-quiet x.happened (Some class) old new left written faults count x.quiet here x.does.is)
     (Does-kernel x.happened class old new here x.does) x.does.program)
-
--- ---- words that never only go on
-
-overflowed-never : (how : Completion) (s : State) (rc value : ℕ) → (overflowed how s rc value).event ≢ Went
-overflowed-never how s rc value = by (stops how)
-  where
-    by : (b : Bool) → (cond b (ended s (ends.Overflow s.pc)) (stepped (logging s rc value) (Overflowed s.pc))).event ≢ Went
-    by true = λ e. cc
-    by false = λ e. cc
-
-pub overflow-never : (op : TrapOp) (ra : ℕ) (src : Src) (rc : ℕ) (m : Machine) → overflow_of op (reg m.regs ra) (source_value m.regs src) ≡ true
-    → NeverGoes (Some (trigger op ra src rc)) m
-overflow-never op ra src rc m over = λ input e.
-    let s = state_of m in
-    let value = completed_of op (reg m.regs ra) (source_value m.regs src) m.how in
-    overflowed-never m.how s rc value (sym (ap (λ (b : Bool). (cond b (overflowed m.how s rc value) (went (setting s rc value))).event) over) ∙ e)
-
--- an instruction that traps
-trap_class : (role : OpRole) (op : Op) (trap : TrapOp) (ra : ℕ) (src : Src) (rc : ℕ) → role_trap role ≡ Some trap → operate_class role op ra src rc ≡ trigger trap ra src rc
-trap_class Plain op trap ra src rc e = cc
-trap_class Move op trap ra src rc e = cc
-trap_class (Trap own) op trap ra src rc e = cc
-
-pub trap-never : (op : Op) (trap : TrapOp) (ra : ℕ) (src : Src) (rc : ℕ) (i : Form) (m : Machine) → trap_of op ≡ Some trap → Operate op ra src rc ≡ i
-    → overflow_of trap (reg m.regs ra) (source_value m.regs src) ≡ true → NeverGoes (Some (class_of i)) m
-trap-never op trap ra src rc i m traps is over =
-    subst (λ (class : Class). NeverGoes (Some class) m) (sym (trap_class (op_row op).role op trap ra src rc traps) ∙ ap class_of is)
-    (overflow-never trap ra src rc m over)
-
-pub Does-trap : (op : Op) (trap : TrapOp) (ra : ℕ) (src : Src) (rc : ℕ) (i : Form) (old new : Machine) → trap_of op ≡ Some trap → Operate op ra src rc ≡ i
-    → Does Went (trigger trap ra src rc) old new → Does Went (class_of i) old new
-Does-trap op trap ra src rc i old new traps is does =
-    subst (λ (class : Class). Does Went class old new) (sym (trap_class (op_row op).role op trap ra src rc traps) ∙ ap class_of is) does
-
-returned-never : (function : PalCall) (called : Called) (s : State) → (returned function called s).event ≢ Went
-returned-never function (goes regs mem unique traffic) s = λ e. cc
-returned-never function (exits v) s = λ e. cc
-returned-never function (signals code) s = λ e. cc
-
-pub barrier-never : (call : Option PalCall) (m : Machine) → NeverGoes (Some (barrier call)) m
-barrier-never None m = λ input e. cc
-barrier-never (Some function) m = λ input. returned-never function (call function m.regs m.memory m.unique input) (state_of m)
-
-pub misc-never : (op : MiscOp) (i : Form) (m : Machine) → Misc op ≡ i → kind_of i ≡ kinds.Barrier → NeverGoes (Some (class_of i)) m
-misc-never op i m is kind =
-    subst (λ (class : Class). NeverGoes (Some class) m) (sym (misc_barrier op (ap kind_of is ∙ kind)) ∙ ap class_of is) (barrier-never None m)
-
--- an access that faults ends the program
-pub fault-never : {T : Type 0} (r : Result T MemFault) (class : Class) (at : MemAccess) (old new : Machine)
-    → IfErr r (λ fault. FaultEffect fault class at old new) → is_ok r ≡ false → NeverGoes (Some class) old
-fault-never (Ok v) class at old new h e = absurd cc
-fault-never (Err fault) class at old new h failed = λ input e.
-    let is : Ends (fault_end fault old.pc (accessed at (state_of old))) ≡ Went = sym (ap (λ (t : Stepped). t.event) (h.1.is input)) ∙ e in
-    cc
-
--- nor does the machine go on where no word is
-pub fetch-never : (m : Machine) → NeverGoes None m
-fetch-never m = λ input e. cc

@@ -56,11 +56,6 @@ pub record GoesOn (old new : Machine) : Type 0 where
   pub here : class_here old ≡ Some class
   pub does : Does Went class old new
 
--- The step of the definition at such a word doesn't only go on, whatever there is to be read: it overflows, is a barrier or
--- ends the program.
-abbrev pub NeverGoes : Option Class → Machine → Type 0
-NeverGoes class m = (input : List ℕ) → (step (program_of m) class (state_of m) input).event ≢ Went
-
 -- the machine after an overflow that is completed
 abbrev pub logged_machine : Machine → ℕ → ℕ → Machine
 logged_machine m rc value = record m {

@@ -1,10 +1,8 @@
-ghost use Rattle.std.specs.Prelude.{◌≡◌, ◌≢◌, false, Some, IsTrue};
+ghost use Rattle.std.specs.Prelude.{◌≢◌};
 ghost use Rattle.alpha_words.specs.declared.PalCall.{PalCall};
 ghost use Rattle.alpha_table.specs.declared.form.Form.TheVariants.{Pal};
 ghost use Rattle.alpha_table.specs.ClassOf.{class_of};
-ghost use Rattle.alpha_seq.specs.State.{Went};
-ghost use Rattle.alpha_seq.specs.Machine.{class_here};
-ghost use Rattle.alpha_seq.specs.Executed.{Does, ExecuteEffect, GoesOn, NeverGoes};
+ghost use Rattle.alpha_seq.specs.Executed.{ExecuteEffect};
 
 use crate::access::{fault_end, memory_access};
 use crate::{Event, Machine, Passed};
@@ -42,46 +40,5 @@ impl Machine {
             Form::Pal(_) => unreachable!(),
         }
         Event::Went
-    }
-
-    // Executes an instruction, if it goes on to a next word without an overflow and is no barrier.
-    #[inline(always)]
-    fn goes(&mut self, insn: &Insn) -> bool
-        ensures went { IsTrue result → Does Went (class_of insn.now) self.old self.new }
-        ensures stays { result ≡ false → self.new ≡ self.old }
-        ensures refused { result ≡ false → NeverGoes (Some (class_of insn.now)) self.old }
-    {
-        match insn.form() {
-            Form::Operate { op, ra, src, rc } => match op.trap() {
-                None => self.operate(op, ra, &src, rc),
-                Some(op) => return self.exactly(op, ra, &src, rc),
-            },
-            Form::Mem { op, ra, rb, disp } => {
-                return self.memory_word(op, ra, rb, disp).is_ok();
-            }
-            Form::Branch { op, ra, disp } => self.branch(op, ra, disp),
-            Form::Jump { ra, rb, .. } => self.jump(ra, rb),
-            Form::Misc(_) => match kind(insn) {
-                InsnKind::Barrier => return false,
-                _ => self.idle(),
-            },
-            Form::Fetch { .. } => self.idle(),
-            Form::Pal(_) => return false,
-        }
-        true
-    }
-
-    /// Makes one step exactly where it only goes on: no overflow, no barrier and no end. All else stays to be done by
-    /// [`Machine::step`], and leaves all as it was.
-    #[inline(always)]
-    pub fn goes_on(&mut self) -> bool
-        ensures went { IsTrue result → GoesOn self.old self.new }
-        ensures stays { result ≡ false → self.new ≡ self.old }
-        ensures refused { result ≡ false → NeverGoes (class_here self.old) self.old }
-    {
-        match self.insn() {
-            Some(insn) => self.goes(&insn),
-            None => false,
-        }
     }
 }

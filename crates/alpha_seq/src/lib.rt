@@ -6,9 +6,8 @@
 //! - [`Machine::rush`] makes steps as long as each only goes on, many at a time: the loop of a run, of either machine.
 //! - [`Event`] is how a step went, with [`Passed`] what a barrier took or put and [`Wait`] what an instruction did
 //!   while a trap was pending; [`Fault`] is the device that failed in a step, [`End`] how a program ends.
-//! - [`Machine::goes_on`], [`Machine::insn`], [`Machine::source`], [`Machine::accessed`], [`Machine::set`] and
-//!   [`Machine::advance`] are the parts of a step that other machines share, with [`memory_access`], [`size`] and
-//!   [`branch_target`].
+//! - [`Machine::insn`], [`Machine::source`], [`Machine::accessed`], [`Machine::set`] and [`Machine::advance`] are the
+//!   parts of a step that other machines share, with [`memory_access`], [`size`] and [`branch_target`].
 //! - [`write_overflow`], [`write_barrier`], [`write_registers`] and [`write_end`] write the lines of an overflow, of a
 //!   barrier, of the registers alone and of an end; [`line_of_end`] is the last of these.
 //! - [`laws_of_steps`]: a step leaves how many registers there are and where the blocks of memory lie, and one that ends

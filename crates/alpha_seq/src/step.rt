@@ -18,34 +18,7 @@ impl Machine {
     /// `Ended` leaves all as it was. `Fault::Input` comes only where the input failed in a read, and `Fault::Output`
     /// where the output failed in a write: the bytes taken so far are in memory, the output got a prefix of its bytes,
     /// and all else but the kernel's frame is as it was.
-    #[inline(always)]
     pub fn step<S: Source, K: Sink>(&mut self, input: &mut S, out: &mut K) -> Result<Event, Fault>
-        requires { IsTrue self.old.kernel.user }
-        ensures made { IfOk result (λ event. SeqMakes event self.old self.new
-            (drawn S.Source input.old input.new)
-            (sunk K.Sink out.old out.new)) }
-        ensures broken { IfErr result (λ fault. SeqBreaks fault self.old self.new
-            (drawn S.Source input.old input.new)
-            (sunk K.Sink out.old out.new)) }
-        ensures kernel { self.new.kernel ≡ kernel_left (class_here self.old)
-            (next_pc (state_of self.old)) self.old.regs self.old.kernel }
-        ensures shapes { shapes self.new.memory ≡ shapes self.old.memory }
-        ensures same { Stays self.old self.new }
-    {
-        if self.goes_on() {
-            return Ok(Event::Went);
-        }
-        self.step_rarely(input, out)
-    }
-
-    // Makes one step of any kind. `step` calls this where a step does more than go on, which is rare; it is never
-    // inlined there, so that the loops of the runs are short.
-    #[inline(never)]
-    fn step_rarely<S: Source, K: Sink>(
-        &mut self,
-        input: &mut S,
-        out: &mut K,
-    ) -> Result<Event, Fault>
         requires { IsTrue self.old.kernel.user }
         ensures made { IfOk result (λ event. SeqMakes event self.old self.new
             (drawn S.Source input.old input.new)
