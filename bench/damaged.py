@@ -18,7 +18,8 @@ from measure import TOP, the_program
 
 COMPANIONS = os.path.join(TOP, "companions")
 SECONDS, MEGABYTES = 10, 300
-# A call is ended when it has had so many seconds of the processor, as the machine may be busy, and behind an hour if it waits.
+# A call is ended when it has had so many seconds of the processor, since the machine may be busy, and after an hour
+# where it only waits.
 KILLED, WAITED = 60, 3600
 # Those of the companions, and of the program's runs, which `emulate` has too.
 STATUSES = {0, 1, 3, 5, 6, 7, 18, 19}
@@ -99,8 +100,9 @@ def called(words, program, folder):
     """Calls a companion. `journal first` tells on its output what is wrong, the others on standard error why they refuse."""
     notes_path, out = os.path.join(folder, "notes"), os.path.join(folder, "out")
     with open(notes_path, "wb") as notes, subprocess.Popen(
-            ["timeout", "-s", "KILL", str(WAITED), "prlimit", f"--cpu={KILLED}", sys.executable, os.path.join(COMPANIONS, words[0]),
-             *words[1:]], stdin=subprocess.DEVNULL, stdout=notes, stderr=notes, env=os.environ | {"ALPHA": program}) as call:
+            ["timeout", "-s", "KILL", str(WAITED), "prlimit", f"--cpu={KILLED}",
+             sys.executable, os.path.join(COMPANIONS, words[0]), *words[1:]],
+            stdin=subprocess.DEVNULL, stdout=notes, stderr=notes, env=os.environ | {"ALPHA": program}) as call:
         _, status, usage = os.wait4(call.pid, 0)
         call.returncode = os.waitstatus_to_exitcode(status)
     return Outcome(call.returncode, read(notes_path), usage, os.path.exists(out))

@@ -30,7 +30,7 @@ COMPANIONS = os.path.join(TOP, "companions")
 COMPILE = ["alpha-linux-gnu-gcc", "-ftrapv", "-ffreestanding", "-mno-fp-regs", "-w"]
 LINK = ["-static", "-nostdlib", "-Wl,-z,separate-code,-z,max-page-size=8192,-Ttext-segment=0x10000,--build-id=none"]
 BESIDE = [os.path.join(COMPANIONS, "start.s"), os.path.join(COMPANIONS, "divide.s")]
-# Of the processor's time, so that nothing counts as slow since others have the machine: for a run, and for a step of a repair.
+# How long a run and a step of a repair may take, of the processor's time: others may have the machine.
 SECONDS, MORE_SECONDS = 20, 600
 PARTS = ("back", "codes", "elf", "files", "held", "image", "loaded", "program", "regions", "repair")
 SAME, OTHER, SLOW = "the same", "OTHER OUTPUT", "too slow by itself"
@@ -50,7 +50,8 @@ def limited(seconds):
 
 
 def call(*words, given=None):
-    done = subprocess.run(words, input=given, capture_output=True, check=False, preexec_fn=lambda: limited(MORE_SECONDS))
+    done = subprocess.run(words, input=given, capture_output=True, check=False,
+                          preexec_fn=lambda: limited(MORE_SECONDS))
     if done.returncode == -signal.SIGXCPU:
         raise Refused(f"{os.path.basename(words[0])}: took more than {MORE_SECONDS} seconds")
     if done.returncode:
@@ -68,7 +69,8 @@ def cause(notes):
 
 def outcome(path):
     """The output and the status of a run under qemu-alpha."""
-    done = subprocess.run(["qemu-alpha", path], input=b"", capture_output=True, check=False, preexec_fn=lambda: limited(SECONDS))
+    done = subprocess.run(["qemu-alpha", path], input=b"", capture_output=True, check=False,
+                          preexec_fn=lambda: limited(SECONDS))
     if done.returncode in (-signal.SIGXCPU, -signal.SIGKILL):
         raise Slow
     return done.stdout, done.returncode

@@ -1,9 +1,9 @@
-"""The words of a repair that moves no other word: where they stand, behind the code of a listing and before it, and which places
-have some of them together.
+"""The words of a repair that moves no other word: where they stand, behind the code of a listing and before it, and
+which places have some of them together.
 
-An aside is that of one place, from which a branch leads to it and back. Where these have no room, places with the same word
-share one: `bsr` leaves the address behind the place in a register that nobody reads, and the aside goes back by that. So its
-barrier and its other words are there once, and each place needs one free register more.
+An aside is that of one place, from which a branch leads to it and back. Where these have no room, places with the same
+word share one: `bsr` leaves the address behind the place in a register that nobody reads, and the aside goes back by
+that. So its barrier and its other words are there once, and each place needs one free register more.
 """
 from collections import Counter, namedtuple
 
@@ -26,13 +26,14 @@ class Room:
         ranges = [(start, start + size) for start, size in sizes_of(statements, segments)]
         # An image has no more words than these beside those that it has.
         self.more = image.MOST_WORDS - count
-        self.behind = min((min([image.END - stack, *(start for start, _ in ranges if start >= end)]) - end) // 4, self.more)
+        limit = min([image.END - stack, *(start for start, _ in ranges if start >= end)])
+        self.behind = min((limit - end) // 4, self.more)
         self.floor = max([LOWEST, *(-(-last // image.PAGE) * image.PAGE for start, last in ranges if start < self.base)])
         self.before = max(0, self.base - self.floor) // image.PAGE * PAGE_WORDS
 
     def split(self, sizes):
-        """How many of some blocks stand behind the code, where one word more ends them, and how many words before it have no room.
-        As few blocks as can be go before."""
+        """How many of some blocks stand behind the code, where one word more ends them, and how many words before it
+        have no room. As few blocks as can be go before."""
         left, count = self.behind - 1, 0
         while count < len(sizes) and sizes[count] <= left:
             left -= sizes[count]
@@ -43,9 +44,10 @@ class Room:
 
     def refuse(self, path, sizes, missing):
         raise files.Refused(
-            f"{path}: the repair takes {sum(sizes) + 1} words, and there is room for {max(0, self.behind)} behind the code and for "
-            f"{self.before} before it, down to {self.floor:#x}, but no more than {self.more} in an image: {missing} are missing. Link the "
-            "program again at a higher address, or with more room between code and data; or repair its text")
+            f"{path}: the repair takes {sum(sizes) + 1} words, and there is room for {max(0, self.behind)} behind the code "
+            f"and for {self.before} before it, down to {self.floor:#x}, but no more than {self.more} in an image: {missing} "
+            "are missing. Link the program again at a higher address, or with more room between code and data; or repair "
+            "its text")
 
     def base_for(self, count):
         """The base of the code with so many words before it."""
@@ -65,7 +67,8 @@ def sizes_of(statements, segments):
 
 
 def fitting(made, room, path):
-    """The asides of a repair: one for each place, or where these have no room, as few as can be. The changes are made for them."""
+    """The asides of a repair, one for each place or, where these have no room, as few as can be, and how many of them
+    stand behind the code."""
     found = [Aside([place], change.lines, None) for place, change in sorted(made.changes.items())]
     sizes = [size_of(aside) for aside in found]
     if room.split(sizes)[1]:
@@ -103,8 +106,8 @@ def shared(made):
 
 
 def most_together(made, places):
-    """The change of an aside for as many of some places as one can be for, the register of the way back, and these places: without
-    both, all of them, where no two can have one together."""
+    """The change of an aside for as many of some places as can have one together, the register of its way back, and these
+    places; without both, all of them, where no two can."""
     pairs = {place: dict.fromkeys(pairs_at(made, place)) for place in places} if len(places) > 1 else {}
     counts = Counter(pair for found in pairs.values() for pair in found)
     if not counts or max(counts.values()) < 2:
@@ -115,8 +118,8 @@ def most_together(made, places):
 
 
 def pairs_at(made, place):
-    """The pairs of registers by which a shared aside of a place can go: that of the result, None where it needs none but its
-    destination, and that of the way back. None is that of divisions, so that no way back looks like one of theirs."""
+    """The pairs of registers by which a shared aside of a place can go: that of the result, None where it needs none but
+    its destination, and that of the way back, never that of divisions, so that it doesn't look like one of theirs."""
     free = made.free_at(place)
     for register in free if made.changes[place].register is not None else [None]:
         yield from ((register, link) for link in free if link not in (register, steps.BY_DIVISION))

@@ -68,11 +68,12 @@ class Repair:
             self.left[place] = why
             return
         register = next(other for other in SPARE if not taken >> other & 1)
-        self.changes[place] = Change([f"lda $30,-{SLOT}($30)", f"stq ${register},0($30)", *self.change_through(place, register).lines,
-                                      f"ldq ${register},0($30)", f"lda $30,{SLOT}($30)"], register, True)
+        lines = self.change_through(place, register).lines
+        self.changes[place] = Change([f"lda $30,-{SLOT}($30)", f"stq ${register},0($30)", *lines, f"ldq ${register},0($30)",
+                                      f"lda $30,{SLOT}($30)"], register, True)
 
     def free_at(self, place):
-        """The registers that a /V word doesn't name and that nothing behind it reads before they are set, of those that are tried."""
+        """Of the registers that are tried those that a /V word doesn't name and nothing behind it reads before they are set."""
         step, tried = self.code.steps[place], SPARE if self.asked is None else (self.asked,)
         taken = step.insn.uses | table.bit(step.word & 31) | self.live.behind[place]
         return [register for register in tried if not taken >> register & 1]

@@ -22,9 +22,9 @@ class Outcome:
 
 
 class Walk:
-    """Runs a code as terms from a place on up to the next stop. `name_of` gives a place the name that both codes have, and `images`
-    the place of this code for one of the old code. Words of a repair's own may call each other, and go back by an address that a
-    word of the window has left."""
+    """Runs a code as terms from a place on up to the next stop. `name_of` gives a place the name that both codes have, and
+    `images` the place of this code for one of the old code. Words of a repair's own may be called, and go back by an
+    address that a word of the window has left."""
 
     def __init__(self, code, stops, name_of, images):
         self.code, self.stops, self.name_of, self.images, self.fuel = code, stops, name_of, images, MOST_WORDS
@@ -97,7 +97,7 @@ class Same:
         self.returns, self.live = old.returns(), live or liveness.Liveness(old)
         self.locked = flow.locked(old)
         self.walks = (Walk(old, pairs, lambda place: (CODE, place), {}),
-                      Walk(new, self.images, lambda place: (CODE, self.images[place]) if place in self.images else (ADDED, place), pairs))
+                      Walk(new, self.images, self.name_in_new, pairs))
         self.faults, self.equal, self.executed, self.unreached, self.spilled = [], 0, 0, 0, []
 
     def show(self):
@@ -113,6 +113,10 @@ class Same:
             except symbolic.Unclear as unclear:
                 self.faults.append((place, str(unclear)))
         return self.faults
+
+    def name_in_new(self, place):
+        """The name of a place of the new code: that of the old code's place, where it is the image of one."""
+        return (CODE, self.images[place]) if place in self.images else (ADDED, place)
 
     def told_whole(self):
         """The line of what was shown."""

@@ -110,10 +110,12 @@ def test_words_stand_before_the_code_where_there_is_no_room_behind(folder):
 
 @needs_program
 def test_places_with_the_same_word_share_an_aside_where_each_its_own_has_no_room(folder):
-    asked, source, out, old = program.Program(ASKED), os.path.join(folder, "b.s"), os.path.join(folder, "b.img"), os.path.join(folder, "a.img")
+    asked = program.Program(ASKED)
+    source, out, old = (os.path.join(folder, name) for name in ("b.s", "b.img", "a.img"))
     # Behind the first words $28 alone is free, so these have an aside each.
     few = "".join(f"addq $0,${register},$0\n" for register in (*SPARE[1:], 16))
-    words = "mulq/v $1,$2,$1\n" * 2 + few + "addq/v $1,$2,$1\nsubq/v $1,$2,$3\n" * 300 + "mulq/v $1,$2,$4\nbis $31,$1,$16\nlda $0,1($31)\ncallsys\n"
+    words = "mulq/v $1,$2,$1\n" * 2 + few + "addq/v $1,$2,$1\nsubq/v $1,$2,$3\n" * 300
+    words += "mulq/v $1,$2,$4\nbis $31,$1,$16\nlda $0,1($31)\ncallsys\n"
     text = f".codebase 0x2000\n.database 0x4000\n.entry 0x2000\n.code\nlda $2,3($31)\n{words}.data\n.quad 5\n"
     made, notes = repaired(folder, text, "--aside")
     want("301 got one, 302 go through $28, 600 share 2 asides" in notes, True, notes)

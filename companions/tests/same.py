@@ -40,7 +40,9 @@ ASIDE = NEW.replace(FIRST, "\tbr fix\nback:\n").replace("\t.end g\n", "\t.end g\
 CALLED = NEW.replace(FIRST, "\tbsr $23,fix\n").replace(
     "\t.end g\n", "\t.end g\nfix:\tmulq/v $16,$17,$22\n\ttrapb\n\tmov $22,$16\n\tret $31,($23),1\n")
 
-RIGHT = [NEW, OLD, NEW.replace(FIRST, KEPT), ASIDE, CALLED, CALLED.replace("fix:\tmulq", "fix:\tmov $23,$24\n\tmulq").replace("($23),1", "($24),1"), NEW.replace(FIRST, FIRST.replace("$22", "$2")),
+RIGHT = [NEW, OLD, NEW.replace(FIRST, KEPT), ASIDE, NEW.replace(FIRST, FIRST.replace("$22", "$2")),
+         # The way back may be held elsewhere.
+         CALLED, CALLED.replace("fix:\tmulq", "fix:\tmov $23,$24\n\tmulq").replace("($23),1", "($24),1"),
          # A branch that is taken where the old one isn't, and the other way round, isn't wrong where each meets its image.
          NEW.replace("\ttrapb\n\tmov $22", "\texcb\n\ttrapb\n\tmov $22"),
          # The same is kept in two slots, and in one that is taken apart from the pointer's move.
